@@ -12,3 +12,4 @@ of_system m name texts troubles.NoThread h = tt
 of_system m name texts troubles.NoMemory h = tt
 of_system m name texts troubles.Output h = tt
 of_system m name texts troubles.Save h = tt
+of_system m name texts troubles.SaveMemory h = tt

@@ -4,10 +4,10 @@ mod Asking
 mod Sure
 mod Growing
 mod Printed
+mod DrawnRaces
 mod Wholly
 mod Counted
 mod Sought
 mod Silent
-pub mod Told
 mod Pairs
 mod Looking

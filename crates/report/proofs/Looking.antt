@@ -1,6 +1,5 @@
 -- What a first look at all runs says of races, and what is told of them where there is none.
-use Rattle.std.proofs.Common.{◌≡◌, ◌∙◌, true, false, List, [], refl, sym, ap, true≢false}
-use Rattle.std.specs.Prelude.{IfSome, Some}
+use Rattle.std.proofs.Common.{◌≡◌, ◌∙◌, true, false, [], refl, sym, ap, true≢false}
 use Rattle.spawn_host.specs.Requests.{Requested}
 use Rattle.search_endings.specs.Endings.{Ending}
 use Rattle.search_modules.specs.Races.{NeverRaces}
@@ -11,9 +10,7 @@ use Rattle.search_reach.specs.declared.search.Verdict.TheVariants as verdicts
 use Rattle.report_command.specs.declared.search.Search.{Search}
 use Rattle.report_jobs.specs.Prints.{WriterChange}
 use Rattle.report.specs.Racing.{IsAsked, IsFreelyComplete, IsKnownOf, IsWhole, TellsOfRacing, racing_by}
-use Rattle.report.specs.declared.whole.Racing.{Racing}
-use Rattle.report.specs.declared.whole.Racing.TheVariants.{Unasked, Never, Found, Unknown}
-use Rattle.report.specs.declared.whole.Whole.{Whole}
+use Rattle.report.specs.declared.whole.Racing.TheVariants.{Never, Found, Unknown}
 
 -- where every order isn't wanted, races are asked for
 pub asked_found : (s : Search) (r : Race) → s.every_order ≡ false → IsAsked s (Found r)

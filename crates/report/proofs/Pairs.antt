@@ -1,6 +1,6 @@
 -- The first race of a run's record, as it was written and kept.
 use Rattle.std.specs.Prelude.{IfOk, OnOk, Result, Ok, Err, is_some}
-use Rattle.std.proofs.Common.{ℕ, ◌≡◌, ◌∙◌, ◌&&◌, Bool, true, false, List, Option, length, inl, inr, refl, ap, sym, subst}
+use Rattle.std.proofs.Common.{ℕ, ◌≡◌, ◌∙◌, ◌&&◌, Bool, true, false, List, Option, inl, inr, refl, ap, subst}
 use Rattle.types.specs.declared.event.Entry.{Entry}
 use Rattle.spawn_host.specs.Requests.{Requested}
 use Rattle.search_scheduled.specs.Headers.{IsOfCall}
@@ -14,17 +14,29 @@ use Rattle.replay.specs.Runs.{IsRunOf}
 use Rattle.replay_text.specs.declared.parts.RecordParts.{RecordParts}
 use Rattle.race_history.specs.declared.access.Kind.{Kind}
 use Rattle.race_history.specs.Races.{AreRaces, IsLastRace}
+use Rattle.show_rows.specs.Listing.{IsStoryOf}
 use Rattle.show_rows.specs.declared.listing.Shown.{Shown}
 use Rattle.show_rows.specs.declared.listing.Story.{Story}
 use Rattle.show_rows.specs.declared.rows.Row.{Row}
-use Rattle.show_races.specs.Kinds.{kinds_in, kinds_shown}
+use Rattle.show_races.specs.Kinds.{kinds_shown}
 use Rattle.show_races.specs.Written.{SaysRace, WritesFirst}
 use Rattle.show_races.specs.declared.found.Races.{Races}
 use Rattle.report_jobs.specs.Prints.{WriterChange, KeepsRecord, change}
-use Rattle.report.specs.Raced.{AreRowsOf, IsShownOf, SaysPair, WritesPair}
+use Rattle.search_races.specs.Rows.{AreRowsOf}
+use Rattle.search_races.proofs.Told.{kinds_alike, told_of}
+use Rattle.report.specs.Raced.{IsShownOf, SaysPair, WritesPair}
 use Rattle.report.specs.Racing.{keeps_race}
 use Rattle.report.specs.Searches.{KeepsNoneOrRace}
-use Rattle.report.proofs.Told.{kinds_alike, told_of}
+
+pub is_shown_by : (m : Parts) (r : RecordParts) (rows : List (Option Row)) (shown : Shown) (story : Story) (log : List Entry)
+    → shown.record.now ≡ r → shown.rows.now ≡ rows → shown.code.now.parts.now ≡ m → log ≡ shown.record.now.log → IsStoryOf log story
+    → IsShownOf m r rows shown story
+is_shown_by m r rows shown story log of_record of_rows of_module same is_story = record {
+  of_record = of_record;
+  of_rows = of_rows;
+  of_module = of_module;
+  is_story = subst (λ (l : List Entry). IsStoryOf l story) same is_story;
+}
 
 pub pair_of : (m : Parts) (r : RecordParts) (rows : List (Option Row)) → (end : EndState) × IsRunOf m r end × AreRowsOf m r end rows
     → (shown : Shown) (story : Story) → IsShownOf m r rows shown story → (races : Races) → races.kinds.items ≡ kinds_shown shown

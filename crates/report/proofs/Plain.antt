@@ -8,7 +8,7 @@ use Rattle.report_command.specs.declared.races.RacesJob.{RacesJob}
 use Rattle.report_command.specs.declared.search.Search.{Search}
 use Rattle.report_command.specs.declared.show.View.{View}
 use Rattle.report_jobs.specs.Plain.{IsPlain, PerformsPlain}
-use Rattle.report_jobs.specs.Prints.{WriterChange}
+use Rattle.report_jobs.specs.Prints.{Written}
 use Rattle.report.specs.Jobs.{Performs}
 
 pub is_plain : (job : Job)
@@ -21,11 +21,11 @@ is_plain (Show file record_path names look at) no_show no_races no_search = no_s
 is_plain (jobs.Races asked) no_show no_races no_search = no_races asked refl
 is_plain (jobs.Search s) no_show no_races no_search = no_search s refl
 
-pub performs : (job : Job) (bytes saved : List ℕ) (out save : WriterChange) (status : ℕ) → IsPlain job → PerformsPlain job bytes saved out save status
-    → Performs job bytes saved out save status
-performs (Check file form) bytes saved out save status plain done = done
-performs (Run run) bytes saved out save status plain done = done
-performs (Replay file record_path look) bytes saved out save status plain done = done
-performs (Show file record_path names look at) bytes saved out save status plain done = absurd plain
-performs (jobs.Races asked) bytes saved out save status plain done = absurd plain
-performs (jobs.Search s) bytes saved out save status plain done = absurd plain
+pub performs : (job : Job) (bytes saved : List ℕ) (w : Written) (status : ℕ) → IsPlain job → PerformsPlain job bytes saved w status
+    → Performs job bytes saved w status
+performs (Check file form) bytes saved w status plain done = done
+performs (Run run) bytes saved w status plain done = done
+performs (Replay file record_path look) bytes saved w status plain done = done
+performs (Show file record_path names look at) bytes saved w status plain done = absurd plain
+performs (jobs.Races asked) bytes saved w status plain done = absurd plain
+performs (jobs.Search s) bytes saved w status plain done = absurd plain

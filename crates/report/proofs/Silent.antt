@@ -16,6 +16,7 @@ module _ (P : Type 0) where
   at_call troubles.NoMemory p = tt
   at_call troubles.Output p = tt
   at_call troubles.Save p = tt
+  at_call troubles.SaveMemory p = tt
 
   -- a trouble of the system is no refused call
   pub at_system : (t : Trouble) → IsOfSystem t → IfRefusedCall t P
@@ -24,6 +25,7 @@ module _ (P : Type 0) where
   at_system troubles.NoMemory none = tt
   at_system troubles.Output none = tt
   at_system troubles.Save none = tt
+  at_system troubles.SaveMemory none = tt
 
   -- at the status of a refusal the call is refused
   pub by_status : (t : Trouble) (n : ℕ) → n ≡ trouble_status t → IfRefusedCall t P → IsRefusal n → P
@@ -32,6 +34,7 @@ module _ (P : Type 0) where
   by_status troubles.NoMemory n is holds low = absurd (omega (arith, is, low.1))
   by_status troubles.Output n is holds low = absurd (omega (arith, is, low.1))
   by_status troubles.Save n is holds low = absurd (omega (arith, is, low.1))
+  by_status troubles.SaveMemory n is holds low = absurd (omega (arith, is, low.1))
 
   pub at_record : (u : Unfit) → P → IfRefusedRecord u P
   at_record (unfits.Unread fault) p = p

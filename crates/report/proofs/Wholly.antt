@@ -1,6 +1,6 @@
 -- What is found of all runs and their races, kept and printed: the parts put together.
-use Rattle.std.proofs.Common.{ℕ, ◌≡◌, ◌≤◌, ◌⊎◌, ◌∙◌, ◌&&◌, not, Bool, true, false, List, [], Option, inl, inr, refl, sym, ap, subst, true≢false, arith}
-use Rattle.std.specs.Prelude.{All, IfOk, Result, Ok, Err, is_some}
+use Rattle.std.proofs.Common.{ℕ, ◌≡◌, ◌≤◌, ◌∙◌, ◌&&◌, not, Bool, true, false, List, Option, inl, inr, refl, sym, subst, true≢false, arith}
+use Rattle.std.specs.Prelude.{IfOk, Result, Ok, Err, is_some}
 use Rattle.std.proofs.lemmas.Bool.{and_left, and_right, not_from_true}
 use Rattle.types.specs.declared.parts.Parts.{Parts}
 use Rattle.spawn_host.specs.Requests.{Requested}
@@ -9,14 +9,18 @@ use Rattle.search_modules.specs.Races.{NeverRaces}
 use Rattle.report_command.specs.declared.search.Search.{Search}
 use Rattle.report_jobs.specs.Asked.{IsAskedBy}
 use Rattle.report_jobs.specs.Prints.{WriterChange, change}
-use Rattle.report.specs.Complete.{AreAllWell}
 use Rattle.report.specs.Prints.{IsStatusOf, stops_behind}
 use Rattle.report.specs.Racing.{IsAsked, IsKnownOf, IsWhole, allows, keeps_race}
-use Rattle.report.specs.Searches.{EndWell, Finds, IsRaceKept, IsSureToEnd, IsWellAt, KeepsNoneOrEndless, KeepsNoneOrFind, KeepsNoneOrRace}
+use Rattle.report.specs.Searches.{Finds, IsRaceKept, IsSureToEnd, IsWellAt, KeepsNoneOrEndless, KeepsNoneOrFind, KeepsNoneOrRace}
 use Rattle.report.specs.declared.whole.Racing.{Racing}
 use Rattle.report.specs.declared.whole.Racing.TheVariants.{Unasked, Never, Found, Unknown}
 use Rattle.report.specs.declared.whole.Whole.{Whole}
 use Rattle.report.proofs.Sure.{every_by, can_by, sure_by}
+
+-- one of two that isn't so
+pub and_none : (x : Bool) {y : Bool} → y ≡ false → (x && y) ≡ false
+and_none true none = none
+and_none false none = refl
 
 -- both of an answer
 pub if_both : {T E : Type 0} (r : Result T E) (P Q R : T → Type 0) → ((x : T) → P x → Q x → R x) → IfOk r P → IfOk r Q → IfOk r R

@@ -6,4 +6,5 @@ pub mod Endless
 pub mod Searches
 pub mod Racing
 pub mod Prints
+pub mod DrawnRaces
 pub mod Silent

@@ -4,8 +4,6 @@ use Rattle.std.specs.Prelude.{Option, Some, is_none, is_some, option_map, unwrap
 use Rattle.std.specs.List.{slice_get}
 use Rattle.std.specs.Io.KnownBytes.{Appends}
 use Rattle.types.specs.declared.parts.Parts.{Parts}
-use Rattle.validate_typing.specs.Validity.{IsValid}
-use Rattle.binary.specs.Grammar.{IsModuleText}
 use Rattle.spawn_host.specs.Requests.{Requested}
 use Rattle.search_reach.specs.declared.ending.Ended.{Ended}
 use Rattle.search_endings.specs.Endings.{Ending}
@@ -29,7 +27,6 @@ use Rattle.report.specs.Complete.{complete_lines, threads_end_well, AreAllWell}
 use Rattle.report.specs.Drawn.{table_lines, cut_in, behind_text, sizes_if}
 use Rattle.report.specs.Endless.{HasNoEndless, IsKnown, IsFilled, endless_line, path_of}
 use Rattle.report.specs.Racing.{IsWhole, TellsOfRacing, allows}
-use Rattle.report.specs.Searches.{Finds, IsWellAt}
 use Rattle.report.specs.declared.all.EndlessRun.{EndlessRun}
 use Rattle.report.specs.declared.whole.Whole.{Whole}
 
@@ -193,20 +190,10 @@ pub record PrintsAll (m : Parts) (s : Search) (most : ℕ) (out save : WriterCha
   pub says : IsToldBehind request s whole told (change kept save.new)
   pub status_is : IsStatusOf s whole status
 
--- What is printed of a search of drawn runs.
+-- What is printed of a search of drawn runs that looks for no race.
 abbrev pub IsDrawn : Parts → Search → WriterChange → WriterChange → ℕ → Type 0
-IsDrawn m s out save status = is_none s.all ≡ true → PrintsDrawn m s out save status
+IsDrawn m s out save status = is_none s.all ≡ true → s.races ≡ false → PrintsDrawn m s out save status
 
 -- What is printed of a search through every order of entries.
 abbrev pub IsPrintedOf : Parts → Search → WriterChange → WriterChange → ℕ → Type 0
 IsPrintedOf m s out save status = (most : ℕ) → s.all ≡ Some most → PrintsAll m s most out save status
-
--- The bytes are a valid module's text, and its runs were searched.
-pub record HasSearched (bytes : List ℕ) (s : Search) (out save : WriterChange) (status : ℕ) : Type 0 where
-  pub parts : Parts
-  pub text : IsModuleText bytes parts
-  pub valid : IsValid parts
-  pub finds : Finds parts s save status
-  pub well : IsWellAt parts s status
-  pub drawn : IsDrawn parts s out save status
-  pub prints : IsPrintedOf parts s out save status

@@ -1,38 +1,24 @@
 -- What is said of the races of a record's run.
-use Rattle.std.specs.Prelude.{ℕ, ◌≡◌, ◌≤◌, Bool, true, false, List, length, replicate, Option, None, Ok}
+use Rattle.std.specs.Prelude.{ℕ, ◌≡◌, ◌≤◌, Bool, true, false, List, length, Option}
 use Rattle.std.specs.Io.KnownBytes.{Appends}
 use Rattle.types.specs.declared.parts.Parts.{Parts}
 use Rattle.validate_typing.specs.Validity.{IsValid}
 use Rattle.binary.specs.Grammar.{IsModuleText}
-use Rattle.types.specs.declared.event.Entry.{Entry}
 use Rattle.replay_text.specs.declared.parts.RecordParts.{RecordParts}
 use Rattle.replay_text.specs.Text.{IsRecord, record_text}
 use Rattle.spawn_host.specs.declared.end.EndState.{EndState}
 use Rattle.replay.specs.Runs.{IsRunOf}
-use Rattle.replay.specs.Watching.{SeesReplay}
-use Rattle.race_history.specs.declared.access.Kind.{Kind}
 use Rattle.race_history.specs.declared.race.Race.{Race}
 use Rattle.race_history.specs.Races.{IsLastRace}
 use Rattle.show_rows.specs.declared.rows.Row.{Row}
-use Rattle.show_rows.specs.declared.rows.Rows.{Rows}
-use Rattle.show_rows.specs.Rows.{RowsSee}
 use Rattle.show_rows.specs.Listing.{IsStoryOf}
 use Rattle.show_rows.specs.declared.listing.Shown.{Shown}
 use Rattle.show_rows.specs.declared.listing.Story.{Story}
-use Rattle.show_races.specs.Kinds.{kinds_in}
+use Rattle.search_races.specs.Rows.{AreRowsOf, kinds_of}
 use Rattle.show_races.specs.Told.{AreApart, HasNoRace, TellsEach}
 use Rattle.show_races.specs.Written.{SaysRace, TellsRaces}
 use Rattle.show_races.specs.declared.found.Races.{Races}
 use Rattle.report_jobs.specs.Prints.{WriterChange}
-
--- The rows of a record's entries, as a replay of it fills them: where the thread of each stands.
-pub record AreRowsOf (m : Parts) (r : RecordParts) (end : EndState) (rows : List (Option Row)) : Type 0 where
-  pub first : Rows
-  pub last : Rows
-  pub log : first.log.now ≡ r.log
-  pub empty : first.rows.items ≡ replicate (length r.log) None
-  pub sees : SeesReplay RowsSee m r (Ok end) first last
-  pub filled : last.rows.items ≡ rows
 
 -- The text is that of this record, of a run of the module, and these are its rows.
 pub record IsSeen (m : Parts) (saved : List ℕ) (r : RecordParts) (rows : List (Option Row)) : Type 0 where
@@ -41,10 +27,6 @@ pub record IsSeen (m : Parts) (saved : List ℕ) (r : RecordParts) (rows : List 
   pub end : EndState
   pub run : IsRunOf m r end
   pub rows_are : AreRowsOf m r end rows
-
--- The kinds of its entries, by the instructions where their threads stand.
-abbrev pub kinds_of : Parts → RecordParts → List (Option Row) → List Kind
-kinds_of m r rows = kinds_in m rows (length r.log)
 
 -- The text is that of a record of a run of the module, in which no two accesses race;
 pub record IsRaceFree (m : Parts) (saved : List ℕ) : Type 0 where
@@ -83,10 +65,6 @@ pub record PrintsRaces (most : ℕ) (out : WriterChange) (m : Parts) (saved : Li
   pub writes : WritesRaces m record_is rows most out
 
 -- Whether there are races, as an answer says.
-abbrev pub Says : List Entry → List Kind → Bool → Type 0
-Says log kinds true = (r : Race) × IsLastRace log kinds r
-Says log kinds false = HasNoRace log kinds
-
 abbrev pub SaysOf : Parts → List ℕ → Bool → Type 0
 SaysOf m saved true = IsRacy m saved
 SaysOf m saved false = IsRaceFree m saved

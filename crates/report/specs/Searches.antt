@@ -139,3 +139,4 @@ IsOfSystem troubles.NoThread = Unit {0}
 IsOfSystem troubles.NoMemory = Unit {0}
 IsOfSystem troubles.Output = Unit {0}
 IsOfSystem troubles.Save = Unit {0}
+IsOfSystem troubles.SaveMemory = Unit {0}

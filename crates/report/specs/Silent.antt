@@ -17,6 +17,7 @@ IfRefusedCall troubles.NoThread P = Unit {0}
 IfRefusedCall troubles.NoMemory P = Unit {0}
 IfRefusedCall troubles.Output P = Unit {0}
 IfRefusedCall troubles.Save P = Unit {0}
+IfRefusedCall troubles.SaveMemory P = Unit {0}
 
 -- This holds where the record is refused.
 abbrev pub IfRefusedRecord : Unfit → Type 0 → Type 0

@@ -424,8 +424,8 @@ pub(crate) fn search_all_orders<F: Hears, W: Write, S: Write>(
     out: &mut W,
     save: &mut S,
 ) -> Result<u8, Trouble>
-    requires asked { IsAskedBy asked.entry.search.now.call request.now }
-    requires every_order { asked.entry.search.now.all ≡ Some most }
+    requires asked { IsAskedBy asked.search.now.call request.now }
+    requires every_order { asked.search.now.all ≡ Some most }
     ensures finds { IfOk result
         (Finds request.now.parts asked.entry.search.now (changed S.contents save.old save.new)) }
     ensures prints { IfOk result

@@ -3,11 +3,10 @@ ghost use Rattle.std.specs.Prelude.{◌≡◌, ◌≤◌, ◌⊎◌, false, is_s
 ghost use Rattle.report_command.specs.Jobs.{IsInRange};
 ghost use Rattle.report_command.specs.Searches.{IsSearchInRange};
 ghost use Rattle.report_jobs.specs.Jobs.{HasNoSuchCall, IsNoValidModule};
-ghost use Rattle.report_jobs.specs.Prints.{changed};
-ghost use Rattle.report_jobs.specs.Silence.{IsRefusal, Stays};
+ghost use Rattle.report_jobs.specs.Prints.{changed, written};
+ghost use Rattle.report_jobs.specs.Silence.{IsRefusal, Stays, makes_memory};
 ghost use Rattle.report_jobs.specs.Told.{TellsWhatIsWrong};
-ghost use Rattle.report.specs.Prints.{HasSearched};
-ghost use Rattle.report.specs.Jobs.{Performs};
+ghost use Rattle.report.specs.Jobs.{HasSearched, Performs};
 ghost use Rattle.report.specs.Silent.{writes_file};
 
 use crate::{Asked, races_saved, search_module, show_saved};
@@ -21,13 +20,14 @@ use std::sync::Wait;
 use std::thread::Threads;
 use validate_module::ValidModule;
 
-/// Does a job on a module's bytes: writes its lines, and at most one line about what went wrong, or about what a search
-/// doesn't compare; and the record that a run makes, or that of what a search found, after the lines, or the file that a
-/// show makes.
+/// Does a job on a module's bytes: writes its lines, and a line about what went wrong, or about what a search doesn't
+/// compare, or lines about threads of a run that trapped; and the record that a run makes and the bytes of its memory,
+/// or the record of what a search found, after the lines, or the file that a show makes.
 ///
 /// The job's numbers are in their ranges, as those of a job are that `command` gives.
 ///
-/// `saved` has the bytes of the record that a replay or a show reads, and else nothing. A show takes names from the
+/// `saved` has the bytes of the record that a replay or a show reads, or those that are laid over the memory of a run,
+/// and else nothing. A show takes names from the
 /// module itself (`show_saved` takes them from another file's bytes). `follower` hears how far a search came.
 ///
 /// Answers the program's status: 0 where the module was accepted or all threads ended well, 1 for a trap or stop, or
@@ -51,11 +51,12 @@ where
     F: Hears,
     requires { IsInRange job.now }
     ensures performs { Performs job.now «module».now saved.now
-        (changed W.contents streams.old.out streams.new.out)
-        (changed S.contents streams.old.save streams.new.save) result }
+        (written W.contents E.contents S.contents streams.old streams.new) result }
     ensures told { result ≡ 4
         → TellsWhatIsWrong «module».now saved.now (changed E.contents streams.old.err streams.new.err) }
-    ensures silent { IsRefusal result → Stays streams.old.out streams.new.out × Stays streams.old.save streams.new.save }
+    ensures silent { IsRefusal result → Stays streams.old.out streams.new.out × Stays streams.old.save streams.new.save
+        × Stays streams.old.memory streams.new.memory }
+    ensures no_memory { makes_memory job.now ≡ false → Stays streams.old.memory streams.new.memory }
     ensures unwanted { writes_file job.now ≡ false → Stays streams.old.save streams.new.save }
 {
     match job {
@@ -89,10 +90,11 @@ where
     ensures refused { result ≡ 2 → IsNoValidModule «module».now }
     ensures silent { IsRefusal result → Stays streams.old.out streams.new.out × Stays streams.old.save streams.new.save }
     ensures unwanted { is_some asked.now.save ≡ false → Stays streams.old.save streams.new.save }
+    ensures no_memory { Stays streams.old.memory streams.new.memory }
     ensures cannot { result ≡ 3 → HasNoSuchCall «module».now asked.now.call }
     ensures status { (result ≤ 3) ⊎ (result ≡ 5) }
 {
-    let Streams { out, err, save } = streams;
+    let Streams { out, err, save, .. } = streams;
     let valid = match load(alloc, module) {
         Ok(valid) => valid,
         Err(refusal) => return refuse(err, refusal),

@@ -9,7 +9,8 @@
 //! last one, which was found, its number, its sizes and its lines; those of every order are what was found of all runs,
 //! and the lines of a run to the first ending that is looked for, or of one that never ends. The record that is written,
 //! where one is wanted, is that run's, by the call. `no race` is said only where no run of the call has one, and a race
-//! that is told is one of a run of the call, or of threads that race in some run. 0 of a search, exactly: runs of the
+//! that is told is one of a run of the call, or of threads that race in some run. Of drawn runs the first with a race is
+//! told, where one is looked for, and none before it has one; where none is told no run that was made has one. 0 of a search, exactly: runs of the
 //! call were made, or can end; in each all threads ended well, and it isn't looked for; and of every order, they are sure
 //! to end, and no run has a race, where these aren't allowed and that is asked. `load` gives the module that the bytes
 //! spell.
@@ -17,6 +18,7 @@
 
 mod all;
 mod complete;
+mod drawn_races;
 mod job;
 mod objects;
 mod raced;

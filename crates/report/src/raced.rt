@@ -12,7 +12,7 @@ ghost use Rattle.report.specs.Searches.{IsOfSystem, KeepsNoneOrRace};
 ghost use Rattle.report.specs.declared.whole.Racing.TheVariants as racings;
 
 use crate::searching::{Asked, no_memory};
-use crate::showing::{CodeBytes, watched};
+use crate::showing::CodeBytes;
 use crate::whole::{FirstLook, Racing};
 use race_history::is_history;
 use replay_text::Record;
@@ -20,6 +20,7 @@ use report_command::{Search, Sought};
 use report_jobs::{Trouble, keep};
 use search_finds::run_round;
 use search_modules::{Race, race_choices};
+use search_races::watched;
 use show_races::{races_shown, write_first};
 use show_rows::{CodeMap, Shown, Story};
 use show_text::Unwritten;
@@ -36,7 +37,7 @@ fn keeps_race(search: &Search) -> bool
 }
 
 /// What a race that wasn't written is.
-fn trouble_of(unwritten: Unwritten) -> Trouble
+pub(crate) fn trouble_of(unwritten: Unwritten) -> Trouble
     ensures { IsOfSystem result }
 {
     match unwritten {
@@ -54,7 +55,7 @@ fn write_threads<W: Write>(out: &mut W, race: Race) -> io::Result<()>
 }
 
 /// Tells the first race of a recorded run, if it has one, and answers whether it has.
-fn write_pair<W: Write>(
+pub(crate) fn write_pair<W: Write>(
     alloc: Global,
     module: &ValidModule,
     record: &Record,
@@ -93,7 +94,7 @@ fn tell_found<W: Write, S: Write>(
     out: &mut W,
     save: &mut S,
 ) -> Result<(), Trouble>
-    requires asked { IsAskedBy asked.entry.search.now.call request.now }
+    requires asked { IsAskedBy asked.search.now.call request.now }
     ensures tells { IfOk result (λ _. Tells (changed W.contents out.old out.new)
         (λ text. TellsOfRacing request.now asked.entry.search.now (racings.Found race) text
         (changed S.contents save.old save.new))) }
@@ -130,7 +131,7 @@ fn tell_racing<W: Write, S: Write>(
     out: &mut W,
     save: &mut S,
 ) -> Result<(), Trouble>
-    requires asked { IsAskedBy asked.entry.search.now.call request.now }
+    requires asked { IsAskedBy asked.search.now.call request.now }
     ensures tells { IfOk result (λ _. Tells (changed W.contents out.old out.new)
         (λ text. TellsOfRacing request.now asked.entry.search.now racing text
         (changed S.contents save.old save.new))) }
@@ -156,7 +157,7 @@ pub(crate) fn tell_race<W: Write, S: Write>(
     out: &mut W,
     save: &mut S,
 ) -> Result<(), Trouble>
-    requires asked { IsAskedBy asked.entry.search.now.call request.now }
+    requires asked { IsAskedBy asked.search.now.call request.now }
     ensures tells { IfOk result (λ _. Tells (changed W.contents out.old out.new)
         (λ text. TellsOfRacing request.now asked.entry.search.now (specified.racing_in look.now) text
         (changed S.contents save.old save.new))) }

@@ -5,7 +5,9 @@ ghost use Rattle.report_jobs.specs.Silence.{IsRefusal, Stays};
 ghost use Rattle.report.specs.Silent.{IfRefusedRecord};
 ghost use Rattle.report_jobs.specs.Prints.{changed};
 ghost use Rattle.report_jobs.specs.Told.{TellsWhatIsWrong};
-ghost use Rattle.report.specs.Raced.{IsRaceFree, IsRacy, OfModule, PrintsRaces, Says, SaysOf, WritesRaces, kinds_of};
+ghost use Rattle.search_races.specs.Races.{Says};
+ghost use Rattle.search_races.specs.Rows.{kinds_of};
+ghost use Rattle.report.specs.Raced.{IsRaceFree, IsRacy, OfModule, PrintsRaces, SaysOf, WritesRaces};
 
 use crate::showing::{CodeBytes, SeenRun, rows_of, unfit_of};
 use race_history::is_history;
@@ -43,6 +45,7 @@ pub fn races_saved<W: Write, E: Write, S: Write>(
     ensures status { (result ≤ 2) ⊎ (result ≡ 4) ⊎ (result ≡ 5) }
     ensures silent { IsRefusal result → Stays streams.old.out streams.new.out }
     ensures unwanted { Stays streams.old.save streams.new.save }
+    ensures no_memory { Stays streams.old.memory streams.new.memory }
 {
     let Streams { out, err, .. } = streams;
     let valid = match load(alloc, module) {

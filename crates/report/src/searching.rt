@@ -10,6 +10,7 @@ ghost use Rattle.replay_forms.specs.Texts.{Wrote};
 ghost use Rattle.report_lines.specs.Found.{found_run_line};
 ghost use Rattle.search_finds.specs.Sizes.{size_in};
 ghost use Rattle.report.specs.Drawn.{size_text, sizes_line, sizes_if, behind_text};
+ghost use Rattle.report.specs.DrawnRaces.{IsDrawnForRaces, PrintsDrawnRaces};
 ghost use Rattle.report.specs.Searches.{Finds, IsFindKept, IsOfSystem, IsWellAt};
 ghost use Rattle.report.specs.Prints.{IsDrawn, IsPrintedOf, PrintsDrawn, Tells, TellsOfRun, TellsOfTable};
 ghost use Rattle.report_jobs.specs.Prints.{changed};
@@ -18,6 +19,7 @@ ghost use Rattle.report.specs.Silent.{IfRefusedCall};
 ghost use Rattle.report_jobs.specs.declared.running.Trouble.TheVariants as troubles;
 
 use crate::all::search_all_orders;
+use crate::drawn_races::search_drawn_races;
 use crate::showing::CodeBytes;
 use crate::table::{is_all_well, write_cut_of, write_table, write_unseen_of};
 use report_command::{Search, Sought};
@@ -58,7 +60,7 @@ pub(crate) fn no_memory(_fault: SearchFault) -> Trouble
 }
 
 /// How many threads make runs: as many as are asked for, or as there are processors.
-fn jobs_of<R: Threads>(rt: &R, search: &Search) -> usize {
+pub(crate) fn jobs_of<R: Threads>(rt: &R, search: &Search) -> usize {
     match search.jobs {
         Some(jobs) => jobs as usize,
         None => thread::available_parallelism(rt).map_or(1, |count| count.get()),
@@ -74,7 +76,7 @@ fn write_size<W: Write>(out: &mut W, size: Size) -> io::Result<()>
 }
 
 /// What became of the size of a run.
-fn write_sizes<W: Write>(out: &mut W, before: Size, after: Size) -> io::Result<()>
+pub(crate) fn write_sizes<W: Write>(out: &mut W, before: Size, after: Size) -> io::Result<()>
     ensures { Wrote W.contents out.old out.new result (sizes_line before after) }
 {
     write_size(out, before)?;
@@ -157,6 +159,33 @@ fn search_drawn<R: Threads + Sync, F: Hears, W: Write, S: Write>(
     }
 }
 
+/// Searches through drawn runs: for one with a race, where that is asked for, or for one that ends so.
+fn search_runs<R: Threads + Sync, F: Hears, W: Write, S: Write>(
+    rt: &R,
+    alloc: Global,
+    request: &Request,
+    asked: Asked,
+    follower: &mut F,
+    out: &mut W,
+    save: &mut S,
+) -> Result<u8, Trouble>
+    requires range { IsSearchInRange asked.search.now }
+    requires asked { IsAskedBy asked.search.now.call request.now }
+    ensures finds { IfOk result
+        (Finds request.now.parts asked.entry.search.now (changed S.contents save.old save.new)) }
+    ensures prints { asked.entry.search.now.races ≡ false → IfOk result (PrintsDrawn request.now.parts
+        asked.entry.search.now (changed W.contents out.old out.new) (changed S.contents save.old save.new)) }
+    ensures races { asked.entry.search.now.races ≡ true → IfOk result (PrintsDrawnRaces request.now.parts
+        asked.entry.search.now (changed W.contents out.old out.new) (changed S.contents save.old save.new)) }
+    ensures unwanted { is_some asked.entry.search.now.save ≡ false → Stays save.old save.new }
+    ensures trouble { IfErr result IsOfSystem }
+{
+    if asked.search.races {
+        return search_drawn_races(rt, alloc, request, asked, follower, out, save);
+    }
+    search_drawn(rt, alloc, request, asked.search, follower, out, save)
+}
+
 /// Searches as is asked for: through drawn runs, or through every order of entries. Answers the status.
 pub fn search_module<R: Threads + Sync, F: Hears, W: Write, S: Write>(
     rt: &R,
@@ -167,11 +196,13 @@ pub fn search_module<R: Threads + Sync, F: Hears, W: Write, S: Write>(
     out: &mut W,
     save: &mut S,
 ) -> Result<u8, Trouble>
-    requires { IsSearchInRange asked.entry.search.now }
+    requires { IsSearchInRange asked.search.now }
     ensures finds { IfOk result (Finds «module».now.parts asked.entry.search.now (changed S.contents save.old save.new)) }
     ensures well { IfOk result (IsWellAt «module».now.parts asked.entry.search.now) }
     ensures drawn { IfOk result (IsDrawn «module».now.parts asked.entry.search.now (changed W.contents out.old out.new)
         (changed S.contents save.old save.new)) }
+    ensures drawn_races { IfOk result (IsDrawnForRaces «module».now.parts asked.entry.search.now
+        (changed W.contents out.old out.new) (changed S.contents save.old save.new)) }
     ensures prints { IfOk result (IsPrintedOf «module».now.parts asked.entry.search.now (changed W.contents out.old out.new)
         (changed S.contents save.old save.new)) }
     ensures trouble { IfErr result (IsTroubleOf «module».now.parts asked.entry.search.now.call) }
@@ -183,7 +214,7 @@ pub fn search_module<R: Threads + Sync, F: Hears, W: Write, S: Write>(
     let request = request_of(module, &search.call, &args);
     match search.all {
         Some(most) => search_all_orders(alloc, &request, asked, most, follower, out, save),
-        None => search_drawn(rt, alloc, &request, search, follower, out, save),
+        None => search_runs(rt, alloc, &request, asked, follower, out, save),
     }
 }
 

@@ -1,26 +1,25 @@
 //! The entries of a record by the program, in words: what is printed, or why there is nothing to print.
 ghost use Rattle.std.specs.Prelude.{◌≡◌, ◌⊎◌, ℕ, List, IfOk, IfErr, is_some, false};
 ghost use Rattle.types.specs.declared.parts.Parts.{Parts};
-ghost use Rattle.spawn_host.specs.declared.end.EndState.{EndState};
-ghost use Rattle.replay.specs.Runs.{IsRunOf, IsReplayFault, ShowsNoRun};
 ghost use Rattle.report_jobs.specs.Jobs.{IsNoRecordOf, IsNoValidModule, IsUnfit, IsRecordOf, IsOfRun};
 ghost use Rattle.report_jobs.specs.Prints.{changed};
 ghost use Rattle.report_jobs.specs.Told.{TellsWhatIsWrong};
 ghost use Rattle.report_command.specs.Views.{path_of};
 ghost use Rattle.report_jobs.specs.Silence.{IsRefusal, Stays};
-ghost use Rattle.report.specs.Raced.{AreRowsOf, IsSeen};
+ghost use Rattle.report.specs.Raced.{IsSeen};
 ghost use Rattle.report.specs.Silent.{IfRefusedRecord, IsNoRefusal};
 
 use crate::objects::write_entries;
 use race_history::{Race, is_history};
-use replay::{ReplayFault, replay_watched};
+use replay::replay_watched;
 use replay_text::{Record, RecordFault, RecordParts, read_record};
 use report_command::{At, Look, View};
 use report_jobs::{Streams, Unfit, load, misfit, refuse, reject};
+use search_races::watched;
 use show_events::{write_page, write_trace};
 use show_moments::{Bytes, Moment, write_moment};
 use show_races::racing_pairs;
-use show_rows::{CodeMap, Row, Rows, Shown, write_rows};
+use show_rows::{CodeMap, Row, Shown, write_rows};
 use show_text::Unwritten;
 use std::alloc::{AllocError, Global};
 use std::io::Write;
@@ -54,8 +53,9 @@ pub fn show_saved<W: Write, E: Write, S: Write>(
     ensures status { (result ≡ 0) ⊎ (result ≡ 2) ⊎ (result ≡ 4) ⊎ (result ≡ 5) }
     ensures silent { IsRefusal result → Stays streams.old.out streams.new.out × Stays streams.old.save streams.new.save }
     ensures unwanted { is_some (path_of view.entry) ≡ false → Stays streams.old.save streams.new.save }
+    ensures no_memory { Stays streams.old.memory streams.new.memory }
 {
-    let Streams { out, err, save } = streams;
+    let Streams { out, err, save, .. } = streams;
     let code = CodeBytes { module, names };
     if view.path().is_some() {
         return show_to(alloc, code, saved, look, view, save, err);
@@ -168,27 +168,6 @@ pub(crate) fn rows_of(alloc: Global, module: &ValidModule, saved: &[u8]) -> Resu
     match watched(alloc, module, &record) {
         Ok(rows) => Ok(SeenRun { record, rows }),
         Err(fault) => Err(misfit(fault)),
-    }
-}
-
-/// The rows of a record's entries.
-pub(crate) fn watched(
-    alloc: Global,
-    module: &ValidModule,
-    record: &Record,
-) -> Result<Vec<Option<Row>>, ReplayFault>
-    ensures run { IfOk result (λ rows. (end : EndState) × IsRunOf «module».now.parts «record».now end
-        × AreRowsOf «module».now.parts «record».now end rows.items) }
-    ensures fault { IfErr result (λ fault. IsReplayFault «module».now.parts «record».now fault) }
-    ensures none { IfErr result (λ fault. ShowsNoRun «module».now.parts «record».now fault) }
-{
-    let mut rows = match Rows::new(alloc, record.parts().log.as_slice()) {
-        Ok(rows) => rows,
-        Err(_) => return Err(ReplayFault::NoMemory),
-    };
-    match replay_watched(alloc, module, record, &mut rows) {
-        Ok(_) => Ok(rows.rows),
-        Err(fault) => Err(fault),
     }
 }
 

@@ -1,12 +1,13 @@
 //! The keys of lines.
 
 /// The keys that there are.
-const KEYS: [&str; 25] = [
+const KEYS: [&str; 27] = [
     "module",
     "hex",
     "body",
     "gives",
     "memory",
+    "memory-out",
     "saved",
     "saved-rest",
     "saved-file",
@@ -27,6 +28,7 @@ const KEYS: [&str; 25] = [
     "record-end",
     "record-has",
     "again",
+    "again-err",
 ];
 
 /// A key of a line of a file of cases that is none, if there is one.

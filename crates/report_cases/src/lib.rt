@@ -13,7 +13,8 @@
 //!                          isn't shared; none; or the bytes of a section
 //!
 //! saved LINE             the lines of the record that is read
-//! saved-rest TEXT        a last piece of it, without a line feed
+//! saved-rest TEXT        a last piece of it, without a line feed; of a run with `--memory-in` these are the bytes that
+//!                          are laid over its memory
 //! saved-file FILE        or the record is this file
 //! names FILE             `show` takes names and lines of source from this file, and not from the module
 //!
@@ -36,18 +37,21 @@
 //! record LINE            the lines of the record that is written, or of the file that `show` makes
 //! record-end LINE        or its last lines, before that of the pages, which was printed too, and `finish`
 //! record-has LINE        lines that it has, in this order
+//! memory-out 65536 61 62 how many bytes are written of the memory, of which these are the first
 //! again LINE             what its replay prints, with the `--dump` of the words
+//! again-err LINE         what the replay says on standard error
 //! again-status 1         the replay's status, 0 without this line
 //! ```
 //!
-//! A case without one of the last five lines writes nothing to a record. A run over the recorder needs none of them:
-//! its record ends as `record-end` says, and is replayed to the same lines with the same status. A record is also
-//! written as it is read.
+//! A case without one of the lines from `record` on writes nothing to a record, and one without `memory-out` nothing of a
+//! memory. A run over the recorder needs none of them: its record ends as `record-end` says, and is replayed to the same
+//! lines, on both streams, with the same status. A record is also written as it is read.
 #![tactic(auto)]
 
 mod case;
 mod input;
 mod keys;
+mod memory;
 mod program;
 mod record;
 mod rows;

@@ -27,6 +27,7 @@ impl Gave {
                 out: Vec::new(alloc),
                 err: Vec::new(alloc),
                 save: Vec::new(alloc),
+                memory: Vec::new(alloc),
             },
             status: 0,
         }
@@ -37,6 +38,7 @@ impl Gave {
         self.streams.out.clear();
         self.streams.err.clear();
         self.streams.save.clear();
+        self.streams.memory.clear();
         self.status = 0;
     }
 }

@@ -1,5 +1,6 @@
 //! One command line of a case, as often and over such memories as the case says.
 
+use crate::memory::is_memory_kept;
 use crate::program::{Gave, Input, program};
 use crate::record::{Kept, is_kept};
 use crate::telling::CaseName;
@@ -103,6 +104,15 @@ fn is_replayed<'a, R: Threads + Wait + Sync>(
     )
 }
 
+/// What a replay says on standard error of a run that said this: the same, but for what was asked to be explained.
+fn told_again<'a>(trial: Trial, ran: &'a Gave) -> &'a [u8] {
+    if trial.words.contains("--explain") {
+        b""
+    } else {
+        &ran.streams.err
+    }
+}
+
 /// Whether the record is replayed as it should be, where a replay is wanted.
 fn comes_again<'a, R: Threads + Wait + Sync>(
     rt: &HostRuntime,
@@ -112,19 +122,20 @@ fn comes_again<'a, R: Threads + Wait + Sync>(
     ran: &'a Gave,
 ) -> Result<bool, AllocError> {
     let text = trial.case.text(rt.alloc(), "again")?;
-    let (out, status) = match over {
+    let told = trial.case.text(rt.alloc(), "again-err")?;
+    let wanted = match over {
         Over::Words => return Ok(true),
         Over::Named if text.is_empty() => return Ok(true),
-        Over::Named => (
-            Some(text.as_slice()),
-            number_of(trial.case, "again-status", 0),
-        ),
-        Over::Recorder => (Some(ran.streams.out.as_slice()), ran.status),
-    };
-    let wanted = Wanted {
-        out,
-        err: b"",
-        status,
+        Over::Named => Wanted {
+            out: Some(text.as_slice()),
+            err: told.as_slice(),
+            status: number_of(trial.case, "again-status", 0),
+        },
+        Over::Recorder => Wanted {
+            out: Some(ran.streams.out.as_slice()),
+            err: told_again(trial, ran),
+            status: ran.status,
+        },
     };
     is_replayed(rt, threads, trial, &ran.streams.save, wanted)
 }
@@ -142,6 +153,7 @@ fn try_over<R: Threads + Wait + Sync>(
     program(threads, rt.alloc(), &words, trial.input, &mut gave)?;
     let is_right = wrote(rt, trial.place, &words, trial.wanted, &gave)
         && is_kept(rt, trial.place, trial.case, over.record(), &gave)?
+        && is_memory_kept(rt, trial.place, trial.case, &words, &gave)?
         && comes_again(rt, threads, trial, over, &gave)?;
     tally.add(is_right);
     Ok(())

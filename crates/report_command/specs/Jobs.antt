@@ -1,9 +1,10 @@
 -- The jobs of the command line.
-use Rattle.std.specs.Prelude.{◌≤◌, ◌≢◌, IfSome, false, ◌≡◌}
+use Rattle.std.specs.Prelude.{◌≤◌, ◌≢◌, IfSome, false, ◌≡◌, None}
 use Rattle.types.specs.declared.limits.TheConstants.{MOST_LIMIT, MOST_FUEL}
 use Rattle.report_command.specs.declared.limits.TheConstants.{MOST_DUMP, MOST_RACES, NARROWEST, WIDEST}
 use Rattle.report_command.specs.declared.command_line.Job.{Job}
 use Rattle.report_command.specs.declared.command_line.Job.TheVariants.{Check, Run, Replay, Show, Races, Search}
+use Rattle.report_command.specs.declared.command_line.RunJob.{RunJob}
 use Rattle.report_command.specs.declared.form.Form.{Form}
 use Rattle.report_command.specs.declared.form.Form.TheVariants.{Lines}
 use Rattle.report_command.specs.Searches.{IsSearchInRange, SearchKeepsItsModule}
@@ -18,11 +19,19 @@ IsInRange (Show file saved names look view) = (NARROWEST ≤ look.width) × (loo
 IsInRange (Races job) = (1 ≤ job.most) × (job.most ≤ MOST_RACES)
 IsInRange (Search s) = IsSearchInRange s
 
--- A job keeps no record at the path of its module, and none of a memory of words; and makes no file at the path of one
--- that it reads.
+-- A run keeps no record at the path of its module, and none of a memory of words or where bytes are laid over it.
+abbrev pub KeepsRecordApart : RunJob → Type 0
+KeepsRecordApart job = IfSome job.save (λ path. (path.now ≢ job.file.now) × (job.on_words ≡ false) × (job.memory_in ≡ None))
+
+-- Its memory goes to no path of a file that it reads, or of its record.
+abbrev pub KeepsMemoryApart : RunJob → Type 0
+KeepsMemoryApart job = IfSome job.memory_out (λ path. (path.now ≢ job.file.now)
+    × IfSome job.save (λ saved. path.now ≢ saved.now) × IfSome job.memory_in (λ laid. path.now ≢ laid.path.now))
+
+-- A job makes no file at the path of one that it reads, or of another that it makes, and no record that can't be.
 abbrev pub KeepsItsModule : Job → Type 0
 KeepsItsModule (Check file form) = Unit {0}
-KeepsItsModule (Run job) = IfSome job.save (λ path. (path.now ≢ job.file.now) × (job.on_words ≡ false))
+KeepsItsModule (Run job) = KeepsRecordApart job × KeepsMemoryApart job
 KeepsItsModule (Replay file saved look) = Unit {0}
 KeepsItsModule (Show file saved names look view) = IfSome (path_of view) (λ path. (path.now ≢ file.now)
     × (path.now ≢ saved.now))

@@ -2,6 +2,7 @@
 use Rattle.std.specs.Prelude.{ℕ, ◌≡◌, ◌≢◌, ◌⊎◌, ◌||◌, Bool, true, false, List, map, ◌++◌, codes}
 use Rattle.std.specs.Prelude.{Option, Some, None, is_some, option_map, IfSome, MatchOption}
 use Rattle.std.specs.Borrow.{Bor}
+use Rattle.std.specs.Str.Parse.{digits_value, without_leading_plus}
 use Rattle.clap.specs.Words.{first_value, rows_of, subcommand_name_of, subcommand_rows_of}
 use Rattle.clap.specs.Words.{HasMatchesOf, app_of, IsParsedFrom}
 use Rattle.clap.specs.declared.builder.command.Command.{Command}
@@ -20,6 +21,7 @@ use Rattle.report_choice.specs.declared.sought.Sought.{Sought}
 use Rattle.report_command.specs.declared.limits.TheConstants.{DEFAULT_STATES, DEFAULT_SHRINK_SECONDS}
 use Rattle.report_command.specs.declared.call.CallWords.{CallWords}
 use Rattle.report_command.specs.declared.command_line.RunJob.{RunJob}
+use Rattle.report_command.specs.declared.memory.MemoryFile.{MemoryFile}
 use Rattle.report_command.specs.declared.form.Form.{Form}
 use Rattle.report_command.specs.declared.form.Form.TheVariants.{Lines, Json}
 use Rattle.report_command.specs.declared.form.EndLook.{EndLook}
@@ -52,7 +54,23 @@ AsksForm f form = HasFlag f (codes "json") (is_json form)
 pub record AsksEndLook (f : Found) (look : EndLook) : Type 0 where
   pub dump_is : HasNumber f (codes "dump") look.dump
   pub units_is : HasFlag f (codes "units") look.units
+  pub callers_is : HasFlag f (codes "explain") look.callers
   pub form_is : AsksForm f look.form
+
+-- An address: decimal digits, or hexadecimal ones behind `0x`.
+abbrev pub IsAddress : List ℕ → ℕ → Type 0
+IsAddress text addr = (addr ≡ number_in text)
+    ⊎ ((digits : List ℕ) × (text ≡ codes "0x" ++ digits) × (addr ≡ digits_value 16 (without_leading_plus digits)))
+
+-- A path with an address behind its last `@`, or a path alone.
+abbrev pub IsMemoryFile : List ℕ → MemoryFile → Type 0
+IsMemoryFile text file = ((file.path.now ≡ text) × (file.addr ≡ 0))
+    ⊎ ((addr : List ℕ) × (text ≡ file.path.now ++ codes "@" ++ addr) × IsAddress addr file.addr)
+
+-- What is laid over the memory of a run, or nothing.
+abbrev pub AsksMemoryIn : Found → Option MemoryFile → Type 0
+AsksMemoryIn f None = HasNo f (codes "memory-in")
+AsksMemoryIn f (Some file) = (text : List ℕ) × (first_value f (codes "memory-in") ≡ Some text) × IsMemoryFile text file
 
 -- `check`
 pub record AsksCheck (f : Found) (file : Bor (List ℕ)) (form : Form) : Type 0 where
@@ -66,6 +84,8 @@ pub record AsksRun (f : Found) (job : RunJob) : Type 0 where
   pub memory : IsWord f (codes "memory") (codes "words") job.on_words
   pub limit : HasNumber f (codes "limit") job.limit
   pub save : HasTextIfAny f (codes "record") job.save
+  pub memory_in : AsksMemoryIn f job.memory_in
+  pub memory_out : HasTextIfAny f (codes "memory-out") job.memory_out
   pub look : AsksEndLook f job.look
 
 -- `replay`
@@ -174,8 +194,9 @@ pub record AsksTarget (f : Found) (target : Target) : Type 0 where
   pub expect : AsksResult f target.expect
 
 -- A search stops at the first run that is looked for where it is said what that is, or what becomes of it.
-abbrev pub stops_by : Found → Bool → Bool
-stops_by f shrink = is_given f (codes "find") || is_given f (codes "expect") || is_given f (codes "record") || shrink
+abbrev pub stops_by : Found → Bool → Bool → Bool
+stops_by f shrink races =
+    is_given f (codes "find") || is_given f (codes "expect") || is_given f (codes "record") || shrink || races
 
 -- Which runs a search makes.
 pub record AsksSought (f : Found) (s : Sought) : Type 0 where
@@ -202,7 +223,7 @@ pub record AsksSearch (f : Found) (s : Search) : Type 0 where
   pub file : HasText f (codes "file") s.file
   pub call : AsksCall f s.call
   pub sought : AsksSought f s.sought
-  pub stops : s.sought.stops ≡ stops_by f s.shrink
+  pub stops : s.sought.stops ≡ stops_by f s.shrink s.races
   pub shrink : HasFlag f (codes "shrink") s.shrink
   pub effort : AsksEffort f s.shrink_time s.time s.jobs
   pub all : AsksAll f s.all

@@ -3,7 +3,7 @@ ghost use Rattle.std.specs.Prelude.{◌≡◌, ◌≤◌, IfOk, IfSome, IsNone, 
 ghost use Rattle.clap.specs.Words.{found_of};
 ghost use Rattle.types.specs.declared.limits.TheConstants.{MOST_LIMIT};
 ghost use Rattle.report_command.specs.declared.limits.TheConstants.{MOST_DUMP};
-ghost use Rattle.report_command.specs.Jobs.{IsInRange, KeepsItsModule, form_in};
+ghost use Rattle.report_command.specs.Jobs.{IsInRange, KeepsItsModule, KeepsRecordApart, KeepsMemoryApart, form_in};
 ghost use Rattle.report_command.specs.Found.{HasNumber};
 ghost use Rattle.report_command.specs.Options.{AsksNamed, AsksReasons, IsOrderOf, IsAskedBy, IsJobOf, texts_in};
 ghost use Rattle.report_command.specs.FaultNumbers.{usage_number, IsWrong};
@@ -12,9 +12,10 @@ use crate::arguments::{Argument, CommandRow, FLAG, Kind, OPTION, command_of};
 use crate::call::{ARGS, CallWords, FUEL, INVOKE, call_of};
 use crate::form::{EndLook, Form, JSON, UNITS, end_look_of, form_of};
 use crate::limits::{DEFAULT_DUMP, DEFAULT_LIMIT, MOST_DUMP};
+use crate::memory::{MEMORY_IN, MEMORY_OUT, MemoryFile, memory_in_of, memory_misread};
 use crate::races::{RACES, RacesJob, races_job};
 use crate::search::{SEARCH, Search, search_job, search_misuse};
-use crate::show::{SHOW, View, misread, show_job};
+use crate::show::{SHOW, View, show_job, show_misread};
 use crate::words::short_of;
 use clap::builder::ValueParser;
 use clap::error::ErrorKind;
@@ -35,6 +36,10 @@ pub struct RunJob<'a> {
     pub limit: u32,
     /// The path of the record to be written, if one is wanted.
     pub save: Option<&'a str>,
+    /// The file whose bytes are laid over its memory before the first turn, if one is.
+    pub memory_in: Option<MemoryFile<'a>>,
+    /// The path of the file that gets the bytes of its memory in the end, if one is wanted.
+    pub memory_out: Option<&'a str>,
     /// How its end is printed.
     pub look: EndLook,
 }
@@ -154,7 +159,7 @@ pub(crate) const RECORD: Argument = Argument {
 /// Whether more is said of a refusal.
 const EXPLAIN: Argument = Argument {
     name: "explain",
-    help: "Say on standard error, behind a refusal, where and why it is, and what to do",
+    help: "Say on standard error, behind a refusal or a trap, where and why it is, and what to do",
     ..FLAG
 };
 
@@ -205,15 +210,16 @@ static CHECK: CommandRow = CommandRow {
     arguments: &[FILE, JSON, EXPLAIN],
 };
 
-/// `run FILE --invoke NAME [--memory locked|words] [--record OUT] [--fuel N] [--limit N] [--dump N] [--units]
-/// [--json] [--explain] [ARG..]`
+/// `run FILE --invoke NAME [--memory locked|words] [--memory-in FILE2[@ADDR]] [--memory-out OUT2] [--record OUT]
+/// [--fuel N] [--limit N] [--dump N] [--units] [--json] [--explain] [ARG..]`
 static RUN: CommandRow = CommandRow {
     name: "run",
     call: "wathread run",
     about: "Runs a function of a module, and prints how its threads ended",
     after_help: None,
     arguments: &[
-        FILE, INVOKE, MEMORY, SAVE, FUEL, LIMIT, DUMP, UNITS, JSON, EXPLAIN, ARGS,
+        FILE, INVOKE, MEMORY, MEMORY_IN, MEMORY_OUT, SAVE, FUEL, LIMIT, DUMP, UNITS, JSON, EXPLAIN,
+        ARGS,
     ],
 };
 
@@ -325,6 +331,9 @@ fn run_job<'a>(alloc: Global, matches: &ArgMatches<'a>) -> Result<Option<Job<'a>
     if limit < 1 || limit > MOST_LIMIT {
         return Ok(None);
     }
+    let Some(memory_in) = memory_in_of(matches) else {
+        return Ok(None);
+    };
     let Some(call) = call_of(alloc, matches)? else {
         return Ok(None);
     };
@@ -334,6 +343,8 @@ fn run_job<'a>(alloc: Global, matches: &ArgMatches<'a>) -> Result<Option<Job<'a>
         on_words: matches.get_str("memory") == Some("words"),
         limit,
         save: matches.get_str("record"),
+        memory_in,
+        memory_out: matches.get_str("memory-out"),
         look,
     })))
 }
@@ -390,6 +401,11 @@ const EXPECTS_NONE: &str =
     \x20      undefined element, uninitialized element, signature mismatch or stack exhausted\n\
     \x20 stop and out of fuel, asleep for good or record full";
 
+/// What is said of a record of a run with bytes laid over its memory.
+const RECORDS_LAID: &str =
+    "the argument '--record <OUT>' cannot be used with '--memory-in <FILE2[@ADDR]>': a record is of a run of its \
+    module alone, so that a replay wants nothing else";
+
 /// Why words are no job, though the parser takes each of them.
 #[derive(Clone, Copy)]
 pub enum Misuse {
@@ -397,8 +413,14 @@ pub enum Misuse {
     NotText,
     /// A record of a memory of words is wanted, which keeps none.
     RecordsWords,
+    /// A record is wanted of a run with bytes laid over its memory.
+    RecordsLaid,
     /// The record would take the place of the module.
     ReplacesModule,
+    /// The file of the memory would take the place of one that is read, or of the record.
+    MemoryReplaces,
+    /// The address of what is laid over the memory is none.
+    NoAddress,
     /// A number isn't in its range.
     Unreadable,
     /// The lines of `show` are none.
@@ -421,18 +443,24 @@ pub enum Misuse {
     FindsNoBudget,
     /// What is expected is no result.
     ExpectsNone,
+    /// Of every order the run with a race isn't shrunk.
+    ShrinksRace,
 }
 
 impl Misuse {
     fn kind(self) -> ErrorKind {
         match self {
             Misuse::RecordsWords
+            | Misuse::RecordsLaid
             | Misuse::ReplacesModule
+            | Misuse::MemoryReplaces
             | Misuse::FindReplacesModule
             | Misuse::ReplacesRead
-            | Misuse::FindsNoBudget => ErrorKind::ArgumentConflict,
+            | Misuse::FindsNoBudget
+            | Misuse::ShrinksRace => ErrorKind::ArgumentConflict,
             Misuse::NotText
             | Misuse::Unreadable
+            | Misuse::NoAddress
             | Misuse::NoLines
             | Misuse::NoAddresses
             | Misuse::NoBytes
@@ -447,7 +475,11 @@ impl Misuse {
     fn command(self) -> Option<CommandName> {
         match self {
             Misuse::NotText | Misuse::Unreadable => None,
-            Misuse::RecordsWords | Misuse::ReplacesModule => Some(CommandName::Run),
+            Misuse::RecordsWords
+            | Misuse::RecordsLaid
+            | Misuse::ReplacesModule
+            | Misuse::MemoryReplaces
+            | Misuse::NoAddress => Some(CommandName::Run),
             Misuse::NoLines | Misuse::NoAddresses | Misuse::NoBytes | Misuse::ReplacesRead => {
                 Some(CommandName::Show)
             }
@@ -456,6 +488,7 @@ impl Misuse {
             | Misuse::FindsAll
             | Misuse::FindsNothing
             | Misuse::FindsNoBudget
+            | Misuse::ShrinksRace
             | Misuse::ExpectsNone => Some(CommandName::Search),
         }
     }
@@ -465,6 +498,13 @@ impl Misuse {
             Misuse::NotText => "invalid UTF-8 was detected in one or more arguments",
             Misuse::RecordsWords => {
                 "the argument '--record <OUT>' cannot be used with '--memory words'"
+            }
+            Misuse::RecordsLaid => RECORDS_LAID,
+            Misuse::MemoryReplaces => {
+                "the argument '--memory-out <OUT2>' cannot be used with the path of a file that is read, or of the record"
+            }
+            Misuse::NoAddress => {
+                "invalid value for '--memory-in <FILE2[@ADDR]>': ADDR is a number below 4294967296, in decimal digits or behind 0x"
             }
             Misuse::ReplacesModule | Misuse::FindReplacesModule => {
                 "the argument '--record <OUT>' cannot be used with the path of <FILE>"
@@ -493,6 +533,9 @@ impl Misuse {
                 "the argument '--all' cannot be used with '--find' of 'out of fuel' or 'record full': no budget is spent"
             }
             Misuse::ExpectsNone => EXPECTS_NONE,
+            Misuse::ShrinksRace => {
+                "the argument '--shrink' cannot be used with '--races' and '--all': the run to a race is told as it is"
+            }
         }
     }
 }
@@ -524,27 +567,65 @@ fn error_of(alloc: Global, misuse: Misuse) -> Result<Error, AllocError> {
     }
 }
 
+/// Why a run can't keep a record as it is to, if it can't.
+fn record_misuse(job: &RunJob) -> Option<Misuse>
+    ensures { IsNone result → KeepsRecordApart job.now }
+{
+    let Some(path) = job.save else {
+        return None;
+    };
+    if job.on_words {
+        return Some(Misuse::RecordsWords);
+    }
+    if job.memory_in.is_some() {
+        return Some(Misuse::RecordsLaid);
+    }
+    if path == job.file {
+        return Some(Misuse::ReplacesModule);
+    }
+    None
+}
+
+/// Why the memory of a run can't go where it is to, if it can't.
+fn memory_misuse(job: &RunJob) -> Option<Misuse>
+    ensures { IsNone result → KeepsMemoryApart job.now }
+{
+    let Some(path) = job.memory_out else {
+        return None;
+    };
+    if path == job.file {
+        return Some(Misuse::MemoryReplaces);
+    }
+    if let Some(saved) = job.save
+        && path == saved
+    {
+        return Some(Misuse::MemoryReplaces);
+    }
+    if let Some(laid) = job.memory_in
+        && path == laid.path
+    {
+        return Some(Misuse::MemoryReplaces);
+    }
+    None
+}
+
+/// Why the paths of a run don't go together, if they don't.
+fn run_misuse(job: &RunJob) -> Option<Misuse>
+    ensures { IsNone result → KeepsRecordApart job.now × KeepsMemoryApart job.now }
+{
+    let misuse = record_misuse(job);
+    if misuse.is_some() {
+        return misuse;
+    }
+    memory_misuse(job)
+}
+
 /// Why the numbers and paths of a job don't go together, if they don't.
 fn misuse_of(job: &Job) -> Option<Misuse>
     ensures { IsNone result → KeepsItsModule job.now }
 {
     match job {
-        Job::Run(
-            RunJob {
-                file,
-                on_words,
-                save: Some(path),
-                ..
-            },
-        ) => {
-            if *on_words {
-                Some(Misuse::RecordsWords)
-            } else if *path == *file {
-                Some(Misuse::ReplacesModule)
-            } else {
-                None
-            }
-        }
+        Job::Run(job) => run_misuse(job),
         Job::Show {
             file,
             saved,
@@ -594,6 +675,15 @@ pub fn command<'a>(alloc: Global, words: &'a [&'a str]) -> Result<Job<'a>, Usage
     match asked(alloc, words) {
         Ok(asked) => Ok(asked.job),
         Err(usage) => Err(usage),
+    }
+}
+
+/// Which of the arguments of a command can't be read, if one can't.
+fn misread(name: &str, matches: &ArgMatches) -> Option<Misuse> {
+    match name {
+        "show" => show_misread(matches),
+        "run" => memory_misread(matches),
+        _ => None,
     }
 }
 

@@ -27,17 +27,20 @@ pub struct EndLook {
     pub dump: u32,
     /// Whether lines have the units that each thread spent. An object always has them.
     pub units: bool,
+    /// Whether standard error says of a thread that trapped by which calls it came there.
+    pub callers: bool,
     pub form: Form,
 }
 
 impl EndLook {
     /// Lines without units, of these the first so many bytes of the memory, 0 to 4096.
     pub fn lines(dump: u32) -> EndLook
-        ensures { result ≡ record { dump = dump; units = false; form = Lines } }
+        ensures { result ≡ record { dump = dump; units = false; callers = false; form = Lines } }
     {
         EndLook {
             dump,
             units: false,
+            callers: false,
             form: Form::Lines,
         }
     }
@@ -77,6 +80,7 @@ pub(crate) fn end_look_of(matches: &ArgMatches) -> Option<EndLook>
         Some(dump) if dump <= MOST_DUMP => Some(EndLook {
             dump,
             units: matches.get_flag("units"),
+            callers: matches.get_flag("explain"),
             form: form_of(matches),
         }),
         _ => None,

@@ -1,9 +1,10 @@
 //! The command line as a job.
 //!
 //! Proved: each field of a job is what `clap` found of the argument that it is (`specs/Options.antt`, a line for each),
-//! and its numbers are in their ranges. No run keeps a record in place of its module, or one of a memory of words. A
-//! result that is expected of a search is spelled whole. Which numbers `A-B` of lines and addresses spell, and what
-//! `clap` finds in words, cases say.
+//! and its numbers are in their ranges. No run keeps a record in place of its module, or one of a memory of words or
+//! with bytes laid over it, and none writes its memory in place of a file that it reads or of its record. A result that
+//! is expected of a search is spelled whole. Which numbers `A-B` of lines and addresses spell, and what `clap` finds in
+//! words, cases say.
 #![tactic(auto)]
 
 mod advice;
@@ -13,6 +14,7 @@ mod command_line;
 mod form;
 mod limits;
 mod lines;
+mod memory;
 mod races;
 mod search;
 mod show;
@@ -22,6 +24,7 @@ pub use advice::{ADVICE, Advice};
 pub use call::CallWords;
 pub use command_line::{Job, Misuse, Order, RunJob, Usage, asked, command, misused};
 pub use form::{EndLook, Form};
+pub use memory::MemoryFile;
 pub use races::RacesJob;
 pub use report_choice::{Color, Find, Look, Sought, Target, Way};
 pub use search::Search;

@@ -46,7 +46,7 @@ pub struct Search<'a> {
     pub all: Option<u32>,
     /// Whether that is so at once: races aren't looked for.
     pub every_order: bool,
-    /// Whether a run with a race is looked for.
+    /// Whether a run with a race is looked for: of every order, or the first drawn one.
     pub races: bool,
     /// Whether the status is that of the endings alone, where there are races or it isn't known.
     pub allow_races: bool,
@@ -153,12 +153,16 @@ const ORDERS: Argument = Argument {
     ..OPTION
 };
 
+/// What is said of runs with a race.
+const RACES_HELP: &str =
+    "Stop at the first run in which two accesses race, and tell them; with --all keep the run with a race, and no other \
+     one";
+
 /// A race is looked for.
 const RACES: Argument = Argument {
     name: "races",
-    help: "With --all: of what is found keep the run with a race, and no other one",
-    needs: &["all"],
-    conflicts: &["find", "expect", "shrink"],
+    help: RACES_HELP,
+    conflicts: &["find", "expect"],
     ..FLAG
 };
 
@@ -258,8 +262,8 @@ const UNTIL: Argument = Argument {
 };
 
 /// `search FILE --invoke NAME [--runs N] [--from I] [--seed S] [--strategy mix|random|pct:D|spin] [--jobs N] [--all
-/// [--states N] [--orders needed|all] [--races] [--allow-races]] [--find WORDS] [--expect RESULT] [--record OUT] [--shrink [--shrink-time SECONDS]] [--time SECONDS]
-/// [--until PATH] [--fuel N] [--limit N] [--dump N] [ARG..]`
+/// [--states N] [--orders needed|all] [--allow-races]] [--find WORDS] [--expect RESULT] [--races] [--record OUT]
+/// [--shrink [--shrink-time SECONDS]] [--time SECONDS] [--until PATH] [--fuel N] [--limit N] [--dump N] [ARG..]`
 pub(crate) static SEARCH: CommandRow = CommandRow {
     name: "search",
     call: "wathread search",
@@ -336,6 +340,9 @@ pub(crate) fn search_misuse(
     if matches.get_str("strategy").and_then(way_of).is_none() {
         return Ok(Some(Misuse::Strategy));
     }
+    if matches.get_flag("races") && matches.get_flag("all") && matches.get_flag("shrink") {
+        return Ok(Some(Misuse::ShrinksRace));
+    }
     if let Some(words) = matches.get_str("expect")
         && result_of(alloc, words)?.is_none()
     {
@@ -398,13 +405,14 @@ fn target_of<'a>(alloc: Global, matches: &ArgMatches<'a>) -> Result<Option<Targe
 }
 
 /// Whether a search stops at the first run that is looked for: where it is said what that is, or what becomes of it.
-fn stops(matches: &ArgMatches, shrink: bool) -> bool
-    ensures { result ≡ stops_by (found_of matches.now) shrink }
+fn stops(matches: &ArgMatches, shrink: bool, races: bool) -> bool
+    ensures { result ≡ stops_by (found_of matches.now) shrink races }
 {
     matches.get_str("find").is_some()
         || matches.get_str("expect").is_some()
         || matches.get_str("record").is_some()
         || shrink
+        || races
 }
 
 /// Which runs are drawn, where the numbers are there and in range, as the parser sees to, and the strategy is one; and
@@ -506,7 +514,8 @@ pub(crate) fn search_job<'a>(
         return Ok(None);
     };
     let shrink = matches.get_flag("shrink");
-    let sought = sought_of(matches, target, stops(matches, shrink));
+    let races = matches.get_flag("races");
+    let sought = sought_of(matches, target, stops(matches, shrink, races));
     let (Some(file), Some(sought)) = (matches.get_str("file"), sought) else {
         return Ok(None);
     };
@@ -531,7 +540,7 @@ pub(crate) fn search_job<'a>(
         jobs,
         all,
         every_order: matches.get_str("orders") == Some("all"),
-        races: matches.get_flag("races"),
+        races,
         allow_races: matches.get_flag("allow-races"),
         until: matches.get_str("until"),
         save: matches.get_str("record"),

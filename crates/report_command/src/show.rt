@@ -217,10 +217,7 @@ fn is_no_span(matches: &ArgMatches, name: &str) -> bool {
 }
 
 /// Which of the arguments of `show` can't be read, if one can't.
-pub(crate) fn misread(name: &str, matches: &ArgMatches) -> Option<Misuse> {
-    if name != "show" {
-        return None;
-    }
+pub(crate) fn show_misread(matches: &ArgMatches) -> Option<Misuse> {
     if is_no_span(matches, "lines") {
         return Some(Misuse::NoLines);
     }

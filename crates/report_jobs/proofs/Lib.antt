@@ -6,3 +6,5 @@ pub mod Printed
 pub mod Asking
 pub mod Silent
 pub mod Said
+pub mod Trapping
+pub mod Readied

@@ -12,18 +12,18 @@ use Rattle.replay.specs.Recorded.{RecordsRun}
 use Rattle.report_runs.specs.Called.{RecordsRequest}
 use Rattle.report_command.specs.declared.command_line.RunJob.{RunJob}
 use Rattle.report_jobs.specs.Asked.{IsAskedBy}
-use Rattle.report_jobs.specs.Prints.{WriterChange, PrintsEnd, KeepsRecord, IsRecorded, PrintsRun}
+use Rattle.report_jobs.specs.Prints.{Written, PrintsAll, KeepsRecord, IsRecorded, PrintsRun}
 
-module _ (r : Requested) (job : RunJob) (asked : IsAskedBy job.call r) (out save : WriterChange) (status : ℕ) (end : EndState) where
+module _ (r : Requested) (job : RunJob) (asked : IsAskedBy job.call r) (w : Written) (status : ℕ) (end : EndState) where
   abbrev Over : Bool → Type 0
   Over b =
-      MatchBool b (EndsRunOnWords r.parts job.call.invoke.now r.args job.call.fuel end) (IsRecorded r.parts job r.args save end)
+      MatchBool b (EndsRunOnWords r.parts job.call.invoke.now r.args job.call.fuel end) (IsRecorded r.parts job r.args w.save end)
 
   takes_by : Takes r.parts job.call.invoke.now r.args
   takes_by = subst (λ (name : List ℕ). Takes r.parts name r.args) asked.name_is asked.takes
 
-  pub printed_on_words : job.on_words ≡ true → EndsRequestOnWords r end → PrintsEnd end job.look out status
-      → PrintsRun r.parts job out save status
+  pub printed_on_words : job.on_words ≡ true → EndsRequestOnWords r end → PrintsAll job end w.out w.err w.memory status
+      → PrintsRun r.parts job w status
   printed_on_words on_words run prints = record {
     args = r.args;
     spelled = asked.spelled;
@@ -36,7 +36,7 @@ module _ (r : Requested) (job : RunJob) (asked : IsAskedBy job.call r) (out save
   }
 
   pub printed_recorded : job.on_words ≡ false → (x : RecordParts) → RecordsRequest r job.limit x end → IsRunOf r.parts x end
-      → PrintsEnd end job.look out status → KeepsRecord (is_some job.save) save x → PrintsRun r.parts job out save status
+      → PrintsAll job end w.out w.err w.memory status → KeepsRecord (is_some job.save) w.save x → PrintsRun r.parts job w status
   printed_recorded on_words x records run prints kept = record {
     args = r.args;
     spelled = asked.spelled;

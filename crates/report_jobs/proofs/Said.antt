@@ -3,7 +3,7 @@ use Rattle.std.proofs.Common.{◌≡◌, ℕ, List, [], ◌++◌, Option, None, 
 use Rattle.std.proofs.lemmas.List.{append-nil}
 use Rattle.std.specs.Io.KnownBytes.{Appends, Keeps}
 use Rattle.replay_forms.proofs.Written.{appends_then}
-use Rattle.report_jobs.specs.Told.{Tells}
+use Rattle.report_jobs.specs.Trapped.{Tells}
 
 -- a beginning was written, and this is left
 pub record Telling (old now : Option (List ℕ)) (text rest : List ℕ) : Type 0 where

@@ -21,6 +21,7 @@ module _ (A B : Type 0) where
   of_trouble troubles.NoMemory n is left low = left
   of_trouble troubles.Output n is left low = absurd (omega (arith, is, low.1))
   of_trouble troubles.Save n is left low = absurd (omega (arith, is, low.1))
+  of_trouble troubles.SaveMemory n is left low = absurd (omega (arith, is, low.1))
 
   -- a trouble leaves what stays
   pub of_all : (t : Trouble) → A → B → Leaves t A B
@@ -29,6 +30,7 @@ module _ (A B : Type 0) where
   of_all troubles.NoMemory a b = (a, b)
   of_all troubles.Output a b = b
   of_all troubles.Save a b = tt
+  of_all troubles.SaveMemory a b = tt
 
   -- so it does where nothing was known of the second
   pub of_first : (t : Trouble) → Leaves t A (Unit {0}) → B → Leaves t A B
@@ -37,6 +39,7 @@ module _ (A B : Type 0) where
   of_first troubles.NoMemory left b = (left.0, b)
   of_first troubles.Output left b = b
   of_first troubles.Save left b = tt
+  of_first troubles.SaveMemory left b = tt
 
   pub of_err : (r : Result ℕ Trouble) → A → B → IfErr r (λ t. Leaves t A B)
   of_err (Ok status) a b = tt
@@ -45,6 +48,19 @@ module _ (A B : Type 0) where
   pub of_first_err : (r : Result ℕ Trouble) → IfErr r (λ t. Leaves t A (Unit {0})) → B → IfErr r (λ t. Leaves t A B)
   of_first_err (Ok status) left b = tt
   of_first_err (Err t) left b = of_first t left b
+
+-- what leaves one file leaves another one too that stays
+pub beside : (A B C : Type 0) (t : Trouble) → Leaves t A C → B → Leaves t A (B × C)
+beside A B C (troubles.Call fault) left b = (left.0, (b, left.1))
+beside A B C troubles.NoThread left b = (left.0, (b, left.1))
+beside A B C troubles.NoMemory left b = (left.0, (b, left.1))
+beside A B C troubles.Output left b = (b, left)
+beside A B C troubles.Save left b = tt
+beside A B C troubles.SaveMemory left b = tt
+
+pub beside_err : (A B C : Type 0) (r : Result ℕ Trouble) → IfErr r (λ t. Leaves t A C) → B → IfErr r (λ t. Leaves t A (B × C))
+beside_err A B C (Ok status) left b = tt
+beside_err A B C (Err t) left b = beside A B C t left b
 
 module _ (A : Type 0) where
   pub of_unfit : (u : Unfit) (n : ℕ) → n ≡ unfit_status u → LeavesOut u A → IsRefusal n → A

@@ -1,9 +1,10 @@
 -- What checks, runs and replays say of the bytes that they were given.
-use Rattle.std.specs.Prelude.{ℕ, ◌≡◌, ◌≤◌, ◌⊎◌, List, length, Option}
+use Rattle.std.specs.Prelude.{ℕ, ◌≡◌, ◌≤◌, ◌⊎◌, List, length, Option, None, Some}
 use Rattle.std.specs.Io.KnownBytes.{Appends}
 use Rattle.types.specs.declared.parts.Parts.{Parts}
 use Rattle.binary_wire.specs.declared.fault.ReadFault.TheVariants.{OutOfMemory as ReadOutOfMemory, Malformed}
 use Rattle.validate_typing.specs.Validity.{IsValid}
+use Rattle.validate_typing.specs.Tabled.{WithTables, IsValidated}
 use Rattle.binary.specs.Grammar.{IsModuleText}
 use Rattle.replay_text.specs.declared.parts.RecordParts.{RecordParts}
 use Rattle.replay_text.specs.Text.{record_text, IsRecord}
@@ -19,13 +20,18 @@ use Rattle.report_command.specs.declared.call.CallWords.{CallWords}
 use Rattle.report_command.specs.declared.form.Form.{Form}
 use Rattle.report_command.specs.declared.form.EndLook.{EndLook}
 use Rattle.report_command.specs.declared.command_line.RunJob.{RunJob}
+use Rattle.report_command.specs.declared.memory.MemoryFile.{MemoryFile}
+use Rattle.report_memory.specs.Laid.{laid, unlaid}
+use Rattle.report_memory.specs.declared.laying.Unlaid.{Unlaid}
 use Rattle.report_jobs.specs.Arguments.{CannotCall, texts_in}
-use Rattle.report_jobs.specs.Prints.{WriterChange, change, accepted_text, PrintsEnd, PrintsRun}
+use Rattle.report_jobs.specs.Prints.{WriterChange, Written, accepted_text, PrintsEnd, PrintsRun}
 use Rattle.report_jobs.specs.declared.replaying.Unfit.{Unfit}
 use Rattle.report_jobs.specs.declared.replaying.Unfit.TheVariants.{Unread, Misfit, NoMemory, Output}
 use Rattle.validate_typing.specs.declared.fault.ValidFault.TheVariants.{OutOfMemory as ValidityOutOfMemory, Outside}
 use Rattle.validate_typing.specs.declared.fault.ValidFault.TheVariants.{InBody}
 use Rattle.report_jobs.specs.declared.loading.Refusal.{Refusal}
+use Rattle.report_jobs.specs.declared.loading.Unready.{Unready}
+use Rattle.report_jobs.specs.declared.loading.Unready.TheVariants as unready
 use Rattle.report_jobs.specs.declared.loading.Refusal.TheVariants.{Read, Validity}
 
 -- The bytes are a valid module's text, and what was written says how many functions of its own it has.
@@ -67,14 +73,14 @@ abbrev pub IsStatusOfRefusal : Refusal → ℕ → Type 0
 IsStatusOfRefusal refusal status = (bytes : List ℕ) → IsRefused bytes refusal → status ≡ 2 → IsNoValidModule bytes
 
 -- The bytes are a record's text, the record is of a run of the module, and the end of that run was printed.
-pub record PrintsReplay (m : Parts) (saved : List ℕ) (look : EndLook) (old new : Option (List ℕ)) (status : ℕ)
+pub record PrintsReplay (m : Parts) (saved : List ℕ) (look : EndLook) (out err : WriterChange) (status : ℕ)
     : Type 0 where
   pub record_is : RecordParts
   pub ranges : IsRecord record_is
   pub text : saved ≡ record_text record_is
   pub end : EndState
   pub run : IsRunOf m record_is end
-  pub prints : PrintsEnd end look (change old new) status
+  pub prints : PrintsEnd end look out err status
 
 -- The bytes are the text of no record of a run of the module.
 abbrev pub IsOfNoRun : Parts → List ℕ → Type 0
@@ -121,19 +127,19 @@ abbrev pub IsStatusOfUnfit : Unfit → ℕ → Type 0
 IsStatusOfUnfit unfit status = (m : Parts) (saved : List ℕ) → IsUnfit m saved unfit → status ≡ 4 → IsOfNoRun m saved
 
 -- The same of a record, of the bytes that are its text.
-abbrev pub PrintsReplayOf : Parts → RecordParts → EndLook → WriterChange → ℕ → Type 0
-PrintsReplayOf m r look out status = (saved : List ℕ) → saved ≡ record_text r
-    → PrintsReplay m saved look out.old out.new status
+abbrev pub PrintsReplayOf : Parts → RecordParts → EndLook → WriterChange → WriterChange → ℕ → Type 0
+PrintsReplayOf m r look out err status = (saved : List ℕ) → saved ≡ record_text r
+    → PrintsReplay m saved look out err status
 
 abbrev pub IsUnfitTextOf : Parts → RecordParts → Unfit → Type 0
 IsUnfitTextOf m r unfit = (saved : List ℕ) → saved ≡ record_text r → IsUnfit m saved unfit
 
 -- The bytes are a valid module's text, and a record of a run of it was replayed.
-pub record IsReplayed (bytes saved : List ℕ) (look : EndLook) (old new : Option (List ℕ)) (status : ℕ) : Type 0 where
+pub record IsReplayed (bytes saved : List ℕ) (look : EndLook) (out err : WriterChange) (status : ℕ) : Type 0 where
   pub parts : Parts
   pub text : IsModuleText bytes parts
   pub valid : IsValid parts
-  pub prints : PrintsReplay parts saved look old new status
+  pub prints : PrintsReplay parts saved look out err status
 
 -- They are, and the others are the text of no record of a run of it.
 pub record IsNoRecordOf (bytes saved : List ℕ) : Type 0 where
@@ -142,12 +148,18 @@ pub record IsNoRecordOf (bytes saved : List ℕ) : Type 0 where
   pub valid : IsValid parts
   pub none : IsOfNoRun parts saved
 
+-- The module of which a run is made: that of the bytes, with the others laid over its opening memory where that is
+-- asked for.
+abbrev pub begun : Parts → Option MemoryFile → List ℕ → Parts
+begun m None over = m
+begun m (Some file) over = laid m file.addr over
+
 -- The bytes are a valid module's text, and a run of it was made as asked.
-pub record HasRun (bytes : List ℕ) (job : RunJob) (out save : WriterChange) (status : ℕ) : Type 0 where
+pub record HasRun (bytes over : List ℕ) (job : RunJob) (w : Written) (status : ℕ) : Type 0 where
   pub parts : Parts
   pub text : IsModuleText bytes parts
   pub valid : IsValid parts
-  pub prints : PrintsRun parts job out save status
+  pub prints : PrintsRun (begun parts job.memory_in over) job w status
 
 -- They are, and no function of it can be called so.
 pub record HasNoSuchCall (bytes : List ℕ) (call : CallWords) : Type 0 where
@@ -156,24 +168,72 @@ pub record HasNoSuchCall (bytes : List ℕ) (call : CallWords) : Type 0 where
   pub valid : IsValid parts
   pub cannot : CannotCall parts call.invoke.now (texts_in call.args.items)
 
+-- A valid module was made, of which a run can be: that of the bytes, with the others laid over its opening memory where
+-- that is asked for.
+pub record LoadsOver (bytes : List ℕ) (file : Option MemoryFile) (over : List ℕ) (v : WithTables) : Type 0 where
+  pub parts : Parts
+  pub text : IsModuleText bytes parts
+  pub valid : IsValid parts
+  pub begun_is : v.parts ≡ begun parts file over
+  pub validated : IsValidated v
+
+-- Why bytes weren't laid over the opening memory of a module: it says so where they can't be.
+abbrev pub IsUnreadyModule : Parts → ℕ → List ℕ → Unready → Type 0
+IsUnreadyModule m addr over (unready.Refused refusal) = ⊥
+IsUnreadyModule m addr over (unready.Unlaid why) = unlaid m addr (length over) ≡ Some why
+IsUnreadyModule m addr over unready.NoMemory = Unit {0}
+
+-- Bytes are to be laid over the opening memory of a module, which can't be.
+abbrev pub CannotLay : Parts → Option MemoryFile → List ℕ → Type 0
+CannotLay m None over = ⊥
+CannotLay m (Some file) over = (why : Unlaid) × (unlaid m file.addr (length over) ≡ Some why)
+
+-- Bytes can't be laid over the opening memory of the module that these bytes spell.
+pub record CannotLayOver (bytes : List ℕ) (file : Option MemoryFile) (over : List ℕ) : Type 0 where
+  pub parts : Parts
+  pub text : IsModuleText bytes parts
+  pub valid : IsValid parts
+  pub cannot : CannotLay parts file over
+
+-- Why no module was made.
+abbrev pub IsUnready : List ℕ → Option MemoryFile → List ℕ → Unready → Type 0
+IsUnready bytes file over (unready.Refused refusal) = IsRefused bytes refusal
+IsUnready bytes file over (unready.Unlaid why) = CannotLayOver bytes file over
+IsUnready bytes file over unready.NoMemory = Unit {0}
+
+-- They are, and no function of it can be called so, or the others can't be laid over its opening memory.
+pub record CannotRun (bytes over : List ℕ) (job : RunJob) : Type 0 where
+  pub parts : Parts
+  pub text : IsModuleText bytes parts
+  pub valid : IsValid parts
+  pub cannot : CannotCall (begun parts job.memory_in over) job.call.invoke.now (texts_in job.call.args.items)
+      ⊎ CannotLay parts job.memory_in over
+
+-- A status says of what was refused: with 2 no valid module is spelled, with 3 the bytes can't be laid over its memory.
+pub record IsStatusOfUnready (u : Unready) (status : ℕ) : Type 0 where
+  pub refused : (bytes over : List ℕ) (file : Option MemoryFile) → IsUnready bytes file over u → status ≡ 2
+      → IsNoValidModule bytes
+  pub cannot : (bytes over : List ℕ) (file : Option MemoryFile) → IsUnready bytes file over u → status ≡ 3
+      → CannotLayOver bytes file over
+
 -- What the status of a check says: 0 of an accepted module, 2 of a refused one. 5 is that memory or a stream failed.
 pub record Checks (bytes : List ℕ) (form : Form) (out : WriterChange) (status : ℕ) : Type 0 where
   pub accepted : status ≡ 0 → IsAccepted form bytes out.old out.new
   pub refused : status ≡ 2 → IsNoValidModule bytes
   pub statuses : (status ≡ 0) ⊎ (status ≡ 2) ⊎ (status ≡ 5)
 
--- What that of a run says: 0 and 1 of a run that was made, 2 of a refused module, 3 of a call that can't be made. 5 is
--- that memory, a thread or a stream failed.
-pub record Runs (bytes : List ℕ) (job : RunJob) (out save : WriterChange) (status : ℕ) : Type 0 where
-  pub made : status ≤ 1 → HasRun bytes job out save status
+-- What that of a run says: 0 and 1 of a run that was made, 2 of a refused module, 3 of a call that can't be made or of
+-- bytes that can't be laid over its memory. 5 is that memory, a thread or a stream failed.
+pub record Runs (bytes over : List ℕ) (job : RunJob) (w : Written) (status : ℕ) : Type 0 where
+  pub made : status ≤ 1 → HasRun bytes over job w status
   pub refused : status ≡ 2 → IsNoValidModule bytes
-  pub cannot : status ≡ 3 → HasNoSuchCall bytes job.call
+  pub cannot : status ≡ 3 → CannotRun bytes over job
   pub statuses : (status ≤ 3) ⊎ (status ≡ 5)
 
 -- What that of a replay says: 0 and 1 of a record of a run, 2 of a refused module, 4 of a record of no run. 5 is that
 -- memory or a stream failed.
-pub record Replays (bytes saved : List ℕ) (look : EndLook) (out : WriterChange) (status : ℕ) : Type 0 where
-  pub replayed : status ≤ 1 → IsReplayed bytes saved look out.old out.new status
+pub record Replays (bytes saved : List ℕ) (look : EndLook) (out err : WriterChange) (status : ℕ) : Type 0 where
+  pub replayed : status ≤ 1 → IsReplayed bytes saved look out err status
   pub refused : status ≡ 2 → IsNoValidModule bytes
   pub none : status ≡ 4 → IsNoRecordOf bytes saved
   pub statuses : (status ≤ 2) ⊎ (status ≡ 4) ⊎ (status ≡ 5)

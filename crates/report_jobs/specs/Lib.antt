@@ -6,3 +6,4 @@ pub mod Troubles
 pub mod Plain
 pub mod Silence
 pub mod Told
+pub mod Trapped

@@ -3,7 +3,7 @@ use Rattle.std.specs.Prelude.{ℕ, List}
 use Rattle.report_command.specs.declared.command_line.Job.{Job}
 use Rattle.report_command.specs.declared.command_line.Job.TheVariants.{Check, Run, Replay, Show}
 use Rattle.report_command.specs.declared.command_line.Job.TheVariants as jobs
-use Rattle.report_jobs.specs.Prints.{WriterChange}
+use Rattle.report_jobs.specs.Prints.{Written}
 use Rattle.report_jobs.specs.Jobs.{Checks, Runs, Replays}
 
 -- A job is one of these.
@@ -16,10 +16,10 @@ IsPlain (jobs.Races job) = ⊥
 IsPlain (jobs.Search s) = ⊥
 
 -- What the status of a plain job says.
-abbrev pub PerformsPlain : Job → List ℕ → List ℕ → WriterChange → WriterChange → ℕ → Type 0
-PerformsPlain (Check file form) bytes saved out save status = Checks bytes form out status
-PerformsPlain (Run job) bytes saved out save status = Runs bytes job out save status
-PerformsPlain (Replay file record_path look) bytes saved out save status = Replays bytes saved look out status
-PerformsPlain (Show file record_path names look at) bytes saved out save status = Unit {0}
-PerformsPlain (jobs.Races job) bytes saved out save status = Unit {0}
-PerformsPlain (jobs.Search s) bytes saved out save status = Unit {0}
+abbrev pub PerformsPlain : Job → List ℕ → List ℕ → Written → ℕ → Type 0
+PerformsPlain (Check file form) bytes saved w status = Checks bytes form w.out status
+PerformsPlain (Run job) bytes saved w status = Runs bytes saved job w status
+PerformsPlain (Replay file record_path look) bytes saved w status = Replays bytes saved look w.out w.err status
+PerformsPlain (Show file record_path names look at) bytes saved w status = Unit {0}
+PerformsPlain (jobs.Races job) bytes saved w status = Unit {0}
+PerformsPlain (jobs.Search s) bytes saved w status = Unit {0}

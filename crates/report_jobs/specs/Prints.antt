@@ -25,6 +25,8 @@ use Rattle.report_command.specs.declared.command_line.RunJob.{RunJob}
 use Rattle.replay.specs.Recorded.{RecordsRun}
 use Rattle.spawn_host.specs.RunEnds.{EndsRunOnWords}
 use Rattle.report_jobs.specs.Arguments.{AreSpelled, texts_in}
+use Rattle.report_jobs.specs.Trapped.{TellsTraps}
+use Rattle.report_jobs.specs.declared.streams.Streams.{Streams}
 
 -- What a writer has before and after.
 pub record WriterChange : Type 0 where
@@ -36,6 +38,22 @@ change old new = record { old = old; new = new }
 
 abbrev pub changed : {W : Type 0} → (W → Option (List ℕ)) → W → W → WriterChange
 changed contents old new = change (contents old) (contents new)
+
+-- What each stream of a job has before and after.
+pub record Written : Type 0 where
+  pub out : WriterChange
+  pub err : WriterChange
+  pub save : WriterChange
+  pub memory : WriterChange
+
+abbrev pub written : {W E S : Type 0} → (W → Option (List ℕ)) → (E → Option (List ℕ)) → (S → Option (List ℕ))
+    → Streams W E S → Streams W E S → Written
+written out err save old new = record {
+  out = changed out old.out new.out;
+  err = changed err old.err new.err;
+  save = changed save old.save new.save;
+  memory = changed save old.memory new.memory;
+}
 
 -- What was written are the lines of an end of a run, and the status is its.
 pub record Prints (end : EndState) (dump : ℕ) (out : WriterChange) (status : ℕ) : Type 0 where
@@ -64,10 +82,9 @@ end_text units end dump =
     threads_lines units end.threads.items ++ pages_line end.pages ++ bytes_line dump end.bytes.items
 
 -- An object that has of a run how its threads ended and what they spent, the page count and the first bytes, so many or
--- all if there are fewer. It has no places of threads; its hints are any.
+-- all if there are fewer. Its places and hints are any.
 pub record IsObjectOf (end : EndState) (dump : ℕ) (run : RunEnd) : Type 0 where
   pub threads_are : run.threads.now ≡ end.threads.items
-  pub places_are : run.places.now ≡ []
   pub pages_are : run.pages ≡ end.pages
   pub dump_is : run.dump ≡ dump
   pub bytes_are : run.bytes.now ≡ end.bytes.items
@@ -83,18 +100,29 @@ abbrev pub WritesEnd : Form → Bool → ℕ → EndState → WriterChange → T
 WritesEnd Lines units dump end out = Appends out.old out.new (end_text units end dump)
 WritesEnd Json units dump end out = WritesObject end dump out
 
--- It was printed as is asked for, and the status is its.
-pub record PrintsEnd (end : EndState) (look : EndLook) (out : WriterChange) (status : ℕ) : Type 0 where
+-- It was printed as is asked for, the threads that trapped were told, and the status is its.
+pub record PrintsEnd (end : EndState) (look : EndLook) (out err : WriterChange) (status : ℕ) : Type 0 where
   pub written : WritesEnd look.form look.units look.dump end out
+  pub traps : TellsTraps 0 end.threads.items err.old err.new
   pub status_is : status ≡ status_of end.threads.items
 
 -- What was written is the text of a record, where that is wanted.
 abbrev pub KeepsRecord : Bool → WriterChange → RecordParts → Type 0
 KeepsRecord is_wanted save r = is_wanted ≡ true → Appends save.old save.new (record_text r)
 
--- The end of a run was printed, and its record kept.
-abbrev pub PrintsAndKeeps : RunJob → RecordParts → EndState → WriterChange → WriterChange → ℕ → Type 0
-PrintsAndKeeps job r end out save status = PrintsEnd end job.look out status × KeepsRecord (is_some job.save) save r
+-- What was written are these bytes, where they are wanted.
+abbrev pub KeepsBytes : Bool → WriterChange → List ℕ → Type 0
+KeepsBytes is_wanted memory bytes = is_wanted ≡ true → Appends memory.old memory.new bytes
+
+-- The end of a run was printed, and the bytes of its memory were kept.
+pub record PrintsAll (job : RunJob) (end : EndState) (out err memory : WriterChange) (status : ℕ) : Type 0 where
+  pub printed : PrintsEnd end job.look out err status
+  pub kept : KeepsBytes (is_some job.memory_out) memory end.bytes.items
+
+-- So were they, and its record.
+abbrev pub PrintsAndKeeps : RunJob → RecordParts → EndState → Written → ℕ → Type 0
+PrintsAndKeeps job r end w status =
+    PrintsAll job end w.out w.err w.memory status × KeepsRecord (is_some job.save) w.save r
 
 -- A record of the run that ended so. Where it is wanted, what was written to its writer is its text.
 pub record IsRecorded (m : Parts) (job : RunJob) (args : List Value) (save : WriterChange) (end : EndState) : Type 0 where
@@ -108,11 +136,11 @@ abbrev pub EndsAsAsked : Parts → RunJob → List Value → WriterChange → En
 EndsAsAsked m job args save end =
     MatchBool job.on_words (EndsRunOnWords m job.call.invoke.now args job.call.fuel end) (IsRecorded m job args save end)
 
--- A run was made by values that the texts spell, its end was printed, and its record kept.
-pub record PrintsRun (m : Parts) (job : RunJob) (out save : WriterChange) (status : ℕ) : Type 0 where
+-- A run was made by values that the texts spell, its end was printed, and its record and its memory were kept.
+pub record PrintsRun (m : Parts) (job : RunJob) (w : Written) (status : ℕ) : Type 0 where
   pub args : List Value
   pub spelled : AreSpelled (texts_in job.call.args.items) args
   pub takes : Takes m job.call.invoke.now args
   pub end : EndState
-  pub run : EndsAsAsked m job args save end
-  pub prints : PrintsEnd end job.look out status
+  pub run : EndsAsAsked m job args w.save end
+  pub prints : PrintsAll job end w.out w.err w.memory status

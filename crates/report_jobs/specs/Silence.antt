@@ -27,6 +27,7 @@ trouble_status troubles.NoThread = 5
 trouble_status troubles.NoMemory = 5
 trouble_status troubles.Output = 5
 trouble_status troubles.Save = 5
+trouble_status troubles.SaveMemory = 5
 
 -- 4 for a record, and 5 for memory or a stream.
 abbrev pub unfit_status : Unfit → ℕ
@@ -39,13 +40,14 @@ unfit_status unfits.Output = 5
 abbrev pub Stays : {X : Type 0} → X → X → Type 0
 Stays old new = new ≡ old
 
--- Where no run is made both writers stay, and the record's where the lines can't be written.
+-- Where no run is made all writers stay, and those of files where the lines can't be written.
 abbrev pub Leaves : Trouble → Type 0 → Type 0 → Type 0
 Leaves (troubles.Call fault) out save = out × save
 Leaves troubles.NoThread out save = out × save
 Leaves troubles.NoMemory out save = out × save
 Leaves troubles.Output out save = save
 Leaves troubles.Save out save = Unit {0}
+Leaves troubles.SaveMemory out save = Unit {0}
 
 -- Where no record is replayed standard output stays.
 abbrev pub LeavesOut : Unfit → Type 0 → Type 0
@@ -57,6 +59,15 @@ LeavesOut unfits.Output out = Unit {0}
 -- The statuses of what is refused.
 abbrev pub IsRefusal : ℕ → Type 0
 IsRefusal status = (2 ≤ status) × (status ≤ 4)
+
+-- A job writes what the memory of a run has in the end.
+abbrev pub makes_memory : Job → Bool
+makes_memory (jobs.Run job) = is_some job.memory_out
+makes_memory (jobs.Check file form) = false
+makes_memory (jobs.Replay file saved look) = false
+makes_memory (jobs.Show file saved names look view) = false
+makes_memory (jobs.Races job) = false
+makes_memory (jobs.Search s) = false
 
 -- A plain job makes a file.
 abbrev pub makes_file : Job → Bool

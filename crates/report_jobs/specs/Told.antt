@@ -1,7 +1,6 @@
 -- What is said on standard error of a record that is refused.
-use Rattle.std.specs.Prelude.{◌≡◌, ℕ, List, [], ◌∷◌, ◌++◌, Option, codes}
+use Rattle.std.specs.Prelude.{◌≡◌, ℕ, List, [], ◌∷◌, ◌++◌, codes}
 use Rattle.std.specs.Fmt.{decimal}
-use Rattle.std.specs.Io.KnownBytes.{Appends}
 use Rattle.types.specs.declared.parts.Parts.{Parts}
 use Rattle.validate_typing.specs.Validity.{IsValid}
 use Rattle.binary.specs.Grammar.{IsModuleText}
@@ -12,15 +11,9 @@ use Rattle.replay.specs.declared.fault.ReplayFault.TheVariants as replays
 use Rattle.report_jobs.specs.Jobs.{IsUnfit}
 use Rattle.report_jobs.specs.Prints.{WriterChange}
 use Rattle.report_jobs.specs.Silence.{unfit_status}
+use Rattle.report_jobs.specs.Trapped.{Tells}
 use Rattle.report_jobs.specs.declared.replaying.Unfit.{Unfit}
 use Rattle.report_jobs.specs.declared.replaying.Unfit.TheVariants as unfits
-
--- A beginning of the text was written. That it isn't all of it is for the writer to say.
-pub record Tells (old new : Option (List ℕ)) (text : List ℕ) : Type 0 where
-  pub front : List ℕ
-  pub more : List ℕ
-  pub cut : text ≡ front ++ more
-  pub told : Appends old new front
 
 -- The line that says which line of a text isn't that of a record.
 abbrev pub unread_line : RecordFault → List ℕ

@@ -32,6 +32,7 @@ IsTrouble m name texts troubles.NoThread = Unit {0}
 IsTrouble m name texts troubles.NoMemory = Unit {0}
 IsTrouble m name texts troubles.Output = Unit {0}
 IsTrouble m name texts troubles.Save = Unit {0}
+IsTrouble m name texts troubles.SaveMemory = Unit {0}
 
 -- A status says of what was refused: with 3 no function can be called so.
 abbrev pub IsStatusOfTrouble : Trouble → ℕ → Type 0
@@ -51,6 +52,7 @@ trouble_of_unwritten unwritten.Output = troubles.Output
 -- What was printed or kept couldn't be written.
 abbrev pub IsUnwritten : Trouble → Type 0
 IsUnwritten trouble = (trouble ≡ troubles.NoMemory) ⊎ (trouble ≡ troubles.Output) ⊎ (trouble ≡ troubles.Save)
+    ⊎ (trouble ≡ troubles.SaveMemory)
 
 -- The values that the texts of its arguments spell, which its function takes.
 abbrev pub AreArgumentsOf : Parts → CallWords → List Value → Type 0

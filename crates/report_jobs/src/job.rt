@@ -2,28 +2,31 @@
 ghost use Rattle.std.specs.Prelude.{◌≡◌, ◌≤◌, ◌⊎◌, false, length, is_some, IfOk, IfErr, OnOk};
 ghost use Rattle.std.specs.Io.KnownBytes.{Appends};
 ghost use Rattle.types.specs.declared.limits.TheConstants.{MOST_FUEL};
-ghost use Rattle.report_jobs.specs.Jobs.{IsAccepted, IsAcceptedAs, HasRun, HasNoSuchCall, IsReplayed, IsNoRecordOf};
+ghost use Rattle.report_jobs.specs.Jobs.{IsAccepted, IsAcceptedAs, HasRun, CannotRun, IsReplayed, IsNoRecordOf};
 ghost use Rattle.report_jobs.specs.Jobs.{IsRefused};
-ghost use Rattle.report_jobs.specs.Jobs.{IsNoValidModule, IsStatusOfRefusal, IsStatusOfUnfit};
-ghost use Rattle.report_jobs.specs.Prints.{accepted_text, changed};
+ghost use Rattle.report_jobs.specs.Jobs.{IsNoValidModule, IsStatusOfRefusal, IsStatusOfUnfit, IsStatusOfUnready};
+ghost use Rattle.report_jobs.specs.Prints.{accepted_text, changed, written};
 ghost use Rattle.report_jobs.specs.Silence.{IsRefusal, Stays, refusal_status, trouble_status, unfit_status};
 ghost use Rattle.report_jobs.specs.declared.loading.Refusal.{Refusal};
-ghost use Rattle.report_jobs.specs.Told.{Tells, TellsWhatIsWrong, unfit_line};
+ghost use Rattle.report_jobs.specs.Told.{TellsWhatIsWrong, unfit_line};
+ghost use Rattle.report_jobs.specs.Trapped.{Tells};
 ghost use Rattle.report_jobs.specs.Troubles.{IsStatusOfTrouble};
 
-use crate::loading::{Refusal, load, load_checked};
+use crate::loading::{Refusal, Unready, load, load_checked, load_over};
 use crate::replaying::{Unfit, replay_record};
 use crate::running::{Trouble, print_run};
+use crate::streams::Streams;
 use crate::telling::say_unfit;
 use binary_wire::ReadFault;
-use report_command::{EndLook, Form, RunJob};
+use report_command::{EndLook, Form, MemoryFile, RunJob};
 use report_json::write_accepted;
+use report_memory::Unlaid;
 use show_text::Unwritten;
 use std::alloc::Global;
 use std::io::Write;
 use std::sync::Wait;
 use std::thread::Threads;
-use types::Module;
+use types::{MOST_ITEMS, Module};
 use validate_typing::ValidFault;
 
 /// The statuses with which the program ends, beside 0 and 1 for a run.
@@ -185,19 +188,20 @@ fn write_functions<W: Write>(
 }
 
 /// Runs a function of a module as is asked for, prints how its threads ended, the pages and the first bytes of the memory,
-/// and writes its record where one is wanted.
+/// says which threads trapped, and writes its record and the bytes of its memory where they are wanted. `over` has the
+/// bytes that are laid over its memory before the first turn, where a file is named for that.
 ///
 /// Answers 0 where all threads ended well and 1 for a trap or stop, both only of a run that was made and printed so; 2
-/// for a refused module, 3 only where no function can be called so, and 5 where memory, a thread or a stream failed. At
-/// 2 and 3 nothing is written but to `err`, and where no record is wanted nothing to `save`.
+/// for a refused module, 3 only where no function can be called so or the bytes can't be laid over the memory, and 5
+/// where memory, a thread or a stream failed. At 2 and 3 nothing is written but to `err`, and where no record or no
+/// memory is wanted nothing to its writer.
 pub fn run<R, W, E, S>(
     rt: &R,
     alloc: Global,
     job: &RunJob,
     module: &[u8],
-    out: &mut W,
-    err: &mut E,
-    save: &mut S,
+    over: &[u8],
+    streams: &mut Streams<W, E, S>,
 ) -> u8
 where
     R: Threads + Wait + Sync,
@@ -205,26 +209,83 @@ where
     E: Write,
     S: Write,
     requires { job.now.call.fuel ≤ MOST_FUEL }
-    ensures made { result ≤ 1 → HasRun «module».now job.now (changed W.contents out.old out.new)
-        (changed S.contents save.old save.new) result }
+    ensures made { result ≤ 1 → HasRun «module».now over.now job.now
+        (written W.contents E.contents S.contents streams.old streams.new) result }
     ensures refused { result ≡ 2 → IsNoValidModule «module».now }
-    ensures cannot { result ≡ 3 → HasNoSuchCall «module».now job.now.call }
-    ensures silent { IsRefusal result → Stays out.old out.new × Stays save.old save.new }
-    ensures unwanted { is_some job.now.save ≡ false → Stays save.old save.new }
+    ensures cannot { result ≡ 3 → CannotRun «module».now over.now job.now }
+    ensures silent { IsRefusal result → Stays streams.old.out streams.new.out
+        × Stays streams.old.save streams.new.save × Stays streams.old.memory streams.new.memory }
+    ensures unwanted { is_some job.now.save ≡ false → Stays streams.old.save streams.new.save }
+    ensures no_memory { is_some job.now.memory_out ≡ false → Stays streams.old.memory streams.new.memory }
     ensures status { (result ≤ 3) ⊎ (result ≡ 5) }
 {
-    let valid = match load(alloc, module) {
+    let valid = match load_over(alloc, module, job.memory_in, over) {
         Ok(valid) => valid,
-        Err(refusal) => return refuse(err, refusal),
+        Err(unready) => return decline(&mut streams.err, unready, job.memory_in, over.len()),
     };
-    match print_run(rt, alloc, &valid, job, out, save) {
+    match print_run(rt, alloc, &valid, module, job, streams) {
         Ok(status) => status,
-        Err(trouble) => complain(err, trouble, job.save),
+        Err(trouble) => complain(&mut streams.err, trouble, path_of(job, trouble)),
     }
 }
 
+/// The path of the file that failed, if one did.
+fn path_of<'a>(job: &RunJob<'a>, trouble: Trouble) -> Option<&'a str> {
+    match trouble {
+        Trouble::SaveMemory => job.memory_out,
+        _ => job.save,
+    }
+}
+
+/// Says why there is no module of which a run could be made, and answers the status. So many bytes were to be laid over
+/// its memory.
+fn decline<E: Write>(err: &mut E, unready: Unready, file: Option<MemoryFile>, count: usize) -> u8
+    ensures status { (result ≡ 2) ⊎ (result ≡ 3) ⊎ (result ≡ 5) }
+    ensures refused { IsStatusOfUnready unready result }
+{
+    match unready {
+        Unready::Refused(refusal) => refuse(err, refusal),
+        Unready::Unlaid(why) => {
+            say_unlaid(err, why, file, count);
+            RUN_REFUSED
+        }
+        Unready::NoMemory => {
+            say(err, "no memory");
+            FAULT
+        }
+    }
+}
+
+/// Says why so many bytes of a file can't be laid over the memory of a module.
+fn say_unlaid<E: Write>(err: &mut E, why: Unlaid, file: Option<MemoryFile>, count: usize) {
+    let addr = match file {
+        Some(file) => file.addr,
+        None => 0,
+    };
+    let _ = match why {
+        Unlaid::Nowhere => {
+            write!(
+                err,
+                "memory refused: the module has none over which --memory-in could lay bytes\n"
+            )
+        }
+        Unlaid::Outside(room) => {
+            write!(
+                err,
+                "memory refused: --memory-in lays {count} bytes from {addr} on, and the memory has {room} at first\n"
+            )
+        }
+        Unlaid::Segments => {
+            write!(
+                err,
+                "memory refused: the module has {MOST_ITEMS} data segments, and --memory-in wants one more\n"
+            )
+        }
+    };
+}
+
 /// Replays the record whose text the bytes are, and prints what its run printed: how the threads ended, the pages and
-/// the first bytes of the memory.
+/// the first bytes of the memory; and says which threads trapped.
 ///
 /// Answers 0 or 1 only where the record is of a run of the module and that was printed, 4 only where the bytes
 /// are the text of no record of a run of it, 2 for a refused module, and 5 where memory or a stream failed. At 2 and 4
@@ -238,8 +299,8 @@ pub fn replay_saved<W: Write, E: Write>(
     out: &mut W,
     err: &mut E,
 ) -> u8
-    ensures replayed { result ≤ 1
-        → IsReplayed «module».now saved.now look (W.contents out.old) (W.contents out.new) result }
+    ensures replayed { result ≤ 1 → IsReplayed «module».now saved.now look (changed W.contents out.old out.new)
+        (changed E.contents err.old err.new) result }
     ensures refused { result ≡ 2 → IsNoValidModule «module».now }
     ensures none { result ≡ 4 → IsNoRecordOf «module».now saved.now }
     ensures told { result ≡ 4 → TellsWhatIsWrong «module».now saved.now (changed E.contents err.old err.new) }
@@ -250,7 +311,7 @@ pub fn replay_saved<W: Write, E: Write>(
         Ok(valid) => valid,
         Err(refusal) => return refuse(err, refusal),
     };
-    match replay_record(alloc, &valid, saved, look, out) {
+    match replay_record(alloc, &valid, module, saved, look, out, err) {
         Ok(status) => status,
         Err(unfit) => reject(err, unfit),
     }
@@ -293,7 +354,7 @@ pub fn complain<E: Write>(err: &mut E, trouble: Trouble, path: Option<&str>) -> 
             say(err, "file fault: standard output");
             FAULT
         }
-        Trouble::Save => {
+        Trouble::Save | Trouble::SaveMemory => {
             let path = path.unwrap_or("the record");
             let _ = write!(err, "file fault: {path}\n");
             FAULT

@@ -3,10 +3,14 @@ ghost use Rattle.std.specs.Prelude.{IfOk, IfErr};
 ghost use Rattle.validate_typing.specs.Validity.{IsValid};
 ghost use Rattle.validate_typing.specs.Tabled.{IsValidated};
 ghost use Rattle.binary.specs.Grammar.{IsModuleText};
-ghost use Rattle.report_jobs.specs.Jobs.{IsRefused};
+ghost use Rattle.std.specs.Prelude.{◌≡◌};
+ghost use Rattle.report_memory.specs.Laid as specified;
+ghost use Rattle.report_jobs.specs.Jobs.{IsRefused, IsUnready, IsUnreadyModule, LoadsOver};
 
 use binary::read;
 use binary_wire::ReadFault;
+use report_command::MemoryFile;
+use report_memory::{Unlaid, laid, why_unlaid};
 use std::alloc::Global;
 use thiserror::Error;
 use types::Module;
@@ -66,5 +70,56 @@ pub fn load_checked(alloc: Global, bytes: &[u8]) -> Result<Module, Refusal>
             drop(module);
             Err(Refusal::Validity(fault))
         }
+    }
+}
+
+/// Why there is no module of which a run could be made.
+#[derive(Clone, Copy, PartialEq, Eq)]
+pub(crate) enum Unready {
+    Refused(Refusal),
+    /// The bytes of the file can't be laid over its opening memory.
+    Unlaid(Unlaid),
+    /// The system had too little memory left.
+    NoMemory,
+}
+
+/// The valid module with bytes laid over its opening memory, from the address on.
+fn lay(alloc: Global, module: Module, addr: u32, over: &[u8]) -> Result<ValidModule, Unready>
+    ensures ok { IfOk result (λ v. (v.parts ≡ specified.laid «module» addr over.now) × IsValidated v) }
+    ensures err { IfErr result (IsUnreadyModule «module» addr over.now) }
+{
+    match why_unlaid(alloc, &module, addr, over.len()) {
+        Ok(None) => {}
+        Ok(Some(why)) => return Err(Unready::Unlaid(why)),
+        Err(_) => return Err(Unready::NoMemory),
+    }
+    let Ok(with_bytes) = laid(alloc, module, addr, over) else {
+        return Err(Unready::NoMemory);
+    };
+    match validate(alloc, with_bytes) {
+        Ok(valid) => Ok(valid),
+        Err(_) => Err(Unready::NoMemory),
+    }
+}
+
+/// Reads and validates a module, as `load` does, and lays other bytes over its opening memory, where a file is to be.
+pub(crate) fn load_over(
+    alloc: Global,
+    bytes: &[u8],
+    file: Option<MemoryFile>,
+    over: &[u8],
+) -> Result<ValidModule, Unready>
+    ensures ok { IfOk result (LoadsOver bytes.now file.entry over.now) }
+    ensures err { IfErr result (IsUnready bytes.now file.entry over.now) }
+{
+    match file {
+        None => match load(alloc, bytes) {
+            Ok(valid) => Ok(valid),
+            Err(refusal) => Err(Unready::Refused(refusal)),
+        },
+        Some(file) => match load_checked(alloc, bytes) {
+            Ok(module) => lay(alloc, module, file.addr, over),
+            Err(refusal) => Err(Unready::Refused(refusal)),
+        },
     }
 }

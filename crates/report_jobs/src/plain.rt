@@ -2,8 +2,8 @@
 ghost use Rattle.std.specs.Prelude.{◌≡◌, false};
 ghost use Rattle.report_command.specs.Jobs.{IsInRange};
 ghost use Rattle.report_jobs.specs.Plain.{IsPlain, PerformsPlain};
-ghost use Rattle.report_jobs.specs.Prints.{changed};
-ghost use Rattle.report_jobs.specs.Silence.{IsRefusal, Stays, makes_file};
+ghost use Rattle.report_jobs.specs.Prints.{changed, written};
+ghost use Rattle.report_jobs.specs.Silence.{IsRefusal, Stays, makes_file, makes_memory};
 ghost use Rattle.report_jobs.specs.Told.{TellsWhatIsWrong};
 
 use crate::job::{check, replay_saved, run};
@@ -14,17 +14,17 @@ use std::io::Write;
 use std::sync::Wait;
 use std::thread::Threads;
 
-/// Does a check, a run or a replay on a module's bytes: prints what comes of it, and at most one line about what went wrong;
-/// and writes the record that a run makes, after that.
+/// Does a check, a run or a replay on a module's bytes: prints what comes of it, and a line about what went wrong or
+/// lines about threads that trapped; and writes the record that a run makes and the bytes of its memory, after that.
 ///
 /// The job's numbers are in their ranges, as those of a job are that `command` gives. `saved` has the bytes of the
-/// record that a replay reads, and else nothing.
+/// record that a replay reads, or those that are laid over the memory of a run, and else nothing.
 ///
 /// Answers the program's status: 0 where the module was accepted or all threads ended well, 1 for a trap or stop, 2 for
 /// a refused module, 3 for a refused run, 4 for a refused record, 5 where memory, a thread or a stream failed. A write
 /// to `err` that fails doesn't change it. At 2, 3 and 4 neither standard output nor the record's writer is written to
-/// or flushed, nor is that writer where no record is wanted. At 4 the line about it names the first line of the
-/// record's text that is wrong or doesn't fit.
+/// or flushed, nor is that of the memory, and neither is that of a file that isn't wanted. At 4 the line about it names
+/// the first line of the record's text that is wrong or doesn't fit.
 pub fn perform_plain<R, W, E, S>(
     rt: &R,
     alloc: Global,
@@ -41,19 +41,21 @@ where
     requires range { IsInRange job.now }
     requires plain { IsPlain job.now }
     ensures performs { PerformsPlain job.now «module».now saved.now
-        (changed W.contents streams.old.out streams.new.out)
-        (changed S.contents streams.old.save streams.new.save) result }
+        (written W.contents E.contents S.contents streams.old streams.new) result }
     ensures told { result ≡ 4
         → TellsWhatIsWrong «module».now saved.now (changed E.contents streams.old.err streams.new.err) }
     ensures silent { IsRefusal result → Stays streams.old.out streams.new.out
-        × Stays streams.old.save streams.new.save }
+        × Stays streams.old.save streams.new.save × Stays streams.old.memory streams.new.memory }
     ensures unwanted { makes_file job.now ≡ false → Stays streams.old.save streams.new.save }
+    ensures no_memory { makes_memory job.now ≡ false → Stays streams.old.memory streams.new.memory }
 {
-    let Streams { out, err, save } = streams;
+    if let Job::Run(asked) = job {
+        return run(rt, alloc, asked, module, saved, streams);
+    }
+    let Streams { out, err, .. } = streams;
     match job {
         Job::Check { form, .. } => check(alloc, module, *form, out, err),
-        Job::Run(asked) => run(rt, alloc, asked, module, out, err, save),
         Job::Replay { look, .. } => replay_saved(alloc, module, saved, *look, out, err),
-        Job::Show { .. } | Job::Races(_) | Job::Search(_) => unreachable!(),
+        Job::Run(_) | Job::Show { .. } | Job::Races(_) | Job::Search(_) => unreachable!(),
     }
 }

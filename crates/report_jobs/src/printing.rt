@@ -1,17 +1,20 @@
 //! How the end of a run is printed: as lines, with units or without, or as an object.
-ghost use Rattle.std.specs.Prelude.{◌≡◌, true, false, IfOk, IfErr, OnOk};
+ghost use Rattle.std.specs.Prelude.{◌≡◌, true, false, IfOk, IfErr, OnErr, OnOk};
 ghost use Rattle.replay_forms.specs.Texts.{Wrote};
 ghost use Rattle.report_lines.specs.Lines.{numbered};
 ghost use Rattle.report_json.specs.Unwritten.{LeavesAs};
 ghost use Rattle.report_jobs.specs.Prints.{changed, Prints, PrintsEnd, WritesEnd, WritesObject};
 ghost use Rattle.report_jobs.specs.Prints.{end_text, units_line};
+ghost use Rattle.report_jobs.specs.Silence.{Stays};
 ghost use Rattle.report_jobs.specs.declared.running.Trouble.TheVariants as troubles;
 
 use crate::running::Trouble;
+use crate::trapped::{Whence, say_traps, traps_of};
 use report_command::{ADVICE, EndLook, Form};
-use report_json::{RunEnd, status_of};
+use report_json::{Place, RunEnd, status_of};
 use report_lines::write_run;
 use report_runs::EndState;
+use report_traps::Traps;
 use show_text::Unwritten;
 use std::alloc::{AllocError, Global};
 use std::io::{self, Write};
@@ -88,12 +91,34 @@ fn hints_of(alloc: Global, reports: &[ThreadReport]) -> Result<Vec<&'static str>
     Ok(hints)
 }
 
+/// Where each of so many threads trapped, if it did.
+fn places_in<'t>(
+    alloc: Global,
+    traps: &'t Traps,
+    count: usize,
+) -> Result<Vec<Option<Place<'t>>>, AllocError> {
+    let mut places = Vec::with_capacity(alloc, count)?;
+    for thread in 0..count {
+        places.push(traps.place(thread))?;
+    }
+    Ok(places)
+}
+
+/// The same, as far as there is memory for it.
+fn places_of<'t>(alloc: Global, traps: Option<&'t Traps>, count: usize) -> Vec<Option<Place<'t>>> {
+    match traps {
+        Some(traps) => places_in(alloc, traps, count).unwrap_or(Vec::new(alloc)),
+        None => Vec::new(alloc),
+    }
+}
+
 /// Writes the object of a run.
 fn write_object<W: Write>(
     alloc: Global,
     out: &mut W,
     end: &EndState,
     dump: u32,
+    traps: Option<&Traps>,
 ) -> Result<(), Unwritten>
     ensures object { OnOk result (WritesObject end.now dump (changed W.contents out.old out.new)) }
     ensures left { IfErr result (LeavesAs out.old out.new) }
@@ -101,9 +126,10 @@ fn write_object<W: Write>(
     let Ok(hints) = hints_of(alloc, &end.threads) else {
         return Err(Unwritten::NoMemory);
     };
+    let places = places_of(alloc, traps, end.threads.len());
     let run = RunEnd {
         threads: &end.threads,
-        places: &[],
+        places: &places,
         pages: end.pages,
         dump,
         bytes: &end.bytes,
@@ -121,13 +147,14 @@ fn write_end<W: Write>(
     out: &mut W,
     end: &EndState,
     look: EndLook,
+    traps: Option<&Traps>,
 ) -> Result<(), Unwritten>
     ensures written { OnOk result
         (WritesEnd look.form look.units look.dump end.now (changed W.contents out.old out.new)) }
     ensures left { IfErr result (LeavesAs out.old out.new) }
 {
     match look.form {
-        Form::Json => write_object(alloc, out, end, look.dump),
+        Form::Json => write_object(alloc, out, end, look.dump, traps),
         Form::Lines => match write_lines(out, end, look.dump, look.units) {
             Ok(()) => Ok(()),
             Err(_) => Err(Unwritten::Output),
@@ -135,18 +162,27 @@ fn write_end<W: Write>(
     }
 }
 
-/// Prints how a run ended as is asked for, and answers the status: 0 where all threads ended well, 1 for a trap or stop.
-pub(crate) fn print_end<W: Write>(
+/// Prints how a run ended as is asked for, says which threads trapped, and answers the status: 0 where all threads
+/// ended well, 1 for a trap or stop.
+pub(crate) fn print_end<W: Write, E: Write>(
     alloc: Global,
     out: &mut W,
+    err: &mut E,
     end: &EndState,
     look: EndLook,
+    whence: Whence,
 ) -> Result<u8, Unwritten>
-    ensures prints { IfOk result (PrintsEnd end.now look (changed W.contents out.old out.new)) }
+    ensures prints { IfOk result (PrintsEnd end.now look (changed W.contents out.old out.new)
+        (changed E.contents err.old err.new)) }
     ensures left { IfErr result (LeavesAs out.old out.new) }
+    ensures unsaid { OnErr result (Stays err.old err.new) }
 {
-    match write_end(alloc, out, end, look) {
-        Ok(()) => Ok(status_of(&end.threads)),
+    let traps = traps_of(alloc, whence, &end.threads);
+    match write_end(alloc, out, end, look, traps.as_ref()) {
+        Ok(()) => {
+            say_traps(alloc, err, traps.as_ref(), &end.threads, look.callers);
+            Ok(status_of(&end.threads))
+        }
         Err(unwritten) => Err(unwritten),
     }
 }

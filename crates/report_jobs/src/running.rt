@@ -4,7 +4,7 @@ ghost use Rattle.std.specs.Io.KnownBytes.{Appends};
 ghost use Rattle.types.specs.declared.limits.TheConstants.{MOST_FUEL};
 ghost use Rattle.validate_typing.specs.Validity.{HasDistinctNames};
 ghost use Rattle.report_jobs.specs.Asked.{IsAskedBy};
-ghost use Rattle.report_jobs.specs.Prints.{WriterChange, changed, PrintsRun, PrintsAndKeeps, KeepsRecord};
+ghost use Rattle.report_jobs.specs.Prints.{changed, written, PrintsRun, PrintsAll, PrintsAndKeeps, KeepsRecord, KeepsBytes};
 ghost use Rattle.report_jobs.specs.Silence.{Leaves, Stays};
 ghost use Rattle.report_jobs.specs.Troubles.{IsTroubleOf, IsUnwritten, AreArgumentsOf, trouble_of};
 ghost use Rattle.report_jobs.specs.Troubles.{trouble_of_recording, trouble_of_unwritten};
@@ -12,10 +12,12 @@ ghost use Rattle.report_jobs.specs.declared.running.Trouble.TheVariants as troub
 
 use crate::args::read_args;
 use crate::printing::print_end;
-use interp_trait::OpenGate;
+use crate::streams::Streams;
+use crate::trapped::Whence;
 use replay_text::{Record, write_record};
 use report_command::{CallWords, RunJob};
 use report_runs::{Call, EndState, RecordRunFault, record_request, run_request_on_words};
+use report_traps::Frames;
 use show_text::Unwritten;
 use spawn_host::{CallFault, Request, RunFault, own_function};
 use spawn_host_workers::StartFault;
@@ -40,6 +42,8 @@ pub enum Trouble {
     Output,
     /// The file of the record failed.
     Save,
+    /// The file of the memory failed.
+    SaveMemory,
 }
 
 impl From<AllocError> for Trouble {
@@ -148,111 +152,183 @@ pub fn request_of<'m, 'a>(
     }
 }
 
-/// Runs the function, prints its end, and writes the record where one is wanted. Answers the status: 0 where all
-/// threads ended well, 1 for a trap or stop.
-pub(crate) fn print_run<R, W, S>(
+/// Runs the function, prints its end, and writes the record and the bytes of the memory where they are wanted. `bytes`
+/// have the names and the lines of the module. Answers the status: 0 where all threads ended well, 1 for a trap or
+/// stop.
+pub(crate) fn print_run<R, W, E, S>(
     rt: &R,
     alloc: Global,
     module: &ValidModule,
+    bytes: &[u8],
     job: &RunJob,
-    out: &mut W,
-    save: &mut S,
+    streams: &mut Streams<W, E, S>,
 ) -> Result<u8, Trouble>
 where
     R: Threads + Wait + Sync,
     W: Write,
+    E: Write,
     S: Write,
     requires fuel { job.now.call.fuel ≤ MOST_FUEL }
-    ensures made { IfOk result (PrintsRun «module».now.parts job.now (changed W.contents out.old out.new)
-        (changed S.contents save.old save.new)) }
+    ensures made { IfOk result (PrintsRun «module».now.parts job.now
+        (written W.contents E.contents S.contents streams.old streams.new)) }
     ensures trouble { IfErr result (IsTroubleOf «module».now.parts job.now.call) }
-    ensures silent { IfErr result (λ e. Leaves e (Stays out.old out.new) (Stays save.old save.new)) }
-    ensures unwanted { is_some job.now.save ≡ false → Stays save.old save.new }
+    ensures silent { IfErr result (λ e. Leaves e (Stays streams.old.out streams.new.out)
+        (Stays streams.old.save streams.new.save × Stays streams.old.memory streams.new.memory)) }
+    ensures unwanted { is_some job.now.save ≡ false → Stays streams.old.save streams.new.save }
+    ensures no_memory { is_some job.now.memory_out ≡ false → Stays streams.old.memory streams.new.memory }
 {
     let args = args_of(alloc, module, &job.call)?;
     let request = request_of(module, &job.call, &args);
+    let frames = Frames::new(alloc);
+    let whence = Whence {
+        parts: module.parts(),
+        bytes,
+        frames: &frames,
+    };
     if job.on_words {
-        print_on_words(rt, alloc, &request, job, out)
+        print_on_words(rt, alloc, &request, job, whence, streams)
     } else {
-        print_recorded(rt, alloc, &request, job, out, save)
+        print_recorded(rt, alloc, &request, job, whence, streams)
     }
 }
 
 /// The same over the row of words.
-fn print_on_words<R, W>(
+fn print_on_words<R, W, E, S>(
     rt: &R,
     alloc: Global,
     request: &Request,
     job: &RunJob,
-    out: &mut W,
+    whence: Whence,
+    streams: &mut Streams<W, E, S>,
 ) -> Result<u8, Trouble>
 where
     R: Threads + Wait + Sync,
     W: Write,
+    E: Write,
+    S: Write,
     requires memory { job.now.on_words ≡ true }
     requires asked { IsAskedBy job.now.call request.now }
-    ensures made { IfOk result (λ status. (saved : WriterChange) → PrintsRun request.now.parts job.now
-        (changed W.contents out.old out.new) saved status) }
+    ensures made { IfOk result (PrintsRun request.now.parts job.now
+        (written W.contents E.contents S.contents streams.old streams.new)) }
     ensures trouble { IfErr result (IsTroubleOf request.now.parts job.now.call) }
-    ensures silent { IfErr result (λ e. Leaves e (Stays out.old out.new) (Unit {0})) }
+    ensures silent { IfErr result (λ e. Leaves e (Stays streams.old.out streams.new.out)
+        (Stays streams.old.save streams.new.save × Stays streams.old.memory streams.new.memory)) }
+    ensures unrecorded { Stays streams.old.save streams.new.save }
+    ensures no_memory { is_some job.now.memory_out ≡ false → Stays streams.old.memory streams.new.memory }
 {
-    let end = run_request_on_words(rt, alloc, request, &mut OpenGate)?;
-    match print_end(alloc, out, &end, job.look) {
-        Ok(status) => Ok(status),
-        Err(unwritten) => Err(unprinted(unwritten)),
-    }
+    let mut gate = whence.frames;
+    let end = run_request_on_words(rt, alloc, request, &mut gate)?;
+    let Streams {
+        out,
+        err,
+        memory,
+        ..
+    } = streams;
+    let status = print_and_write(alloc, &end, job, whence, out, err, memory);
+    drop(end);
+    status
 }
 
 /// The same over the memory that records.
-fn print_recorded<R, W, S>(
+fn print_recorded<R, W, E, S>(
     rt: &R,
     alloc: Global,
     request: &Request,
     job: &RunJob,
-    out: &mut W,
-    save: &mut S,
+    whence: Whence,
+    streams: &mut Streams<W, E, S>,
 ) -> Result<u8, Trouble>
 where
     R: Threads + Wait + Sync,
     W: Write,
+    E: Write,
     S: Write,
     requires fuel { job.now.call.fuel ≤ MOST_FUEL }
     requires memory { job.now.on_words ≡ false }
     requires asked { IsAskedBy job.now.call request.now }
-    ensures made { IfOk result (PrintsRun request.now.parts job.now (changed W.contents out.old out.new)
-        (changed S.contents save.old save.new)) }
+    ensures made { IfOk result (PrintsRun request.now.parts job.now
+        (written W.contents E.contents S.contents streams.old streams.new)) }
     ensures trouble { IfErr result (IsTroubleOf request.now.parts job.now.call) }
-    ensures silent { IfErr result (λ e. Leaves e (Stays out.old out.new) (Stays save.old save.new)) }
-    ensures unwanted { is_some job.now.save ≡ false → Stays save.old save.new }
+    ensures silent { IfErr result (λ e. Leaves e (Stays streams.old.out streams.new.out)
+        (Stays streams.old.save streams.new.save × Stays streams.old.memory streams.new.memory)) }
+    ensures unwanted { is_some job.now.save ≡ false → Stays streams.old.save streams.new.save }
+    ensures no_memory { is_some job.now.memory_out ≡ false → Stays streams.old.memory streams.new.memory }
 {
-    let (record, end) = record_request(rt, alloc, request, job.limit, &mut OpenGate)?;
-    let status = print_and_keep(alloc, &record, &end, job, out, save);
+    let mut gate = whence.frames;
+    let (record, end) = record_request(rt, alloc, request, job.limit, &mut gate)?;
+    let status = print_and_keep(alloc, &record, &end, job, whence, streams);
     drop(record);
     drop(end);
     status
 }
 
-/// Prints the end of a recorded run, and writes the record where it is wanted.
-fn print_and_keep<W: Write, S: Write>(
+/// Prints the end of a recorded run, and writes the record and the bytes of the memory where they are wanted.
+fn print_and_keep<W: Write, E: Write, S: Write>(
     alloc: Global,
     recorded: &Record,
     end: &EndState,
     job: &RunJob,
-    out: &mut W,
-    save: &mut S,
+    whence: Whence,
+    streams: &mut Streams<W, E, S>,
 ) -> Result<u8, Trouble>
     ensures made { IfOk result (PrintsAndKeeps job.now recorded.now end.now
-        (changed W.contents out.old out.new) (changed S.contents save.old save.new)) }
+        (written W.contents E.contents S.contents streams.old streams.new)) }
     ensures trouble { IfErr result IsUnwritten }
-    ensures silent { IfErr result (λ e. Leaves e (Stays out.old out.new) (Stays save.old save.new)) }
-    ensures unwanted { is_some job.now.save ≡ false → Stays save.old save.new }
+    ensures silent { IfErr result (λ e. Leaves e (Stays streams.old.out streams.new.out)
+        (Stays streams.old.save streams.new.save × Stays streams.old.memory streams.new.memory)) }
+    ensures unwanted { is_some job.now.save ≡ false → Stays streams.old.save streams.new.save }
+    ensures no_memory { is_some job.now.memory_out ≡ false → Stays streams.old.memory streams.new.memory }
 {
-    let status = match print_end(alloc, out, end, job.look) {
+    let Streams {
+        out,
+        err,
+        save,
+        memory,
+    } = streams;
+    let status = print_and_write(alloc, end, job, whence, out, err, memory)?;
+    keep(recorded, job.save.is_some(), save)?;
+    Ok(status)
+}
+
+/// Prints the end of a run, and writes the bytes of its memory where they are wanted.
+fn print_and_write<W: Write, E: Write, S: Write>(
+    alloc: Global,
+    end: &EndState,
+    job: &RunJob,
+    whence: Whence,
+    out: &mut W,
+    err: &mut E,
+    memory: &mut S,
+) -> Result<u8, Trouble>
+    ensures made { IfOk result (PrintsAll job.now end.now (changed W.contents out.old out.new)
+        (changed E.contents err.old err.new) (changed S.contents memory.old memory.new)) }
+    ensures trouble { IfErr result IsUnwritten }
+    ensures silent { IfErr result (λ e. Leaves e (Stays out.old out.new) (Stays memory.old memory.new)) }
+    ensures no_memory { is_some job.now.memory_out ≡ false → Stays memory.old memory.new }
+{
+    let status = match print_end(alloc, out, err, end, job.look, whence) {
         Ok(status) => status,
         Err(unwritten) => return Err(unprinted(unwritten)),
     };
-    keep(recorded, job.save.is_some(), save)?;
+    keep_bytes(&end.bytes, job.memory_out.is_some(), memory)?;
     Ok(status)
+}
+
+/// Writes the bytes of a memory to their file, where they are wanted; where they aren't the file's writer stays as it
+/// is.
+fn keep_bytes<S: Write>(bytes: &[u8], is_wanted: bool, memory: &mut S) -> Result<(), Trouble>
+    ensures kept { OnOk result (KeepsBytes is_wanted (changed S.contents memory.old memory.new) bytes.now) }
+    ensures memory { IfErr result (λ trouble. trouble ≡ troubles.SaveMemory) }
+    ensures unwanted { is_wanted ≡ false → Stays memory.old memory.new }
+{
+    if is_wanted {
+        match memory.write_all(bytes) {
+            Ok(()) => Ok(()),
+            Err(_) => Err(Trouble::SaveMemory),
+        }
+    } else {
+        Ok(())
+    }
 }
 
 /// Writes a record to its file, where it is wanted; where it isn't the file's writer stays as it is. What a buffer

@@ -5,8 +5,10 @@
 pub struct Streams<W, E, S> {
     /// Its lines.
     pub out: W,
-    /// At most one line about what went wrong.
+    /// A line about what went wrong, or lines about threads that trapped.
     pub err: E,
     /// The file that it makes: the record of a run or of what a search found, behind the lines, or what a show makes.
     pub save: S,
+    /// The file that gets the bytes of a run's memory, as they are in the end, behind all that.
+    pub memory: S,
 }

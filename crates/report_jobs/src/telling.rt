@@ -1,7 +1,8 @@
 //! What is said on standard error of a record that is refused.
 ghost use Rattle.std.specs.Prelude.{OnOk};
 ghost use Rattle.std.specs.Io.KnownBytes.{Appends};
-ghost use Rattle.report_jobs.specs.Told.{Tells, unfit_line};
+ghost use Rattle.report_jobs.specs.Told.{unfit_line};
+ghost use Rattle.report_jobs.specs.Trapped.{Tells};
 
 use crate::replaying::Unfit;
 use arrayvec::ArrayVec;

@@ -55,6 +55,7 @@ fn give<R: Threads + Wait + Sync>(
             out: Vec::new(alloc),
             err: Vec::new(alloc),
             save: Vec::new(alloc),
+            memory: Vec::new(alloc),
         },
     };
     gave.status = perform_plain(rt, alloc, job, module, saved, &mut gave.streams);
@@ -102,6 +103,8 @@ pub(crate) fn run<R: Threads + Wait + Sync>(
         on_words,
         limit: LIMIT,
         save,
+        memory_in: None,
+        memory_out: None,
         look: EndLook::lines(0),
     });
     Ok(give(rt, alloc, &job, module, b""))
@@ -133,7 +136,7 @@ fn is_recorded<R: Threads + Wait + Sync>(
         ran.is_right()
             && again.status == ran.status
             && again.streams.out == ran.streams.out
-            && again.streams.err.is_empty(),
+            && again.streams.err == ran.streams.err,
     )
 }
 

@@ -1,5 +1,5 @@
 //! The streams of a job that was done: what they hold back is handed on, or it is known that it wasn't.
-ghost use Rattle.std.specs.Prelude.{◌≡◌, ◌≤◌, ◌<◌, OnOk, None, Some};
+ghost use Rattle.std.specs.Prelude.{◌≡◌, ◌≤◌, ◌<◌, OnOk, None, Some, true, false};
 ghost use Rattle.report_program.specs.Closing.{HasAll, HasNoMore};
 ghost use Rattle.report_program.specs.declared.closing.Lost.TheVariants.{Lines};
 
@@ -57,4 +57,23 @@ pub fn close<W: Write + Drop, S: Write + Drop>(
         None
     };
     Closed { out, save, lost }
+}
+
+/// Hands on what is written to a file behind what `close` handed on: where that came to an end; else the file gets
+/// nothing more.
+pub fn close_behind<S: Write + Drop>(comes: bool, file: BufWriter<S>) -> (S, Option<Lost>)
+    ensures file { comes ≡ true → result.1 ≡ None → HasAll S.contents file result.0 }
+    ensures none { comes ≡ false → HasNoMore file result.0 }
+{
+    if !comes {
+        let (file, _) = file.into_parts();
+        return (file, None);
+    }
+    let (file, handed) = hand_on(file);
+    let lost = if handed.is_err() {
+        Some(Lost::File)
+    } else {
+        None
+    };
+    (file, lost)
 }

@@ -1,16 +1,16 @@
 //! What a job reads.
 
 use crate::stop::Stop;
-use crate::{Unread, read_module, read_saved};
+use crate::{Unread, read_memory, read_module, read_saved};
 use report_command::{Job, RacesJob, RunJob, Search};
 
-/// What a job reads: a module, a record where one is replayed or shown, and the file that has the names, where it is
-/// another one.
+/// What a job reads: a module, a record where one is replayed or shown, or what is laid over the memory of a run; and
+/// the file that has the names, where it is another one.
 #[derive(Drop)]
 pub struct Input {
     /// The module's bytes, at most one more than a module may have.
     pub module: Vec<u8>,
-    /// The record's bytes, or nothing.
+    /// The bytes of the record, or of what is laid over the memory, or nothing.
     pub saved: Vec<u8>,
     /// The bytes of the file that has the names.
     pub names: Option<Vec<u8>>,
@@ -34,6 +34,12 @@ pub(crate) fn read<'a>(rt: &HostRuntime, job: &Job<'a>) -> Result<Input, Stop<'a
     | Job::Search(Search { file, .. })) = job;
     let module = bytes_of(file, read_module(rt, file))?;
     let saved = match job {
+        Job::Run(
+            RunJob {
+                memory_in: Some(laid),
+                ..
+            },
+        ) => bytes_of(laid.path, read_memory(rt, laid.path))?,
         Job::Check { .. } | Job::Run(_) | Job::Search(_) => Vec::new(rt.alloc()),
         Job::Replay { saved, .. } | Job::Show { saved, .. } | Job::Races(RacesJob { saved, .. }) =>
             { bytes_of(saved, read_saved(rt, saved))? }

@@ -4,8 +4,9 @@
 //!
 //! Proved: a job comes to what performs it only with its numbers in range, and as the words have it. Of a job that came
 //! to 0 or 1 `close` says that nothing is lost only where the streams got all that was written to their buffers, the
-//! lines before the file that it makes; that file gets nothing more at another status, or where lines were lost.
-//! `read_front` gives the first bytes of a reader. That `Task::end` answers by what `close` says is tested.
+//! lines before the file that it makes; that file gets nothing more at another status, or where lines were lost, and
+//! one behind it (`close_behind`) none where anything before it was. `read_front` gives the first bytes of a reader.
+//! That `Task::end` answers by what `close` says is tested.
 #![tactic(auto)]
 
 mod beside;
@@ -21,12 +22,12 @@ mod streams;
 mod task;
 mod telling;
 
-pub use closing::{Closed, Lost, close};
+pub use closing::{Closed, Lost, close, close_behind};
 pub use copied::Copied;
 pub use early::keep_early;
 pub use input::Input;
 pub use order::{order_of, words_of};
-pub use reading::{Unread, read_front, read_module, read_saved};
+pub use reading::{Unread, read_front, read_memory, read_module, read_saved};
 pub use saving::{SavePlace, SavedFile, is_one_file};
 pub use streams::Noted;
 pub use task::{Task, open_task};

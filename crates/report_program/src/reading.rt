@@ -5,10 +5,15 @@ ghost use Rattle.std.specs.Prelude.{◌≡◌, IfOk, IfSome, take};
 use std::alloc::Global;
 use std::fs::File;
 use std::io::{self, Read};
-use types::{MOST_LIMIT, MOST_MODULE_BYTES, MOST_PARAMS, MOST_THREADS, PAST_LIMIT};
+use types::{
+    MOST_LIMIT, MOST_MODULE_BYTES, MOST_PAGES, MOST_PARAMS, MOST_THREADS, PAGE_SIZE, PAST_LIMIT,
+};
 
 /// What is read of a module: one byte more than it may have, by which a longer one is told.
 const MODULE_FRONT: u64 = MOST_MODULE_BYTES as u64 + 1;
+
+/// What is read of the bytes that are laid over a memory: one more than any memory has, by which too many are told.
+const MEMORY_FRONT: u64 = MOST_PAGES as u64 * PAGE_SIZE as u64 + 1;
 
 /// How each record begins.
 const RECORD_HEAD: &[u8] = b"wathread-record ";
@@ -64,6 +69,15 @@ pub fn read_front<R: Read + Drop>(alloc: Global, reader: R, most: u64) -> io::Re
 pub fn read_module(rt: &HostRuntime, path: &str) -> Result<Vec<u8>, Unread> {
     let file = File::open(rt, path)?;
     Ok(read_front(rt.alloc(), file, MODULE_FRONT)?)
+}
+
+/// The bytes of a file that are laid over a memory, or of one that is too long for any memory the first 16,777,217.
+///
+/// # Errors
+/// `File` where it can't be read, `NoMemory`.
+pub fn read_memory(rt: &HostRuntime, path: &str) -> Result<Vec<u8>, Unread> {
+    let file = File::open(rt, path)?;
+    Ok(read_front(rt.alloc(), file, MEMORY_FRONT)?)
 }
 
 /// The bytes of a record's file, or of one that is too long for the record of a run as many as the longest can have;

@@ -1,6 +1,6 @@
 //! A job with its files and streams.
 
-use crate::closing::{Closed, Lost, close};
+use crate::closing::{Closed, Lost, close, close_behind};
 use crate::copied::Copied;
 use crate::input::{Input, read};
 use crate::stop::Stop;
@@ -21,7 +21,7 @@ const LINE: usize = 256;
 const RECORD: usize = 65_536;
 
 /// A job that was begun: what was read for it, and where it writes. Standard output gets its lines in one piece; what
-/// is said on standard error is said when it ends, and then the file that it makes gets its path.
+/// is said on standard error is said when it ends, and then the files that it makes get their paths.
 #[derive(Drop)]
 pub struct Task<'a, W: Write + Drop> {
     pub input: Input,
@@ -37,9 +37,17 @@ fn record_of<'a>(job: &Job<'a>) -> Option<&'a str> {
     }
 }
 
-/// Where a job's record goes, if it makes one.
-fn place_of<'a>(rt: &HostRuntime, job: &Job<'a>) -> Result<Option<SavePlace>, Stop<'a>> {
-    let Some(path) = record_of(job) else {
+/// The path of the file that gets the bytes of a run's memory, or none.
+fn memory_of<'a>(job: &Job<'a>) -> Option<&'a str> {
+    match job {
+        Job::Run(RunJob { memory_out, .. }) => *memory_out,
+        _ => None,
+    }
+}
+
+/// Where the file with this path goes, if there is to be one.
+fn place_of<'a>(rt: &HostRuntime, path: Option<&'a str>) -> Result<Option<SavePlace>, Stop<'a>> {
+    let Some(path) = path else {
         return Ok(None);
     };
     match SavePlace::new(rt, path) {
@@ -49,9 +57,30 @@ fn place_of<'a>(rt: &HostRuntime, job: &Job<'a>) -> Result<Option<SavePlace>, St
     }
 }
 
+/// Whether a path leads to the file of this one, if there is one.
+fn is_file_of(rt: &HostRuntime, path: &str, other: Option<&str>) -> bool {
+    match other {
+        Some(other) => is_one_file(rt, other, path),
+        None => false,
+    }
+}
+
+/// Whether the bytes of a run's memory would take the place of a file that it reads, or of its record.
+fn memory_replaces(rt: &HostRuntime, run: &RunJob) -> bool {
+    let Some(path) = run.memory_out else {
+        return false;
+    };
+    is_one_file(rt, run.file, path)
+        || is_file_of(rt, path, run.save)
+        || is_file_of(rt, path, run.memory_in.map(|laid| laid.path))
+}
+
 /// Refuses a file that would take the place of one that is read.
 fn keep_module<'a>(rt: &HostRuntime, job: &Job<'a>) -> Result<(), Stop<'a>> {
     match job {
+        Job::Run(run) if memory_replaces(rt, run) => {
+            Err(Stop::Usage(misused(rt.alloc(), Misuse::MemoryReplaces)))
+        }
         Job::Run(
             RunJob {
                 file,
@@ -85,41 +114,57 @@ fn keep_module<'a>(rt: &HostRuntime, job: &Job<'a>) -> Result<(), Stop<'a>> {
     }
 }
 
-/// Gives the file its path where the job made all of it, and else takes away what there is of it. Answers the job's
+/// Gives a file its path where the job made all of it, and else takes away what there is of it. Answers the job's
 /// status.
-fn finish(rt: &HostRuntime, job: &Job, status: u8, save: SavedFile) -> u8 {
+fn finish(rt: &HostRuntime, path: Option<&str>, status: u8, save: SavedFile) -> u8 {
     if status > 1 {
         save.give_up();
         return status;
     }
     match save.keep() {
         Ok(()) => status,
-        Err(_) => tell_file_fault(rt, record_of(job).unwrap_or("")),
+        Err(_) => tell_file_fault(rt, path.unwrap_or("")),
     }
 }
 
-/// Begins a job with what was read for it, and with the path and the place of the file that it makes. An error is that
-/// of memory.
+/// The bytes of standard error for which there is memory before a job begins, so that a line about these paths fits.
+fn room_for(paths: &[Option<&str>]) -> usize {
+    let mut room = LINE;
+    for path in paths {
+        room = room.saturating_add(path.unwrap_or("").len());
+    }
+    room
+}
+
+/// Begins a job with what was read for it, and with the places of the files that it makes. Standard error has so much
+/// room. An error is that of memory.
 fn begin<'a, W: Write + Drop>(
     rt: &'a HostRuntime,
     stdout: W,
     input: Input,
-    path: &str,
-    place: Option<SavePlace>,
+    room: usize,
+    places: (Option<SavePlace>, Option<SavePlace>),
     is_copied: bool,
 ) -> io::Result<Task<'a, W>> {
     let alloc = rt.alloc();
-    let err = Vec::with_capacity(alloc, path.len().saturating_add(LINE))?;
+    let (place, memory) = places;
+    let err = Vec::with_capacity(alloc, room)?;
     let stdout = Copied::new(alloc, Noted::new(stdout), is_copied);
     let out = BufWriter::with_capacity(alloc, OUT, stdout)?;
     let save = BufWriter::with_capacity(alloc, RECORD, SavedFile::new(rt, place))?;
+    let memory = BufWriter::with_capacity(alloc, RECORD, SavedFile::new(rt, memory))?;
     Ok(Task {
         input,
-        streams: Streams { out, err, save },
+        streams: Streams {
+            out,
+            err,
+            save,
+            memory,
+        },
     })
 }
 
-/// Begins a job whose files can be read, and whose record can be written.
+/// Begins a job whose files can be read, and whose own files can be written.
 fn prepare<'a, 'j, W: Write + Drop>(
     rt: &'a HostRuntime,
     stdout: W,
@@ -128,16 +173,16 @@ fn prepare<'a, 'j, W: Write + Drop>(
 ) -> Result<Task<'a, W>, Stop<'j>> {
     keep_module(rt, job)?;
     let input = read(rt, job)?;
-    let place = place_of(rt, job)?;
-    let path = record_of(job).unwrap_or("");
-    Ok(begin(rt, stdout, input, path, place, is_copied)?)
+    let places = (place_of(rt, record_of(job))?, place_of(rt, memory_of(job))?);
+    let room = room_for(&[record_of(job), memory_of(job)]);
+    Ok(begin(rt, stdout, input, room, places, is_copied)?)
 }
 
-/// Begins a job: reads its files, and takes the place of the file that it makes and the memory of its streams. Where it
-/// is to explain, or to print an object, a copy of what it prints is kept.
+/// Begins a job: reads its files, and takes the places of the files that it makes and the memory of its streams. Where
+/// it is to explain, or to print an object, a copy of what it prints is kept.
 ///
 /// # Errors
-/// The status, once it was said on standard error why: 3 where the file would take the place of one that is read, 5
+/// The status, once it was said on standard error why: 3 where a file would take the place of one that is read, 5
 /// where a file or memory failed.
 pub fn open_task<'a, W: Write + Drop>(
     rt: &'a HostRuntime,
@@ -152,26 +197,58 @@ pub fn open_task<'a, W: Write + Drop>(
     }
 }
 
+/// The files of a job, and which stream didn't get all.
+#[derive(Drop)]
+struct Ended<'a> {
+    save: SavedFile<'a>,
+    memory: SavedFile<'a>,
+}
+
+impl Ended<'_> {
+    /// Takes away what there is of both.
+    fn give_up(self) {
+        self.save.give_up();
+        self.memory.give_up();
+    }
+
+    /// Gives both their paths, if the status is one with which there are files. Answers the status, or 5.
+    fn finish(self, rt: &HostRuntime, job: &Job, status: u8) -> u8 {
+        let status = finish(rt, record_of(job), status, self.save);
+        finish(rt, memory_of(job), status, self.memory)
+    }
+}
+
 impl<W: Write + Drop> Task<'_, W> {
-    /// Hands on what the job wrote, says what went wrong, and keeps the file that it made, if it came to a status with
-    /// which there is one. Answers the status: the job's, or 5 where a stream didn't get all.
+    /// Hands on what the job wrote, says what went wrong, and keeps the files that it made, if it came to a status with
+    /// which there are some. Answers the status: the job's, or 5 where a stream didn't get all.
     pub fn end(self, rt: &HostRuntime, job: &Job, status: u8) -> u8 {
         let Task { streams, .. } = self;
-        let Streams { out, err, save } = streams;
+        let Streams {
+            out,
+            err,
+            save,
+            memory,
+        } = streams;
         let Closed { out, save, lost } = close(status, out, save);
+        let (memory, lost_memory) = close_behind(status <= 1 && lost.is_none(), memory);
+        let files = Ended { save, memory };
         let is_closed = out.stream().is_closed();
         if !is_closed {
             tell(rt, &err);
         }
-        match lost {
-            None => finish(rt, job, status, save),
-            Some(Lost::Lines) => {
-                save.give_up();
+        match (lost, lost_memory) {
+            (None, None) => files.finish(rt, job, status),
+            (Some(Lost::Lines), _) => {
+                files.give_up();
                 tell_output_fault(rt, is_closed)
             }
-            Some(Lost::File) => {
-                save.give_up();
+            (Some(Lost::File), _) => {
+                files.give_up();
                 tell_file_fault(rt, record_of(job).unwrap_or(""))
+            }
+            (None, Some(_)) => {
+                files.give_up();
+                tell_file_fault(rt, memory_of(job).unwrap_or(""))
             }
         }
     }

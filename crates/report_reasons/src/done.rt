@@ -9,7 +9,8 @@ use crate::{Misfit, Refused, explain};
 use binary::read;
 use binary_wire::ReadFault;
 use replay_text::{Record, RecordFault, read_record};
-use report_command::{Job, RunJob};
+use report_command::{Job, MemoryFile, RunJob};
+use report_memory::why_unlaid;
 use std::alloc::{AllocError, Global};
 use std::str::from_utf8;
 use types::Module;
@@ -21,7 +22,7 @@ use validate_typing::ValidFault;
 pub struct Done<'a> {
     /// The module's bytes.
     pub module: &'a [u8],
-    /// Those of the record that was replayed, or none.
+    /// Those of the record that was replayed, or of what was laid over the memory of a run, or none.
     pub saved: &'a [u8],
     /// What is on standard output.
     pub printed: &'a [u8],
@@ -45,7 +46,7 @@ pub fn explain_done(
     match done.status {
         1 => explain_ends(alloc, done.printed, out),
         2 => explain_module(alloc, done.module, out),
-        3 => explain_call(alloc, job, done.module, out),
+        3 => explain_call(alloc, job, done, out),
         4 => explain_record(alloc, done, out),
         _ => Ok(()),
     }
@@ -90,15 +91,32 @@ fn fault_of(alloc: Global, module: Module) -> Option<ValidFault> {
 }
 
 /// Adds the lines on a call that can't be made.
-fn explain_call(alloc: Global, job: &Job, bytes: &[u8], out: &mut String) -> Result<(), AllocError>
+fn explain_call(alloc: Global, job: &Job, done: Done, out: &mut String) -> Result<(), AllocError>
     ensures added { IfOk result (λ _. IsAddedTo (string_bytes out.old) (string_bytes out.new)) }
     ensures kept { IfErr result (λ _. string_bytes out.new ≡ string_bytes out.old) }
 {
     match job {
-        Job::Run(RunJob { call, .. }) => {
-            explain_invoke(alloc, call.invoke, call.args.len(), bytes, out)
+        Job::Run(
+            RunJob {
+                call,
+                memory_in,
+                ..
+            },
+        ) if !is_unlaid(alloc, done, *memory_in) => {
+            explain_invoke(alloc, call.invoke, call.args.len(), done.module, out)
         }
         _ => Ok(()),
+    }
+}
+
+/// Whether it was what is laid over the memory that was refused, and not the call.
+fn is_unlaid(alloc: Global, done: Done, file: Option<MemoryFile>) -> bool {
+    let (Some(file), Ok(module)) = (file, read(alloc, done.module)) else {
+        return false;
+    };
+    match why_unlaid(alloc, &module, file.addr, done.saved.len()) {
+        Ok(why) => why.is_some(),
+        Err(_) => true,
     }
 }
 

@@ -5,9 +5,10 @@ ghost use Rattle.report_json.specs.Refusals.{status_of_refused};
 use binary_wire::ReadFault;
 use replay::{ReplayFault, replay};
 use replay_text::{Record, RecordFault, read_record};
-use report_command::{CallWords, Job, RunJob, Search};
+use report_command::{CallWords, Job, MemoryFile, RunJob, Search};
 use report_jobs::{Refusal, Trouble, args_of, load, load_checked};
 use report_json::Refused;
+use report_memory::{Unlaid, why_unlaid};
 use report_reasons::Done;
 use spawn_host::CallFault;
 use std::alloc::Global;
@@ -51,16 +52,54 @@ fn of_call(alloc: Global, module: &ValidModule, call: &CallWords) -> Option<Refu
     }
 }
 
-/// Why the call of a job can't be made of the module that the bytes spell.
-fn of_job(alloc: Global, job: &Job, bytes: &[u8]) -> Option<Refused<'static>>
+/// Why so many bytes of a file can't be laid over the memory of the module that these bytes spell.
+fn of_memory(
+    alloc: Global,
+    bytes: &[u8],
+    file: Option<MemoryFile>,
+    count: usize,
+) -> Option<Refused<'static>>
     ensures { IfSome result (λ refused. status_of_refused refused ≡ 3) }
 {
-    let (Job::Run(RunJob { call, .. }) | Job::Search(Search { call, .. })) = job else {
-        return None;
-    };
+    let file = file?;
+    let module = load_checked(alloc, bytes).ok()?;
+    match why_unlaid(alloc, &module, file.addr, count) {
+        Ok(Some(Unlaid::Nowhere)) => Some(Refused::Call("no memory to lay bytes over")),
+        Ok(Some(Unlaid::Outside(_))) => Some(Refused::Call("bytes outside the memory")),
+        Ok(Some(Unlaid::Segments)) => Some(Refused::Call("too many data segments")),
+        _ => None,
+    }
+}
+
+/// Why a run can't be made of the module that the bytes spell: what is to be laid over its memory, or else its call.
+fn of_run(alloc: Global, run: &RunJob, bytes: &[u8], over: &[u8]) -> Option<Refused<'static>>
+    ensures { IfSome result (λ refused. status_of_refused refused ≡ 3) }
+{
+    let of_memory = of_memory(alloc, bytes, run.memory_in, over.len());
+    if of_memory.is_some() {
+        return of_memory;
+    }
+    of_words(alloc, &run.call, bytes)
+}
+
+/// Why a call can't be made of the module that the bytes spell.
+fn of_words(alloc: Global, call: &CallWords, bytes: &[u8]) -> Option<Refused<'static>>
+    ensures { IfSome result (λ refused. status_of_refused refused ≡ 3) }
+{
     match load(alloc, bytes) {
         Ok(module) => of_call(alloc, &module, call),
         Err(_) => None,
+    }
+}
+
+/// Why a run or a search can't be made.
+fn of_job(alloc: Global, job: &Job, done: Done) -> Option<Refused<'static>>
+    ensures { IfSome result (λ refused. status_of_refused refused ≡ 3) }
+{
+    match job {
+        Job::Run(run) => of_run(alloc, run, done.module, done.saved),
+        Job::Search(Search { call, .. }) => of_words(alloc, call, done.module),
+        _ => None,
     }
 }
 
@@ -97,7 +136,7 @@ pub(crate) fn refused_of(alloc: Global, job: &Job, done: Done) -> Option<Refused
 {
     match done.status {
         2 => of_module(alloc, done.module),
-        3 => of_job(alloc, job, done.module),
+        3 => of_job(alloc, job, done),
         4 => of_record(alloc, done.module, done.saved),
         _ => None,
     }

@@ -99,6 +99,8 @@ fn is_run(job: &Job, asked: &Asked) -> bool {
                 on_words,
                 limit,
                 save: None,
+                memory_in: None,
+                memory_out: None,
                 look,
             },
         ) => {

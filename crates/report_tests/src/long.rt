@@ -4,7 +4,7 @@ ghost use Rattle.std.specs.Prelude.{◌≤◌};
 ghost use Rattle.types.specs.declared.limits.TheConstants.{MOST_FUEL};
 
 use report_command::{CallWords, EndLook, RunJob};
-use report_jobs::{replay_saved, run};
+use report_jobs::{Streams, replay_saved, run};
 use std::alloc::Global;
 use std::io::{self, Write};
 use std::test::Fail;
@@ -56,6 +56,8 @@ fn filling(alloc: Global) -> RunJob<'static>
         on_words: false,
         limit: 1_000_000,
         save: Some("a.record"),
+        memory_in: None,
+        memory_out: None,
         look: EndLook::lines(4),
     }
 }
@@ -68,20 +70,15 @@ fn records_a_million_entries(rt: HostRuntime) -> Result<(), Fail> {
         "wathread-record 2\nmodule {length}\nthreads 64\nmax-pages 256\n"
     )?;
     let wanted = long_record(rt.alloc(), front.as_str())?;
-    let (mut out, mut err, mut save) = (
-        Vec::new(rt.alloc()),
-        Vec::new(rt.alloc()),
-        Vec::new(rt.alloc()),
-    );
-    let status = run(
-        &rt,
-        rt.alloc(),
-        &filling(rt.alloc()),
-        &module,
-        &mut out,
-        &mut err,
-        &mut save,
-    );
+    let mut streams: Streams<Vec<u8>, Vec<u8>, Vec<u8>> = Streams {
+        out: Vec::new(rt.alloc()),
+        err: Vec::new(rt.alloc()),
+        save: Vec::new(rt.alloc()),
+        memory: Vec::new(rt.alloc()),
+    };
+    let job = filling(rt.alloc());
+    let status = run(&rt, rt.alloc(), &job, &module, b"", &mut streams);
+    let Streams { out, err, save, .. } = streams;
     assert!(rt; out.as_slice() == FULL && err.is_empty() && status == 1);
     assert!(rt; save == wanted);
     Ok(())

@@ -69,6 +69,8 @@ fn running<'a>(alloc: Global, file: &'a str, save: &'a str) -> Job<'a> {
         on_words: false,
         limit: 1000,
         save: Some(save),
+        memory_in: None,
+        memory_out: None,
         look: EndLook::lines(0),
     })
 }

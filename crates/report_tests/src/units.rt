@@ -4,7 +4,7 @@ ghost use Rattle.std.specs.Prelude.{◌≤◌, IfOk};
 ghost use Rattle.types.specs.declared.limits.TheConstants.{MOST_FUEL};
 
 use report_command::{CallWords, EndLook, RunJob};
-use report_jobs::{replay_saved, run};
+use report_jobs::{Streams, replay_saved, run};
 use std::alloc::{AllocError, Global};
 use std::sync::Wait;
 use std::test::Fail;
@@ -61,6 +61,8 @@ fn job_of(alloc: Global, count: &Count, on_words: bool) -> Result<RunJob<'static
         on_words,
         limit: 100_000,
         save,
+        memory_in: None,
+        memory_out: None,
         look: EndLook::lines(0),
     })
 }
@@ -73,9 +75,15 @@ fn counted<R: Threads + Wait + Sync>(
     count: &Count,
     on_words: bool,
 ) -> Option<Vec<u8>> {
-    let (mut out, mut err, mut save) = (Vec::new(alloc), Vec::new(alloc), Vec::new(alloc));
+    let mut streams: Streams<Vec<u8>, Vec<u8>, Vec<u8>> = Streams {
+        out: Vec::new(alloc),
+        err: Vec::new(alloc),
+        save: Vec::new(alloc),
+        memory: Vec::new(alloc),
+    };
     let job = job_of(alloc, count, on_words).ok()?;
-    let status = run(rt, alloc, &job, COUNTDOWN, &mut out, &mut err, &mut save);
+    let status = run(rt, alloc, &job, COUNTDOWN, b"", &mut streams);
+    let Streams { out, err, save, .. } = streams;
     if out.as_slice() == count.out && err.is_empty() && status == count.status {
         Some(save)
     } else {

@@ -4,7 +4,7 @@ ghost use Rattle.std.specs.Prelude.{◌≤◌};
 ghost use Rattle.types.specs.declared.limits.TheConstants.{MOST_FUEL};
 
 use report_command::{CallWords, EndLook, RunJob};
-use report_jobs::run;
+use report_jobs::{Streams, run};
 use std::alloc::Global;
 use std::io::{self, Write};
 use std::sync::Wait;
@@ -33,6 +33,8 @@ fn adding(alloc: Global) -> RunJob<'static>
         on_words: false,
         limit: 100_000,
         save: Some("a.record"),
+        memory_in: None,
+        memory_out: None,
         look: EndLook::lines(8),
     }
 }
@@ -92,17 +94,21 @@ fn is_said<R: Threads + Wait + Sync>(
     said: &[u8],
     status: u8,
 ) -> bool {
-    let mut lines = Narrow::new(alloc, rooms.0, at_once);
-    let mut save = Narrow::new(alloc, rooms.1, at_once);
-    let mut err = Vec::new(alloc);
+    let mut streams: Streams<Narrow, Vec<u8>, Narrow> = Streams {
+        out: Narrow::new(alloc, rooms.0, at_once),
+        err: Vec::new(alloc),
+        save: Narrow::new(alloc, rooms.1, at_once),
+        memory: Narrow::new(alloc, 0, at_once),
+    };
     let job = adding(alloc);
-    let given = run(rt, alloc, &job, ATOMIC_ADD, &mut lines, &mut err, &mut save);
+    let given = run(rt, alloc, &job, ATOMIC_ADD, b"", &mut streams);
+    let Streams { out, err, save, .. } = streams;
     let record = if rooms.0 < OUT.len() {
         b"".as_slice()
     } else {
         RECORD
     };
-    lines.has_front(OUT) && save.has_front(record) && given == status && err.as_slice() == said
+    out.has_front(OUT) && save.has_front(record) && given == status && err.as_slice() == said
 }
 
 /// The whole record, and the lines on standard output, also where a write takes less than there is.

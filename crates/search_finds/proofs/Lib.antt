@@ -1,4 +1,4 @@
-mod Alike
+mod EndsSo
 mod InRow
 mod Led
 mod Pieces

@@ -1,5 +1,5 @@
 -- Which run of a search is made: by the call, along the strategy of its number.
-use Rattle.std.specs.Prelude.{ℕ, ◌≡◌, ◌≢◌, ◌+◌, List, [], ◌∷◌, Option, length, max, min}
+use Rattle.std.specs.Prelude.{ℕ, ◌≡◌, ◌≢◌, ◌+◌, Bool, List, [], ◌∷◌, Option, length, max, min}
 use Rattle.types.specs.declared.event.Entry.{Entry}
 use Rattle.spawn_host.specs.Requests.{Requested}
 use Rattle.report_choice.specs.declared.sought.Sought.{Sought}
@@ -13,6 +13,7 @@ use Rattle.search_scheduled.specs.declared.running.MadeRun.{MadeRun}
 use Rattle.search_endings.specs.Endings.{Ending}
 use Rattle.search_finds.specs.Endings.{ending_left}
 use Rattle.search_finds.specs.Finds.{IsFind}
+use Rattle.search_finds.specs.declared.search.JudgedEnding.{JudgedEnding}
 
 module _ {Q : Type 0} (choice : Q → List ℕ → Option ℕ × Q) (heard : Q → Entry → Q) where
   -- A strategy that is a function of what it is names who goes on, and hears each entry. A run by the call goes along
@@ -52,11 +53,13 @@ IsDrawnAmong q s entries run made =
     GoesAlong drawn_choice (λ strategy entry. drawn_heard strategy entry.event) q s.limit
     (strategy_of s.way s.seed run entries) made
 
--- It is the ending of that run.
-pub record IsEndingAmong (q : Requested) (s : Sought) (entries run : ℕ) (e : Ending) : Type 0 where
+-- It is the ending of that run, of which this is said.
+pub record IsEndingAmong (Says : MadeRun → Bool → Type 0) (q : Requested) (s : Sought) (entries run : ℕ)
+    (e : JudgedEnding) : Type 0 where
   pub made : MadeRun
   pub drawn : IsDrawnAmong q s entries run made
-  pub ending : e ≡ ending_left s.dump made.end
+  pub ending : e.ending ≡ ending_left s.dump made.end
+  pub judged : Says made e.is_sought
 
 -- The run of this number.
 pub record IsRunOfNumber (q : Requested) (s : Sought) (run : ℕ) (made : MadeRun) : Type 0 where
@@ -70,13 +73,24 @@ pub record IsMetEnding (q : Requested) (s : Sought) (run : ℕ) (e : Ending) : T
   pub drawn : IsRunOfNumber q s run made
   pub ending : e ≡ ending_left s.dump made.end
 
+-- The same, and this holds of the number and of its run.
+pub record IsMetBy (P : ℕ → MadeRun → Type 0) (q : Requested) (s : Sought) (run : ℕ) (e : Ending) : Type 0 where
+  pub made : MadeRun
+  pub drawn : IsRunOfNumber q s run made
+  pub ending : e ≡ ending_left s.dump made.end
+  pub holds : P run made
+
 -- The endings of the runs of numbers in a row, from this one on.
 abbrev pub AreOfRuns : Requested → Sought → ℕ → List Ending → Type 0
 AreOfRuns q s run [] = Unit {0}
 AreOfRuns q s run (e ∷ endings) = IsMetEnding q s run e × AreOfRuns q s (run + 1) endings
 
--- The same where points lie among so many entries, the last first.
-abbrev pub AreOfRunsBack : Requested → Sought → ℕ → ℕ → List Ending → Type 0
-AreOfRunsBack q s entries run [] = Unit {0}
-AreOfRunsBack q s entries run (e ∷ endings) =
-    IsEndingAmong q s entries (run + length endings) e × AreOfRunsBack q s entries run endings
+abbrev pub AreOfRunsBy : (ℕ → MadeRun → Type 0) → Requested → Sought → ℕ → List Ending → Type 0
+AreOfRunsBy P q s run [] = Unit {0}
+AreOfRunsBy P q s run (e ∷ endings) = IsMetBy P q s run e × AreOfRunsBy P q s (run + 1) endings
+
+-- Those where points lie among so many entries, the last first, and what is said of each.
+abbrev pub AreOfRunsBack : (MadeRun → Bool → Type 0) → Requested → Sought → ℕ → ℕ → List JudgedEnding → Type 0
+AreOfRunsBack Says q s entries run [] = Unit {0}
+AreOfRunsBack Says q s entries run (e ∷ endings) =
+    IsEndingAmong Says q s entries (run + length endings) e × AreOfRunsBack Says q s entries run endings

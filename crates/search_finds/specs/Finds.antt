@@ -10,7 +10,7 @@ use Rattle.search_scheduled.specs.Headers.{IsOfRequest}
 use Rattle.search_scheduled.specs.declared.running.MadeRun.{MadeRun}
 use Rattle.search_endings.specs.Endings.{Ending}
 use Rattle.search_finds.specs.declared.met.Table.{Table}
-use Rattle.search_finds.specs.Endings.{ending_left, HaveOneEnding}
+use Rattle.search_finds.specs.Endings.{ending_left}
 use Rattle.search_finds.specs.Words.{HasLineWith}
 use Rattle.report_choice.specs.declared.sought.Find.{Find}
 use Rattle.report_choice.specs.declared.sought.Find.TheVariants as finds
@@ -56,7 +56,3 @@ IsFound q s made = IsFind q s.limit made × EndsAsLookedFor s s.dump made.end
 -- None of them is looked for.
 abbrev pub HasNoneLookedFor : Sought → Table → Type 0
 HasNoneLookedFor s table = All (λ met. IsLookedFor s met.ending → ⊥) table.met.items
-
--- A run by the call that ends as another one.
-abbrev pub IsFindAlike : Requested → ℕ → ℕ → MadeRun → MadeRun → Type 0
-IsFindAlike q limit dump other made = IsFind q limit made × HaveOneEnding dump other.end made.end

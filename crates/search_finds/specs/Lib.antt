@@ -1,4 +1,5 @@
 pub mod Finds
+pub mod Judged
 pub mod Drawing
 pub mod Shares
 pub mod Noted

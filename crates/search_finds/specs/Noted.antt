@@ -1,10 +1,11 @@
 -- The table of a search.
 use Rattle.std.specs.Prelude.{ℕ, ◌≡◌, ◌+◌, List, [], ◌∷◌, ◌++◌, All, Bool, length}
 use Rattle.spawn_host.specs.Requests.{Requested}
+use Rattle.search_scheduled.specs.declared.running.MadeRun.{MadeRun}
 use Rattle.search_endings.specs.Endings.{Ending}
 use Rattle.report_choice.specs.declared.sought.Sought.{Sought}
 use Rattle.search_finds.specs.declared.met.Table.{Table}
-use Rattle.search_finds.specs.Drawing.{AreOfRuns, IsMetEnding}
+use Rattle.search_finds.specs.Drawing.{AreOfRuns, AreOfRunsBy, IsMetEnding}
 use Rattle.search_finds.specs.Tables.{IsNoted}
 
 -- It has these endings, noted one after another: of runs with numbers in a row, from the first on.
@@ -22,4 +23,11 @@ pub record AreNoted (q : Requested) (s : Sought) (table : Table) : Type 0 where
   pub endings : List Ending
   pub noted : IsTableOf s.from endings table
   pub met : AreOfRuns q s s.from endings
+  pub count : length endings ≡ table.runs
+
+-- The same, and this holds of each number and of its run.
+pub record AreNotedBy (P : ℕ → MadeRun → Type 0) (q : Requested) (s : Sought) (table : Table) : Type 0 where
+  pub endings : List Ending
+  pub noted : IsTableOf s.from endings table
+  pub met : AreOfRunsBy P q s s.from endings
   pub count : length endings ≡ table.runs

@@ -1,24 +1,25 @@
-//! The first run with an ending that is looked for.
+//! The first run that is looked for.
 ghost use Rattle.std.specs.Prelude.{◌≡◌, ◌≢◌, ◌+◌, ◌<◌, ◌≤◌, ◌^◌, true, length};
 ghost use Rattle.std.specs.Prelude.{IfOk, OnOk, OnSome, IfSome, IfNone, IsTrue};
 ghost use Rattle.search_finds.specs.Drawing.{HasPointsAmong, IsPlainRun, IsRunOfNumber};
-ghost use Rattle.search_finds.specs.Finds.{IsFound, EndsAsLookedFor, HasNoneLookedFor};
-ghost use Rattle.search_finds.specs.Noted.{AreMet, AreNoted};
+ghost use Rattle.search_finds.specs.Finds.{IsFound, HasNoneLookedFor};
+ghost use Rattle.search_finds.specs.Judged.{IsFindBy, IsPassed};
+ghost use Rattle.search_finds.specs.Noted.{AreMet, AreNoted, AreNotedBy};
 ghost use Rattle.search_finds.specs.Searching.{IsMadeIn, IsMetIn, IsFoundIn, AreMetIn, ArePiecesIn};
 ghost use Rattle.search_finds.specs.Searching.{AreSparesIn, first_of};
 ghost use Rattle.search_finds.specs.Halts.{IfFound};
 
 use crate::ahead::Ahead;
 use crate::hears::Hears;
-use crate::search::RunMaker;
-use crate::{Table, ending_of, is_looked_for};
+use crate::judging::{EndsSo, Judges};
+use crate::search::{JudgedEnding, RunMaker};
+use crate::{Table, ending_of};
 use report_choice::{Sought, Way};
-use search_endings::Ending;
 use search_reach::Wish;
 use search_scheduled::{MadeRun, SearchFault, Spares, run_along, run_with_spares};
 use search_strategies::{Along, Drawn, Watch, Watched};
-use spawn_host::{EndState, Request};
-use std::alloc::{AllocError, Global};
+use spawn_host::Request;
+use std::alloc::Global;
 use std::thread::{Threads, map_indices};
 
 /// How many runs a job makes at most before the endings are looked at.
@@ -49,19 +50,22 @@ pub struct SearchResult {
     pub halt: Halt,
 }
 
-/// Who makes runs: so many threads, each of which gives a run up where that is to be seen.
-struct Crew<'a, 'w, R, W> {
+/// Who makes runs: so many threads, each of which gives a run up where that is to be seen, and asks of each run that it
+/// made whether it is looked for.
+struct Crew<'a, 'w, 'j, R, W, J> {
     rt: &'a R,
     jobs: usize,
     watch: &'w W,
+    judge: &'j J,
 }
 
-impl<R, W> Drop for Crew<'_, '_, R, W> {
+impl<R, W, J> Drop for Crew<'_, '_, '_, R, W, J> {
     fn drop(self) {
         let Crew {
             rt: _,
             jobs: _,
             watch: _,
+            judge: _,
         } = self;
     }
 }
@@ -148,17 +152,35 @@ impl<'m, 'a> RunMaker<'m, 'a> {
         run_with_spares(alloc, self.request, limit, &mut watched, spares)
     }
 
+    /// The ending of a run, and whether it is looked for.
+    fn judged<J: Judges>(
+        &self,
+        alloc: Global,
+        judge: &J,
+        run: u64,
+        made: &MadeRun,
+    ) -> Result<JudgedEnding, SearchFault>
+        requires { IsMadeIn self.now run made.now }
+        ensures { IfOk result (IsMetIn (J.judges judge.now) self.now run) }
+    {
+        let _ = run;
+        let ending = ending_of(alloc, &made.end, self.sought.dump)?;
+        let is_sought = judge.is_sought(alloc, made)?;
+        Ok(JudgedEnding { ending, is_sought })
+    }
+
     /// The ending of the run of this number, with the threads that the runs before it didn't start; none where it was
     /// given up.
-    fn ending<W: Watch>(
+    fn ending<W: Watch, J: Judges>(
         &self,
         alloc: Global,
         watch: &W,
+        judge: &J,
         run: u64,
         spares: &mut Spares<'m>,
-    ) -> Result<Option<Ending>, SearchFault>
+    ) -> Result<Option<JudgedEnding>, SearchFault>
         requires { AreSparesIn self.now spares.old }
-        ensures met { IfOk result (λ ending. IfSome ending (IsMetIn self.now run)) }
+        ensures met { IfOk result (λ ending. IfSome ending (IsMetIn (J.judges judge.now) self.now run)) }
         ensures spares { IfOk result (λ ending. OnSome ending (AreSparesIn self.now spares.new)) }
     {
         let made = match self.run(alloc, watch, run, spares) {
@@ -166,7 +188,7 @@ impl<'m, 'a> RunMaker<'m, 'a> {
             Err(SearchFault::GivenUp) => return Ok(None),
             Err(fault) => return Err(fault),
         };
-        let ending = ending_of(alloc, &made.end, self.sought.dump)?;
+        let ending = self.judged(alloc, judge, run, &made)?;
         Ok(Some(ending))
     }
 
@@ -179,35 +201,29 @@ impl<'m, 'a> RunMaker<'m, 'a> {
     }
 
     /// The ending of the run of this number, with threads of its own.
-    fn ending_anew(&self, alloc: Global, run: u64) -> Result<Ending, SearchFault>
-        ensures { IfOk result (IsMetIn self.now run) }
+    fn ending_anew<J: Judges>(
+        &self,
+        alloc: Global,
+        judge: &J,
+        run: u64,
+    ) -> Result<JudgedEnding, SearchFault>
+        ensures { IfOk result (IsMetIn (J.judges judge.now) self.now run) }
     {
         let made = self.run_anew(alloc, run)?;
-        let ending = ending_of(alloc, &made.end, self.sought.dump)?;
-        Ok(ending)
+        self.judged(alloc, judge, run, &made)
     }
 
-    /// Whether a run that ended so is looked for.
-    fn is_sought(&self, alloc: Global, end: &EndState) -> Result<bool, AllocError>
-        ensures { IfOk result (λ is. (is ≡ true)
-            → EndsAsLookedFor self.now.sought.now self.now.sought.now.dump end.now) }
-    {
-        let ending = ending_of(alloc, end, self.sought.dump)?;
-        is_looked_for(alloc, self.sought, &ending)
-    }
-
-    /// Makes the run of this number, which was made before and ended as is looked for. It isn't given up: what was found
-    /// is kept.
+    /// Makes the run of this number, which was made before and is looked for. It isn't given up: what was found is kept.
     ///
     /// # Errors
-    /// `NoEnd` where it ends otherwise now, which none does.
-    fn found(&self, alloc: Global, run: u64) -> Result<Found, SearchFault>
-        ensures found { IfOk result (λ found. IsFoundIn self.now found.made) }
+    /// `NoEnd` where it isn't looked for now, which none is.
+    fn found<J: Judges>(&self, alloc: Global, judge: &J, run: u64) -> Result<Found, SearchFault>
+        ensures found { IfOk result (λ found. IsFoundIn (J.judges judge.now) self.now found.made) }
         ensures drawn { IfOk result (λ found. IsMadeIn self.now run found.made) }
         ensures number { IfOk result (λ found. found.run ≡ run) }
     {
         let made = self.run_anew(alloc, run)?;
-        if self.is_sought(alloc, &made.end)? {
+        if judge.is_sought(alloc, &made)? {
             Ok(Found { run, made })
         } else {
             Err(SearchFault::NoEnd)
@@ -215,21 +231,22 @@ impl<'m, 'a> RunMaker<'m, 'a> {
     }
 
     /// The endings of runs in a row, the last first: of all of them, or where one is given up of those before it.
-    fn endings<W: Watch>(
+    fn endings<W: Watch, J: Judges>(
         &self,
         alloc: Global,
         watch: &W,
+        judge: &J,
         from: u64,
         count: usize,
-    ) -> Result<Vec<Ending>, SearchFault>
+    ) -> Result<Vec<JudgedEnding>, SearchFault>
         requires { from + count < 2 ^ 64 }
-        ensures { IfOk result (λ endings. AreMetIn self.now from endings.items) }
+        ensures { IfOk result (λ endings. AreMetIn (J.judges judge.now) self.now from endings.items) }
     {
         let mut endings = Vec::new(alloc);
         let mut spares = Spares::new(alloc);
         for n in 0..count {
             let run = from + n as u64;
-            let Some(ending) = self.ending(alloc, watch, run, &mut spares)? else {
+            let Some(ending) = self.ending(alloc, watch, judge, run, &mut spares)? else {
                 return Ok(endings);
             };
             endings.insert(0, ending)?;
@@ -238,10 +255,18 @@ impl<'m, 'a> RunMaker<'m, 'a> {
     }
 
     /// Drops the endings of later runs, where of those before them fewer were made than were wanted.
-    fn drop_later(&self, endings: &mut Vec<Ending>, first: u64, made: usize, wanted: u64)
-        requires { AreMetIn self.now (first + wanted) endings.old.items }
-        ensures { AreMetIn self.now (first + made) endings.new.items }
+    fn drop_later<J: Judges>(
+        &self,
+        judge: &J,
+        endings: &mut Vec<JudgedEnding>,
+        first: u64,
+        made: usize,
+        wanted: u64,
+    )
+        requires { AreMetIn (J.judges judge.now) self.now (first + wanted) endings.old.items }
+        ensures { AreMetIn (J.judges judge.now) self.now (first + made) endings.new.items }
     {
+        let _ = judge;
         if made as u64 != wanted {
             endings.clear();
         }
@@ -249,85 +274,90 @@ impl<'m, 'a> RunMaker<'m, 'a> {
 
     /// The endings of the runs that a job makes ahead, the last first: of all of them, or where one is given up of those
     /// before it.
-    fn endings_of<W: Watch>(
+    fn endings_of<W: Watch, J: Judges>(
         &self,
         alloc: Global,
         watch: &W,
+        judge: &J,
         ahead: Ahead,
         job: usize,
-    ) -> Result<Vec<Ending>, SearchFault>
+    ) -> Result<Vec<JudgedEnding>, SearchFault>
         requires { job + 1 < 2 ^ 64 }
-        ensures { IfOk result (λ endings. AreMetIn self.now (first_of ahead job) endings.items) }
+        ensures { IfOk result (λ endings. AreMetIn (J.judges judge.now) self.now (first_of ahead job) endings.items) }
     {
-        self.endings(alloc, watch, ahead.first(job), ahead.wanted(job) as usize)
+        let wanted = ahead.wanted(job) as usize;
+        self.endings(alloc, watch, judge, ahead.first(job), wanted)
     }
 
     /// Puts the endings of the last piece, which is a job's, behind those of later runs, and takes it away. Where it
     /// hasn't as many as were wanted, the later ones are dropped.
-    fn add(
+    fn add<J: Judges>(
         &self,
-        endings: &mut Vec<Ending>,
-        pieces: &mut Vec<Result<Vec<Ending>, SearchFault>>,
+        judge: &J,
+        endings: &mut Vec<JudgedEnding>,
+        pieces: &mut Vec<Result<Vec<JudgedEnding>, SearchFault>>,
         ahead: Ahead,
         job: usize,
     ) -> Result<(), SearchFault>
         requires last { length pieces.old.items ≡ job + 1 }
         requires room { job + 1 < 2 ^ 64 }
-        requires endings { AreMetIn self.now (first_of ahead (job + 1)) endings.old.items }
-        requires pieces { ArePiecesIn self.now ahead pieces.old.items }
+        requires endings { AreMetIn (J.judges judge.now) self.now (first_of ahead (job + 1)) endings.old.items }
+        requires pieces { ArePiecesIn (J.judges judge.now) self.now ahead pieces.old.items }
         ensures last { OnOk result (length pieces.new.items ≡ job) }
-        ensures endings { OnOk result (AreMetIn self.now (first_of ahead job) endings.new.items) }
-        ensures pieces { OnOk result (ArePiecesIn self.now ahead pieces.new.items) }
+        ensures endings { OnOk result (AreMetIn (J.judges judge.now) self.now (first_of ahead job) endings.new.items) }
+        ensures pieces { OnOk result (ArePiecesIn (J.judges judge.now) self.now ahead pieces.new.items) }
     {
         let Some(piece) = pieces.pop() else {
             return Ok(());
         };
         let mut made = piece?;
-        self.drop_later(endings, ahead.first(job), made.len(), ahead.wanted(job));
+        let (first, wanted) = (ahead.first(job), ahead.wanted(job));
+        self.drop_later(judge, endings, first, made.len(), wanted);
         endings.append(&mut made)?;
         Ok(())
     }
 
     /// The endings of runs that are made ahead, the last first, up to one that is given up.
-    fn endings_by<R: Threads + Sync, W: Watch + Sync>(
+    fn endings_by<R: Threads + Sync, W: Watch + Sync, J: Judges + Sync>(
         &self,
         alloc: Global,
-        crew: &Crew<R, W>,
+        crew: &Crew<R, W, J>,
         ahead: Ahead,
-    ) -> Result<Vec<Ending>, SearchFault>
-        ensures { IfOk result (λ endings. AreMetIn self.now ahead.from endings.items) }
+    ) -> Result<Vec<JudgedEnding>, SearchFault>
+        ensures { IfOk result (λ endings. AreMetIn (J.judges crew.now.judge.now) self.now ahead.from endings.items) }
     {
-        let (rt, jobs, watch) = (crew.rt, crew.jobs, crew.watch);
+        let (rt, jobs, watch, judge) = (crew.rt, crew.jobs, crew.watch, crew.judge);
         let mut pieces = map_indices(
             rt,
             alloc,
             jobs,
-            &|job: usize| -> Result<Vec<Ending>, SearchFault>
+            &|job: usize| -> Result<Vec<JudgedEnding>, SearchFault>
                 requires { job + 1 < 2 ^ 64 }
-                ensures { IfOk result (λ endings. AreMetIn self.entry.now (first_of ahead job) endings.items) }
-            { self.endings_of(alloc, watch, ahead, job) },
+                ensures { IfOk result (λ endings. AreMetIn (J.judges judge.entry.now) self.entry.now
+                    (first_of ahead job) endings.items) }
+            { self.endings_of(alloc, watch, judge, ahead, job) },
         )?;
         let mut endings = Vec::new(alloc);
         for job in (0..jobs).rev() {
-            self.add(&mut endings, &mut pieces, ahead, job)?;
+            self.add(judge, &mut endings, &mut pieces, ahead, job)?;
         }
         Ok(endings)
     }
 
     /// The ending of the run of this number, with which `left` runs are left: one that was made ahead, or it is made,
     /// and others after it, the more the more were made before. None where it was given up.
-    fn next_ending<R: Threads + Sync, W: Watch + Sync>(
+    fn next_ending<R: Threads + Sync, W: Watch + Sync, J: Judges + Sync>(
         &self,
         alloc: Global,
-        crew: &Crew<R, W>,
+        crew: &Crew<R, W, J>,
         run: u64,
         left: u64,
-        ahead: &mut Vec<Ending>,
-    ) -> Result<Option<Ending>, SearchFault>
+        ahead: &mut Vec<JudgedEnding>,
+    ) -> Result<Option<JudgedEnding>, SearchFault>
         requires room { run + left < 2 ^ 64 }
-        requires ahead { AreMetIn self.now run ahead.old.items }
-        ensures met { IfOk result (λ ending. IfSome ending (IsMetIn self.now run)) }
-        ensures ahead { OnOk result (AreMetIn self.now (run + 1) ahead.new.items) }
+        requires ahead { AreMetIn (J.judges crew.now.judge.now) self.now run ahead.old.items }
+        ensures met { IfOk result (λ ending. IfSome ending (IsMetIn (J.judges crew.now.judge.now) self.now run)) }
+        ensures ahead { OnOk result (AreMetIn (J.judges crew.now.judge.now) self.now (run + 1) ahead.new.items) }
     {
         if let Some(ending) = ahead.pop() {
             return Ok(Some(ending));
@@ -346,19 +376,19 @@ impl<'m, 'a> RunMaker<'m, 'a> {
 
     /// The ending of the run of this number, which is made whether or not runs are given up; none where the follower
     /// wishes an end then.
-    fn noted_next<R: Threads + Sync, F: Hears>(
+    fn noted_next<R: Threads + Sync, F: Hears, J: Judges + Sync>(
         &self,
         alloc: Global,
-        crew: &Crew<R, F::Watch>,
+        crew: &Crew<R, F::Watch, J>,
         run: u64,
         left: u64,
-        ahead: &mut Vec<Ending>,
+        ahead: &mut Vec<JudgedEnding>,
         follower: &mut F,
-    ) -> Result<Option<Ending>, SearchFault>
+    ) -> Result<Option<JudgedEnding>, SearchFault>
         requires room { run + left < 2 ^ 64 }
-        requires ahead { AreMetIn self.now run ahead.old.items }
-        ensures met { IfOk result (λ ending. IfSome ending (IsMetIn self.now run)) }
-        ensures ahead { OnOk result (AreMetIn self.now (run + 1) ahead.new.items) }
+        requires ahead { AreMetIn (J.judges crew.now.judge.now) self.now run ahead.old.items }
+        ensures met { IfOk result (λ ending. IfSome ending (IsMetIn (J.judges crew.now.judge.now) self.now run)) }
+        ensures ahead { OnOk result (AreMetIn (J.judges crew.now.judge.now) self.now (run + 1) ahead.new.items) }
         ensures told { IfOk result (λ ending. IfNone ending (F.wish follower.new ≡ Wish.End)) }
     {
         if let Some(ending) = self.next_ending(alloc, crew, run, left, ahead)? {
@@ -367,30 +397,29 @@ impl<'m, 'a> RunMaker<'m, 'a> {
         if let Wish::End = follower.given_up() {
             return Ok(None);
         }
-        let ending = self.ending_anew(alloc, run)?;
+        let ending = self.ending_anew(alloc, crew.judge, run)?;
         Ok(Some(ending))
     }
 
     /// Makes the runs and notes their endings, up to the first that is looked for, where the search stops there, or
     /// behind which the follower tells it to end.
-    fn first<R: Threads + Sync, F: Hears>(
+    fn first<R: Threads + Sync, F: Hears, J: Judges + Sync>(
         &self,
         alloc: Global,
-        crew: &Crew<R, F::Watch>,
+        crew: &Crew<R, F::Watch, J>,
         follower: &mut F,
     ) -> Result<SearchResult, SearchFault>
         requires few { self.now.sought.now.from + self.now.sought.now.runs < 2 ^ 64 }
         requires points { HasPointsAmong self.now.request.now self.now.sought.now.limit self.now.sought.now.way
             self.now.entries }
-        ensures met { IfOk result (λ s. AreMet self.now.request.now self.now.sought.now s.table) }
-        ensures noted { IfOk result (λ s. AreNoted self.now.request.now self.now.sought.now s.table) }
-        ensures found { IfOk result (λ s. IfFound s.halt (λ f. IsFoundIn self.now f.made)) }
+        ensures noted { IfOk result (λ s. AreNotedBy (IsPassed (J.judges crew.now.judge.now) self.now.sought.now s.halt)
+            self.now.request.now self.now.sought.now s.table) }
+        ensures found { IfOk result (λ s. IfFound s.halt
+            (λ f. IsFoundIn (J.judges crew.now.judge.now) self.now f.made)) }
         ensures drawn { IfOk result (λ s. IfFound s.halt (λ f. IsMadeIn self.now f.run f.made)) }
         ensures number { IfOk result
             (λ s. IfFound s.halt (λ f. f.run + 1 ≡ self.now.sought.now.from + s.table.runs)) }
         ensures all_made { IfOk result (λ s. s.halt ≡ Halt.AllMade → s.table.runs ≡ self.now.sought.now.runs) }
-        ensures none { IfOk result (λ s. s.halt ≡ Halt.AllMade → IsTrue self.now.sought.now.stops
-            → HasNoneLookedFor self.now.sought.now s.table) }
         ensures told { IfOk result (λ s. s.halt ≡ Halt.Told → F.wish follower.new ≡ Wish.End) }
     {
         let sought = self.sought;
@@ -400,15 +429,14 @@ impl<'m, 'a> RunMaker<'m, 'a> {
         for run in sought.from..end {
             let left = end - run;
             let next = self.noted_next(alloc, crew, run, left, &mut ahead, follower)?;
-            let Some(ending) = next else {
+            let Some(JudgedEnding { ending, is_sought }) = next else {
                 let halt = Halt::Told;
                 return Ok(SearchResult { table, halt });
             };
-            let is_sought = is_looked_for(alloc, sought, &ending)?;
             table.note(run, ending)?;
             let wish = follower.runs(table.runs, table.met.len());
             if is_sought && sought.stops {
-                let found = self.found(alloc, run)?;
+                let found = self.found(alloc, crew.judge, run)?;
                 let halt = Halt::Found(found);
                 return Ok(SearchResult { table, halt });
             }
@@ -424,9 +452,59 @@ impl<'m, 'a> RunMaker<'m, 'a> {
 
 /// Makes the runs of a call that is requested in the order of their numbers, by so many threads, and notes the ending
 /// of each; up to the first that is looked for, where the search stops there, or behind which the follower tells it to
-/// end. Run number I of a seed is the same run, whoever makes it, and so is what is found, which is made once more by
-/// itself. The follower hears of each how many were made, with how many endings; and where a run is given up since there
-/// is something to be seen, it is asked.
+/// end. Of each run the judge says whether it is looked for. Run number I of a seed is the same run, whoever makes it,
+/// and so is what is found, which is made once more by itself. The follower hears of each how many were made, with how
+/// many endings; and where a run is given up since there is something to be seen, it is asked.
+///
+/// The table has the endings of the runs of these numbers, in a row from the first on, each noted. What is found is the
+/// last of them: the judge says of it that it is looked for, and of those before it that they aren't. Where nothing is
+/// found, all runs were made, or the follower's last wish is that it ends; and where the search stops, none of those
+/// that were made is looked for.
+///
+/// # Errors
+/// As of `run_along`.
+pub fn first_judged<R: Threads + Sync, F: Hears, J: Judges + Sync>(
+    rt: &R,
+    alloc: Global,
+    request: &Request,
+    sought: &Sought,
+    judge: &J,
+    jobs: usize,
+    follower: &mut F,
+) -> Result<SearchResult, SearchFault>
+    requires { sought.now.from + sought.now.runs < 2 ^ 64 }
+    ensures noted { IfOk result (λ s. AreNotedBy (IsPassed (J.judges judge.now) sought.now s.halt) request.now sought.now
+        s.table) }
+    ensures found { IfOk result (λ s. IfFound s.halt
+        (λ f. IsFindBy (J.judges judge.now) request.now sought.now.limit f.made)) }
+    ensures drawn { IfOk result (λ s. IfFound s.halt (λ f. IsRunOfNumber request.now sought.now f.run f.made)) }
+    ensures number { IfOk result (λ s. IfFound s.halt (λ f. f.run + 1 ≡ sought.now.from + s.table.runs)) }
+    ensures all_made { IfOk result (λ s. s.halt ≡ Halt.AllMade → s.table.runs ≡ sought.now.runs) }
+    ensures told { IfOk result (λ s. s.halt ≡ Halt.Told → F.wish follower.new ≡ Wish.End) }
+{
+    let watch = follower.watch();
+    let told = entries_unless_told(alloc, request, sought, &watch, follower)?;
+    let Some(entries) = told else {
+        let table = Table::new(alloc);
+        let halt = Halt::Told;
+        return Ok(SearchResult { table, halt });
+    };
+    let search = RunMaker {
+        request,
+        sought,
+        entries,
+    };
+    let crew = Crew {
+        rt,
+        jobs,
+        watch: &watch,
+        judge,
+    };
+    let searched = search.first(alloc, &crew, follower)?;
+    Ok(searched)
+}
+
+/// The same where a run is looked for by how it ends.
 ///
 /// The table has the endings of the runs of these numbers, in a row from the first on, each noted. What is found is the
 /// last of them: it ends as is looked for. Where nothing is found, all runs were made, and, where
@@ -453,24 +531,8 @@ pub fn first_found<R: Threads + Sync, F: Hears>(
         → HasNoneLookedFor sought.now s.table) }
     ensures told { IfOk result (λ s. s.halt ≡ Halt.Told → F.wish follower.new ≡ Wish.End) }
 {
-    let watch = follower.watch();
-    let told = entries_unless_told(alloc, request, sought, &watch, follower)?;
-    let Some(entries) = told else {
-        let table = Table::new(alloc);
-        let halt = Halt::Told;
-        return Ok(SearchResult { table, halt });
-    };
-    let search = RunMaker {
-        request,
-        sought,
-        entries,
-    };
-    let crew = Crew {
-        rt,
-        jobs,
-        watch: &watch,
-    };
-    let searched = search.first(alloc, &crew, follower)?;
+    let judge = EndsSo { sought };
+    let searched = first_judged(rt, alloc, request, sought, &judge, jobs, follower)?;
     Ok(searched)
 }
 

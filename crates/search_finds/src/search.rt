@@ -2,7 +2,15 @@
 ghost use Rattle.std.specs.Prelude.{◌<◌};
 
 use report_choice::Sought;
+use search_endings::Ending;
 use spawn_host::Request;
+
+/// The ending of a run, and whether the run is looked for.
+#[derive(Drop)]
+pub(crate) struct JudgedEnding {
+    pub(crate) ending: Ending,
+    pub(crate) is_sought: bool,
+}
 
 /// The call of a module's function, and what is looked for among the runs by that call.
 #[derive(Clone, Copy)]

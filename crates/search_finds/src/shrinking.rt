@@ -1,11 +1,13 @@
-//! Of a run one with fewer switches of threads that ends alike.
-ghost use Rattle.std.specs.Prelude.{IfOk, IfSome};
+//! Of a run one with fewer switches of threads that is looked for too.
+ghost use Rattle.std.specs.Prelude.{IfOk, IfSome, true};
 ghost use Rattle.search_finds.specs.Endings.{HaveOneEnding};
-ghost use Rattle.search_finds.specs.Finds.{IsFind, IsFindAlike};
+ghost use Rattle.search_finds.specs.Finds.{IsFind};
+ghost use Rattle.search_finds.specs.Judged.{IsFindBy};
 ghost use Rattle.search_finds.specs.Sizes.{size_in, IsSmaller, IsNoLarger};
 
-use crate::have_one_ending;
+use crate::ending_of;
 use crate::hears::Hears;
+use crate::judging::{EndsAlike, Judges};
 use crate::rounds::{moments_of, without_own_repeats, without_repeats};
 use crate::size::{schedule_of, size_of};
 use crate::spins::without_spins;
@@ -55,17 +57,17 @@ fn without(alloc: Global, schedule: &[u32], cut: Cut) -> Result<Vec<u32>, AllocE
     Ok(rest)
 }
 
-/// Makes the run along a schedule: it is given where it is smaller than another and ends as that.
-fn tried<W: Watch>(
+/// Makes the run along a schedule: it is given where it is smaller than another and is looked for.
+fn tried<W: Watch, J: Judges>(
     alloc: Global,
     request: &Request,
     limit: u32,
-    dump: u32,
+    judge: &J,
     watch: &W,
     best: &MadeRun,
     schedule: &[u32],
 ) -> Result<Option<MadeRun>, SearchFault>
-    ensures alike { IfOk result (λ o. IfSome o (IsFindAlike request.now limit dump best.now)) }
+    ensures find { IfOk result (λ o. IfSome o (IsFindBy (J.judges judge.now) request.now limit)) }
     ensures smaller { IfOk result (λ o. IfSome o (λ m. IsSmaller (size_in m.record) (size_in best.now.record))) }
 {
     let mut along = Watched::new(Along::new(schedule), watch);
@@ -74,31 +76,28 @@ fn tried<W: Watch>(
         Err(SearchFault::GivenUp) => return Ok(None),
         Err(fault) => return Err(fault),
     };
-    if size_of(&made.record).is_below(size_of(&best.record))
-        && have_one_ending(alloc, &best.end, &made.end, dump)?
-    {
+    if size_of(&made.record).is_below(size_of(&best.record)) && judge.is_sought(alloc, &made)? {
         return Ok(Some(made));
     }
     Ok(None)
 }
 
-/// The run along a schedule, where it is smaller than another and ends alike, and else that; and whether it is smaller.
-#[tactic(auto, using(crate::proofs::Alike::alike_itself))]
-fn better<W: Watch>(
+/// The run along a schedule, where it is smaller than another and is looked for, and else that; and whether it is
+/// smaller.
+fn better<W: Watch, J: Judges>(
     alloc: Global,
     request: &Request,
     limit: u32,
-    dump: u32,
+    judge: &J,
     watch: &W,
     best: MadeRun,
     schedule: &[u32],
 ) -> Result<(MadeRun, bool), SearchFault>
-    requires { IsFind request.now limit best }
-    ensures run { IfOk result (λ r. IsFind request.now limit r.0) }
-    ensures ending { IfOk result (λ r. HaveOneEnding dump best.end r.0.end) }
+    requires { IsFindBy (J.judges judge.now) request.now limit best }
+    ensures run { IfOk result (λ r. IsFindBy (J.judges judge.now) request.now limit r.0) }
     ensures size { IfOk result (λ r. IsNoLarger (size_in r.0.record) (size_in best.record)) }
 {
-    match tried(alloc, request, limit, dump, watch, &best, schedule)? {
+    match tried(alloc, request, limit, judge, watch, &best, schedule)? {
         Some(smaller) => Ok((smaller, true)),
         None => Ok((best, false)),
     }
@@ -115,38 +114,87 @@ fn stretches_of(alloc: Global, made: &MadeRun) -> Result<usize, AllocError> {
     Ok(stretches(&schedule_of(alloc, &made.record)?))
 }
 
-/// Of a run a smaller one that ends alike, without what lies between two moments in which all is the same, or all that is
-/// one thread's; and without rounds in which a thread saw what it saw in the round before.
-#[tactic(auto, using(crate::proofs::Alike::alike_itself, crate::proofs::Alike::alike_on))]
-fn without_waits<W: Watch>(
+/// Of a run a smaller one that is looked for too, without what lies between two moments in which all is the same, or all
+/// that is one thread's; and without rounds in which a thread saw what it saw in the round before.
+fn without_waits<W: Watch, J: Judges>(
     alloc: Global,
     request: &Request,
     limit: u32,
-    dump: u32,
+    judge: &J,
     watch: &W,
     made: MadeRun,
 ) -> Result<MadeRun, SearchFault>
-    requires { IsFind request.now limit made }
-    ensures run { IfOk result (IsFind request.now limit) }
-    ensures ending { IfOk result (λ small. HaveOneEnding dump made.end small.end) }
+    requires { IsFindBy (J.judges judge.now) request.now limit made }
+    ensures run { IfOk result (IsFindBy (J.judges judge.now) request.now limit) }
     ensures size { IfOk result (λ small. IsNoLarger (size_in small.record) (size_in made.record)) }
 {
     let short = without_repeats(alloc, &moments_of(alloc, request.module(), &made)?)?;
-    let (made, _) = better(alloc, request, limit, dump, watch, made, &short)?;
+    let (made, _) = better(alloc, request, limit, judge, watch, made, &short)?;
     let short = without_own_repeats(alloc, &moments_of(alloc, request.module(), &made)?)?;
-    let (made, _) = better(alloc, request, limit, dump, watch, made, &short)?;
+    let (made, _) = better(alloc, request, limit, judge, watch, made, &short)?;
     let short = without_spins(alloc, &made.record)?;
-    let (made, _) = better(alloc, request, limit, dump, watch, made, &short)?;
+    let (made, _) = better(alloc, request, limit, judge, watch, made, &short)?;
     Ok(made)
 }
 
-/// Of a run a smaller one that ends alike, found by leaving out parts of its schedule: first the rounds of waits in
-/// loops, then halves, and single stretches last (delta debugging), and such rounds once more; in 10,000 runs at most,
-/// and as long as the follower doesn't wish an end.
+/// Of a run that is looked for a smaller one that is too, found by leaving out parts of its schedule: first the rounds of
+/// waits in loops, then halves, and single stretches last (delta debugging), and such rounds once more; in 10,000 runs at
+/// most, and as long as the follower doesn't wish an end.
 ///
 /// # Errors
 /// As of `run_along`.
-#[tactic(auto, using(crate::proofs::Alike::alike_itself, crate::proofs::Alike::alike_on))]
+pub fn shrunk_by<F: Hears, J: Judges>(
+    alloc: Global,
+    request: &Request,
+    limit: u32,
+    judge: &J,
+    made: MadeRun,
+    follower: &mut F,
+) -> Result<MadeRun, SearchFault>
+    requires { IsFindBy (J.judges judge.now) request.now limit made }
+    ensures run { IfOk result (IsFindBy (J.judges judge.now) request.now limit) }
+    ensures size { IfOk result (λ small. IsNoLarger (size_in small.record) (size_in made.record)) }
+{
+    follower.found(&made.record);
+    let watch = follower.watch();
+    let mut best = without_waits(alloc, request, limit, judge, &watch, made)?;
+    let all = stretches_of(alloc, &best)?;
+    let mut cut = Cut {
+        at: 0,
+        count: (all / 2).max(1),
+    };
+    let mut is_better = false;
+    for tries in 0..TRIES {
+        if let Wish::End = follower.tried(tries, size_of(&best.record)) {
+            return Ok(best);
+        }
+        let rest = cut_schedule(alloc, &best, cut)?;
+        let (next, is_smaller) = better(alloc, request, limit, judge, &watch, best, &rest)?;
+        best = next;
+        if is_smaller {
+            is_better = true;
+        } else {
+            cut.at = cut.at.saturating_add(cut.count);
+        }
+        if cut.at >= all {
+            if cut.count == 1 && !is_better {
+                let best = without_waits(alloc, request, limit, judge, &watch, best)?;
+                return Ok(best);
+            }
+            cut = Cut {
+                at: 0,
+                count: (cut.count / 2).max(1),
+            };
+            is_better = false;
+        }
+    }
+    Ok(best)
+}
+
+/// The same where a run is looked for that ends alike, by so many first bytes of the memory.
+///
+/// # Errors
+/// As of `run_along`.
 pub fn shrunk<F: Hears>(
     alloc: Global,
     request: &Request,
@@ -160,38 +208,11 @@ pub fn shrunk<F: Hears>(
     ensures ending { IfOk result (λ small. HaveOneEnding dump made.end small.end) }
     ensures size { IfOk result (λ small. IsNoLarger (size_in small.record) (size_in made.record)) }
 {
-    follower.found(&made.record);
-    let watch = follower.watch();
-    let mut best = without_waits(alloc, request, limit, dump, &watch, made)?;
-    let all = stretches_of(alloc, &best)?;
-    let mut cut = Cut {
-        at: 0,
-        count: (all / 2).max(1),
+    let ending = ending_of(alloc, &made.end, dump)?;
+    let judge = EndsAlike {
+        ending: &ending,
+        dump,
     };
-    let mut is_better = false;
-    for tries in 0..TRIES {
-        if let Wish::End = follower.tried(tries, size_of(&best.record)) {
-            return Ok(best);
-        }
-        let rest = cut_schedule(alloc, &best, cut)?;
-        let (next, is_smaller) = better(alloc, request, limit, dump, &watch, best, &rest)?;
-        best = next;
-        if is_smaller {
-            is_better = true;
-        } else {
-            cut.at = cut.at.saturating_add(cut.count);
-        }
-        if cut.at >= all {
-            if cut.count == 1 && !is_better {
-                let best = without_waits(alloc, request, limit, dump, &watch, best)?;
-                return Ok(best);
-            }
-            cut = Cut {
-                at: 0,
-                count: (cut.count / 2).max(1),
-            };
-            is_better = false;
-        }
-    }
-    Ok(best)
+    let small = shrunk_by(alloc, request, limit, &judge, made, follower)?;
+    Ok(small)
 }

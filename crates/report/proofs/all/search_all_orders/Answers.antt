@@ -1,12 +1,12 @@
-use Rattle.std.proofs.Common.{ℕ, List, ◌∙◌, ap, refl, sym, subst}
+use Rattle.std.proofs.Common.{◌∙◌, ap, refl, sym, subst}
 use Rattle.std.proofs.lemmas.Result.{IfOk-weaker}
-use Rattle.report_jobs.specs.Prints.{change, changed}
+use Rattle.report_jobs.specs.Prints.{change}
 use Rattle.report.specs.Prints.{IsStatusOf, IsToldBehind, PrintsAll, Tells}
 use Rattle.report.specs.Racing.{TellsOfRacing}
 use Rattle.report.specs.Searches.{Finds, IsWellAt}
 use Rattle.report.specs.declared.whole.Racing.{Racing}
 use Rattle.report.proofs.Printed.{prints_all}
-use Rattle.report.proofs.Wholly.{finds_all, if_both, well_by}
+use Rattle.report.proofs.Wholly.{and_none, finds_all, if_both, well_by}
 use Rattle.report.proofs.all.search_all_orders.Goals as goal
 
 pub returns-clause-finds : goal.returns-clause-finds
@@ -53,3 +53,7 @@ returns-clause-well g c =
     IfOk-weaker c.tell_behind.result (IsStatusOf s w) (IsWellAt r.parts s)
     (λ status is. well_by r s c.requires.asked w c.in_ok-whole.ensures.whole status is)
     c.tell_behind.ensures.status
+
+pub returns-clause-unwanted : goal.returns-clause-unwanted
+returns-clause-unwanted g c none =
+    c.tell_behind.ensures.unwanted none ∙ c.tell_race.ensures.unwanted (and_none c.args.asked.search.now.races none)

@@ -1,6 +1,5 @@
-use Rattle.std.proofs.Common.{ℕ, List, refl, sym, ◌∙◌, subst, inl, inr, true≢false}
+use Rattle.std.proofs.Common.{refl, sym, ◌∙◌, inl, inr, true≢false}
 use Rattle.report_jobs.specs.Prints.{changed}
-use Rattle.report.specs.Prints.{TellsOfOne}
 use Rattle.report.proofs.Printed.{first_is_sought, status_0, status_1, tells_nothing, well_has_none}
 use Rattle.report.proofs.Sought.{known_is_sought, none_of}
 use Rattle.report.proofs.Wholly.{finds_endless, finds_found}
@@ -10,8 +9,8 @@ pub returns-then-not-stops-clause-tells : goal.returns-then-not-stops-clause-tel
 returns-then-not-stops-clause-tells g c =
     let save = changed g.S.Write.contents c.args.save.now c.args.save.now in
     tells_nothing c.args.request.now c.args.search.now c.args.whole.now (g.W.Write.contents c.args.out.now) save refl
-    (λ stops. absurd (true≢false (sym stops ∙ (sym c.stops_behind.ensures ∙ c.if-not-stops.true))))
-    (λ stops. absurd (true≢false (sym stops ∙ (sym c.stops_behind.ensures ∙ c.if-not-stops.true))))
+    (λ stops. absurd (true≢false (sym stops ∙ (sym c.stops_behind-stops.ensures ∙ c.if-not-stops.true))))
+    (λ stops. absurd (true≢false (sym stops ∙ (sym c.stops_behind-stops.ensures ∙ c.if-not-stops.true))))
 
 pub returns-then-not-stops-clause-status : goal.returns-then-not-stops-clause-status
 returns-then-not-stops-clause-status g c =
@@ -27,7 +26,7 @@ returns-in-Some-clause-tells g c =
       told.0,
       told.1,
       inr (
-        sym c.stops_behind.ensures ∙ c.if-not-stops.false,
+        sym c.stops_behind-stops.ensures ∙ c.if-not-stops.false,
         inl (record {
           number = c.in-Some.first.number;
           ending = c.in-Some.first.ending.now;
@@ -75,8 +74,8 @@ pub returns-then-not-stops-2-clause-tells : goal.returns-then-not-stops-2-clause
 returns-then-not-stops-2-clause-tells g c =
     tells_nothing c.args.request.now c.args.search.now c.args.whole.now (g.W.Write.contents c.args.out.now)
     (changed g.S.Write.contents c.args.save.now c.args.save.now) refl
-    (λ stops. absurd (true≢false (sym stops ∙ (sym c.stops_behind.ensures ∙ c.if-not-stops-2.true))))
-    (λ stops. absurd (true≢false (sym stops ∙ (sym c.stops_behind.ensures ∙ c.if-not-stops-2.true))))
+    (λ stops. absurd (true≢false (sym stops ∙ (sym c.stops_behind-stops.ensures ∙ c.if-not-stops-2.true))))
+    (λ stops. absurd (true≢false (sym stops ∙ (sym c.stops_behind-stops.ensures ∙ c.if-not-stops-2.true))))
 
 pub returns-then-not-stops-2-clause-status : goal.returns-then-not-stops-2-clause-status
 returns-then-not-stops-2-clause-status g c =
@@ -85,28 +84,28 @@ returns-then-not-stops-2-clause-status g c =
 
 pub tell_known-requires-clause-sought : goal.tell_known-requires-clause-sought
 tell_known-requires-clause-sought g c =
-    known_is_sought c.args.search.now.sought.target c.args.whole.now.all.liveness c.in-Some-endless_run.run
+    known_is_sought c.args.search.now.sought.target c.args.whole.now.all.liveness c.in-Some-endless_run.run'
     (rw c.in-Some-endless_run.is at c.endless_run.ensures.some)
 
-pub returns-in-Some-endless_run-clause-finds : goal.returns-in-Some-endless_run-clause-finds
-returns-in-Some-endless_run-clause-finds g c =
+pub returns-in_ok-tell_known-in-Some-endless_run-clause-finds : goal.returns-in_ok-tell_known-in-Some-endless_run-clause-finds
+returns-in_ok-tell_known-in-Some-endless_run-clause-finds g c =
     finds_endless c.args.request.now.parts c.args.search.now (changed g.S.Write.contents c.args.save.now c.tell_known.new.save)
-    c.in_ok-tell_known.ensures.kept
+    c.in_ok-tell_known-in-Some-endless_run.ensures.kept
 
 pub returns-in-Some-clause-finds : goal.returns-in-Some-clause-finds
 returns-in-Some-clause-finds g c =
     finds_found c.args.request.now.parts c.args.search.now (changed g.S.Write.contents c.args.save.now c.tell_sought.new.save)
     c.in_ok-tell_sought.ensures.told
 
-pub returns-in-Some-endless_run-clause-tells : goal.returns-in-Some-endless_run-clause-tells
-returns-in-Some-endless_run-clause-tells g c =
-    let told = c.in_ok-tell_known.ensures.tells in (
+pub returns-in_ok-tell_known-in-Some-endless_run-clause-tells : goal.returns-in_ok-tell_known-in-Some-endless_run-clause-tells
+returns-in_ok-tell_known-in-Some-endless_run-clause-tells g c =
+    let told = c.in_ok-tell_known-in-Some-endless_run.ensures.tells in (
       told.0,
       told.1,
       inr (
-        sym c.stops_behind.ensures ∙ c.if-not-stops-2.false,
+        sym c.stops_behind-stops.ensures ∙ c.if-not-stops-2.false,
         inr (record {
-          known = c.in-Some-endless_run.run;
+          known = c.in-Some-endless_run.run';
           is_known = rw c.in-Some-endless_run.is at c.endless_run.ensures.some;
           unsought = c.in_ok-first.ensures.none (none_of _ c.in_default.not-Some);
           tells = told.2;
@@ -114,19 +113,19 @@ returns-in-Some-endless_run-clause-tells g c =
       ),
     )
 
-pub returns-in-Some-endless_run-clause-status : goal.returns-in-Some-endless_run-clause-status
-returns-in-Some-endless_run-clause-status g c =
+pub returns-in_ok-tell_known-in-Some-endless_run-clause-status : goal.returns-in_ok-tell_known-in-Some-endless_run-clause-status
+returns-in_ok-tell_known-in-Some-endless_run-clause-status g c =
     status_1 c.args.search.now c.args.whole.now
     (λ both. absurd (true≢false (sym (c.are_well.ensures.1 both.0) ∙ c.if-are_well.false)))
 
-pub returns-clause-tells : goal.returns-clause-tells
-returns-clause-tells g c =
+pub returns-in-None-clause-tells : goal.returns-in-None-clause-tells
+returns-in-None-clause-tells g c =
     tells_nothing c.args.request.now c.args.search.now c.args.whole.now (g.W.Write.contents c.args.out.now)
     (changed g.S.Write.contents c.args.save.now c.args.save.now) refl
     (λ _. c.in_ok-first.ensures.none (none_of _ c.in_default.not-Some))
     (λ _. rw c.in-None.is at c.endless_run.ensures.none)
 
-pub returns-clause-status : goal.returns-clause-status
-returns-clause-status g c =
+pub returns-in-None-clause-status : goal.returns-in-None-clause-status
+returns-in-None-clause-status g c =
     status_1 c.args.search.now c.args.whole.now
     (λ both. absurd (true≢false (sym (c.are_well.ensures.1 both.0) ∙ c.if-are_well.false)))

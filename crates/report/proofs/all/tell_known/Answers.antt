@@ -21,10 +21,10 @@ pub returns-clause-tells : goal.returns-clause-tells
 returns-clause-tells g c =
     let q = c.args.request.now in
     let s = c.args.search.now in
-    let run = c.along.result in
-    let out = changed g.W.Write.contents c.args.out.now c.tell_endless.new.out in
-    let save = changed g.S.Write.contents c.args.save.now c.tell_endless.new.save in
-    IfOk-weaker c.tell_endless.result (λ _. Tells out (λ text. TellsOfEndless q s run text save))
+    let run = c.along-run.result in
+    let out = changed g.W.Write.contents c.args.out.now c.tell_endless-2.new.out in
+    let save = changed g.S.Write.contents c.args.save.now c.tell_endless-2.new.save in
+    IfOk-weaker c.tell_endless-2.result (λ _. Tells out (λ text. TellsOfEndless q s run text save))
     (λ _. Tells out (λ text. TellsOfFilled q s c.args.is_free c.args.run.now text save))
-    (λ _ tells. (tells.0, tells.1, (run, (c.along.ensures, λ every. absurd (true≢false (sym c.if-not-is_free.false ∙ every))), tells.2)))
-    c.tell_endless.ensures.tells
+    (λ _ tells. (tells.0, tells.1, (run, (c.along-run.ensures, λ every. absurd (true≢false (sym c.if-not-is_free.false ∙ every))), tells.2)))
+    c.tell_endless-2.ensures.tells

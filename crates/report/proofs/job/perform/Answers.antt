@@ -1,5 +1,5 @@
 use Rattle.std.proofs.Common.{arith, inl, inr}
-use Rattle.report_jobs.specs.Prints.{changed}
+use Rattle.report_jobs.specs.Prints.{written}
 use Rattle.report.proofs.Plain.{is_plain, performs}
 use Rattle.report.proofs.job.perform.Goals as goal
 
@@ -10,8 +10,8 @@ perform_plain-requires-clause-plain g c κs within =
 pub returns-in_default-clause-performs : goal.returns-in_default-clause-performs
 returns-in_default-clause-performs g c =
     let job = c.args.job.now in
-    performs job c.args.module.now c.args.saved.now (changed g.W.Write.contents c.args.streams.now.out c.perform_plain.new.streams.out)
-    (changed g.S.Write.contents c.args.streams.now.save c.perform_plain.new.streams.save) c.perform_plain.result
+    performs job c.args.module.now c.args.saved.now
+    (written g.W.Write.contents g.E.Write.contents g.S.Write.contents c.args.streams.now c.perform_plain.new.streams) c.perform_plain.result
     (is_plain job c.in_default.not-Show c.in_default.not-Races c.in_default.not-Search) c.perform_plain.ensures.performs
 
 pub returns-in-Show-clause-performs : goal.returns-in-Show-clause-performs

@@ -3,8 +3,8 @@ use Rattle.types.specs.declared.event.Entry.{Entry}
 use Rattle.show_rows.specs.Listing.{IsStoryOf}
 use Rattle.replay_text.specs.declared.parts.RecordParts.{RecordParts}
 use Rattle.show_races.specs.Kinds.{kinds_in}
-use Rattle.report.specs.Raced.{Says}
-use Rattle.report.proofs.Told.{says_by, told_of}
+use Rattle.search_races.specs.Races.{Says}
+use Rattle.search_races.proofs.Told.{says_by, told_of}
 use Rattle.report.proofs.racing.write_seen.Goals as goal
 
 pub returns-clause-says : goal.returns-clause-says

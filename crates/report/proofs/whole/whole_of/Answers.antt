@@ -10,21 +10,21 @@ returns-in-Done-clause-whole g c =
     let s = c.args.search.now in
     let all = c.in-Done.all in
     let looked = subst (IsLooked q s) c.in-Done.is c.requires in
-    subst (λ (racing : Racing). IsWhole q s (record { all = all; racing = racing; is_free = true })) (sym c.racing_by.ensures)
+    subst (λ (racing : Racing). IsWhole q s (record { all = all; racing = racing; is_free = true })) (sym c.racing_by-racing.ensures)
     (whole_by q s all looked.0 looked.1 looked.2)
 
 pub returns-in-Done-clause-racing : goal.returns-in-Done-clause-racing
-returns-in-Done-clause-racing g c = c.racing_by.ensures ∙ sym (ap racing_in c.in-Done.is)
+returns-in-Done-clause-racing g c = c.racing_by-racing.ensures ∙ sym (ap racing_in c.in-Done.is)
 
-pub returns-in-Open-clause-whole : goal.returns-in-Open-clause-whole
-returns-in-Open-clause-whole g c =
+pub returns-clause-whole : goal.returns-clause-whole
+returns-clause-whole g c =
     let looked = subst (IsLooked c.args.request.now c.args.search.now) c.in-Open.is c.requires in
     record {
-      complete = c.in_ok-all.ensures.complete;
+      complete = c.in_ok-all-in-Open.ensures.complete;
       known = looked.0;
       asked = looked.1;
       never = λ free. absurd (true≢false (sym free));
     }
 
-pub returns-in-Open-clause-racing : goal.returns-in-Open-clause-racing
-returns-in-Open-clause-racing g c = sym (ap racing_in c.in-Open.is)
+pub returns-clause-racing : goal.returns-clause-racing
+returns-clause-racing g c = sym (ap racing_in c.in-Open.is)

@@ -1,13 +1,11 @@
+use Rattle.std.proofs.Common.{inl, inr}
 use Rattle.report_jobs.proofs.job.run.Goals as goal
 
 pub returns-in-Err-clause-refused : goal.returns-in-Err-clause-refused
-returns-in-Err-clause-refused g c = λ two. c.refuse.ensures.refused c.args.module.now c.in-Err.ensures.err two
+returns-in-Err-clause-refused g c = λ two.
+    c.decline.ensures.refused.refused c.args.module.now c.args.over.now c.args.job.now.memory_in c.in-Err.ensures.err two
 
-pub returns-clause-cannot : goal.returns-clause-cannot
-returns-clause-cannot g c =
-    λ three. record {
-      parts = c.in-Ok.valid.parts;
-      text = c.in-Ok.ensures.ok.0;
-      valid = c.in-Ok.ensures.ok.1.valid;
-      cannot = c.complain.ensures.refused c.in-Ok.valid.parts _ _ c.in-Err-print_run.ensures.trouble three;
-    }
+pub returns-in-Err-clause-cannot : goal.returns-in-Err-clause-cannot
+returns-in-Err-clause-cannot g c = λ three.
+    let x = c.decline.ensures.refused.cannot c.args.module.now c.args.over.now c.args.job.now.memory_in c.in-Err.ensures.err three in
+    record { parts = x.parts; text = x.text; valid = x.valid; cannot = inr x.cannot }

@@ -1,7 +1,7 @@
 use Rattle.std.proofs.Common.{◌≤◌, ℕ, sym, subst}
 use Rattle.std.proofs.lemmas.Result.{err_from_is_err_and, IfOk-weaker}
 use Rattle.types.specs.declared.limits.TheConstants.{MOST_FUEL}
-use Rattle.report_jobs.specs.Prints.{change, PrintsAndKeeps, PrintsRun}
+use Rattle.report_jobs.specs.Prints.{written, PrintsAndKeeps, PrintsRun}
 use Rattle.report_jobs.proofs.Calls.{of_recording}
 use Rattle.report_jobs.proofs.Printed.{printed_recorded}
 use Rattle.report_jobs.proofs.running.print_recorded.Goals as goal
@@ -19,10 +19,9 @@ pub returns-clause-made : goal.returns-clause-made
 returns-clause-made g c =
     let r = c.args.request.now in
     let job = c.args.job.now in
-    let out = change (g.W.Write.contents c.args.out.now) (g.W.Write.contents c.print_and_keep-status.new.out) in
-    let save = change (g.S.Write.contents c.args.save.now) (g.S.Write.contents c.print_and_keep-status.new.save) in
+    let w = written g.W.Write.contents g.E.Write.contents g.S.Write.contents c.args.streams.now c.print_and_keep-status.new.streams in
     let x = c.in_ok-record.record in
     let end = c.in_ok-record.end in
-    IfOk-weaker c.print_and_keep-status.result (PrintsAndKeeps job x end out save) (PrintsRun r.parts job out save)
-    (λ status made. printed_recorded r job c.requires.asked out save status end c.requires.memory x c.in_ok-record.ensures.record
+    IfOk-weaker c.print_and_keep-status.result (PrintsAndKeeps job x end w) (PrintsRun r.parts job w)
+    (λ status made. printed_recorded r job c.requires.asked w status end c.requires.memory x c.in_ok-record.ensures.record
     c.in_ok-record.ensures.run made.0 made.1) c.print_and_keep-status.ensures.made

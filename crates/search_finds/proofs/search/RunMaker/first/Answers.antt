@@ -1,65 +1,71 @@
-use Rattle.std.proofs.Common.{ℕ, List, [], subst, true≢false, sym, ◌∙◌, arith}
-use Rattle.std.proofs.lemmas.List.Elements.{All-nil, All-same}
-use Rattle.search_endings.specs.Endings.{Ending}
-use Rattle.search_finds.specs.declared.met.Met.{Met}
-use Rattle.search_finds.specs.Drawing.{AreOfRunsBack, IsMetEnding}
-use Rattle.search_finds.specs.Finds.{IsLookedFor}
+use Rattle.std.proofs.Common.{ℕ, ◌≡◌, ◌<◌, Bool, List, true, false, IsTrue, refl, subst, true≢false, sym, ◌∙◌, arith}
+use Rattle.search_scheduled.specs.declared.running.MadeRun.{MadeRun}
+use Rattle.search_finds.specs.Drawing.{AreOfRunsBack}
+use Rattle.search_finds.specs.declared.search.JudgedEnding.{JudgedEnding}
 use Rattle.search_finds.proofs.InRow.{met_of}
-use Rattle.search_finds.proofs.Noting.{noted_all, noted_none, noted_more}
+use Rattle.search_finds.proofs.Noting.{noted_none, noted_more, noted_weaker}
 use Rattle.search_finds.proofs.search.RunMaker.first.Goals as goal
 use Rattle.search_finds.proofs.search.RunMaker.first.Goals.{else-is_sought-via-then-is_sought+else-sought, else-is_sought-via-else-is_sought}
 
 pub loop-run-init : goal.loop-run-init
 loop-run-init g c =
+    let says = g.J.Judges.judges c.args.crew.now.judge.now in
+    let q = c.args.self.now.request.now in
     let s = c.args.self.now.sought.now in
     let new = c.new-table.ensures in
     let runs = new.0 in (
       omega arith,
-      All-same (λ (m : Met). IsMetEnding c.args.self.now.request.now s m.first m.ending) _ [] new.1
-          (All-nil (λ (m : Met). IsMetEnding c.args.self.now.request.now s m.first m.ending)),
-      subst (AreOfRunsBack c.args.self.now.request.now s c.args.self.now.entries s.from) (sym {A = List Ending} c.new-ahead.ensures.items) tt,
-      noted_none c.args.self.now.request.now s c.new-table.result runs new.1,
-      λ stops. All-same (λ (m : Met). IsLookedFor s m.ending → ⊥) _ [] new.1 (All-nil (λ (m : Met). IsLookedFor s m.ending → ⊥)),
+      subst (AreOfRunsBack says q s c.args.self.now.entries s.from) (sym {A = List JudgedEnding} c.new-ahead.ensures.items) tt,
+      noted_none (λ run made. IsTrue s.stops → says made false) q s c.new-table.result runs new.1,
     )
 
-pub returns-then-sought-clause-met : goal.returns-then-sought-clause-met
-returns-then-sought-clause-met g c =
-    noted_all (IsMetEnding c.args.self.now.request.now c.args.self.now.sought.now) _ _ _ _ _ c.in_ok-note.ensures.noted
-    (met_of c.args.self.now.request.now c.args.self.now.sought.now c.args.self.now.entries c.loop-run.run _ c.requires.points
-    (rw c.in-Some.is at c.in_ok-next.ensures.met)) c.loop-run.invariant.1
+-- what isn't looked for, where the search stops, is passed over
+passed : (Says : MadeRun → Bool → Type 0) (made : MadeRun) (stops is : Bool) → (is ≡ true → stops ≡ false) → IsTrue stops → Says made is → Says made false
+passed Says made stops true none given says = absurd (true≢false (sym given ∙ none refl))
+passed Says made stops false none given says = says
 
 pub returns-then-sought-clause-noted : goal.returns-then-sought-clause-noted
 returns-then-sought-clause-noted g c =
-    noted_more c.args.self.now.request.now c.args.self.now.sought.now c.loop-run.run _ _ _ _ c.loop-run.invariant.3 c.loop-run.invariant.0
-    (met_of c.args.self.now.request.now c.args.self.now.sought.now c.args.self.now.entries c.loop-run.run _ c.requires.points
-    (rw c.in-Some.is at c.in_ok-next.ensures.met)) c.in_ok-note.ensures.noted
-
-pub returns-in-End-clause-met : goal.returns-in-End-clause-met
-returns-in-End-clause-met g c =
-    noted_all (IsMetEnding c.args.self.now.request.now c.args.self.now.sought.now) _ _ _ _ _ c.in_ok-note.ensures.noted
-    (met_of c.args.self.now.request.now c.args.self.now.sought.now c.args.self.now.entries c.loop-run.run _ c.requires.points
-    (rw c.in-Some.is at c.in_ok-next.ensures.met)) c.loop-run.invariant.1
+    let says = g.J.Judges.judges c.args.crew.now.judge.now in
+    let q = c.args.self.now.request.now in
+    let s = c.args.self.now.sought.now in
+    let run = c.loop-run.run in
+    let before = λ (n : ℕ) (made : MadeRun). n < c.in_ok-found.found.run → says made false in
+    let number = c.in_ok-found.ensures.number in
+    noted_more before q s run _ _ _ _
+    (noted_weaker (λ n made. IsTrue s.stops → says made false) before (λ n made passed _. passed c.if-sought.true) q s c.loop-run.table c.loop-run.invariant.2)
+    c.loop-run.invariant.0
+    (met_of says before q s c.args.self.now.entries run _ c.requires.points (rw c.in-Some.is at c.in_ok-next.ensures.met)
+    (λ made _ less. absurd (omega (arith, less, number)))) c.in_ok-note.ensures.noted
 
 pub returns-in-End-clause-noted : goal.returns-in-End-clause-noted
 returns-in-End-clause-noted g c =
-    noted_more c.args.self.now.request.now c.args.self.now.sought.now c.loop-run.run _ _ _ _ c.loop-run.invariant.3 c.loop-run.invariant.0
-    (met_of c.args.self.now.request.now c.args.self.now.sought.now c.args.self.now.entries c.loop-run.run _ c.requires.points
-    (rw c.in-Some.is at c.in_ok-next.ensures.met)) c.in_ok-note.ensures.noted
+    let says = g.J.Judges.judges c.args.crew.now.judge.now in
+    let q = c.args.self.now.request.now in
+    let s = c.args.self.now.sought.now in
+    let run = c.loop-run.run in
+    noted_more (λ n made. IsTrue s.stops → says made false) q s run _ _ _ _ c.loop-run.invariant.2 c.loop-run.invariant.0
+    (met_of says (λ n made. IsTrue s.stops → says made false) q s c.args.self.now.entries run _ c.requires.points
+    (rw c.in-Some.is at c.in_ok-next.ensures.met)
+    (λ made is stops. passed says made s.stops _ (λ yes. elim c.else-is_sought.branch [
+      | else-is_sought-via-then-is_sought+else-sought w ↦ w.if-sought.false
+      | else-is_sought-via-else-is_sought w ↦ absurd (true≢false (sym yes ∙ w.if-is_sought.false))
+    ]) stops is)) c.in_ok-note.ensures.noted
 
 pub loop-run-preserved : goal.loop-run-preserved
 loop-run-preserved g c =
+    let says = g.J.Judges.judges c.args.crew.now.judge.now in
     let q = c.args.self.now.request.now in
     let s = c.args.self.now.sought.now in
-    let noted = c.in_ok-note.ensures.noted in
-    let met = met_of q s c.args.self.now.entries c.loop-run.run _ c.requires.points (rw c.in-Some.is at c.in_ok-next.ensures.met) in (
+    let run = c.loop-run.run in
+    let noted = c.in_ok-note.ensures.noted in (
       let runs = noted.runs in omega arith,
-      noted_all (IsMetEnding q s) _ _ _ _ _ noted met c.loop-run.invariant.1,
       c.in_ok-next.ensures.ahead,
-      noted_more q s c.loop-run.run _ _ _ _ c.loop-run.invariant.3 c.loop-run.invariant.0 met noted,
-      λ stops. noted_all (λ (k : ℕ) (e : Ending). IsLookedFor s e → ⊥) _ _ _ _ _ noted
-          (λ looked. elim c.else-is_sought.branch [
-            | else-is_sought-via-then-is_sought+else-sought w ↦ true≢false (sym stops ∙ w.if-sought.false)
-            | else-is_sought-via-else-is_sought w ↦ true≢false (sym (c.in_ok-is_sought.ensures.1 looked) ∙ w.if-is_sought.false)
-          ])
-          (c.loop-run.invariant.4 stops),
+      noted_more (λ n made. IsTrue s.stops → says made false) q s run _ _ _ _ c.loop-run.invariant.2 c.loop-run.invariant.0
+          (met_of says (λ n made. IsTrue s.stops → says made false) q s c.args.self.now.entries run _ c.requires.points
+          (rw c.in-Some.is at c.in_ok-next.ensures.met)
+          (λ made is stops. passed says made s.stops _ (λ yes. elim c.else-is_sought.branch [
+            | else-is_sought-via-then-is_sought+else-sought w ↦ w.if-sought.false
+            | else-is_sought-via-else-is_sought w ↦ absurd (true≢false (sym yes ∙ w.if-is_sought.false))
+          ]) stops is)) noted,
     )

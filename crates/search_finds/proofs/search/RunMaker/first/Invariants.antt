@@ -1,12 +1,12 @@
-use Rattle.std.proofs.Common.{All, ◌≡◌, ◌+◌, IsTrue}
-use Rattle.search_finds.specs.Drawing.{AreOfRunsBack, IsMetEnding}
-use Rattle.search_finds.specs.Finds.{HasNoneLookedFor}
-use Rattle.search_finds.specs.Noted.{AreNoted}
+use Rattle.std.proofs.Common.{◌≡◌, ◌+◌, false, IsTrue}
+use Rattle.search_finds.specs.Drawing.{AreOfRunsBack}
+use Rattle.search_finds.specs.Noted.{AreNotedBy}
 use Rattle.search_finds.proofs.search.RunMaker.first.Given as goal
 
 abbrev pub invariant-loop-run : goal.invariant-loop-run
-invariant-loop-run g l = (l.table.runs + l.self.sought.now.from ≡ l.run)
-    × All (λ met. IsMetEnding l.self.request.now l.self.sought.now met.first met.ending) l.table.met.items
-    × AreOfRunsBack l.self.request.now l.self.sought.now l.self.entries l.run l.ahead.items
-    × AreNoted l.self.request.now l.self.sought.now l.table
-    × (IsTrue l.self.sought.now.stops → HasNoneLookedFor l.self.sought.now l.table)
+invariant-loop-run g l =
+    let says = g.J.Judges.judges l.crew.judge.now in
+    let s = l.self.sought.now in
+    (l.table.runs + s.from ≡ l.run)
+    × AreOfRunsBack says l.self.request.now s l.self.entries l.run l.ahead.items
+    × AreNotedBy (λ run made. IsTrue s.stops → says made false) l.self.request.now s l.table

@@ -1,0 +1,156 @@
+//! What is said on standard error of threads that trapped.
+ghost use Rattle.std.specs.Prelude.{IfOk, OnOk, codes, ◌++◌};
+ghost use Rattle.std.specs.String.{string_bytes};
+ghost use Rattle.std.specs.Io.KnownBytes.{Appends};
+ghost use Rattle.types.specs.declared.outcome.Outcome.TheVariants as outcomes;
+ghost use Rattle.report_jobs.specs.Trapped.{IsAddedTo, IsTrapLine, TellsEnd, TellsTraps, trap_front};
+
+use crate::telling::say_bytes;
+use arrayvec::ArrayVec;
+use report_traps::{Frames, Traps};
+use std::alloc::{AllocError, Global};
+use std::io::{self, Write};
+use types::{Outcome, Parts, ThreadReport, Trap};
+
+/// What says where threads trapped.
+#[derive(Clone, Copy)]
+pub(crate) struct Whence<'a> {
+    /// The parts of the module.
+    pub parts: &'a Parts,
+    /// Its bytes, which have its names and lines.
+    pub bytes: &'a [u8],
+    /// What was kept while the threads ran.
+    pub frames: &'a Frames,
+}
+
+/// Where threads trapped, if one did and there is memory to say so.
+pub(crate) fn traps_of<'a>(
+    alloc: Global,
+    whence: Whence<'a>,
+    reports: &[ThreadReport],
+) -> Option<Traps<'a, 'a>> {
+    if !reports
+        .iter()
+        .any(|report| matches!(report.outcome, Outcome::Trap(_)))
+    {
+        return None;
+    }
+    Traps::read(alloc, whence.parts, whence.bytes, whence.frames).ok()
+}
+
+/// Adds the calls by which a thread came to where it trapped, a line each, the last one first.
+fn add_callers(line: &mut String, traps: &Traps, thread: usize) -> Result<(), AllocError>
+    ensures { IfOk result (λ _. IsAddedTo (string_bytes line.old) (string_bytes line.new)) }
+{
+    for depth in 1..usize::MAX {
+        let Some(site) = traps.site(thread, depth) else {
+            return Ok(());
+        };
+        write!(line, "\n  called at {site}")?;
+    }
+    Ok(())
+}
+
+/// Adds where a thread trapped, as far as it is known, and if they are wanted the calls by which it came there.
+fn add_places(
+    line: &mut String,
+    traps: Option<&Traps>,
+    thread: usize,
+    callers: bool,
+) -> Result<(), AllocError>
+    ensures { IfOk result (λ _. IsAddedTo (string_bytes line.old) (string_bytes line.new)) }
+{
+    let Some(traps) = traps else {
+        return Ok(());
+    };
+    let Some(site) = traps.site(thread, 0) else {
+        return Ok(());
+    };
+    write!(line, " at {site}")?;
+    if callers {
+        add_callers(line, traps, thread)?;
+    }
+    Ok(())
+}
+
+/// The line of a thread that trapped.
+fn line_of(
+    alloc: Global,
+    traps: Option<&Traps>,
+    thread: usize,
+    trap: Trap,
+    callers: bool,
+) -> Result<String, AllocError>
+    ensures { IfOk result (λ line. IsTrapLine thread trap (string_bytes line)) }
+{
+    let mut line = format!(in alloc; "thread {thread}: trap {trap}")?;
+    add_places(&mut line, traps, thread, callers)?;
+    line.push_str("\n")?;
+    Ok(line)
+}
+
+/// Writes it without a place.
+fn write_plain<W: Write>(to: &mut W, thread: usize, trap: Trap) -> io::Result<()>
+    ensures { OnOk result (Appends (W.contents to.old) (W.contents to.new) (trap_front thread trap ++ codes "\n")) }
+{
+    write!(to, "thread {thread}: trap {trap}\n")
+}
+
+/// Says it without a place, which takes no memory.
+fn say_plain<E: Write>(err: &mut E, thread: usize, trap: Trap)
+    ensures { TellsEnd thread (outcomes.Trap trap) (E.contents err.old) (E.contents err.new) }
+{
+    let mut line: ArrayVec<u8, 64> = ArrayVec::new();
+    if write_plain(&mut line, thread, trap).is_ok() {
+        say_bytes(err, line.as_slice());
+    }
+}
+
+/// Says of a thread that trapped so and where; without the place where there is no memory for it.
+fn say_trap<E: Write>(
+    alloc: Global,
+    err: &mut E,
+    traps: Option<&Traps>,
+    thread: usize,
+    trap: Trap,
+    callers: bool,
+)
+    ensures { TellsEnd thread (outcomes.Trap trap) (E.contents err.old) (E.contents err.new) }
+{
+    match line_of(alloc, traps, thread, trap, callers) {
+        Ok(line) => say_bytes(err, line.as_bytes()),
+        Err(_) => say_plain(err, thread, trap),
+    }
+}
+
+/// Says of a thread that it trapped, if it did.
+fn say_end<E: Write>(
+    alloc: Global,
+    err: &mut E,
+    traps: Option<&Traps>,
+    thread: usize,
+    outcome: Outcome,
+    callers: bool,
+)
+    ensures { TellsEnd thread outcome (E.contents err.old) (E.contents err.new) }
+{
+    match outcome {
+        Outcome::Trap(trap) => say_trap(alloc, err, traps, thread, trap, callers),
+        Outcome::Done(_) | Outcome::Stop(_) => {}
+    }
+}
+
+/// Says of each thread that trapped so, a line each, in order of their numbers.
+pub(crate) fn say_traps<E: Write>(
+    alloc: Global,
+    err: &mut E,
+    traps: Option<&Traps>,
+    reports: &[ThreadReport],
+    callers: bool,
+)
+    ensures { TellsTraps 0 reports.now (E.contents err.old) (E.contents err.new) }
+{
+    for (thread, report) in reports.iter().enumerate() {
+        say_end(alloc, err, traps, thread, report.outcome, callers);
+    }
+}

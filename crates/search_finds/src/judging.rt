@@ -1,0 +1,58 @@
+//! Who says of a run whether it is looked for.
+ghost use Rattle.std.specs.Prelude.{◌≡◌, ◌↔◌, Bool, IfOk, true};
+
+use crate::{ending_of, is_looked_for};
+use report_choice::Sought;
+use search_endings::Ending;
+use search_scheduled::MadeRun;
+use std::alloc::{AllocError, Global};
+
+/// Says of each run that is made whether it is the one that is looked for.
+pub trait Judges {
+    ghost use Rattle.search_scheduled.specs.declared.running.MadeRun.{MadeRun};
+
+    /// What its answer says of a run.
+    ghost judges: { Self → MadeRun → Bool → Type 0 };
+
+    /// Whether a run is looked for.
+    ///
+    /// # Errors
+    /// Where memory is refused.
+    fn is_sought(&self, alloc: Global, made: &MadeRun) -> Result<bool, AllocError>
+        ensures { IfOk result (judges self.now made.now) };
+}
+
+/// Looks for a run that ends so.
+#[derive(Clone, Copy)]
+pub(crate) struct EndsSo<'a> {
+    pub(crate) sought: &'a Sought<'a>,
+}
+
+impl Judges for EndsSo<'_> {
+    ghost use Rattle.search_finds.specs.Finds.{EndsAsLookedFor};
+
+    ghost judges = { λ j made is. (is ≡ true) ↔ EndsAsLookedFor j.sought.now j.sought.now.dump made.end };
+
+    fn is_sought(&self, alloc: Global, made: &MadeRun) -> Result<bool, AllocError> {
+        let ending = ending_of(alloc, &made.end, self.sought.dump)?;
+        is_looked_for(alloc, self.sought, &ending)
+    }
+}
+
+/// Looks for a run that has this ending, by so many first bytes of the memory.
+#[derive(Clone, Copy)]
+pub(crate) struct EndsAlike<'a> {
+    pub(crate) ending: &'a Ending,
+    pub(crate) dump: u32,
+}
+
+impl Judges for EndsAlike<'_> {
+    ghost use Rattle.search_finds.specs.Endings.{ending_left};
+
+    ghost judges = { λ j made is. (is ≡ true) ↔ (ending_left j.dump made.end ≡ j.ending.now) };
+
+    fn is_sought(&self, alloc: Global, made: &MadeRun) -> Result<bool, AllocError> {
+        let ending = ending_of(alloc, &made.end, self.dump)?;
+        Ok(ending == *self.ending)
+    }
+}
