@@ -6,3 +6,4 @@ pub mod Firsts
 pub mod Linked
 pub mod Parts
 pub mod Places
+pub mod Said

@@ -99,12 +99,23 @@ all_forward long kind from to (x ∷ xs) =
     all_forward_by long (λ y. link_between long kind (from y) (to y)) x xs (link_between long kind (from x) (to x)) refl
     (forward long kind (from x) (to x)) (all_forward long kind from to xs)
 
-pub links_forward : (log : List Entry) (contexts : List Context) (answers firsts : List (Option ℕ)) (wakes : List Wake)
-    (races : List Race) → All (IsForward (length log)) (filter_map (wake_link (length log) answers) wakes
-    ++ filter_map (spawn_link log contexts firsts) (range_with_len 0 (length log)) ++ filter_map (race_link (length log)) races)
-links_forward log contexts answers firsts wakes races =
-    let long : ℕ = length log in
-    All-append (IsForward long) _ _ (All-append (IsForward long) _ _
-    (all_forward long kinds.Wake (λ wake. wake.notify) (λ wake. in_list answers wake.wait) wakes)
-    (all_forward long kinds.Spawn (λ at. at) (λ at. spawned_at log contexts firsts at) (range_with_len 0 long)))
-    (all_forward long kinds.Race (λ race. race.first) (λ race. Some race.second) races)
+-- So does each link of a list to which these were added one after the other.
+pub all_ahead : (log : List Entry) (contexts : List Context) (answers firsts : List (Option ℕ)) (wakes : List Wake)
+    (races : List Race) (m n : ℕ) (a b c d : List Link) → m ≡ length log → n ≡ length log → a ≡ []
+    → b ≡ a ++ filter_map (wake_link m answers) wakes
+    → c ≡ b ++ filter_map (spawn_link log contexts firsts) (range_with_len 0 (length log))
+    → d ≡ c ++ filter_map (race_link n) races → All (IsForward (length log)) d
+all_ahead log contexts answers firsts wakes races m n a b c d m_is n_is a_is b_is c_is d_is =
+    let ahead : List Link → Type 0 = λ ls. All (IsForward (length log)) ls in
+    let none : ahead a = subst ahead (sym a_is) (All-nil (IsForward (length log))) in
+    let woken : ahead (filter_map (wake_link m answers) wakes) =
+    subst (λ (k : ℕ). All (IsForward (length log)) (filter_map (wake_link k answers) wakes)) (sym m_is)
+    (all_forward (length log) kinds.Wake (λ wake. wake.notify) (λ wake. in_list answers wake.wait) wakes) in
+    let spawned : ahead (filter_map (spawn_link log contexts firsts) (range_with_len 0 (length log))) =
+    all_forward (length log) kinds.Spawn (λ at. at) (λ at. spawned_at log contexts firsts at) (range_with_len 0 (length log)) in
+    let raced : ahead (filter_map (race_link n) races) =
+    subst (λ (k : ℕ). All (IsForward (length log)) (filter_map (race_link k) races)) (sym n_is)
+    (all_forward (length log) kinds.Race (λ race. race.first) (λ race. Some race.second) races) in
+    let first : ahead b = subst ahead (sym b_is) (All-append (IsForward (length log)) a _ none woken) in
+    let second : ahead c = subst ahead (sym c_is) (All-append (IsForward (length log)) b _ first spawned) in
+    subst ahead (sym d_is) (All-append (IsForward (length log)) c _ second raced)

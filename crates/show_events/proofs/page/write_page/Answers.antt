@@ -13,3 +13,6 @@ returns-clause-data g c =
           c.in_ok-write_all-3.ensures.bytes events.2 c.in_ok-write_all-4.ensures.bytes c.in_ok-write_all-5.ensures.bytes
           c.in_ok-flush.ensures.bytes,
     )
+
+pub returns-clause-which : goal.returns-clause-which
+returns-clause-which g c = ?
