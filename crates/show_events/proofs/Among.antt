@@ -8,6 +8,7 @@ use Rattle.std.proofs.lemmas.Option.{slice_get_within, slice_get-get_or, get_or_
 use Rattle.std.specs.List.{AllZip, Contains}
 use Rattle.std.specs.List.Sorted.{IsStrictlyIncreasing}
 use Rattle.types.specs.declared.event.Entry.{Entry}
+use Rattle.show_rows.proofs.Zipped.{zip_next}
 use Rattle.show_events.specs.Links.{thread_at, in_list}
 use Rattle.show_events.specs.Events.{IsThreadAt, AreThreadsOf, AreAmong}
 use Rattle.show_events.proofs.Places.{set_same, set_other, replicate_is}
@@ -30,6 +31,17 @@ zip_no_other log places threads zip thread (k, lt, is) =
     let within : k < length places = omega (arith, lt, length_all_zip (IsThreadAt log) places threads zip) in
     let here : IsThreadAt log (get_or places k 0) (get_or threads k thread) = AllZip-get_or (IsThreadAt log) places threads k 0 thread zip within in
     (get_or places k 0, Contains-get_or places k 0 within, subst (IsThreadAt log (get_or places k 0)) is here)
+
+-- One more place.
+pub thread_next : (log : List Entry) (places threads new : List ℕ) (k z : ℕ) (d : Entry) → k < length places
+    → get_or places k z < length log → AllZip (IsThreadAt log) (take k places) threads
+    → new ≡ threads ++ (get_or log (get_or places k z) d).thread ∷ [] → AllZip (IsThreadAt log) (take (k + 1) places) new
+thread_next log places threads new k z d lt within zip is =
+    let at : ℕ = get_or places k z in
+    let of : IsThreadAt log at (get_or log at d).thread =
+    ap (option_map (λ (m : Entry). m.thread)) (slice_get-get_or log at d within) in
+    subst (λ (ts : List ℕ). AllZip (IsThreadAt log) (take (k + 1) places) ts) (sym is)
+    (zip_next (IsThreadAt log) places threads k z at (get_or log at d).thread lt refl zip of)
 
 pub threads_are : (log : List Entry) (places threads sorted : List ℕ) → AllZip (IsThreadAt log) places threads
     → IsStrictlyIncreasing sorted → ((n : ℕ) → Contains threads n → Contains sorted n)

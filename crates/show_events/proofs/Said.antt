@@ -35,13 +35,15 @@ event_says shown story at long line log d said words place json old new same wit
       subst (λ (t : List ℕ). Appends old new (line_text Next t)) is wrote,
     )
 
-pub events_of : (shown : Shown) (races : List Race) (places : List ℕ) (story : Story) (log : List Entry) (links : List Link)
-    (threads : List ℕ) (among : List (Option ℕ)) (a b c d e f : Option (List ℕ)) → log ≡ shown.record.now.log
+-- The parts of what is written, one behind the other; the lists that are gone through are those of the log.
+pub events_of : (shown : Shown) (races : List Race) (places : List ℕ) (story : Story) (log : List Entry) (links linked : List Link)
+    (threads named : List ℕ) (among known : List (Option ℕ)) (a b c d e f : Option (List ℕ)) → log ≡ shown.record.now.log
     → IsStoryOf log story → AreLinks log story races links → AreThreadsOf log places threads → AreAmong log places among
-    → Appends a b (line_text Open process_json) → InTurn AddsName threads b c → InTurn (AddsEvent shown story) places c d
-    → InTurn (AddsArrow among) (enumerate_from 0 links) d e → Appends e f (line_text Close []) → AddsEvents shown races places a f
-events_of shown races places story log links threads among a b c d e f same of_log are_links are_threads are_among opens names says draws closes =
-record {
+    → linked ≡ links → named ≡ threads → known ≡ among → Appends a b (line_text Open process_json) → InTurn AddsName named b c
+    → InTurn (AddsEvent shown story) places c d → InTurn (AddsArrow known) (enumerate_from 0 linked) d e
+    → Appends e f (line_text Close []) → AddsEvents shown races places a f
+events_of shown races places story log links linked threads named among known a b c d e f same of_log are_links are_threads are_among
+    linked_is named_is known_is opens names says draws closes = record {
   story = story;
   of_log = subst (λ (l : List Entry). IsStoryOf l story) same of_log;
   links = links;
@@ -53,11 +55,12 @@ record {
   opened = b;
   opens = opens;
   named = c;
-  names = names;
+  names = subst (λ (ts : List ℕ). InTurn AddsName ts b c) named_is names;
   said = d;
   says = says;
   drawn = e;
-  draws = draws;
+  draws = subst (λ (xs : List (Option ℕ)). InTurn (AddsArrow xs) (enumerate_from 0 links) d e) known_is
+      (subst (λ (ls : List Link). InTurn (AddsArrow known) (enumerate_from 0 ls) d e) linked_is draws);
   closes = closes;
 }
 

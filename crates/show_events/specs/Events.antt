@@ -44,13 +44,13 @@ process_json =
 
 -- The front of an entry: these words, its number and how long it is;
 abbrev pub named_json : List ℕ → ℕ → ℕ → List ℕ
-named_json words at length = codes "{\"ph\":\"X\",\"name\":" ++ words ++ codes ",\"cat\":\"entry\",\"ts\":"
-    ++ decimal at ++ codes ",\"dur\":" ++ decimal length
+named_json words at length = codes "{\"ph\":\"X\",\"name\":" ++ (words ++ (codes ",\"cat\":\"entry\",\"ts\":"
+    ++ (decimal at ++ (codes ",\"dur\":" ++ decimal length))))
 
 -- and its end: its thread, its line and where it was made.
 abbrev pub placed_json : ℕ → ℕ → List ℕ → List ℕ
-placed_json thread line place = codes ",\"pid\":1,\"tid\":" ++ decimal thread ++ codes ",\"args\":{\"line\":"
-    ++ decimal line ++ codes ",\"place\":" ++ place
+placed_json thread line place = codes ",\"pid\":1,\"tid\":" ++ (decimal thread ++ (codes ",\"args\":{\"line\":"
+    ++ (decimal line ++ (codes ",\"place\":" ++ place))))
 
 abbrev pub entry_json : RowText → ℕ → ℕ → List ℕ
 entry_json row at length =

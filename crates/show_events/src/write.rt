@@ -76,7 +76,6 @@ pub fn write_events<W: Write>(
 }
 
 /// The thread of each of the entries at these places.
-#[tactic(auto, using(std::proofs::lemmas::List::Elements::all_zip_more))]
 fn threads_at(alloc: Global, log: &[Entry], chosen: &[usize]) -> Result<Vec<u32>, AllocError>
     requires { All (λ at. at < length log.now) chosen.now }
     ensures { IfOk result (λ threads. AllZip (IsThreadAt log.now) chosen.now threads.items) }
@@ -195,7 +194,8 @@ fn write_entry<W: Write>(
         place: place.as_str(),
     };
     let json = entry_event(alloc, event)?;
-    write_line(alloc, out, Front::Next, json.as_str())
+    write_line(alloc, out, Front::Next, json.as_str())?;
+    Ok(())
 }
 
 /// Writes the links between entries of which the threads are known, each as two events.
