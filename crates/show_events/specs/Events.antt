@@ -140,7 +140,8 @@ pub record AddsEvents (shown : Shown) (races : List Race) (places : List ℕ) (o
   pub closes : Appends drawn new (line_text Close [])
 
 -- What is written is these events of the entries that are chosen, with this before and that behind them.
-pub record WritesEvents (shown : Shown) (races : List Race) (look : Look) (front back : List ℕ) (old new : Option (List ℕ)) : Type 0 where
+pub record WritesEvents (shown : Shown) (races : List Race) (look : Look) (front back : List ℕ)
+    (old new : Option (List ℕ)) : Type 0 where
   pub from : Option (List ℕ)
   pub begins : Appends old from front
   pub to : Option (List ℕ)

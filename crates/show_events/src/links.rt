@@ -1,6 +1,6 @@
 //! What leads from one entry to another: wake-ups, spawns, races, and sleep.
 
-ghost use Rattle.std.specs.Prelude.{◌≡◌, ◌+◌, ◌<◌, ◌++◌, None, Some, length, slice_set, option_and_then, All, IfOk, OnOk};
+ghost use Rattle.std.specs.Prelude.{◌≡◌, ◌<◌, ◌++◌, Some, length, slice_set, All, IfOk, OnOk};
 ghost use Rattle.std.specs.List.{slice_get, filter_map, range_with_len};
 ghost use Rattle.std.specs.Option.{option_to_list};
 ghost use Rattle.show_text.specs.Contexts.{AreContexts};

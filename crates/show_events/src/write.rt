@@ -27,8 +27,7 @@ const PROCESS: &str =
 /// Writes the entries that are chosen as a text in the Trace Event Format.
 ///
 /// Each thread is a track, and each entry an event from its number on; a wait goes up to its answer, every other entry
-/// to the next number. Wake-ups, spawns and these races between entries that are chosen
-/// are flows.
+/// to the next number. Wake-ups, spawns and these races between entries that are chosen are flows.
 pub fn write_trace<W: Write>(
     alloc: Global,
     shown: Shown,
@@ -59,8 +58,10 @@ pub fn write_events<W: Write>(
     out: &mut W,
 ) -> Result<(), Unwritten>
     requires { All (λ at. at < length shown.record.now.log) chosen.now }
-    ensures lines { OnOk result ((n : ℕ) × (length chosen.now ≤ n) × AddsLines n (W.contents out.old) (W.contents out.new)) }
-    ensures which { OnOk result (AddsEvents shown.entry races.now chosen.now (W.contents out.old) (W.contents out.new)) }
+    ensures lines { OnOk result
+        ((n : ℕ) × (length chosen.now ≤ n) × AddsLines n (W.contents out.old) (W.contents out.new)) }
+    ensures which { OnOk result
+        (AddsEvents shown.entry races.now chosen.now (W.contents out.old) (W.contents out.new)) }
 {
     let log = shown.record.log.as_slice();
     let story = Story::new(alloc, log)?;
