@@ -1,5 +1,5 @@
 -- Where a thread stands, by the entries from a place on.
-use Rattle.std.proofs.Common.{◌≡◌, ◌+◌, ◌<◌, ◌≤◌, ◌==◌, ◌⊎◌, inl, inr, ℕ, suc, List, ◌∷◌, length, filter, drop, Option, Some, None, IfSome}
+use Rattle.std.proofs.Common.{◌≡◌, ◌+◌, ◌-◌, ◌<◌, ◌≤◌, ◌==◌, ◌⊎◌, inl, inr, ℕ, suc, List, ◌∷◌, length, filter, drop, Option, Some, None, IfSome}
 use Rattle.std.proofs.Common.{Bool, true, false, ◌&&◌, cond, refl, sym, ◌∙◌, ap, subst, slice_get, slice_index_or, arith}
 use Rattle.std.proofs.lemmas.Bool.{cases_lt, cases_eq}
 use Rattle.std.proofs.lemmas.Bool.Decides.{nat_tests}
@@ -63,13 +63,22 @@ pub record IsEntryAt (log : List Entry) (p q : ℕ) (e : Entry) : Type 0 where
 abbrev pub nobody : Entry
 nobody = record { thread = 0; event = Size; reply = Value 0 }
 
-pub entry_at : (log : List Entry) (p q : ℕ) → q ≡ p + 1 → p < length log → IsEntryAt log p q (slice_index_or log p nobody)
-entry_at log p q next low = record {
-  next = next;
-  low = low;
-  at = slice_get-get_or log p nobody low;
-  more = drop_more log p nobody low ∙ ap (λ (k : ℕ). slice_index_or log p nobody ∷ drop k log) (sym next);
-}
+-- the entry before a place
+abbrev pub entry_before : List Entry → ℕ → Entry
+entry_before log place = slice_index_or log (place - 1) nobody
+
+pub is_before : (log : List Entry) (place : ℕ) → 0 < place → place ≤ length log
+    → IsEntryAt log (place - 1) place (entry_before log place)
+is_before log place some within =
+    let next : place ≡ place - 1 + 1 = omega (arith, some) in
+    let low : place - 1 < length log = omega (arith, some, within) in
+    let more = drop_more log (place - 1) nobody low in
+    record {
+      next = next;
+      low = low;
+      at = slice_get-get_or log (place - 1) nobody low;
+      more = more ∙ ap (λ (k : ℕ). entry_before log place ∷ drop k log) (sym next);
+    }
 
 module _ (n : ℕ) {log : List Entry} {p q : ℕ} {e : Entry} (x : IsEntryAt log p q e) where
   -- it is of this entry

@@ -1,8 +1,8 @@
-use Rattle.std.proofs.Common.{◌≡◌, ◌+◌, ◌-◌, ◌<◌, length, sym, ◌∙◌, subst, Some, IfSome, slice_index_or, true≢false, arith}
+use Rattle.std.proofs.Common.{◌≡◌, ◌≤◌, length, sym, ◌∙◌, subst, Some, IfSome, true≢false, arith}
 use Rattle.std.proofs.lemmas.Option.{IfSome_then}
 use Rattle.show_writes.specs.Stands.{IsStand}
 use Rattle.show_writes.specs.declared.stands.Stand.{Stand}
-use Rattle.show_writes.proofs.Standing.{IsSoFar, entry_at, nobody, skips, first, again, ends, over, seen_at_end, of_another, of_no_bytes, of_bytes, of_this}
+use Rattle.show_writes.proofs.Standing.{IsSoFar, entry_before, is_before, skips, first, again, ends, over, seen_at_end, of_another, of_no_bytes, of_bytes, of_this}
 use Rattle.show_writes.proofs.stands.stand_of.Goals as goal
 
 pub loop-place-init : goal.loop-place-init
@@ -12,10 +12,9 @@ pub loop-place-preserved-then-entry-n : goal.loop-place-preserved-then-entry-n
 loop-place-preserved-then-entry-n c =
     let n = c.args.n in
     let place = c.loop-place.place in
-    let next : place ≡ place - 1 + 1 = omega (arith, c.loop-place-test.true) in
-    let low : place - 1 < length c.args.log.now = omega (arith, c.loop-place-test.true, c.loop-place.auto.place) in
-    let e = slice_index_or c.args.log.now (place - 1) nobody in
-    let x = entry_at c.args.log.now (place - 1) place next low in
+    let e = entry_before c.args.log.now place in
+    let within : place ≤ length c.args.log.now = omega (arith, c.loop-place.auto.place) in
+    let x = is_before c.args.log.now place c.loop-place-test.true within in
     skips n x (of_another n e c.if-entry-n.true) (λ addrs t. c.if-entry-n.true (of_this n x addrs t).0)
     c.loop-place.found c.loop-place.invariant
 
@@ -23,10 +22,9 @@ pub loop-place-preserved-in_default : goal.loop-place-preserved-in_default
 loop-place-preserved-in_default c =
     let n = c.args.n in
     let place = c.loop-place.place in
-    let next : place ≡ place - 1 + 1 = omega (arith, c.loop-place-test.true) in
-    let low : place - 1 < length c.args.log.now = omega (arith, c.loop-place-test.true, c.loop-place.auto.place) in
-    let e = slice_index_or c.args.log.now (place - 1) nobody in
-    let x = entry_at c.args.log.now (place - 1) place next low in
+    let e = entry_before c.args.log.now place in
+    let within : place ≤ length c.args.log.now = omega (arith, c.loop-place.auto.place) in
+    let x = is_before c.args.log.now place c.loop-place-test.true within in
     let none = sym c.touched.ensures ∙ c.in_default.is in
     skips n x (of_no_bytes n e none) (λ addrs t. let some = (of_this n x addrs t).1 in cc (sym some ∙ none))
     c.loop-place.found c.loop-place.invariant
@@ -35,10 +33,9 @@ pub returns-in-Some-2-clause-stands : goal.returns-in-Some-2-clause-stands
 returns-in-Some-2-clause-stands c =
     let n = c.args.n in
     let place = c.loop-place.place in
-    let next : place ≡ place - 1 + 1 = omega (arith, c.loop-place-test.true) in
-    let low : place - 1 < length c.args.log.now = omega (arith, c.loop-place-test.true, c.loop-place.auto.place) in
-    let e = slice_index_or c.args.log.now (place - 1) nobody in
-    let x = entry_at c.args.log.now (place - 1) place next low in
+    let e = entry_before c.args.log.now place in
+    let within : place ≤ length c.args.log.now = omega (arith, c.loop-place.auto.place) in
+    let x = is_before c.args.log.now place c.loop-place-test.true within in
     let some = sym c.touched.ensures ∙ c.in-Some.is in
     let so = subst (λ o. IfSome o (IsSoFar n c.args.log.now place)) c.in-Some-found.is c.loop-place.invariant.some in
     let both : Some c.in-Some-found.stand ≡ Some c.in-Some-2.stand = sym c.in-Some-found.is ∙ c.in-Some-2.is in
@@ -51,10 +48,9 @@ pub loop-place-preserved-in-None : goal.loop-place-preserved-in-None
 loop-place-preserved-in-None c =
     let n = c.args.n in
     let place = c.loop-place.place in
-    let next : place ≡ place - 1 + 1 = omega (arith, c.loop-place-test.true) in
-    let low : place - 1 < length c.args.log.now = omega (arith, c.loop-place-test.true, c.loop-place.auto.place) in
-    let e = slice_index_or c.args.log.now (place - 1) nobody in
-    let x = entry_at c.args.log.now (place - 1) place next low in
+    let e = entry_before c.args.log.now place in
+    let within : place ≤ length c.args.log.now = omega (arith, c.loop-place.auto.place) in
+    let x = is_before c.args.log.now place c.loop-place-test.true within in
     let some = sym c.touched.ensures ∙ c.in-Some.is in
     first n x (of_bytes n e c.in-Some.addrs c.if-entry-n.false some) c.if-entry-n.false c.in-Some.addrs some
     (c.loop-place.invariant.none c.in-None.is)
@@ -63,10 +59,9 @@ pub loop-place-preserved : goal.loop-place-preserved
 loop-place-preserved c =
     let n = c.args.n in
     let place = c.loop-place.place in
-    let next : place ≡ place - 1 + 1 = omega (arith, c.loop-place-test.true) in
-    let low : place - 1 < length c.args.log.now = omega (arith, c.loop-place-test.true, c.loop-place.auto.place) in
-    let e = slice_index_or c.args.log.now (place - 1) nobody in
-    let x = entry_at c.args.log.now (place - 1) place next low in
+    let e = entry_before c.args.log.now place in
+    let within : place ≤ length c.args.log.now = omega (arith, c.loop-place.auto.place) in
+    let x = is_before c.args.log.now place c.loop-place-test.true within in
     let some = sym c.touched.ensures ∙ c.in-Some.is in
     let so = subst (λ o. IfSome o (IsSoFar n c.args.log.now place)) c.in-Some-found.is c.loop-place.invariant.some in
     record {
