@@ -37,15 +37,15 @@ const RECORD_FRONT: u64 = 2 * MOST_MODULE_BYTES as u64
 pub enum Unread {
     /// The system had too little memory left.
     NoMemory,
-    /// The file isn't there, or can't be read.
-    File,
+    /// The file isn't there, or can't be read, for this reason.
+    File(io::ErrorKind),
 }
 
 impl From<io::Error> for Unread {
     fn from(error: io::Error) -> Unread {
         match error.kind() {
             io::ErrorKind::OutOfMemory => Unread::NoMemory,
-            _ => Unread::File,
+            kind => Unread::File(kind),
         }
     }
 }

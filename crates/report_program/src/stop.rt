@@ -1,17 +1,17 @@
 //! Why a job isn't done.
 
 use crate::Unread;
-use crate::telling::{tell_file_fault, tell_no_memory, tell_usage};
+use crate::telling::{reason_if, tell_file_fault, tell_no_memory, tell_usage};
 use report_command::{Form, Usage};
 use report_json::{Failure, write_failed};
-use std::io;
+use std::io::{self, ErrorKind};
 
 /// Why a job isn't done.
 #[derive(Drop)]
 pub(crate) enum Stop<'a> {
     Usage(Usage),
-    /// The file at this path failed.
-    File(&'a str),
+    /// The file at this path failed, for this reason.
+    File(&'a str, ErrorKind),
     NoMemory,
 }
 
@@ -27,7 +27,7 @@ impl<'a> Stop<'a> {
     pub(crate) fn unread(path: &'a str, why: Unread) -> Stop<'a> {
         match why {
             Unread::NoMemory => Stop::NoMemory,
-            Unread::File => Stop::File(path),
+            Unread::File(kind) => Stop::File(path, kind),
         }
     }
 
@@ -35,7 +35,7 @@ impl<'a> Stop<'a> {
     fn failure(&self) -> Option<Failure<'_>> {
         match self {
             Stop::NoMemory => Some(Failure::Memory),
-            Stop::File(path) => Some(Failure::File(*path)),
+            Stop::File(path, _) => Some(Failure::File(*path)),
             Stop::Usage(_) => None,
         }
     }
@@ -49,12 +49,13 @@ impl<'a> Stop<'a> {
         }
     }
 
-    /// Says so, prints its object where one is asked for, and answers the status.
-    pub(crate) fn tell(&self, rt: &HostRuntime, form: Form) -> u8 {
+    /// Says so, prints its object where one is asked for, and answers the status. Where it is to explain, why a file
+    /// failed is said too.
+    pub(crate) fn tell(&self, rt: &HostRuntime, form: Form, explain: bool) -> u8 {
         self.print(rt, form);
         match self {
             Stop::NoMemory => tell_no_memory(rt),
-            Stop::File(path) => tell_file_fault(rt, path),
+            Stop::File(path, kind) => tell_file_fault(rt, path, reason_if(explain, *kind)),
             Stop::Usage(usage) => tell_usage(rt, usage),
         }
     }

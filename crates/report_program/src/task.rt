@@ -4,7 +4,7 @@ use crate::closing::{Closed, Lost, close, close_behind};
 use crate::copied::Copied;
 use crate::input::{Input, read};
 use crate::stop::Stop;
-use crate::telling::{tell, tell_file_fault, tell_output_fault};
+use crate::telling::{reason_if, tell, tell_file_fault, tell_output_fault};
 use crate::{Noted, SavePlace, SavedFile, is_one_file};
 use report_command::{Form, Job, Misuse, RunJob, Search, misused};
 use report_jobs::Streams;
@@ -25,6 +25,8 @@ const RECORD: usize = 65_536;
 #[derive(Drop)]
 pub struct Task<'a, W: Write + Drop> {
     pub input: Input,
+    /// Whether it is to explain.
+    explain: bool,
     pub streams: Streams<BufWriter<Copied<Noted<W>>>, Vec<u8>, BufWriter<SavedFile<'a>>>,
 }
 
@@ -53,7 +55,7 @@ fn place_of<'a>(rt: &HostRuntime, path: Option<&'a str>) -> Result<Option<SavePl
     match SavePlace::new(rt, path) {
         Ok(place) => Ok(Some(place)),
         Err(error) if error.kind() == ErrorKind::OutOfMemory => Err(Stop::NoMemory),
-        Err(_) => Err(Stop::File(path)),
+        Err(error) => Err(Stop::File(path, error.kind())),
     }
 }
 
@@ -116,14 +118,14 @@ fn keep_module<'a>(rt: &HostRuntime, job: &Job<'a>) -> Result<(), Stop<'a>> {
 
 /// Gives a file its path where the job made all of it, and else takes away what there is of it. Answers the job's
 /// status.
-fn finish(rt: &HostRuntime, path: Option<&str>, status: u8, save: SavedFile) -> u8 {
+fn finish(rt: &HostRuntime, path: Option<&str>, status: u8, save: SavedFile, explain: bool) -> u8 {
     if status > 1 {
         save.give_up();
         return status;
     }
     match save.keep() {
         Ok(()) => status,
-        Err(_) => tell_file_fault(rt, path.unwrap_or("")),
+        Err(error) => tell_file_fault(rt, path.unwrap_or(""), reason_if(explain, error.kind())),
     }
 }
 
@@ -136,6 +138,20 @@ fn room_for(paths: &[Option<&str>]) -> usize {
     room
 }
 
+/// How a job's outcome is told.
+#[derive(Clone, Copy)]
+struct Told {
+    form: Form,
+    explain: bool,
+}
+
+impl Told {
+    /// Whether a copy of what it prints is wanted: to explain it, or to see whether an object was printed.
+    fn is_copied(self) -> bool {
+        self.explain || self.form == Form::Json
+    }
+}
+
 /// Begins a job with what was read for it, and with the places of the files that it makes. Standard error has so much
 /// room. An error is that of memory.
 fn begin<'a, W: Write + Drop>(
@@ -144,17 +160,18 @@ fn begin<'a, W: Write + Drop>(
     input: Input,
     room: usize,
     places: (Option<SavePlace>, Option<SavePlace>),
-    is_copied: bool,
+    told: Told,
 ) -> io::Result<Task<'a, W>> {
     let alloc = rt.alloc();
     let (place, memory) = places;
     let err = Vec::with_capacity(alloc, room)?;
-    let stdout = Copied::new(alloc, Noted::new(stdout), is_copied);
+    let stdout = Copied::new(alloc, Noted::new(stdout), told.is_copied());
     let out = BufWriter::with_capacity(alloc, OUT, stdout)?;
     let save = BufWriter::with_capacity(alloc, RECORD, SavedFile::new(rt, place))?;
     let memory = BufWriter::with_capacity(alloc, RECORD, SavedFile::new(rt, memory))?;
     Ok(Task {
         input,
+        explain: told.explain,
         streams: Streams {
             out,
             err,
@@ -169,13 +186,13 @@ fn prepare<'a, 'j, W: Write + Drop>(
     rt: &'a HostRuntime,
     stdout: W,
     job: &Job<'j>,
-    is_copied: bool,
+    told: Told,
 ) -> Result<Task<'a, W>, Stop<'j>> {
     keep_module(rt, job)?;
     let input = read(rt, job)?;
     let places = (place_of(rt, record_of(job))?, place_of(rt, memory_of(job))?);
     let room = room_for(&[record_of(job), memory_of(job)]);
-    Ok(begin(rt, stdout, input, room, places, is_copied)?)
+    Ok(begin(rt, stdout, input, room, places, told)?)
 }
 
 /// Begins a job: reads its files, and takes the places of the files that it makes and the memory of its streams. Where
@@ -191,9 +208,9 @@ pub fn open_task<'a, W: Write + Drop>(
     explain: bool,
 ) -> Result<Task<'a, W>, u8> {
     let form = job.form();
-    match prepare(rt, stdout, job, explain || form == Form::Json) {
+    match prepare(rt, stdout, job, Told { form, explain }) {
         Ok(task) => Ok(task),
-        Err(stop) => Err(stop.tell(rt, form)),
+        Err(stop) => Err(stop.tell(rt, form, explain)),
     }
 }
 
@@ -212,9 +229,9 @@ impl Ended<'_> {
     }
 
     /// Gives both their paths, if the status is one with which there are files. Answers the status, or 5.
-    fn finish(self, rt: &HostRuntime, job: &Job, status: u8) -> u8 {
-        let status = finish(rt, record_of(job), status, self.save);
-        finish(rt, memory_of(job), status, self.memory)
+    fn finish(self, rt: &HostRuntime, job: &Job, status: u8, explain: bool) -> u8 {
+        let status = finish(rt, record_of(job), status, self.save, explain);
+        finish(rt, memory_of(job), status, self.memory, explain)
     }
 }
 
@@ -222,7 +239,11 @@ impl<W: Write + Drop> Task<'_, W> {
     /// Hands on what the job wrote, says what went wrong, and keeps the files that it made, if it came to a status with
     /// which there are some. Answers the status: the job's, or 5 where a stream didn't get all.
     pub fn end(self, rt: &HostRuntime, job: &Job, status: u8) -> u8 {
-        let Task { streams, .. } = self;
+        let Task {
+            streams,
+            explain,
+            ..
+        } = self;
         let Streams {
             out,
             err,
@@ -237,18 +258,18 @@ impl<W: Write + Drop> Task<'_, W> {
             tell(rt, &err);
         }
         match (lost, lost_memory) {
-            (None, None) => files.finish(rt, job, status),
+            (None, None) => files.finish(rt, job, status, explain),
             (Some(Lost::Lines), _) => {
                 files.give_up();
                 tell_output_fault(rt, is_closed)
             }
             (Some(Lost::File), _) => {
                 files.give_up();
-                tell_file_fault(rt, record_of(job).unwrap_or(""))
+                tell_file_fault(rt, record_of(job).unwrap_or(""), "")
             }
             (None, Some(_)) => {
                 files.give_up();
-                tell_file_fault(rt, memory_of(job).unwrap_or(""))
+                tell_file_fault(rt, memory_of(job).unwrap_or(""), "")
             }
         }
     }

@@ -3,7 +3,7 @@
 use crate::Noted;
 use report_command::Usage;
 use std::fmt::Display;
-use std::io::{BufWriter, Write};
+use std::io::{BufWriter, ErrorKind, Write};
 
 /// The status of a wrong command line.
 const USAGE: u8 = 3;
@@ -25,10 +25,30 @@ pub(crate) fn tell_no_memory(rt: &HostRuntime) -> u8 {
     FILE_FAULT
 }
 
-/// Says which file failed, and answers the status.
-pub(crate) fn tell_file_fault(rt: &HostRuntime, path: &str) -> u8 {
-    match format!(in rt.alloc(); "file fault: {path}\n") {
-        Ok(line) => tell(rt, line.as_bytes()),
+/// Why the system refused a file, as a line.
+fn reason_of(kind: ErrorKind) -> &'static str {
+    match kind {
+        ErrorKind::NotFound => "there is nothing with this path\n",
+        ErrorKind::PermissionDenied => "the system doesn't allow it\n",
+        ErrorKind::IsADirectory => "it is a folder\n",
+        ErrorKind::NotADirectory => "a part of the path is no folder\n",
+        ErrorKind::InvalidFilename => "the path, or a part of it, is too long\n",
+        ErrorKind::FilesystemLoop => "its links lead round in a circle\n",
+        ErrorKind::ReadOnlyFilesystem => "the disk that it is on can't be written\n",
+        ErrorKind::StorageFull | ErrorKind::QuotaExceeded => "there is no room left for it\n",
+        _ => "the system couldn't read or write it\n",
+    }
+}
+
+/// The same, if it is to be explained, and else nothing.
+pub(crate) fn reason_if(explain: bool, kind: ErrorKind) -> &'static str {
+    if explain { reason_of(kind) } else { "" }
+}
+
+/// Says which file failed, with the line of its reason or nothing behind that, and answers the status.
+pub(crate) fn tell_file_fault(rt: &HostRuntime, path: &str, reason: &str) -> u8 {
+    match format!(in rt.alloc(); "file fault: {path}\n{reason}") {
+        Ok(lines) => tell(rt, lines.as_bytes()),
         Err(_) => {
             let _ = eprintln!(rt; "file fault: {path}");
         }

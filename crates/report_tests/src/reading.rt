@@ -4,7 +4,7 @@ use crate::room::{make_room, path_in};
 use report_program::{Unread, read_front, read_module, read_saved};
 use std::alloc::Global;
 use std::fs;
-use std::io::{self, Read};
+use std::io::{self, ErrorKind, Read};
 use std::path::PathBuf;
 use std::test::Fail;
 use test_cases::hold;
@@ -97,8 +97,14 @@ fn read_all(rt: &HostRuntime, room: &PathBuf, path: &str) -> Result<(), Fail> {
     fs::remove_dir_all(rt, room.as_path())?;
     hold(&[
         ("a record", record == Ok(27)),
-        ("no module", length_of_module(rt, path) == Err(Unread::File)),
-        ("a folder", length_of_saved(rt, "/") == Err(Unread::File)),
+        (
+            "no module",
+            length_of_module(rt, path) == Err(Unread::File(ErrorKind::NotFound)),
+        ),
+        (
+            "a folder",
+            length_of_saved(rt, "/") == Err(Unread::File(ErrorKind::IsADirectory)),
+        ),
     ])
 }
 
