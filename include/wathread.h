@@ -11,10 +11,14 @@
  * call with a length of 0 asks how much is wanted.
  *
  * The statuses are those of the program, and the text is an object of JSON with a line feed (docs/PROFILE.md has its
- * shape, docs/wathread.schema.json its schema). Link with lib/libwathread.a.
+ * shape, docs/wathread.schema.json its schema); where memory is refused there is none. Link with lib/libwathread.a.
  */
 #ifndef WATHREAD_H
 #define WATHREAD_H
+
+#ifdef __wasm__
+#error "this is the header for hosts; that for plug-ins comes with wathread-cc: leave out the -I that leads here"
+#endif
 
 #include <stddef.h>
 #include <stdint.h>
@@ -38,7 +42,8 @@ enum wathread_kind {
     WATHREAD_VOID = 1,          /* its function returned nothing */
     WATHREAD_I32 = 2,           /* it returned an i32 */
     WATHREAD_I64 = 3,           /* it returned an i64 */
-    WATHREAD_TRAP = 4,          /* number: 1 unreachable, 2 divide by zero, 3 overflow, 4 out of bounds .. */
+    WATHREAD_TRAP = 4,          /* number: 1 unreachable, 2 divide by zero, 3 overflow, 4 out of bounds, and others:
+                                   docs/PROFILE.md has the list */
     WATHREAD_STOP = 5           /* number: 1 out of fuel, 2 asleep for good, 3 record full */
 };
 
@@ -74,8 +79,8 @@ struct wathread_options {
     uint32_t limit;             /* how many entries its record takes, 1 to 1,000,000 */
     uint32_t strategy;          /* a wathread_strategy */
     uint32_t depth;             /* of priorities, 1 to 32 */
-    uint32_t states;            /* of a search: how many states are met at most, */
-    uint32_t dump;              /* and how many first bytes of the memory are told of each ending */
+    uint32_t states;            /* of a search: how many states are met at most, any number, */
+    uint32_t dump;              /* and how many first bytes of the memory are told of each ending, or all it has */
 };
 
 /* Options that fit most calls. */
@@ -98,8 +103,9 @@ uint32_t wathread_replay(const uint8_t *module, size_t module_len, const uint8_t
                          uint8_t *bytes, size_t bytes_len, uint8_t *text, size_t text_len,
                          struct wathread_answer *answer);
 
-/* Goes through every order of the threads' entries, without a budget of units, and tells all endings and what never ends.
- * Where "verdict" is "all", no run by the call ends otherwise. The status is 0, 1, 2, 3 or 5. */
+/* Goes through every order of the threads' entries, as `wathread search --all --orders all` does, and tells all endings
+ * and what never ends; of races it says nothing. Seed, run, fuel, limit and strategy have no part in it. Where "verdict"
+ * is "all", no run by the call ends otherwise. The status is 0, 1, 2, 3 or 5. */
 uint32_t wathread_search(const uint8_t *module, size_t module_len, const uint8_t *name, size_t name_len,
                          const struct wathread_word *args, size_t args_count, const struct wathread_options *options,
                          uint8_t *text, size_t text_len, struct wathread_answer *answer);

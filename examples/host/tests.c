@@ -150,6 +150,7 @@ int main(int argc, char **argv)
             WANT(run(lock, "main", &none, 0, &o, sizeof record) == 0);
 
     WANT(search(peterson, "f", &plain, sizeof text) == 3 && says("wrong arguments"));
+    WANT(search(peterson, "\xff\xfe", &plain, sizeof text) == 3 && says("unknown export"));
     struct wathread_word one = {1, 0};
     WANT(wathread_search(peterson.bytes, peterson.len, (const uint8_t *)"f", 1, &one, 1, &plain, text, sizeof text,
                          &answer) == 0 && says("\"verdict\":\"all\"") && says("\"states\":115"));

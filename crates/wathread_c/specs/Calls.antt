@@ -13,6 +13,8 @@ use Rattle.spawn_host.specs.declared.end.EndState.{EndState}
 use Rattle.host_calls.specs.Hosts.{HasFunctions, IsModuleFault, IsCallFaultOf, IsFaultOf, IsReplayFault, IsReplayOf, IsRunBy}
 use Rattle.host_calls.specs.Hosts.{HasEndings, status_of_fault}
 use Rattle.host_calls.specs.declared.fault.HostFault.{HostFault}
+use Rattle.host_calls.specs.declared.fault.HostFault.TheVariants as faults
+use Rattle.spawn_host.specs.declared.request.CallFault.TheVariants.{UnknownExport}
 use Rattle.wathread_c.specs.Answers.{Puts, no_answer, answer_with}
 use Rattle.wathread_c.specs.Given.{plan_by, values_by}
 use Rattle.wathread_c.specs.Lines.{IsAcceptedText, IsRefusalText, IsRunText, IsSearchText}
@@ -125,6 +127,11 @@ pub data IsSearched (bytes name : List ℕ) (words : List Word) (o : Options) (s
 abbrev pub SearchesNamed : List ℕ → List ℕ → List Word → Options → List ℕ → List ℕ → Answer → ℕ → Type 0
 SearchesNamed bytes name words o old new answer status = MayTell (IsSearched bytes name words o) old new answer status
 
+-- A name that is no UTF-8 is no function's, and told as such.
+pub record TellsNoName (name old new : List ℕ) (answer : Answer) (status : ℕ) : Type 0 where
+  pub none : IsUtf8 name → ⊥
+  pub told : TellsFault (faults.Call UnknownExport) old new answer status
+
 abbrev pub Searches : List ℕ → List ℕ → List Word → Options → List ℕ → List ℕ → Answer → ℕ → Type 0
 Searches bytes name words o old new answer status =
-    HasNoName name old new answer status ⊎ SearchesNamed bytes name words o old new answer status
+    TellsNoName name old new answer status ⊎ SearchesNamed bytes name words o old new answer status

@@ -6,8 +6,12 @@ ghost use Rattle.wathread_c.specs.Calls.{Searches, SearchesNamed};
 use crate::answer::Answer;
 use crate::given::{Options, Word, values_of};
 use crate::objects::{refuse, search_line, tell};
-use host_calls::endings_of;
+use host_calls::{HostFault, endings_of};
+use spawn_host::CallFault;
 use std::alloc::Global;
+
+/// What a name comes to that is no UTF-8, as no exported one is.
+const NO_NAME: HostFault = HostFault::Call(CallFault::UnknownExport);
 
 /// Searches the runs of a function of this name.
 fn search_named(
@@ -50,6 +54,6 @@ pub extern "C" fn wathread_search(
     *answer = Answer::none();
     match str::from_utf8(name) {
         Ok(name) => search_named(alloc, module, name, args, options, text, answer),
-        Err(_) => 3,
+        Err(_) => refuse(alloc, NO_NAME, text, answer),
     }
 }
