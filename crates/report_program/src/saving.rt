@@ -110,6 +110,11 @@ impl<'a> SavedFile<'a> {
         }
     }
 
+    /// Whether nothing was written of it.
+    pub(crate) fn is_untouched(&self) -> bool {
+        self.file.is_none()
+    }
+
     /// Makes the file, or opens what is there.
     fn open(&mut self) -> io::Result<File> {
         match &mut self.target {

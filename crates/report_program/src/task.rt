@@ -4,7 +4,7 @@ use crate::closing::{Closed, Lost, close, close_behind};
 use crate::copied::Copied;
 use crate::input::{Input, read};
 use crate::stop::Stop;
-use crate::telling::{reason_if, tell, tell_file_fault, tell_output_fault};
+use crate::telling::{reason_if, tell, tell_file_fault, tell_output_fault, tell_unkept};
 use crate::{Noted, SavePlace, SavedFile, is_one_file};
 use report_command::{Form, Job, Misuse, RunJob, Search, misused};
 use report_jobs::Streams;
@@ -214,6 +214,21 @@ pub fn open_task<'a, W: Write + Drop>(
     }
 }
 
+/// Says of a search that was to keep a run that it kept none.
+fn note_unkept(rt: &HostRuntime, job: &Job, status: u8, save: &SavedFile) {
+    if let Job::Search(
+        Search {
+            save: Some(path),
+            ..
+        },
+    ) = job
+        && status <= 1
+        && save.is_untouched()
+    {
+        tell_unkept(rt, path);
+    }
+}
+
 /// The files of a job, and which stream didn't get all.
 #[derive(Drop)]
 struct Ended<'a> {
@@ -230,6 +245,7 @@ impl Ended<'_> {
 
     /// Gives both their paths, if the status is one with which there are files. Answers the status, or 5.
     fn finish(self, rt: &HostRuntime, job: &Job, status: u8, explain: bool) -> u8 {
+        note_unkept(rt, job, status, &self.save);
         let status = finish(rt, record_of(job), status, self.save, explain);
         finish(rt, memory_of(job), status, self.memory, explain)
     }

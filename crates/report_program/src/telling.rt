@@ -56,6 +56,11 @@ pub(crate) fn tell_file_fault(rt: &HostRuntime, path: &str, reason: &str) -> u8 
     FILE_FAULT
 }
 
+/// Says that no run was found whose record this file was to get.
+pub(crate) fn tell_unkept(rt: &HostRuntime, path: &str) {
+    let _ = eprintln!(rt; "note: no run was found to keep: {path} is as it was");
+}
+
 /// Says that standard output failed, unless nobody is left to read it, and answers the status.
 pub(crate) fn tell_output_fault(rt: &HostRuntime, is_closed: bool) -> u8 {
     if !is_closed {
