@@ -22,7 +22,7 @@ use Rattle.report_jobs.specs.Prints.{WriterChange, KeepsRecord, change}
 use Rattle.report.specs.Drawn.{table_lines, cut_in}
 use Rattle.report.specs.DrawnRaces.{PrintsDrawnRaces, SaysRaceOf, TellsOfNoRace, TellsOfRacyLast}
 use Rattle.report.specs.Prints.{Tells}
-use Rattle.report.specs.Raced.{SaysPair}
+use Rattle.report.specs.Raced.{SaysRaceIn}
 use Rattle.report.specs.Searches.{IsRaceKept}
 use Rattle.std.specs.Prelude.{is_some}
 
@@ -40,10 +40,10 @@ none_races q s t halts.Told unfound noted stops =
     noted_weaker (λ run made. IsTrue s.stops → SaysRaceOf q made false) (λ run made. SaysRaceOf q made false) (λ run made is. is stops) q s t noted
 
 -- the run with a race, as it is kept
-pub race_is_kept : (q : Requested) (s : Search) → IsAskedBy s.call q → (made : MadeRun) → IsFind q s.sought.limit made → (text : List ℕ)
-    → SaysPair q.parts made.record text → (save : WriterChange) → KeepsRecord (is_some s.save) save made.record → s.races ≡ true
+pub race_is_kept : (q : Requested) (s : Search) → IsAskedBy s.call q → (made : MadeRun) → IsFind q s.sought.limit made → SaysRaceIn q.parts made.record
+    → (save : WriterChange) → KeepsRecord (is_some s.save) save made.record → s.races ≡ true
     → IsRaceKept q.parts s save
-race_is_kept q s asked made find text pair save kept races = record {
+race_is_kept q s asked made find said save kept races = record {
   looked_for = races;
   args = q.args;
   spelled = asked.spelled;
@@ -52,8 +52,7 @@ race_is_kept q s asked made find text pair save kept races = record {
   run = find.run;
   of_call = subst (λ (name : List ℕ). IsOfCall q.parts name q.args s.call.fuel s.sought.limit made.record) asked.name_is
       (subst (λ (fuel : ℕ). IsOfCall q.parts q.name q.args fuel s.sought.limit made.record) asked.fuel_is find.of_call);
-  text = text;
-  pair = pair;
+  races = said;
   kept = kept;
 }
 

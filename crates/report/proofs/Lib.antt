@@ -11,3 +11,6 @@ mod Sought
 mod Silent
 mod Pairs
 mod Looking
+mod RacePairs
+mod Kept
+mod Objected

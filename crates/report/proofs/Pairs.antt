@@ -24,7 +24,7 @@ use Rattle.show_races.specs.declared.found.Races.{Races}
 use Rattle.report_jobs.specs.Prints.{WriterChange, KeepsRecord, change}
 use Rattle.search_races.specs.Rows.{AreRowsOf}
 use Rattle.search_races.proofs.Told.{kinds_alike, told_of}
-use Rattle.report.specs.Raced.{IsShownOf, SaysPair, WritesPair}
+use Rattle.report.specs.Raced.{IsShownOf, SaysRaceIn, WritesPair}
 use Rattle.report.specs.Racing.{keeps_race}
 use Rattle.report.specs.Searches.{KeepsNoneOrRace}
 
@@ -80,11 +80,11 @@ and_first true y is = refl
 and_first false y is = is
 
 -- where the record of a run with a race is kept, it is one
-pub race_kept : (q : Requested) (s : Search) → IsAskedBy s.call q → (made : MadeRun) → IsFind q s.sought.limit made → (text : List ℕ)
-    → SaysPair q.parts made.record text → (save : WriterChange) → KeepsRecord (keeps_race s) save made.record → (keeps : Bool)
+pub race_kept : (q : Requested) (s : Search) → IsAskedBy s.call q → (made : MadeRun) → IsFind q s.sought.limit made → SaysRaceIn q.parts made.record
+    → (save : WriterChange) → KeepsRecord (keeps_race s) save made.record → (keeps : Bool)
     → keeps_race s ≡ keeps → (keeps_race s ≡ false → save.new ≡ save.old) → KeepsNoneOrRace q.parts s save
-race_kept q s asked made find text pair save kept false is stays = inl (stays is)
-race_kept q s asked made find text pair save kept true is stays = inr (record {
+race_kept q s asked made find raced save kept false is stays = inl (stays is)
+race_kept q s asked made find raced save kept true is stays = inr (record {
   looked_for = and_first s.races (is_some s.save) is;
   args = q.args;
   spelled = asked.spelled;
@@ -93,7 +93,6 @@ race_kept q s asked made find text pair save kept true is stays = inr (record {
   run = find.run;
   of_call = subst (λ (name : List ℕ). IsOfCall q.parts name q.args s.call.fuel s.sought.limit made.record) asked.name_is
       (subst (λ (fuel : ℕ). IsOfCall q.parts q.name q.args fuel s.sought.limit made.record) asked.fuel_is find.of_call);
-  text = text;
-  pair = pair;
+  races = raced;
   kept = λ wanted. kept is;
 })

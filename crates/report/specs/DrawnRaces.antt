@@ -1,5 +1,5 @@
 -- What is printed of a search that looks for a drawn run with a race.
-use Rattle.std.specs.Prelude.{ℕ, ◌≡◌, ◌≤◌, ◌<◌, ◌+◌, ◌⊎◌, ◌↔◌, ◌==◌, if◌then◌else◌, Bool, true, false, List, [], ◌++◌, codes, is_none, is_some}
+use Rattle.std.specs.Prelude.{ℕ, ◌≡◌, ◌≤◌, ◌<◌, ◌+◌, ◌⊎◌, ◌↔◌, ◌==◌, if◌then◌else◌, Bool, true, false, List, [], ◌++◌, codes, is_some}
 use Rattle.std.specs.Fmt.{decimal}
 use Rattle.std.specs.Io.KnownBytes.{Appends}
 use Rattle.types.specs.declared.parts.Parts.{Parts}
@@ -99,7 +99,3 @@ pub record PrintsDrawnRaces (m : Parts) (s : Search) (out save : WriterChange) (
   pub told : List ℕ
   pub lines : Appends out.old out.new (table_lines s.sought table ++ (cut_line (cut_in table) s.sought.limit ++ told))
   pub says : ((status ≡ 1) × TellsOfRacyLast request s table told save) ⊎ TellsOfNoRace request s table told save status
-
--- What is printed of a search of drawn runs that looks for one with a race.
-abbrev pub IsDrawnForRaces : Parts → Search → WriterChange → WriterChange → ℕ → Type 0
-IsDrawnForRaces m s out save status = is_none s.all ≡ true → s.races ≡ true → PrintsDrawnRaces m s out save status

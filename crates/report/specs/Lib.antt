@@ -7,4 +7,7 @@ pub mod Searches
 pub mod Racing
 pub mod Prints
 pub mod DrawnRaces
+pub mod RaceObjects
+pub mod SearchObjects
+pub mod Searched
 pub mod Silent

@@ -1,6 +1,6 @@
 -- What is printed of a search, and what is written of what it found.
 use Rattle.std.specs.Prelude.{ℕ, ◌≡◌, ◌≢◌, ◌≤◌, ◌<◌, ◌+◌, ◌-◌, ◌⊎◌, ◌↔◌, ◌&&◌, not, All, Bool, List, [], ◌++◌, length, take, true, false}
-use Rattle.std.specs.Prelude.{Option, Some, is_none, is_some, option_map, unwrap_or, slice_index_or}
+use Rattle.std.specs.Prelude.{Option, Some, is_some, option_map, unwrap_or, slice_index_or}
 use Rattle.std.specs.List.{slice_get}
 use Rattle.std.specs.Io.KnownBytes.{Appends}
 use Rattle.types.specs.declared.parts.Parts.{Parts}
@@ -189,11 +189,3 @@ pub record PrintsAll (m : Parts) (s : Search) (most : ℕ) (out save : WriterCha
   pub lines : Appends out.old out.new (race ++ (complete_lines most whole.racing whole.all ++ told))
   pub says : IsToldBehind request s whole told (change kept save.new)
   pub status_is : IsStatusOf s whole status
-
--- What is printed of a search of drawn runs that looks for no race.
-abbrev pub IsDrawn : Parts → Search → WriterChange → WriterChange → ℕ → Type 0
-IsDrawn m s out save status = is_none s.all ≡ true → s.races ≡ false → PrintsDrawn m s out save status
-
--- What is printed of a search through every order of entries.
-abbrev pub IsPrintedOf : Parts → Search → WriterChange → WriterChange → ℕ → Type 0
-IsPrintedOf m s out save status = (most : ℕ) → s.all ≡ Some most → PrintsAll m s most out save status

@@ -25,7 +25,7 @@ use Rattle.report_jobs.specs.Arguments.{AreSpelled, texts_in}
 use Rattle.report_jobs.specs.Prints.{WriterChange, KeepsRecord}
 use Rattle.report.specs.Complete.{all_end_well}
 use Rattle.report.specs.Endless.{FindsEndless}
-use Rattle.report.specs.Raced.{SaysPair}
+use Rattle.report.specs.Raced.{SaysRaceIn}
 use Rattle.report_jobs.specs.declared.running.Trouble.{Trouble}
 use Rattle.report_jobs.specs.declared.running.Trouble.TheVariants as troubles
 
@@ -71,8 +71,7 @@ pub record IsRaceKept (m : Parts) (s : Search) (save : WriterChange) : Type 0 wh
   pub end : EndState
   pub run : IsRunOf m record_is end
   pub of_call : IsOfCall m s.call.invoke.now args s.call.fuel s.sought.limit record_is
-  pub text : List ℕ
-  pub pair : SaysPair m record_is text
+  pub races : SaysRaceIn m record_is
   pub kept : KeepsRecord (is_some s.save) save record_is
 
 abbrev pub KeepsNoneOrRace : Parts → Search → WriterChange → Type 0

@@ -30,10 +30,10 @@ use std::io::{self, Write};
 
 /// An ending of the list that is looked for: its number from 1 on, and the choices by which it was met.
 #[derive(Clone, Copy)]
-struct SoughtEnding<'a> {
-    number: usize,
-    ending: &'a Ending,
-    choices: &'a [usize],
+pub(crate) struct SoughtEnding<'a> {
+    pub number: usize,
+    pub ending: &'a Ending,
+    pub choices: &'a [usize],
 }
 
 /// A run that never ends, by choices.
@@ -56,7 +56,7 @@ fn choices_at(all: &Complete, place: usize) -> &[usize]
 }
 
 /// The first ending that is looked for.
-fn first_sought<'a>(
+pub(crate) fn first_sought<'a>(
     alloc: Global,
     all: &'a Complete,
     sought: &Sought,
@@ -182,7 +182,10 @@ fn endless_of<'a>(liveness: &'a Liveness, target: Target) -> Option<EndlessRun<'
 }
 
 /// The same, where it is known what never ends.
-fn endless_run<'a>(liveness: &'a Option<Liveness>, target: Target) -> Option<EndlessRun<'a>>
+pub(crate) fn endless_run<'a>(
+    liveness: &'a Option<Liveness>,
+    target: Target,
+) -> Option<EndlessRun<'a>>
     ensures none { IfNone result (HasNoEndless target.entry liveness.now) }
     ensures some { IfSome result (IsKnown target.entry liveness.now) }
 {
@@ -194,7 +197,7 @@ fn endless_run<'a>(liveness: &'a Option<Liveness>, target: Target) -> Option<End
 
 impl EndlessRun<'_> {
     /// The choices to where it is sure never to end.
-    fn path(&self) -> &[usize]
+    pub(crate) fn path(&self) -> &[usize]
         ensures { result.now ≡ specified.path_of self.now }
     {
         match self {
@@ -204,7 +207,7 @@ impl EndlessRun<'_> {
     }
 
     /// One like it, by other choices.
-    fn along<'b>(&self, path: &'b [usize], round: &'b [usize]) -> EndlessRun<'b>
+    pub(crate) fn along<'b>(&self, path: &'b [usize], round: &'b [usize]) -> EndlessRun<'b>
         ensures { IsAlike self.now result }
     {
         match self {
@@ -214,7 +217,7 @@ impl EndlessRun<'_> {
     }
 
     /// The choices of the round that it goes then, if it goes one.
-    fn round(&self) -> &[usize] {
+    pub(crate) fn round(&self) -> &[usize] {
         match self {
             EndlessRun::ToNoEnd(_) => &[],
             EndlessRun::Round(_, round) => round,
@@ -264,7 +267,7 @@ fn tell_endless<W: Write, S: Write>(
 }
 
 /// The choices of each event along those that were noted, where these leave plain accesses out.
-fn filled(
+pub(crate) fn filled(
     alloc: Global,
     request: &Request,
     dump: u32,
@@ -281,7 +284,7 @@ fn filled(
 }
 
 /// Those, or the ones that were noted.
-fn choices_in<'a>(filled: &'a Option<Vec<usize>>, noted: &'a [usize]) -> &'a [usize]
+pub(crate) fn choices_in<'a>(filled: &'a Option<Vec<usize>>, noted: &'a [usize]) -> &'a [usize]
     ensures { filled.now ≡ None → result.now ≡ noted.now }
 {
     match filled {
@@ -292,13 +295,13 @@ fn choices_in<'a>(filled: &'a Option<Vec<usize>>, noted: &'a [usize]) -> &'a [us
 
 /// The choices of each event to where it is sure that a run never ends, and once round.
 #[derive(Drop)]
-struct Course {
-    path: Vec<usize>,
-    round: Vec<usize>,
+pub(crate) struct Course {
+    pub path: Vec<usize>,
+    pub round: Vec<usize>,
 }
 
 /// Those of a run of which choices were noted that leave plain accesses out.
-fn course_of(
+pub(crate) fn course_of(
     alloc: Global,
     request: &Request,
     dump: u32,
@@ -345,7 +348,7 @@ fn tell_known<W: Write, S: Write>(
 }
 
 /// Whether a search stops at an ending that is looked for, or a run that never ends.
-fn stops_behind(search: &Search) -> bool
+pub(crate) fn stops_behind(search: &Search) -> bool
     ensures { result ≡ specified_prints.stops_behind search.now }
 {
     search.sought.stops && !search.races

@@ -1,4 +1,5 @@
 //! What is shown of a record as a JSON object.
+ghost use Rattle.report.specs.RaceObjects.{IsOffset, IsPlaceOf, IsRowOf, IsSource};
 
 use report_choice::Look;
 use report_json::{Offset, Place, Row, Source, begin_rows, end_rows, write_row};
@@ -8,22 +9,41 @@ use std::alloc::Global;
 use std::io::Write;
 use types::Entry;
 
+/// An offset in a function, where it is known.
+fn offset_of(offset: Option<usize>) -> Option<Offset>
+    ensures { IsOffset offset result }
+{
+    match offset {
+        Some(offset) => Some(Offset(offset)),
+        None => None,
+    }
+}
+
+/// A line of source, where it is known.
+fn source_of(source: Option<(&str, u64)>) -> Option<Source<'_>>
+    ensures { IsSource source.entry result }
+{
+    match source {
+        Some((file, line)) => Some(Source { file, line }),
+        None => None,
+    }
+}
+
 /// A place in the code.
-fn place_of(spot: Spot<'_>) -> Place<'_> {
-    let Spot {
-        name,
-        offset,
-        source,
-    } = spot;
+fn place_of(spot: Spot<'_>) -> Place<'_>
+    ensures { IsPlaceOf spot.entry result }
+{
     Place {
-        function: name,
-        offset: offset.map(Offset),
-        source: source.map(|(file, line)| Source { file, line }),
+        function: spot.name,
+        offset: offset_of(spot.offset),
+        source: source_of(spot.source),
     }
 }
 
 /// The entry at a place in the log.
-pub(crate) fn row_of<'a>(shown: &'a Shown, story: &'a Story, at: usize, entry: &Entry) -> Row<'a> {
+pub(crate) fn row_of<'a>(shown: &'a Shown, story: &'a Story, at: usize, entry: &Entry) -> Row<'a>
+    ensures { IsRowOf shown.now story.now at entry.now result }
+{
     let place = match shown.place_at(story, at) {
         Some(place) => Some(place_of(shown.code.spot(place))),
         None => None,

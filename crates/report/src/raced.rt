@@ -30,7 +30,7 @@ use std::io::{self, Write};
 use validate_module::ValidModule;
 
 /// Whether the record of a run with a race is kept.
-fn keeps_race(search: &Search) -> bool
+pub(crate) fn keeps_race(search: &Search) -> bool
     ensures { result ≡ specified.keeps_race search.now }
 {
     search.races && search.save.is_some()

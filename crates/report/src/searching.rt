@@ -1,5 +1,5 @@
 //! Searches by the program: what is printed, and the record of what was found.
-ghost use Rattle.std.specs.Prelude.{◌≡◌, ◌≤◌, ◌<◌, ◌+◌, ◌^◌, ℕ, List, [], map, IfOk, IfErr, true, false, is_some};
+ghost use Rattle.std.specs.Prelude.{◌≡◌, ◌≤◌, ◌<◌, ◌+◌, ◌^◌, ℕ, List, [], map, IfOk, IfErr, Some, true, false, is_some};
 ghost use Rattle.search_finds.specs.Endings.{HaveOneEnding};
 ghost use Rattle.search_finds.specs.Finds.{IsFind, EndsAsLookedFor};
 ghost use Rattle.report_command.specs.Searches.{IsSearchInRange};
@@ -10,19 +10,22 @@ ghost use Rattle.replay_forms.specs.Texts.{Wrote};
 ghost use Rattle.report_lines.specs.Found.{found_run_line};
 ghost use Rattle.search_finds.specs.Sizes.{size_in};
 ghost use Rattle.report.specs.Drawn.{size_text, sizes_line, sizes_if, behind_text};
-ghost use Rattle.report.specs.DrawnRaces.{IsDrawnForRaces, PrintsDrawnRaces};
 ghost use Rattle.report.specs.Searches.{Finds, IsFindKept, IsOfSystem, IsWellAt};
-ghost use Rattle.report.specs.Prints.{IsDrawn, IsPrintedOf, PrintsDrawn, Tells, TellsOfRun, TellsOfTable};
+ghost use Rattle.report.specs.Prints.{PrintsDrawn, Tells, TellsOfRun, TellsOfTable};
+ghost use Rattle.report.specs.Searched.{AllIn, DrawnIn, DrawnRacesIn, IsDrawn, IsDrawnForRaces, IsPrintedOf};
 ghost use Rattle.report_jobs.specs.Prints.{changed};
 ghost use Rattle.report_jobs.specs.Silence.{Stays};
 ghost use Rattle.report.specs.Silent.{IfRefusedCall};
 ghost use Rattle.report_jobs.specs.declared.running.Trouble.TheVariants as troubles;
 
 use crate::all::search_all_orders;
+use crate::all_object::write_all_orders;
+use crate::drawn_object::write_drawn_runs;
 use crate::drawn_races::search_drawn_races;
+use crate::racy_object::write_drawn_races;
 use crate::showing::CodeBytes;
 use crate::table::{is_all_well, write_cut_of, write_table, write_unseen_of};
-use report_command::{Search, Sought};
+use report_command::{Form, Search, Sought};
 use report_jobs::{Trouble, args_of, keep, print, request_of};
 use report_lines::{write_found_run, write_stopped};
 use search_finds::{Found, Halt, Hears, SearchResult, Size, Table, first_found, shrunk, size_of};
@@ -159,6 +162,56 @@ fn search_drawn<R: Threads + Sync, F: Hears, W: Write, S: Write>(
     }
 }
 
+/// Makes the runs that a search asks for, and prints what comes of them in the form that is asked for.
+fn search_for_endings<R: Threads + Sync, F: Hears, W: Write, S: Write>(
+    rt: &R,
+    alloc: Global,
+    request: &Request,
+    search: &Search,
+    follower: &mut F,
+    out: &mut W,
+    save: &mut S,
+) -> Result<u8, Trouble>
+    requires range { IsSearchInRange search.now }
+    requires asked { IsAskedBy search.now.call request.now }
+    ensures finds { IfOk result (Finds request.now.parts search.now (changed S.contents save.old save.new)) }
+    ensures prints { IfOk result (DrawnIn search.now.form request.now.parts search.now
+        (changed W.contents out.old out.new) (changed S.contents save.old save.new)) }
+    ensures unwanted { is_some search.now.save ≡ false → Stays save.old save.new }
+    ensures trouble { IfErr result IsOfSystem }
+{
+    match search.form {
+        Form::Lines => search_drawn(rt, alloc, request, search, follower, out, save),
+        Form::Json => write_drawn_runs(rt, alloc, request, search, follower, out, save),
+    }
+}
+
+/// Does the same where a run with a race is looked for.
+fn search_for_races<R: Threads + Sync, F: Hears, W: Write, S: Write>(
+    rt: &R,
+    alloc: Global,
+    request: &Request,
+    asked: Asked,
+    follower: &mut F,
+    out: &mut W,
+    save: &mut S,
+) -> Result<u8, Trouble>
+    requires range { IsSearchInRange asked.search.now }
+    requires asked { IsAskedBy asked.search.now.call request.now }
+    requires races { asked.search.now.races ≡ true }
+    ensures finds { IfOk result
+        (Finds request.now.parts asked.entry.search.now (changed S.contents save.old save.new)) }
+    ensures prints { IfOk result (DrawnRacesIn asked.entry.search.now.form request.now.parts asked.entry.search.now
+        (changed W.contents out.old out.new) (changed S.contents save.old save.new)) }
+    ensures unwanted { is_some asked.entry.search.now.save ≡ false → Stays save.old save.new }
+    ensures trouble { IfErr result IsOfSystem }
+{
+    match asked.search.form {
+        Form::Lines => search_drawn_races(rt, alloc, request, asked, follower, out, save),
+        Form::Json => write_drawn_races(rt, alloc, request, asked, follower, out, save),
+    }
+}
+
 /// Searches through drawn runs: for one with a race, where that is asked for, or for one that ends so.
 fn search_runs<R: Threads + Sync, F: Hears, W: Write, S: Write>(
     rt: &R,
@@ -173,20 +226,49 @@ fn search_runs<R: Threads + Sync, F: Hears, W: Write, S: Write>(
     requires asked { IsAskedBy asked.search.now.call request.now }
     ensures finds { IfOk result
         (Finds request.now.parts asked.entry.search.now (changed S.contents save.old save.new)) }
-    ensures prints { asked.entry.search.now.races ≡ false → IfOk result (PrintsDrawn request.now.parts
-        asked.entry.search.now (changed W.contents out.old out.new) (changed S.contents save.old save.new)) }
-    ensures races { asked.entry.search.now.races ≡ true → IfOk result (PrintsDrawnRaces request.now.parts
-        asked.entry.search.now (changed W.contents out.old out.new) (changed S.contents save.old save.new)) }
+    ensures prints { asked.entry.search.now.races ≡ false
+        → IfOk result (DrawnIn asked.entry.search.now.form request.now.parts asked.entry.search.now
+        (changed W.contents out.old out.new) (changed S.contents save.old save.new)) }
+    ensures races { asked.entry.search.now.races ≡ true
+        → IfOk result (DrawnRacesIn asked.entry.search.now.form request.now.parts asked.entry.search.now
+        (changed W.contents out.old out.new) (changed S.contents save.old save.new)) }
     ensures unwanted { is_some asked.entry.search.now.save ≡ false → Stays save.old save.new }
     ensures trouble { IfErr result IsOfSystem }
 {
     if asked.search.races {
-        return search_drawn_races(rt, alloc, request, asked, follower, out, save);
+        return search_for_races(rt, alloc, request, asked, follower, out, save);
     }
-    search_drawn(rt, alloc, request, asked.search, follower, out, save)
+    search_for_endings(rt, alloc, request, asked.search, follower, out, save)
 }
 
-/// Searches as is asked for: through drawn runs, or through every order of entries. Answers the status.
+/// Goes through every order of entries, and prints what comes of that in the form that is asked for.
+fn search_orders<F: Hears, W: Write, S: Write>(
+    alloc: Global,
+    request: &Request,
+    asked: Asked,
+    most: u32,
+    follower: &mut F,
+    out: &mut W,
+    save: &mut S,
+) -> Result<u8, Trouble>
+    requires asked { IsAskedBy asked.search.now.call request.now }
+    requires every_order { asked.search.now.all ≡ Some most }
+    ensures finds { IfOk result
+        (Finds request.now.parts asked.entry.search.now (changed S.contents save.old save.new)) }
+    ensures prints { IfOk result (AllIn asked.entry.search.now.form request.now.parts asked.entry.search.now most
+        (changed W.contents out.old out.new) (changed S.contents save.old save.new)) }
+    ensures well { IfOk result (IsWellAt request.now.parts asked.entry.search.now) }
+    ensures unwanted { is_some asked.entry.search.now.save ≡ false → Stays save.old save.new }
+    ensures trouble { IfErr result IsOfSystem }
+{
+    match asked.search.form {
+        Form::Lines => search_all_orders(alloc, request, asked, most, follower, out, save),
+        Form::Json => write_all_orders(alloc, request, asked, most, follower, out, save),
+    }
+}
+
+/// Searches as is asked for: through drawn runs, or through every order of entries; and prints lines or an object.
+/// Answers the status.
 pub fn search_module<R: Threads + Sync, F: Hears, W: Write, S: Write>(
     rt: &R,
     alloc: Global,
@@ -213,7 +295,7 @@ pub fn search_module<R: Threads + Sync, F: Hears, W: Write, S: Write>(
     let args = args_of(alloc, module, &search.call)?;
     let request = request_of(module, &search.call, &args);
     match search.all {
-        Some(most) => search_all_orders(alloc, &request, asked, most, follower, out, save),
+        Some(most) => search_orders(alloc, &request, asked, most, follower, out, save),
         None => search_runs(rt, alloc, &request, asked, follower, out, save),
     }
 }

@@ -92,6 +92,15 @@ fn cut_of(table: &Table) -> u64
     cut
 }
 
+/// How many runs of a table were cut, of those that were made.
+pub(crate) fn cut_in_all(table: &Table) -> u64
+    requires { cut_in table.now ≤ table.now.runs }
+    ensures { result ≡ cut_in table.now }
+{
+    show_runs_fit(table);
+    cut_of(table)
+}
+
 /// The line of runs that were cut at the end of their log, where there are some.
 pub(crate) fn write_cut_of<W: Write>(out: &mut W, sought: &Sought, table: &Table) -> io::Result<()>
     requires { cut_in table.now ≤ table.now.runs }
@@ -102,14 +111,14 @@ pub(crate) fn write_cut_of<W: Write>(out: &mut W, sought: &Sought, table: &Table
 }
 
 /// How many endings of a table were met in one run alone.
-fn singles_of(table: &Table) -> usize
+pub(crate) fn singles_of(table: &Table) -> usize
     ensures { result ≡ singles_in table.now }
 {
     table.met.iter().filter(|met| met.times == 1).count()
 }
 
 /// How many endings of a table were met first in the last half of its runs.
-fn late_of(sought: &Sought, table: &Table) -> usize
+pub(crate) fn late_of(sought: &Sought, table: &Table) -> usize
     ensures { result ≡ late_in sought.now table.now }
 {
     let half = table.runs / 2;

@@ -1,4 +1,4 @@
-use Rattle.std.proofs.Common.{◌∙◌, refl, subst}
+use Rattle.std.proofs.Common.{◌∙◌, inl, refl, subst}
 use Rattle.types.specs.declared.parts.Parts.{Parts}
 use Rattle.replay_forms.proofs.Written.{appends_then}
 use Rattle.report_jobs.specs.Prints.{changed}
@@ -15,7 +15,7 @@ returns-clause-kept g c =
     let pair = subst (WritesPair c.module.result.now.parts made.record (changed g.W.Write.contents c.args.out.now c.write_pair.new.out))
     c.if-not-is_told.false c.in-Ok.ensures in
     let says = subst (λ (p : Parts). SaysPair p made.record pair.0) c.module.ensures pair.2 in
-    if_on c.keep.result (λ kept. race_is_kept q s c.requires.asked made c.requires.find.0 pair.0 says _ (λ wanted. kept (c.is_some.ensures ∙ wanted)) c.requires.races)
+    if_on c.keep.result (λ kept. race_is_kept q s c.requires.asked made c.requires.find.0 (inl (pair.0, says)) _ (λ wanted. kept (c.is_some.ensures ∙ wanted)) c.requires.races)
     c.keep.ensures.kept
 
 pub returns-clause-tells : goal.returns-clause-tells

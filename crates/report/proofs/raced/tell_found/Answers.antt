@@ -49,6 +49,6 @@ returns-clause-kept g c =
     let out = change (contents c.args.out.now) (contents c.write_pair.new.out) in
     let pair = subst (WritesPair q.parts c.in-Ok.made.record out) c.if-not-is_told.false
     (subst (λ (m : Parts). WritesPair m c.in-Ok.made.record out c.in-Ok-write_pair.is_told) c.module.ensures c.in-Ok-write_pair.ensures) in
-    if_on c.keep.result (λ kept. race_kept q s c.requires.asked c.in-Ok.made c.in-Ok.ensures.find pair.0 pair.2 save
+    if_on c.keep.result (λ kept. race_kept q s c.requires.asked c.in-Ok.made c.in-Ok.ensures.find (inl (pair.0, pair.2)) save
     (λ wanted. kept (c.keeps_race.ensures ∙ wanted)) (keeps_race s) refl
     (λ none. ap saved (c.keep.ensures.unwanted (c.keeps_race.ensures ∙ none)))) c.keep.ensures.kept

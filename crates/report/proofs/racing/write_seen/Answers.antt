@@ -32,5 +32,5 @@ returns-clause-writes g c =
       each = c.in_ok-races.ensures.each;
       once = c.in_ok-races.ensures.once;
       few = c.in_ok-races.ensures.few;
-      tells = c.in_ok-write_races.ensures;
+      tells = c.in_ok-write_told.ensures;
     }
