@@ -11,7 +11,7 @@ use Rattle.report_command.specs.declared.search.Search.{Search}
 use Rattle.report_jobs.specs.Prints.{WriterChange, Written}
 use Rattle.report_jobs.specs.Jobs.{IsNoValidModule, IsNoRecordOf, IsRecordOf, HasNoSuchCall}
 use Rattle.report_jobs.specs.Plain.{PerformsPlain}
-use Rattle.report.specs.Raced.{OfModule, IsRaceFree, IsRacy, PrintsRaces}
+use Rattle.report_looks.specs.Raced.{OfModule, IsRaceFree, IsRacy, PrintsRaces}
 use Rattle.report.specs.Searched.{HasSearched}
 
 -- What the status of a show says: 0 of a record of a run, 2 of a refused module, 4 of a record of no run. 5 is that

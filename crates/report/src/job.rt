@@ -10,9 +10,11 @@ ghost use Rattle.report.specs.Searched.{HasSearched};
 ghost use Rattle.report.specs.Jobs.{Performs};
 ghost use Rattle.report.specs.Silent.{writes_file};
 
-use crate::{Asked, races_saved, search_module, show_saved};
+use crate::searching::search_module;
 use report_command::{Job, Search};
 use report_jobs::{Streams, complain, load, perform_plain, refuse};
+use report_looks::{races_saved, show_saved};
+use report_searches::Asked;
 use search_finds::Hears;
 use spawn_host::own_function;
 use std::alloc::Global;
