@@ -1,2 +1,3 @@
 mod Silent
 mod RacePairs
+pub mod Zipped
