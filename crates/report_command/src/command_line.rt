@@ -93,7 +93,8 @@ impl Job<'_> {
             Job::Run(job) => job.look.form,
             Job::Replay { look, .. } => look.form,
             Job::Show { view, .. } => view.form(),
-            Job::Races(_) | Job::Search(_) => Form::Lines,
+            Job::Races(job) => job.form,
+            Job::Search(search) => search.form,
         }
     }
 }

@@ -1,0 +1,3 @@
+mod Silent
+mod RacePairs
+pub mod Zipped
