@@ -7,8 +7,8 @@ use Rattle.schedule.specs.System.{State}
 use Rattle.search_graph.specs.declared.graph.Move.{Move}
 use Rattle.search_table.specs.declared.table.Row.{Row}
 use Rattle.search_table.specs.declared.table.Table.{Table}
-use Rattle.search_table.specs.Tables.{IsOrdered, Grows, HasSameParts, IsEmptyTable, with_row}
-use Rattle.search_reach.specs.Search.{IsMet, AllGetStuck}
+use Rattle.search_table.specs.Tables.{IsOrdered, IsChain, Grows, HasSameParts, IsEmptyTable, with_row}
+use Rattle.search_reach.specs.Search.{IsMet, IsEnding, AllGetStuck}
 use Rattle.search_reach.specs.Meeting.{HasMetAt, OfStateAt, HasFirst, GoesOn}
 use Rattle.search_settled.specs.declared.flat.Flat.{Flat}
 use Rattle.search_settled.specs.declared.met.Met.{Met}
@@ -21,7 +21,7 @@ use Rattle.search_settled.specs.Flat.{AreBounded}
 use Rattle.search_settled.specs.Turns.{turn_steps}
 use Rattle.search_settled.specs.Same.{same_length, flat_eq, flat_alike}
 use Rattle.search_settled.specs.Known.{IsOf, AreOf, IsRowOfEqual, AreNextRows, IsSomeRow, OfRow, AreKnown, HasStates, PutsRows}
-use Rattle.search_settled.proofs.Laws.{first-is, somewhere, next-are, gets-stuck}
+use Rattle.search_settled.proofs.Laws.{first-is, somewhere, next-are, gets-stuck, ending-is}
 use Rattle.search_settled.proofs.Rows.{beside-back, zip-length, row-same, states-grow}
 use Rattle.search_settled.proofs.Knowing.{known-grows, known-same}
 use Rattle.search_settled.proofs.Nexting.{with_parts}
@@ -53,6 +53,7 @@ module _ {X T E V A G H M O : Type 0} (k : ThreadSystem X T E V A G H M) (ends :
       → (m new : Met G H) (u : Table G H) → HasStates k m [] → Grows m.table u → IsOrdered u.links.keys → HasSameParts u new.table
       → new.known.items ≡ m.known.items → (row : Row) → new.table.rows.keys ≡ with_row u.rows.keys row
       → (flat : Flat G H) → IsBeginning k flat → IsRowOfEqual eq_shared eq_thread u flat row → HasFirst (turn_steps k ends stuck) (HasStates k new)
+  unfolding with_parts
   first-put eq_shared eq_thread same_shared same_thread m new u has grows ordered parts known row put flat begins w =
       let ok = (flat.threads).ok in
       let small = (flat.threads).small in
@@ -99,6 +100,17 @@ module _ {X T E V A G H M O : Type 0} (k : ThreadSystem X T E V A G H M) (ends :
     pub stuck-at : OfRow k m.table row (IsStuckAfter k stuck)
         → OfStateAt (turn_steps k ends stuck) (HasStates k m) at (λ ks s. AllGetStuck (turn_steps k ends stuck) s)
     stuck-at lost ks s held there met = gets-stuck k ends stuck tame s (of-row (IsStuckAfter k stuck) lost ks s held there met)
+
+    -- how it has ended, of which these are the parts
+    pub ended-at : NobodyTurns k.system ends → (shared : G) (each : List H) → slice_get m.table.shared.keys row.shared ≡ Some shared
+        → ((xs : List H) → IsChain m.table.threads.keys m.table.links.keys row.chain xs → each ≡ xs)
+        → (o : Option O) → ((c : Flat G H) → HasParts shared each c → HasEnded k ends c o)
+        → OfStateAt (turn_steps k ends stuck) (HasStates k m) at (λ ks s. IsEnding (turn_steps k ends stuck) s o)
+    ended-at over shared each there all o ended =
+        of-row (λ c. IsEnding (turn_steps k ends stuck) c o)
+        (λ c of somewhere. (
+            let same : c.shared ≡ shared = cc (of.0, there) in
+            ending-is k ends stuck tame over c o (ended c (same, sym (all c.threads.items of.1)))))
 
     pub none-put : (new : Met G H) → Grows m.table new.table → AreKnown k new
         → OfStateAt (turn_steps k ends stuck) (HasStates k m) at (λ ks s. HasStates k new ks)

@@ -30,7 +30,7 @@ use Rattle.search_settled.proofs.Rows.{grows-then, next-grow}
 use Rattle.search_settled.proofs.Following.{come-from, below-none, below-same, below-more, below-all}
 
 -- the state with other parts
-pub with_parts : {G H : Type 0} (c : Flat G H) → G → (xs : List H) → length xs < 2 ^ 63 → Flat G H
+unfoldable pub with_parts : {G H : Type 0} (c : Flat G H) → G → (xs : List H) → length xs < 2 ^ 63 → Flat G H
 with_parts c g xs few = record {
   shared = g;
   threads = record {
@@ -135,6 +135,7 @@ module _ {X T E V A G H M : Type 0} (k : ThreadSystem X T E V A G H M) where
         → ((x : H) (xs : List H) → slice_get u.threads.keys r ≡ Some x → IsChain u.threads.keys u.links.keys row.chain xs
         → IsChain v.threads.keys v.links.keys chain (slice_set xs n x))
         → AreNextBelow k v c (n + 1) (rs ++ record { thread = n; row = record { shared = s; chain = chain } } ∷ [])
+    unfolding with_parts
     more-alone s r turn chain made =
         let a = turn c.shared at.thread_is (at.of).0 at.thread_at in
         let alone = a.4 in
@@ -162,6 +163,7 @@ module _ {X T E V A G H M : Type 0} (k : ThreadSystem X T E V A G H M) where
         (same_thread : (x y : H) → eq_thread x y ≡ true → (w : T) → k.is_thread x w → k.is_thread y w) where
       pub more-heard : (after : G) (made : M) (r : Row) → IsEventAt k c.shared at.thread_is n (Some (after, made))
           → IsRowAfter k eq_shared eq_thread v after made n c.threads.items r → AreNextBelow k v c (n + 1) (rs ++ record { thread = n; row = r } ∷ [])
+      unfolding with_parts
       more-heard after made r event is =
           let f = is.state in
           let w = is.row in

@@ -101,13 +101,11 @@ module _ {G H : Type 0} where
 
   -- tables with the same parts
   pub row-same : (t u : Table G H) → HasSameParts t u → (r : Row) (g : G) (xs : List H) → IsRow t r g xs → IsRow u r g xs
-  row-same t u same r g xs is =
-      row-grows t u (record {
-        shared = λ i x at. ap (λ l. slice_get l i) same.shared ∙ at;
-        threads = λ i x at. ap (λ l. slice_get l i) same.threads ∙ at;
-        links = λ i x at. ap (λ l. slice_get l i) same.links ∙ at;
-        rows = refl;
-      }) r g xs is
+  row-same t u same r g xs is = (
+    ap (λ l. slice_get l r.shared) same.shared ∙ is.0,
+    chain-grows t.threads.keys u.threads.keys t.links.keys u.links.keys (λ i x at. ap (λ l. slice_get l i) same.threads ∙ at)
+        (λ i x at. ap (λ l. slice_get l i) same.links ∙ at) r.chain xs is.1,
+  )
 
 module _ {G H : Type 0} (eq_shared : G → G → Bool) (eq_thread : H → H → Bool) where
   pointwise-refl : ((x : H) → eq_thread x x ≡ true) → (xs : List H) → pointwise eq_thread xs xs ≡ true

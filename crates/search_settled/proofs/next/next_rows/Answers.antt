@@ -1,13 +1,14 @@
-use Rattle.std.proofs.Common.{sym, ◌∙◌, ◌+◌}
+use Rattle.std.proofs.Common.{sym, subst, ◌∙◌, ◌+◌}
 use Rattle.search_settled.proofs.Rows.{grows-self, grows-then, row-grows}
-use Rattle.search_settled.proofs.Nexting.{walks-first, walks-at, walks-more, walks-done}
+use Rattle.search_settled.proofs.Nexting.{Walks, walks-first, walks-at, walks-more, walks-done}
 use Rattle.search_settled.proofs.next.next_rows.Goals as goal
 
 pub loop-link-init : goal.loop-link-init
 loop-link-init g c = record {
   known = c.requires.known;
   grows = grows-self c.args.met.now.table;
-  walks = λ flat of at. walks-first (g.M.Moves.threads c.args.system.now) c.args.met.now.table c.args.row flat of;
+  walks = λ flat of at. subst (Walks (g.M.Moves.threads c.args.system.now) c.args.met.now.table flat 0 c.args.row.chain) (sym c.new-all.ensures.items)
+      (walks-first (g.M.Moves.threads c.args.system.now) c.args.met.now.table c.args.row flat of);
 }
 
 pub put_next-requires-clause-at : goal.put_next-requires-clause-at

@@ -14,7 +14,7 @@ pub loop-one-preserved : goal.loop-one-preserved
 loop-one-preserved g c =
     let t = c.args.table.now in
     let u = c.loop-one.table in
-    let v = c.put_row-place.new.self in
+    let v = c.put_row.new.self in
     let so = c.loop-one.invariant in
     let put = c.in_ok-place.ensures in
     record {

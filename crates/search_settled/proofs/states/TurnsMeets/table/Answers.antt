@@ -4,4 +4,4 @@ use Rattle.search_settled.proofs.states.TurnsMeets.table.Goals as goal
 pub returns : goal.returns
 returns g c =
     let m = c.args.self.now.system.now in
-    nothing-yet (g.M.Moves.threads m) (g.M.Moves.ends m) (g.M.Moves.stuck m) (record { table = c.new-table.result; known = c.new-known.result }) c.new-table.ensures c.new-known.ensures.items
+    nothing-yet (g.M.Moves.threads m) (g.M.Moves.ends m) (g.M.Moves.stuck m) (record { table = c.new.result; known = c.new-2.result }) c.new.ensures c.new-2.ensures.items
