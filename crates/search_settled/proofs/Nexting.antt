@@ -26,7 +26,8 @@ use Rattle.search_settled.specs.Next.{IsAt, IsSomewhere, IsNextBy, IsNextOf, IsS
 use Rattle.search_settled.specs.Flat.{AreBounded, IsThreadOf, IsEventAt, AllComeAfter, HasNextBelow}
 use Rattle.search_settled.specs.Same.{same_length, flat_eq, flat_alike}
 use Rattle.search_settled.specs.Known.{IsOf, IsNextRow, IsRowOfEqual, IsTurn, IsMade, OfNumbers, AreOfThread, IsThreadAt, AreNextBelow, AreNextRows, IsRowAfter, IsLostBy}
-use Rattle.search_settled.proofs.Rows.{grows-then, next-grow}
+use Rattle.search_settled.proofs.Rows.{grows-then, next-grow, row-grows}
+use Rattle.search_settled.proofs.Knowing.{of-numbers}
 use Rattle.search_settled.proofs.Following.{come-from, below-none, below-same, below-more, below-all}
 
 -- the state with other parts
@@ -109,10 +110,27 @@ module _ {X T E V A G H M : Type 0} (k : ThreadSystem X T E V A G H M) where
       new : Next (Flat G H)
       new = record { thread = n; state = y }
 
-  -- what the turn is told to be
-  pub told-of : (t u : Table G H) (shared thread n : ℕ) (m : Made G M) (turn : Turn) → m ≡ Told turn
-      → OfNumbers k t shared thread (λ g h. IsMade k u g h n m) → OfNumbers k t shared thread (λ g h. IsTurn k u g h n turn)
-  told-of t u shared thread n m turn is so g h a b = subst (λ (x : Made G M). IsMade k u g h n x) is (so g h a b)
+  -- as the table grows
+  pub at-grows : (t u : Table G H) → Grows t u → (r : Row) (thread n : ℕ) (c : Flat G H) → IsThreadAt k t r thread n c → IsThreadAt k u r thread n c
+  at-grows t u grows r thread n c a = record {
+    of = row-grows t u grows r c.shared c.threads.items a.of;
+    somewhere = a.somewhere;
+    thread_is = a.thread_is;
+    thread_at = grows.threads thread a.thread_is a.thread_at;
+    among = a.among;
+  }
+
+  pub below-grows : (t u : Table G H) → Grows t u → (c : Flat G H) (n : ℕ) (rs : List NextRow) → AreNextBelow k t c n rs → AreNextBelow k u c n rs
+  below-grows t u grows c n rs so = record { next = so.next; below = so.below; are = next-grow t u grows rs so.next so.are }
+
+  -- the turn that it is told to be
+  pub told-of : (t u : Table G H) → Grows t u → (row : Row) (thread n : ℕ) (c : Flat G H) → IsThreadAt k t row thread n c → (m : Made G M) (turn : Turn)
+      → m ≡ Told turn → OfNumbers k t row.shared thread (λ g h. IsMade k u g h n m) → OfNumbers k u row.shared thread (λ g h. IsTurn k u g h n turn)
+  unfolding at-grows
+  told-of t u grows row thread n c a m turn is so =
+      let b = at-grows t u grows row thread n c a in
+      of-numbers k u row.shared thread (λ g h. IsTurn k u g h n turn) c.shared a.thread_is (b.of).0 b.thread_at
+      (subst (λ (x : Made G M). IsMade k u c.shared a.thread_is n x) is (so c.shared a.thread_is (a.of).0 a.thread_at))
 
   pub heard-of : (t u : Table G H) (shared thread n : ℕ) (m : Made G M) (after : G) (made : M) → m ≡ Heard after made
       → OfNumbers k t shared thread (λ g h. IsMade k u g h n m) → OfNumbers k t shared thread (λ g h. IsEventAt k g h n (Some (after, made)))

@@ -8,6 +8,8 @@ ghost use Rattle.search_settled.specs.Known.{
   IsRowOfEqual,
   IsRowAfter,
   IsThreadAt,
+  IsTurn,
+  OfNumbers,
   AreNextBelow,
   IsSomeRow,
   OfRow,
@@ -22,7 +24,7 @@ ghost use Rattle.search_settled.specs.Flat.{
   IsStuckByMove,
 };
 
-use crate::met::{Met, NextRow, Turn};
+use crate::met::{Met, NextRow, Turn, recall};
 use crate::turns::{Made, made_by};
 use crate::{Flat, Moves};
 use search_table::{Row, Table};
@@ -164,6 +166,78 @@ fn put(all: &mut Vec<NextRow>, n: usize, row: Row) -> Result<(), AllocError>
     Ok(())
 }
 
+/// Puts the row of the next state by this turn of thread n, if it makes one, behind those of the threads before it.
+fn put_turn<M: Moves>(
+    system: &M,
+    table: &mut Table<M::Shared, M::Thread>,
+    row: Row,
+    thread: u32,
+    n: usize,
+    turn: Turn,
+    all: &mut Vec<NextRow>,
+) -> Result<(), AllocError>
+    requires ordered { IsOrdered table.old.links.keys }
+    requires at { (c : FlatState M.Shared M.Thread) × IsThreadAt (M.threads system.now) table.old row thread n c }
+    requires turn { OfNumbers (M.threads system.now) table.old row.shared thread
+        (λ g h. IsTurn (M.threads system.now) table.old g h n turn) }
+    ensures grows { OnOk result (Grows table.old table.new) }
+    ensures ordered { OnOk result (IsOrdered table.new.links.keys) }
+    ensures next { OnOk result ((c : FlatState M.Shared M.Thread)
+        → IsThreadAt (M.threads system.now) table.old row thread n c
+        → AreNextBelow (M.threads system.now) table.old c n all.old.items
+        → AreNextBelow (M.threads system.now) table.new c (n + 1) all.new.items) }
+{
+    match turn {
+        Turn::Still => Ok(()),
+        Turn::Alone { shared, thread } => {
+            let chain = table.with_thread(row.chain, n, thread)?;
+            let row = Row { shared, chain };
+            put(all, n, row)?;
+            Ok(())
+        }
+    }
+}
+
+/// As `put_next`, where the turn of the thread is not known.
+fn put_anew<M: Moves>(
+    alloc: Global,
+    system: &M,
+    met: &mut Met<M::Shared, M::Thread>,
+    row: Row,
+    thread: u32,
+    n: usize,
+    all: &mut Vec<NextRow>,
+) -> Result<bool, AllocError>
+    requires known { AreKnown (M.threads system.now) met.old }
+    requires at { (c : FlatState M.Shared M.Thread) × IsThreadAt (M.threads system.now) met.old.table row thread n c }
+    ensures grows { OnOk result (Grows met.old.table met.new.table) }
+    ensures known { OnOk result (AreKnown (M.threads system.now) met.new) }
+    ensures next { IfOk result (λ told. told ≡ true → (c : FlatState M.Shared M.Thread)
+        → IsThreadAt (M.threads system.now) met.old.table row thread n c
+        → AreNextBelow (M.threads system.now) met.old.table c n all.old.items
+        → AreNextBelow (M.threads system.now) met.new.table c (n + 1) all.new.items) }
+    ensures gives_up { IfOk result (λ told. told ≡ false → (c : FlatState M.Shared M.Thread)
+        → IsThreadAt (M.threads system.now) met.old.table row thread n c
+        → IsStuckAfter (M.threads system.now) (M.stuck system.now) c) }
+{
+    let turn = made_by(alloc, system, met, row.shared, thread, n)?;
+    match turn {
+        Made::Told(turn) => {
+            put_turn(system, &mut met.table, row, thread, n, turn, all)?;
+            Ok(true)
+        }
+        Made::Heard(shared, made) => {
+            let table = &mut met.table;
+            let Some(next) = row_after(alloc, system, table, row.chain, n, shared, &made)? else {
+                return Ok(false);
+            };
+            put(all, n, next)?;
+            Ok(true)
+        }
+        Made::Unknown => Ok(false),
+    }
+}
+
 /// Puts the row of the next state by the event of thread n, if it wants one, behind those of the threads before it. It
 /// answers no where it cannot tell that state.
 fn put_next<M: Moves>(
@@ -187,25 +261,12 @@ fn put_next<M: Moves>(
         → IsThreadAt (M.threads system.now) met.old.table row thread n c
         → IsStuckAfter (M.threads system.now) (M.stuck system.now) c) }
 {
-    let turn = made_by(alloc, system, met, row.shared, thread, n)?;
-    match turn {
-        Made::Told(Turn::Still) => Ok(true),
-        Made::Told(Turn::Alone { shared, thread }) => {
-            let chain = met.table.with_thread(row.chain, n, thread)?;
-            let row = Row { shared, chain };
-            put(all, n, row)?;
-            Ok(true)
-        }
-        Made::Heard(shared, made) => {
-            let table = &mut met.table;
-            let Some(next) = row_after(alloc, system, table, row.chain, n, shared, &made)? else {
-                return Ok(false);
-            };
-            put(all, n, next)?;
-            Ok(true)
-        }
-        Made::Unknown => Ok(false),
+    let known = met.known.as_slice();
+    if let Some(turn) = recall(known, row.shared, thread, n as u32) {
+        put_turn(system, &mut met.table, row, thread, n, turn, all)?;
+        return Ok(true);
     }
+    put_anew(alloc, system, met, row, thread, n, all)
 }
 
 /// The rows of the next states of the one of this row, each with the thread whose event leads there.

@@ -7,7 +7,7 @@ ghost use Rattle.search_settled.specs.Alone.{IsUnheard};
 ghost use Rattle.search_settled.specs.Flat.{ComesAfter};
 
 use crate::Moves;
-use crate::met::{Known, Met, Turn, note, recall};
+use crate::met::{Known, Met, Turn, note};
 use std::alloc::{AllocError, Global};
 
 /// What comes of the event that a thread wants.
@@ -55,7 +55,7 @@ fn is_quiet<M: Moves>(
     true
 }
 
-/// What comes of the event that thread n wants, which was not known.
+/// What comes of the event that thread n wants, which was not known, before it is noted.
 fn made_anew<M: Moves>(
     alloc: Global,
     system: &M,
@@ -95,7 +95,7 @@ fn made_anew<M: Moves>(
     Ok(Made::Told(Turn::Alone { shared, thread }))
 }
 
-/// What comes of the event that thread n wants, which is noted if nobody else hears of it.
+/// What comes of the event that thread n wants, which was not known, and is noted if nobody else hears of it.
 pub(crate) fn made_by<M: Moves>(
     alloc: Global,
     system: &M,
@@ -114,9 +114,6 @@ pub(crate) fn made_by<M: Moves>(
     ensures gives_up { IfOk result (λ r. r ≡ Unknown → OfNumbers (M.threads system.now) met.old.table shared thread
         (IsLostBy (M.threads system.now) (M.stuck system.now) n)) }
 {
-    if let Some(turn) = recall(met.known.as_slice(), shared, thread, n as u32) {
-        return Ok(Made::Told(turn));
-    }
     let made = made_anew(alloc, system, met, shared, thread, n)?;
     if let Made::Told(turn) = made {
         let states = met.table.rows.len();

@@ -1,5 +1,5 @@
 use Rattle.std.proofs.Common.{sym, subst, refl, ◌∙◌}
-use Rattle.search_settled.specs.Flat.{MovesSomewhere, AllComeAfter, IsStuckByMove}
+use Rattle.search_settled.specs.Flat.{MovesSomewhere, IsStuckByMove}
 use Rattle.search_settled.proofs.Threads.{if-some-at, all-come}
 use Rattle.search_settled.proofs.next.row_after.Goals as goal
 

@@ -1,4 +1,3 @@
-use Rattle.search_settled.proofs.Rows.{grows-then}
 use Rattle.search_settled.proofs.next.row_of.Goals as goal
 
 pub returns-clause-row : goal.returns-clause-row

@@ -1,4 +1,3 @@
-use Rattle.std.proofs.Common.{arith}
 use Rattle.search_settled.proofs.Knowing.{unheard-none, unheard-more}
 use Rattle.search_settled.proofs.turns.is_quiet.Goals as goal
 
