@@ -1,11 +1,11 @@
 -- What is known of turns, as a table grows, and the turn of a thread of which nobody else hears.
-use Rattle.std.specs.Prelude.{ℕ, zero, suc, ◌≡◌, ◌≢◌, ◌+◌, ◌^◌, ◌<◌, ◌≤◌, ◌⊎◌, Bool, true, List, [], ◌∷◌, length, Option, Some, None, replicate, slice_set, refl}
+use Rattle.std.specs.Prelude.{ℕ, zero, suc, ◌≡◌, ◌≢◌, ◌+◌, ◌≤◌, ◌⊎◌, Bool, true, List, [], ◌∷◌, Option, Some, None, replicate, slice_set, refl}
 use Rattle.std.proofs.Common.{ap, subst, sym, ◌∙◌, inl, inr, arith}
-use Rattle.std.specs.List.{slice_get, AllZip}
+use Rattle.std.specs.List.{slice_get}
 use Rattle.std.proofs.lemmas.Bool.{cases_lt}
 use Rattle.std.proofs.lemmas.List.{length-set}
 use Rattle.std.proofs.lemmas.Option.{none-some, slice_get_within}
-use Rattle.schedule.specs.System.{Want.Calls, State}
+use Rattle.schedule.specs.System.{State}
 use Rattle.search_table.specs.declared.table.Table.{Table}
 use Rattle.search_table.specs.Tables.{Keeps, IsOrdered, Grows, HasSameParts}
 use Rattle.search_settled.specs.declared.flat.Flat.{Flat}
@@ -14,10 +14,9 @@ use Rattle.search_settled.specs.declared.met.Met.{Met}
 use Rattle.search_settled.specs.declared.met.Turn.{Turn}
 use Rattle.search_settled.specs.declared.met.Turn.TheVariants.{Still, Alone}
 use Rattle.search_settled.specs.Threads.{ThreadSystem}
-use Rattle.search_settled.specs.Next.{IsAt}
-use Rattle.search_settled.specs.Flat.{AreBounded, IsThreadOf, IsEventOf, IsEventAt, RestsAfter, ComesAfter, IsMove, IsBeforeSome, IsStuckBy}
+use Rattle.search_settled.specs.Flat.{AreBounded, IsThreadOf, IsEventOf, IsEventAt, RestsAfter, ComesAfter, IsBeforeSome, IsStuckBy}
 use Rattle.search_settled.specs.Alone.{IsUnheard}
-use Rattle.search_settled.specs.Known.{IsNotedIn, AreFrom, AllComeFrom, GoesAlone, IsTurn, IsRight, AreOfThread, OfNumbers, IsLostBy, AreKnown, HasStates, AreOf}
+use Rattle.search_settled.specs.Known.{IsNotedIn, AreFrom, GoesAlone, IsTurn, IsRight, AreOfThread, OfNumbers, IsLostBy, AreKnown, HasStates}
 use Rattle.search_settled.proofs.Rows.{states-grow}
 
 -- what stands in a list in which one was replaced

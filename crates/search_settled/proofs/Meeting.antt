@@ -1,5 +1,5 @@
 -- A table of settled states is what a search asks for.
-use Rattle.std.proofs.Common.{◌≡◌, ℕ, ◌^◌, ◌<◌, ◌&&◌, Bool, true, List, [], ◌∷◌, length, Option, Some, None, refl, sym, ◌∙◌, ap, subst, arith}
+use Rattle.std.proofs.Common.{◌≡◌, ℕ, ◌&&◌, Bool, true, List, [], ◌∷◌, length, Option, Some, None, refl, sym, ◌∙◌, ap, subst, arith}
 use Rattle.std.specs.List.{slice_get, AllZip}
 use Rattle.std.specs.Cmp.Lexicographic.{pointwise}
 use Rattle.std.proofs.lemmas.Option.{none-some}
@@ -8,19 +8,19 @@ use Rattle.search_graph.specs.declared.graph.Move.{Move}
 use Rattle.search_table.specs.declared.table.Row.{Row}
 use Rattle.search_table.specs.declared.table.Table.{Table}
 use Rattle.search_table.specs.Tables.{IsOrdered, IsChain, Grows, HasSameParts, IsEmptyTable, with_row}
-use Rattle.search_reach.specs.Search.{IsMet, IsEnding, AllGetStuck}
+use Rattle.search_reach.specs.Search.{IsEnding, AllGetStuck}
 use Rattle.search_reach.specs.Meeting.{HasMetAt, OfStateAt, HasFirst, GoesOn}
 use Rattle.search_settled.specs.declared.flat.Flat.{Flat}
 use Rattle.search_settled.specs.declared.met.Met.{Met}
 use Rattle.search_settled.specs.declared.met.NextRow.{NextRow}
 use Rattle.search_settled.specs.Settled.{AreTame}
-use Rattle.search_settled.specs.Threads.{ThreadSystem, IsFlat}
+use Rattle.search_settled.specs.Threads.{ThreadSystem}
 use Rattle.search_settled.specs.Parts.{HasParts}
-use Rattle.search_settled.specs.Next.{IsBeginning, IsSomewhere, IsStuckAfter, HasEnded, NobodyTurns}
+use Rattle.search_settled.specs.Next.{IsBeginning, IsStuckAfter, HasEnded, NobodyTurns}
 use Rattle.search_settled.specs.Flat.{AreBounded}
 use Rattle.search_settled.specs.Turns.{turn_steps}
 use Rattle.search_settled.specs.Same.{same_length, flat_eq, flat_alike}
-use Rattle.search_settled.specs.Known.{IsOf, AreOf, IsRowOfEqual, AreNextRows, IsSomeRow, OfRow, AreKnown, HasStates, PutsRows}
+use Rattle.search_settled.specs.Known.{IsOf, IsRowOfEqual, AreNextRows, IsSomeRow, OfRow, AreKnown, HasStates, PutsRows}
 use Rattle.search_settled.proofs.Laws.{first-is, somewhere, next-are, gets-stuck, ending-is}
 use Rattle.search_settled.proofs.Rows.{beside-back, zip-length, row-same, states-grow}
 use Rattle.search_settled.proofs.Knowing.{known-grows, known-same}
@@ -109,8 +109,8 @@ module _ {X T E V A G H M O : Type 0} (k : ThreadSystem X T E V A G H M) (ends :
     ended-at over shared each there all o ended =
         of-row (λ c. IsEnding (turn_steps k ends stuck) c o)
         (λ c of somewhere. (
-            let same : c.shared ≡ shared = cc (of.0, there) in
-            ending-is k ends stuck tame over c o (ended c (same, sym (all c.threads.items of.1)))))
+        let same : c.shared ≡ shared = cc (of.0, there) in
+        ending-is k ends stuck tame over c o (ended c (same, sym (all c.threads.items of.1)))))
 
     pub none-put : (new : Met G H) → Grows m.table new.table → AreKnown k new
         → OfStateAt (turn_steps k ends stuck) (HasStates k m) at (λ ks s. HasStates k new ks)

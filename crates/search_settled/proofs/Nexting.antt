@@ -1,7 +1,7 @@
 -- The rows of the next states, of one thread after the other.
-use Rattle.std.proofs.Common.{◌≡◌, ◌⊎◌, inl, inr, ℕ, zero, suc, ◌+◌, ◌^◌, ◌<◌, ◌≤◌, ◌&&◌, Bool, true, List, [], ◌∷◌, ◌++◌, length, Option, Some, None, refl, sym, ◌∙◌, ap, subst, arith, Contains, length-append, append_assoc}
+use Rattle.std.proofs.Common.{◌≡◌, inl, inr, ℕ, zero, suc, ◌+◌, ◌^◌, ◌<◌, ◌&&◌, Bool, true, List, [], ◌∷◌, ◌++◌, length, Some, None, refl, sym, ◌∙◌, ap, subst, arith, length-append, append_assoc}
 use Rattle.std.specs.Prelude.{slice_set}
-use Rattle.std.specs.List.{slice_get, AllZip}
+use Rattle.std.specs.List.{slice_get}
 use Rattle.std.specs.Cmp.Lexicographic.{pointwise}
 use Rattle.std.proofs.lemmas.List.{length-set, append-nil}
 use Rattle.std.proofs.lemmas.List.Elements.{Contains-push, Contains-push_cases, Contains-append_left}
@@ -22,10 +22,10 @@ use Rattle.search_settled.specs.declared.turns.Made.{Made}
 use Rattle.search_settled.specs.declared.turns.Made.TheVariants.{Told, Heard}
 use Rattle.search_settled.specs.Settled.{AreTame}
 use Rattle.search_settled.specs.Threads.{ThreadSystem, IsFlat}
-use Rattle.search_settled.specs.Next.{IsAt, IsSomewhere, IsNextBy, IsNextOf, IsStuckAfter, HasNext}
-use Rattle.search_settled.specs.Flat.{AreBounded, IsThreadOf, IsEventAt, AllComeAfter, HasNextBelow}
+use Rattle.search_settled.specs.Next.{IsAt, IsSomewhere, IsNextBy, IsNextOf, IsStuckAfter}
+use Rattle.search_settled.specs.Flat.{AreBounded, IsThreadOf, IsEventAt, HasNextBelow}
 use Rattle.search_settled.specs.Same.{same_length, flat_eq, flat_alike}
-use Rattle.search_settled.specs.Known.{IsOf, IsNextRow, IsRowOfEqual, IsTurn, IsMade, OfNumbers, AreOfThread, IsThreadAt, AreNextBelow, AreNextRows, IsRowAfter, IsLostBy}
+use Rattle.search_settled.specs.Known.{IsOf, IsNextRow, IsTurn, IsMade, OfNumbers, AreOfThread, IsThreadAt, AreNextBelow, AreNextRows, IsRowAfter, IsLostBy}
 use Rattle.search_settled.proofs.Rows.{grows-then, next-grow, row-grows}
 use Rattle.search_settled.proofs.Knowing.{of-numbers}
 use Rattle.search_settled.proofs.Following.{come-from, below-none, below-same, below-more, below-all}

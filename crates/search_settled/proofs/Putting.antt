@@ -1,13 +1,11 @@
 -- Rows of next states are put into a table, and the moves to them noted.
-use Rattle.std.specs.Prelude.{ℕ, ◌≡◌, ◌+◌, ◌^◌, ◌<◌, ◌≤◌, ◌⊎◌, ◌||◌, Bool, true, false, List, [], ◌∷◌, ◌++◌, length, Some, Contains, refl, if◌then◌else◌}
+use Rattle.std.specs.Prelude.{ℕ, ◌≡◌, ◌^◌, ◌<◌, ◌≤◌, Bool, true, false, List, [], ◌∷◌, ◌++◌, length, Some, refl, if◌then◌else◌}
 use Rattle.std.proofs.Common.{ap, subst, sym, ◌∙◌, inl, inr, arith, append_assoc, length-append}
 use Rattle.std.specs.List.{slice_get, AllZip, list_any}
-use Rattle.std.proofs.lemmas.List.{append-nil}
 use Rattle.std.proofs.lemmas.List.Elements.{Contains-push, Contains-push_cases, Contains-append_left}
 use Rattle.std.proofs.lemmas.Option.{slice_get_within}
 use Rattle.std.proofs.lemmas.Slice.Zip.{all_zipped_more}
 use Rattle.search_graph.specs.declared.graph.Move.{Move}
-use Rattle.search_table.specs.declared.table.Row.{Row}
 use Rattle.search_table.specs.declared.table.Table.{Table}
 use Rattle.search_table.specs.contracts.table.RowPartialEq.TheImpl as rows
 use Rattle.search_table.specs.Tables.{HasSameParts, with_row}
@@ -18,7 +16,7 @@ use Rattle.search_settled.specs.declared.flat.Flat.{Flat}
 use Rattle.search_settled.specs.declared.met.NextRow.{NextRow}
 use Rattle.search_settled.specs.Same.{flat_eq}
 use Rattle.search_settled.specs.Known.{IsOf, AreOf, IsNextRow, PutsRows}
-use Rattle.search_settled.proofs.Rows.{all-zip-weaker, beside, parted, zip-length, row-same, row-alike}
+use Rattle.search_settled.proofs.Rows.{all-zip-weaker, beside, parted, row-same, row-alike}
 
 module _ {S : Type 0} where
   gains-old : (ks ls : List S) (xs : List (Next S)) (x : Next S) → Gains ks xs ls → Gains ks (xs ++ x ∷ []) ls

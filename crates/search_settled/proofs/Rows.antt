@@ -1,26 +1,21 @@
 -- The rows of states, as a table grows.
-use Rattle.std.specs.Prelude.{ℕ, zero, suc, ◌≡◌, ◌+◌, ◌^◌, ◌<◌, ◌≤◌, ◌⊎◌, ◌&&◌, Bool, true, false, List, [], ◌∷◌, ◌++◌, length, Option, Some, None, refl, if◌then◌else◌}
-use Rattle.std.proofs.Common.{ap, subst, sym, ◌∙◌, inl, inr, arith, true≢false, length-append, append_assoc}
-use Rattle.std.specs.List.{slice_get, AllZip, AllByRecursion, IsDistinct, list_any}
-use Rattle.std.specs.Cmp.{first_so, second_so, IsEquivalence}
+use Rattle.std.specs.Prelude.{ℕ, zero, suc, ◌≡◌, ◌&&◌, Bool, true, false, List, [], ◌∷◌, ◌++◌, length, Some, refl}
+use Rattle.std.proofs.Common.{ap, subst, sym, ◌∙◌, true≢false}
+use Rattle.std.specs.List.{slice_get, AllZip, AllByRecursion, IsDistinct}
+use Rattle.std.specs.Cmp.{first_so, second_so}
 use Rattle.std.specs.Cmp.Lexicographic.{pointwise}
 use Rattle.std.proofs.lemmas.Option.{none-some}
-use Rattle.std.proofs.lemmas.Slice.Zip.{all_zipped_more}
-use Rattle.indexmap.specs.IndexSet.{insert_key}
-use Rattle.search_graph.specs.declared.graph.Move.{Move}
 use Rattle.search_table.specs.declared.table.Row.{Row}
 use Rattle.search_table.specs.declared.table.Table.{Table}
 use Rattle.search_table.specs.contracts.table.RowPartialEq.TheImpl as rows
-use Rattle.search_table.specs.Tables.{IsRow, Grows, HasSameParts, AreDistinct, with_row}
+use Rattle.search_table.specs.Tables.{IsRow, Grows, HasSameParts, AreDistinct}
 use Rattle.search_table.proofs.Chains.{chain-grows, keeps-self}
 use Rattle.search_table.proofs.Distinct.{same-place, chain-same, chain-equal, row-equal}
 use Rattle.search_reach.specs.declared.explores.Next.{Next}
-use Rattle.search_reach.specs.Explored.{Gains, Notes, HasAt}
-use Rattle.search_reach.proofs.Searching.{gains-none, notes-none}
 use Rattle.search_settled.specs.declared.flat.Flat.{Flat}
 use Rattle.search_settled.specs.declared.met.NextRow.{NextRow}
 use Rattle.search_settled.specs.Same.{flat_eq}
-use Rattle.search_settled.specs.Known.{IsOf, AreOf, IsNextRow, PutsRows}
+use Rattle.search_settled.specs.Known.{IsOf, AreOf, IsNextRow}
 
 -- lists beside each other
 

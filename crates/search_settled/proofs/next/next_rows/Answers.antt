@@ -1,4 +1,4 @@
-use Rattle.std.proofs.Common.{sym, subst, ◌∙◌, ◌+◌}
+use Rattle.std.proofs.Common.{sym, subst, ◌∙◌}
 use Rattle.search_settled.proofs.Rows.{grows-self, grows-then, row-grows}
 use Rattle.search_settled.proofs.Nexting.{Walks, walks-first, walks-at, walks-more, walks-done}
 use Rattle.search_settled.proofs.next.next_rows.Goals as goal

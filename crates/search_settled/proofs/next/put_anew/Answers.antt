@@ -3,7 +3,6 @@ use Rattle.search_settled.specs.Known.{AreNextBelow}
 use Rattle.search_table.proofs.Chains.{chain-grows}
 use Rattle.search_settled.proofs.Following.{asked, stuck-by}
 use Rattle.search_settled.proofs.Threads.{if-some-at}
-use Rattle.search_settled.proofs.Rows.{grows-then}
 use Rattle.search_settled.proofs.Knowing.{known-grows}
 use Rattle.search_settled.proofs.Nexting.{of-thread, low-at, at-grows, below-grows, told-of, heard-of, more-heard, stuck-lost}
 use Rattle.search_settled.proofs.next.put_anew.Goals as goal
@@ -108,4 +107,3 @@ pub returns-in_ok-put-in-Heard-clause-known : goal.returns-in_ok-put-in-Heard-cl
 returns-in_ok-put-in-Heard-clause-known g c =
     known-grows (g.M.Moves.threads c.args.system.now) c.made_by.new.met (record { table = c.row_after.new.table; known = c.made_by.new.met.known })
     c.in_ok-turn.ensures.known c.in_ok-next-in-Heard.ensures.grows c.in_ok-next-in-Heard.ensures.ordered refl
-

@@ -1,7 +1,6 @@
-use Rattle.std.proofs.Common.{◌+◌, arith, refl, sym, subst}
+use Rattle.std.proofs.Common.{◌+◌, arith, sym, subst}
 use Rattle.std.proofs.lemmas.Option.{slice_get_within}
 use Rattle.search_settled.specs.declared.met.Turn.{Turn}
-use Rattle.search_settled.specs.declared.met.Turn.TheVariants.{Still, Alone}
 use Rattle.search_settled.specs.Known.{OfNumbers, IsTurn, AreNextBelow}
 use Rattle.search_settled.proofs.Rows.{grows-self}
 use Rattle.search_settled.proofs.Nexting.{low-at, more-still, more-alone}

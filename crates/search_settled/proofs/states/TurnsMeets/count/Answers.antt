@@ -10,6 +10,6 @@ returns-clause-len g c ks held =
 
 pub returns-clause-distinct : goal.returns-clause-distinct
 returns-clause-distinct g c ks held =
-    states-distinct g.M.Shared.PartialEq.eq g.M.Thread.PartialEq.eq 
+    states-distinct g.M.Shared.PartialEq.eq g.M.Thread.PartialEq.eq
     (λ x y e. sym (g.met.M.Shared.Eq.laws.symm x y) ∙ e) (λ x y e. sym (g.met.M.Thread.Eq.laws.symm x y) ∙ e)
     c.args.met.now.table c.len.ensures.distinct ks held.are
