@@ -70,7 +70,8 @@ impl<M: Accesses> Explores for RaceFreeTurns<'_, M> {
         state: &Owning<Flat<M::Shared, M::Thread>>,
     ) -> Result<Option<M::Ending>, AllocError> {
         let flat = &state.flat;
-        self.system.ending(alloc, &flat.shared, flat.threads.as_slice())
+        self.system
+            .ending(alloc, &flat.shared, flat.threads.as_slice())
     }
 }
 

@@ -6,8 +6,7 @@ use Rattle.search_race_free.proofs.states.RaceFreeTurnsExplores.ending.Goals as 
 pub ending-requires : goal.ending-requires
 ending-requires g c =
     let m = c.args.self.now.system.now in
-    let state = c.args.state.now in
-    (
+    let state = c.args.state.now in (
       state.flat,
       (refl, sym c.as_slice.ensures.value),
       ended-somewhere (g.M.Moves.threads m) (g.met.M.Moves.tame m) (g.met.M.Accesses.plain m) (g.M.Moves.ends m) (g.M.Moves.stuck m)
