@@ -3,6 +3,7 @@ use Rattle.std.specs.Prelude.{ℕ, ◌≡◌, List, Option, Result, Ok, Err, IfO
 use Rattle.std.proofs.Common.{refl, sym, subst}
 use Rattle.search_endings.specs.Endings.{Ending}
 use Rattle.search_runs.specs.Ends.{HasEndedSo}
+use Rattle.search_settled.specs.Parts.{HasParts}
 use Rattle.search_settled.specs.Next.{HasEnded, IsSomewhere}
 use Rattle.search_settled.specs.Flat.{IsEventAt}
 use Rattle.search_settled.specs.declared.flat.Flat.{Flat}
@@ -42,11 +43,14 @@ module _ (s : Searched) where
   abbrev EndTold : Flat Common HashedThread → Option Ending → Type 0
   EndTold flat o = HasEnded (threads s) (HasEndedSo s.dump) flat o
 
-  pub end_told : {E : Type 0} (opening : List ℕ) → opening ≡ s.opening.items → (flat : Flat Common HashedThread) (r : Result (Option Ending) E)
-      → IfOk r (HasEndedIn opening s.dump flat) → IfOk r (EndTold flat)
-  end_told opening same flat r h =
-      if_ok_so r (HasEndedIn s.opening.items s.dump flat) (EndTold flat) (λ o by. by s.valid.now (called s))
-      (subst (λ l. IfOk r (HasEndedIn l s.dump flat)) same h)
+  pub end_told : {E : Type 0} (opening : List ℕ) → opening ≡ s.opening.items → (shared : Common) (ts : List HashedThread) (r : Result (Option Ending) E)
+      → IfOk r (λ o. (flat : Flat Common HashedThread) → HasParts shared ts flat → HasEndedIn opening s.dump flat o)
+      → IfOk r (λ o. (flat : Flat Common HashedThread) → HasParts shared ts flat → EndTold flat o)
+  end_told opening same shared ts r h =
+      if_ok_so r (λ o. (flat : Flat Common HashedThread) → HasParts shared ts flat → HasEndedIn s.opening.items s.dump flat o)
+      (λ o. (flat : Flat Common HashedThread) → HasParts shared ts flat → EndTold flat o)
+      (λ o by flat parts. by flat parts s.valid.now (called s))
+      (subst (λ l. IfOk r (λ o. (flat : Flat Common HashedThread) → HasParts shared ts flat → HasEndedIn l s.dump flat o)) same h)
 
   pub end_asked : (opening : List ℕ) → opening ≡ s.opening.items → (flat : Flat Common HashedThread) → IsSomewhere (threads s) flat
       → IsSettled opening flat

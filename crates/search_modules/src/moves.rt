@@ -4,7 +4,7 @@ use crate::after::{begun_after, thread_after};
 use crate::beginning::first_flat;
 use crate::called::Searched;
 use search_endings::Ending;
-use search_parts::{Common, Effect, SharedWalker, ending_at, make_event};
+use search_parts::{Common, Effect, SharedWalker, ending_at, is_untouched, make_event};
 use search_settled::{Flat, Moves};
 use std::alloc::{AllocError, Global};
 
@@ -89,6 +89,14 @@ impl Moves for Searched<'_, '_> {
         thread_after(alloc, self, made, n, thread, m)
     }
 
+    fn hears(&self, made: &Effect, n: usize, m: usize) -> bool {
+        !is_untouched(made, n, m)
+    }
+
+    fn share(&self, thread: &SharedWalker) -> Result<SharedWalker, AllocError> {
+        thread.share()
+    }
+
     fn first_after(
         &self,
         alloc: Global,
@@ -102,8 +110,9 @@ impl Moves for Searched<'_, '_> {
     fn ending(
         &self,
         alloc: Global,
-        flat: &Flat<Common, SharedWalker>,
+        shared: &Common,
+        each: &[SharedWalker],
     ) -> Result<Option<Ending>, AllocError> {
-        ending_at(alloc, self.opening.as_slice(), flat, self.dump)
+        ending_at(alloc, self.opening.as_slice(), shared, each, self.dump)
     }
 }

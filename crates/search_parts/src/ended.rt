@@ -3,12 +3,14 @@
 ghost use Rattle.std.specs.Prelude.{◌≡◌, IfOk, MatchOption};
 ghost use Rattle.search_parts.specs.Endings.{outcome_away, HaveLeft, IsOneHere};
 ghost use Rattle.search_parts.specs.Threads.{IsSettled, HasEndedIn};
+ghost use Rattle.search_parts.specs.declared.shared.HashedThread.{HashedThread};
+ghost use Rattle.search_settled.specs.Parts.{HasParts};
+ghost use Rattle.search_settled.specs.declared.flat.Flat.{Flat};
 
 use crate::shared::Common;
 use crate::shared_walker::SharedWalker;
 use search_endings::Ending;
 use search_memory::memory;
-use search_settled::Flat;
 use search_walkers::RestingThread;
 use std::alloc::{AllocError, Global};
 use types::Outcome;
@@ -38,24 +40,26 @@ fn outcomes_of(alloc: Global, threads: &[SharedWalker]) -> Result<Option<Vec<Out
     Ok(Some(outcomes))
 }
 
-/// How a settled state of a call has ended, where all its threads have left: with so many bytes, or all if there are
-/// fewer.
+/// How the settled state of a call that has these parts has ended, where all its threads have left: with so many bytes,
+/// or all if there are fewer.
 ///
 /// # Errors
 /// Where memory is refused.
 pub fn ending_at(
     alloc: Global,
     opening: &[u8],
-    flat: &Flat<Common, SharedWalker>,
+    shared: &Common,
+    threads: &[SharedWalker],
     dump: usize,
 ) -> Result<Option<Ending>, AllocError>
-    requires { IsSettled opening.now flat.now }
-    ensures { IfOk result (HasEndedIn opening.now dump flat.now) }
+    requires { (c : Flat Common HashedThread) × HasParts shared.now threads.now c × IsSettled opening.now c }
+    ensures { IfOk result
+        (λ o. (c : Flat Common HashedThread) → HasParts shared.now threads.now c → HasEndedIn opening.now dump c o) }
 {
-    let Some(outcomes) = outcomes_of(alloc, flat.threads.as_slice())? else {
+    let Some(outcomes) = outcomes_of(alloc, threads)? else {
         return Ok(None);
     };
-    let memory = memory(alloc, opening, &flat.shared.memory)?;
+    let memory = memory(alloc, opening, &shared.memory)?;
     let ending = Ending::new(alloc, outcomes, memory.pages(), memory.bytes(), dump)?;
     Ok(Some(ending))
 }

@@ -11,7 +11,7 @@ use Rattle.search_settled.specs.Threads.{ThreadSystem}
 use Rattle.search_settled.specs.Flat.{AreBounded, IsEventAt, AllComeAfter, IsStuckByMove}
 use Rattle.search_settled.specs.Next.{IsAt}
 use Rattle.search_settled.proofs.Reaching.{by_event}
-use Rattle.search_settled.proofs.Following.{next-by, stuck-by}
+use Rattle.search_settled.proofs.Following.{come-from, next-by, stuck-by}
 use Rattle.search_race_free.specs.Reduced.{wanted_in, IsResting, RestsSomewhere}
 use Rattle.search_race_free.specs.Search.{WantsSome, IsAfterEvent, GetsLost}
 use Rattle.search_race_free.proofs.Turning.{going_on}
@@ -37,7 +37,8 @@ module _ {X T E V A G H M : Type 0} (k : ThreadSystem X T E V A G H M) where
       let a = some z (thread-at k c z rests n t at) in (
         a.0,
         a.1,
-        next-by k tame bounded c z (at-of c z rests) n a.0 p.0 p.1 a.1 a.2 a.3 rested come x same_shared same_threads,
+        next-by k tame bounded c z (at-of c z rests) n a.0 p.0 p.1 a.1 a.2 a.3 rested (come-from k c p.0 p.1 n rested come) x
+            same_shared same_threads,
       )
 
   -- where it can't be told

@@ -69,7 +69,9 @@ impl<M: Accesses> Explores for RaceFreeTurns<'_, M> {
         alloc: Global,
         state: &Owning<Flat<M::Shared, M::Thread>>,
     ) -> Result<Option<M::Ending>, AllocError> {
-        self.system.ending(alloc, &state.flat)
+        let flat = &state.flat;
+        self.system
+            .ending(alloc, &flat.shared, flat.threads.as_slice())
     }
 }
 

@@ -130,7 +130,7 @@ module _ {S : Type 0} (eq : S → S → Bool) where
   has_at_longer : (ks ls : List S) (i : ℕ) (s : S) → Begins ks ls → HasAt eq ks i s → HasAt eq ls i s
   has_at_longer ks ls i s b h = record { key = h.key; at = get_longer ks ls i h.key b h.at; is = h.is }
 
-  noted-longer : (ks ls : List S) (at : ℕ) (xs : List (Next S)) (ms : List Move) → Begins ks ls → AreNoted eq ks at xs ms → AreNoted eq ls at xs ms
+  pub noted-longer : (ks ls : List S) (at : ℕ) (xs : List (Next S)) (ms : List Move) → Begins ks ls → AreNoted eq ks at xs ms → AreNoted eq ls at xs ms
   noted-longer ks ls at [] [] b h = tt
   noted-longer ks ls at [] (m ∷ ms) b h = h
   noted-longer ks ls at (x ∷ xs) [] b h = h

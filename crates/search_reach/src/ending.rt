@@ -1,15 +1,15 @@
 //! How the states that were met have ended.
 ghost use Rattle.std.specs.Prelude.{◌≡◌, IfOk, OnOk, length, vec_len};
-ghost use Rattle.std.specs.List.{AllZip};
 ghost use Rattle.indexmap.specs.IndexSet.{index_set_len, insert_key};
-ghost use Rattle.search_reach.specs.Search.{IsSound, IsMarkedSo, AllEnds, AreEnds};
+ghost use Rattle.search_reach.specs.Meeting.{HasSound, OfStates, AreGathered, IsReached};
 ghost use Rattle.search_reach.specs.Explored.{IsWhole};
 ghost use Rattle.search_reach.specs.Found.{AreEndings, IsSearched};
 ghost use Rattle.search_reach.specs.Liveness.{IsCount, IsLiveWhereAll};
 
 use crate::liveness::judged;
 use crate::path::{paths_to, ways_in};
-use crate::{Explores, Follows, Found, Liveness, Verdict, reach_all};
+use crate::plain::Plain;
+use crate::{Explores, Follows, Found, Liveness, Meets, Reached, Verdict, reach};
 use indexmap::IndexSet;
 use search_graph::Graph;
 use std::alloc::{AllocError, Global};
@@ -18,10 +18,10 @@ use std::hash::Hash;
 /// The endings of states, each once, and for each the index of the first state that has ended so; and of each state
 /// whether it has ended.
 #[derive(Drop)]
-pub struct Listed<E: Eq + Hash> {
-    pub endings: IndexSet<E>,
-    pub firsts: Vec<usize>,
-    pub ended: Vec<bool>,
+struct Listed<E: Eq + Hash> {
+    endings: IndexSet<E>,
+    firsts: Vec<usize>,
+    ended: Vec<bool>,
 }
 
 /// Adds the ending of the state of this index, and notes that index where the ending is new.
@@ -42,23 +42,22 @@ fn add_ending<E: Eq + Hash + Drop>(
     Ok(())
 }
 
-/// The endings of these states, each once, in the order of their first states.
-pub fn endings<T: Explores>(
+/// The endings of the states of a table, each once, in the order of their first states.
+fn endings<T: Meets>(
     alloc: Global,
     system: &T,
-    met: &[T::State],
+    table: &T::Table,
 ) -> Result<Listed<T::Ending>, AllocError>
-    requires { IsSound (T.system system.now) met.now }
-    ensures all { IfOk result (λ r. AllEnds (T.system system.now) T.Ending.eq met.now r.endings.keys) }
-    ensures sound { IfOk result (λ r. AreEnds (T.system system.now) r.endings.keys) }
+    requires { HasSound (T.system system.now) (T.holds system.now table.now) }
+    ensures gathered { IfOk result (λ r. OfStates (T.system system.now) (T.holds system.now table.now)
+        (λ ks. AreGathered (T.system system.now) T.Ending.eq ks r.endings.keys r.ended.items)) }
     ensures firsts { IfOk result (λ r. vec_len r.firsts ≡ index_set_len r.endings) }
-    ensures ended { IfOk result (λ r. AllZip (IsMarkedSo (T.system system.now)) met.now r.ended.items) }
 {
     let mut endings = IndexSet::new(alloc);
     let mut firsts = Vec::new(alloc);
     let mut ended = Vec::new(alloc);
-    for (at, state) in met.iter().enumerate() {
-        let ending = system.ending(alloc, state)?;
+    for at in 0..system.count(table) {
+        let ending = system.ending(alloc, table, at)?;
         ended.push(ending.is_some())?;
         if let Some(ending) = ending {
             add_ending(&mut endings, &mut firsts, at, ending)?;
@@ -98,6 +97,47 @@ fn paths_of(alloc: Global, graph: &Graph, states: &[usize]) -> Result<Vec<Vec<us
 
 /// The endings of the states that a search for at most `most` states and a few met. Where it met all, it says of which
 /// states none ends, and whether every fair run ends.
+fn conclude<T: Meets, F: Follows>(
+    alloc: Global,
+    system: &T,
+    most: u32,
+    reached: Reached<T::Table>,
+    follower: &mut F,
+) -> Result<Ended<T::Ending>, AllocError>
+    requires { IsReached (T.system system.now) (T.holds system.now reached.table) (T.equal system.now)
+        most (F.wish follower.old) reached.moves.items reached.verdict }
+    ensures found { IfOk result (AreEndings (T.system system.now) T.Ending.eq most (F.wish follower.new)) }
+    ensures paths { IfOk result (λ r. vec_len r.paths ≡ index_set_len r.endings) }
+    ensures count { IfOk result (λ r. IsCount (T.system system.now) (T.equal system.now) r.states) }
+    ensures live { IfOk result
+        (λ r. IsLiveWhereAll (T.system system.now) (T.equal system.now) r.states r.verdict r.liveness) }
+{
+    let Reached {
+        table,
+        moves,
+        verdict,
+    } = reached;
+    let Listed {
+        endings,
+        firsts,
+        ended,
+    } = endings(alloc, system, &table)?;
+    let states = system.count(&table);
+    drop(table);
+    let graph = Graph { states, moves };
+    let paths = paths_of(alloc, &graph, firsts.as_slice())?;
+    let (verdict, liveness) = judged(alloc, &graph, ended.as_slice(), verdict, follower)?;
+    Ok(Ended {
+        endings,
+        paths,
+        states,
+        verdict,
+        liveness,
+    })
+}
+
+/// The endings of the states that a search for at most `most` states and a few met, where they are values. Where it met
+/// all, it says of which states none ends, and whether every fair run ends.
 ///
 /// # Errors
 /// Where memory is refused.
@@ -116,33 +156,23 @@ pub fn endings_of<T: Explores, F: Follows>(
     ensures live { IfOk result
         (λ r. IsLiveWhereAll (T.system system.now) T.State.eq r.states r.verdict r.liveness) }
 {
+    let plain = Plain { system };
     let Found {
         met,
         moves,
         verdict,
     } = found;
-    let Listed {
-        endings,
-        firsts,
-        ended,
-    } = endings(alloc, system, met.as_slice())?;
-    let states = met.len();
-    drop(met);
-    let graph = Graph { states, moves };
-    let paths = paths_of(alloc, &graph, firsts.as_slice())?;
-    let (verdict, liveness) = judged(alloc, &graph, ended.as_slice(), verdict, follower)?;
-    Ok(Ended {
-        endings,
-        paths,
-        states,
+    let reached = Reached {
+        table: met,
+        moves,
         verdict,
-        liveness,
-    })
+    };
+    conclude(alloc, &plain, most, reached, follower)
 }
 
 /// The endings of a system, of which it meets no more than `most` states and a few, and those before it is told to end.
 /// Where it met all, it says of which states none ends, and whether every fair run ends.
-pub fn all_endings<T: Explores, F: Follows>(
+pub fn all_endings<T: Meets, F: Follows>(
     alloc: Global,
     system: &T,
     most: u32,
@@ -150,10 +180,10 @@ pub fn all_endings<T: Explores, F: Follows>(
 ) -> Result<Ended<T::Ending>, AllocError>
     ensures found { IfOk result (AreEndings (T.system system.now) T.Ending.eq most (F.wish follower.new)) }
     ensures paths { IfOk result (λ r. vec_len r.paths ≡ index_set_len r.endings) }
-    ensures count { IfOk result (λ r. IsCount (T.system system.now) T.State.eq r.states) }
+    ensures count { IfOk result (λ r. IsCount (T.system system.now) (T.equal system.now) r.states) }
     ensures live { IfOk result
-        (λ r. IsLiveWhereAll (T.system system.now) T.State.eq r.states r.verdict r.liveness) }
+        (λ r. IsLiveWhereAll (T.system system.now) (T.equal system.now) r.states r.verdict r.liveness) }
 {
-    let found = reach_all(alloc, system, most, follower)?;
-    endings_of(alloc, system, most, found, follower)
+    let reached = reach(alloc, system, most, follower)?;
+    conclude(alloc, system, most, reached, follower)
 }

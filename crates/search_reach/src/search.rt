@@ -1,10 +1,11 @@
 //! The search.
-ghost use Rattle.std.specs.Prelude.{◌≡◌, ◌<◌, ◌^◌, [], IfOk, OnOk};
-ghost use Rattle.indexmap.specs.IndexSet.{index_set_len};
-ghost use Rattle.search_reach.specs.Explored.{Gains, Notes, Explored, IsWhole};
-ghost use Rattle.search_reach.specs.Found.{AreStates, IsSearched};
+ghost use Rattle.std.specs.Prelude.{[], IfOk};
+ghost use Rattle.search_reach.specs.Explored.{IsWhole};
+ghost use Rattle.search_reach.specs.Found.{IsSearched};
+ghost use Rattle.search_reach.specs.Meeting.{IsBegun, IsReached};
 
-use crate::{Explores, Follows, Next, Wish};
+use crate::plain::Plain;
+use crate::{Explores, Follows, Meets, Wish};
 use indexmap::IndexSet;
 use search_graph::Move;
 use std::alloc::{AllocError, Global};
@@ -35,82 +36,81 @@ pub struct Found<S: Eq + Hash> {
     pub verdict: Verdict,
 }
 
-/// Adds the next states of the one of this index, and notes the move to each.
-fn add_all<S: Eq + Hash + Drop>(
-    met: &mut IndexSet<S>,
-    moves: &mut Vec<Move>,
-    at: u32,
-    after: Vec<Next<S>>,
-) -> Result<(), AllocError>
-    ensures met { OnOk result (Gains met.old.keys after.items met.new.keys) }
-    ensures noted { OnOk result (index_set_len met.new < 2 ^ 32
-        → Notes S.eq met.new.keys at after.items moves.old.items moves.new.items) }
-{
-    for next in after {
-        let (index, _is_new) = met.insert_full(next.state)?;
-        moves.push(Move {
-            from: at,
-            thread: next.thread,
-            next: index.min(u32::MAX as usize) as u32,
-        })?;
-    }
-    Ok(())
+/// What a search found, where the states that it met are in a table.
+#[derive(Drop)]
+pub struct Reached<T> {
+    pub table: T,
+    /// As in `Found`.
+    pub moves: Vec<Move>,
+    pub verdict: Verdict,
 }
 
 /// Goes on from each state that was met, until there are no more, it has met more than `most`, one of which the next
 /// states cannot be told, or it is told to end.
-fn explore<T: Explores, F: Follows>(
+fn explore<T: Meets, F: Follows>(
     alloc: Global,
     system: &T,
     most: u32,
     follower: &mut F,
-    met: &mut IndexSet<T::State>,
+    table: &mut T::Table,
     moves: &mut Vec<Move>,
 ) -> Result<Verdict, AllocError>
-    requires { Explored (T.system system.now) T.State.eq met.old.keys moves.old.items 0 }
-    ensures found { IfOk result (AreStates (T.system system.now) most (F.wish follower.new) met.new) }
-    ensures whole { IfOk result (IsWhole (T.system system.now) T.State.eq met.new.keys moves.new.items) }
+    requires { IsBegun (T.system system.now) (T.holds system.now table.old) (T.equal system.now) moves.old.items }
+    ensures { IfOk result (IsReached (T.system system.now) (T.holds system.now table.new) (T.equal system.now)
+        most (F.wish follower.new) moves.new.items) }
 {
     let mut at: u32 = 0;
-    while let Some(state) = met.get_index(at as usize) {
-        if (most as usize) < met.len() {
+    loop {
+        let met = system.count(table);
+        if met <= at as usize {
+            return Ok(Verdict::All);
+        }
+        if (most as usize) < met {
             return Ok(Verdict::TooMany);
         }
-        let Some(after) = system.next(alloc, state)? else {
+        if !system.next(alloc, table, at, moves)? {
             return Ok(Verdict::CannotTell);
-        };
-        add_all(met, moves, at, after)?;
-        if let Wish::End = follower.states(met.len()) {
+        }
+        if let Wish::End = follower.states(system.count(table)) {
             return Ok(Verdict::Told);
         }
         at += 1;
     }
-    Ok(Verdict::All)
 }
 
-/// Goes through the states of a system from its first one on, where it can tell that.
-fn explore_from_first<T: Explores, F: Follows>(
+/// Goes through the states of a system, which it keeps in a table, until there are no more, it has met more than `most`,
+/// or it is told to end. The follower hears of each how many were met.
+///
+/// # Errors
+/// Where memory is refused.
+pub fn reach<T: Meets, F: Follows>(
     alloc: Global,
     system: &T,
     most: u32,
     follower: &mut F,
-    met: &mut IndexSet<T::State>,
-    moves: &mut Vec<Move>,
-) -> Result<Verdict, AllocError>
-    requires met { met.old.keys ≡ [] }
-    requires moves { moves.old.items ≡ [] }
-    ensures found { IfOk result (AreStates (T.system system.now) most (F.wish follower.new) met.new) }
-    ensures whole { IfOk result (IsWhole (T.system system.now) T.State.eq met.new.keys moves.new.items) }
+) -> Result<Reached<T::Table>, AllocError>
+    ensures { IfOk result (λ r. IsReached (T.system system.now) (T.holds system.now r.table) (T.equal system.now)
+        most (F.wish follower.new) r.moves.items r.verdict) }
 {
-    let Some(first) = system.first(alloc)? else {
-        return Ok(Verdict::CannotTell);
-    };
-    met.insert(first)?;
-    explore(alloc, system, most, follower, met, moves)
+    let mut table = system.table(alloc);
+    let mut moves = Vec::new(alloc);
+    if !system.first(alloc, &mut table)? {
+        let verdict = Verdict::CannotTell;
+        return Ok(Reached {
+            table,
+            moves,
+            verdict,
+        });
+    }
+    let verdict = explore(alloc, system, most, follower, &mut table, &mut moves)?;
+    Ok(Reached {
+        table,
+        moves,
+        verdict,
+    })
 }
 
-/// Goes through the states of a system, until there are no more, it has met more than `most`, or it is told to end. The
-/// follower hears of each how many were met.
+/// The same of a system whose states are values.
 pub fn reach_all<T: Explores, F: Follows>(
     alloc: Global,
     system: &T,
@@ -120,12 +120,11 @@ pub fn reach_all<T: Explores, F: Follows>(
     ensures found { IfOk result (IsSearched (T.system system.now) most (F.wish follower.new)) }
     ensures whole { IfOk result (λ f. IsWhole (T.system system.now) T.State.eq f.met.keys f.moves.items f.verdict) }
 {
-    let mut met = IndexSet::new(alloc);
-    let mut moves = Vec::new(alloc);
-    let verdict = explore_from_first(alloc, system, most, follower, &mut met, &mut moves)?;
+    let plain = Plain { system };
+    let reached = reach(alloc, &plain, most, follower)?;
     Ok(Found {
-        met,
-        moves,
-        verdict,
+        met: reached.table,
+        moves: reached.moves,
+        verdict: reached.verdict,
     })
 }

@@ -11,6 +11,7 @@ use Rattle.search_settled.specs.Settled.{Settles, IsReached, AreTame}
 use Rattle.search_reach.specs.declared.explores.Next.{Next}
 use Rattle.search_settled.specs.Next.{IsAt, IsNextBy, IsNextOf, IsSomewhere, IsStuckAfter, HasNext}
 use Rattle.search_settled.specs.declared.flat.Flat.{Flat}
+use Rattle.search_settled.specs.Known.{AllComeFrom}
 use Rattle.search_settled.specs.Threads.{ThreadSystem}
 use Rattle.search_settled.specs.Flat.{AreBounded, IsThreadOf, IsEventOf, IsEventAt, RestsAfter, IsMove, AllComeAfter, MovesSomewhere, IsStuckByMove, HasNextBelow}
 
@@ -77,15 +78,15 @@ module _ {X T E V A G H M : Type 0} (k : ThreadSystem X T E V A G H M) where
   module _ (tame : AreTame k.system k.first k.most) (bounded : AreBounded k.system k.first k.count k.most)
       (c : Flat G H) (z : State X T) (at : IsAt k c z) (n : ℕ) (e : E)
       (x : G) (made : M) (is : k.system.wants (z.threads n) ≡ Calls e) (shared : k.shares x (k.system.after z.shared n e)) (by : k.makes made z.shared n e)
-      (rested : List H) (all : AllComeAfter k x made n c.threads.items rested) where
+      (rested : List H) (all : AllComeFrom k c x made n rested) where
     moved : IsMove k x made n c.threads.items z e
     moved = move c z at n e (x, made) c.threads.items refl is shared by
 
     long : length rested ≡ k.count (k.system.after z.shared n e)
-    long = all.len z e moved
+    long = all.len z e at moved
 
     rest_at : (m : ℕ) (t : H) → slice_get rested m ≡ Some t → RestsAfter k z n e m t
-    rest_at = all.each z e moved
+    rest_at = all.each z e at moved
 
     record Rest (m : ℕ) : Type 0 where
       pub thread : T
@@ -138,6 +139,10 @@ module _ {X T E V A G H M : Type 0} (k : ThreadSystem X T E V A G H M) where
       };
     }
 
+  -- from what holds of all threads that are moved so
+  pub come-from : (c : Flat G H) (x : G) (made : M) (n : ℕ) (rested : List H) → AllComeAfter k x made n c.threads.items rested → AllComeFrom k c x made n rested
+  come-from c x made n rested all = record { len = λ z e at move. all.len z e move; each = λ z e at move. all.each z e move }
+
   -- one thread after the other
   abbrev Below : Flat G H → ℕ → List (Next (Flat G H)) → Type 0
   Below c i xs = HasNextBelow k c i xs
@@ -181,7 +186,7 @@ module _ {X T E V A G H M : Type 0} (k : ThreadSystem X T E V A G H M) where
   pub below-more : AreTame k.system k.first k.most → AreBounded k.system k.first k.count k.most
       → (c : Flat G H) (i : ℕ) (xs : List (Next (Flat G H))) (t : H) (p : G × M) (y : Flat G H) (rested : List H) → Below c i xs
       → slice_get c.threads.items i ≡ Some t → IsEventAt k c.shared t i (Some p)
-      → AllComeAfter k p.0 p.1 i c.threads.items rested
+      → AllComeFrom k c p.0 p.1 i rested
       → y.shared ≡ p.0 → y.threads.items ≡ rested → Below c (i + 1) (xs ++ record { thread = i; state = y } ∷ [])
   below-more tame bounded c i xs t p y rested so at some come same_shared same_threads = record {
     all = λ z is n low e wants. elim (split n i low) [

@@ -5,3 +5,8 @@ pub mod Orderly
 pub mod Laws
 pub mod Threads
 pub mod Following
+pub mod Rows
+pub mod Knowing
+pub mod Nexting
+pub mod Putting
+pub mod Meeting

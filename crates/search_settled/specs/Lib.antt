@@ -1,7 +1,10 @@
 pub mod Accesses
 pub mod Settled
 pub mod Threads
+pub mod Parts
 pub mod Next
 pub mod Flat
 pub mod Turns
 pub mod Same
+pub mod Alone
+pub mod Known

@@ -10,14 +10,14 @@ use Rattle.search_settled.specs.Threads.{ThreadSystem, IsFlat}
 use Rattle.search_settled.specs.Next.{StandsForState}
 
 module _ {H : Type 0} (eq : H → H → Bool) where
-  same_length : (xs ys : List H) → pointwise eq xs ys ≡ true → length xs ≡ length ys
+  pub same_length : (xs ys : List H) → pointwise eq xs ys ≡ true → length xs ≡ length ys
   same_length [] [] e = refl
   same_length [] (y ∷ ys) e = absurd (true≢false (sym e))
   same_length (x ∷ xs) [] e = absurd (true≢false (sym e))
   same_length (x ∷ xs) (y ∷ ys) e = ap suc (same_length xs ys (second_so (eq x y) (pointwise eq xs ys) e))
 
   -- what stands in one list stands in the other, as an equal one
-  one_at : (xs ys : List H) (m : ℕ) (y : H) → pointwise eq xs ys ≡ true → slice_get ys m ≡ Some y
+  pub one_at : (xs ys : List H) (m : ℕ) (y : H) → pointwise eq xs ys ≡ true → slice_get ys m ≡ Some y
       → (x : H) × (slice_get xs m ≡ Some x) × (eq x y ≡ true)
   one_at [] [] m y e at = absurd (cc at)
   one_at [] (z ∷ ys) m y e at = absurd (true≢false (sym e))

@@ -15,15 +15,19 @@
 //! - `proofs/Resting.antt` and `proofs/Stepping.antt`: a turn from what comes to rest in a state stays there, or is the
 //!   event of a thread that rests. `proofs/Reaching.antt`: where threads come to rest can be reached, by their own
 //!   turns. `proofs/Orderly.antt`: a thread that can go on can until it makes a turn.
+//! - `specs/Known.antt`: turns that are known, and the states of a table. `proofs/Knowing.antt`: what is known stays so as
+//!   the table grows. `proofs/Nexting.antt`, `proofs/Putting.antt`: the rows of next states, and the moves to them.
 //! - `Flat` is a settled state as a value, `Moves` what a system supplies, whose threads are moved one by one, and
 //!   `search_all` the search: at `Verdict::All` the list has the ending of each run, whatever the order of the turns.
 #![tactic(auto)]
 
 mod access;
 mod flat;
+mod met;
 mod moves;
 mod next;
 mod states;
+mod turns;
 
 pub use access::Access;
 pub use flat::Flat;

@@ -1,9 +1,11 @@
 //! Threads that are moved one by one.
-ghost use Rattle.std.specs.Prelude.{◌≡◌, ◌<◌, ◌≤◌, true, None, IfOk, IfSome};
+ghost use Rattle.std.specs.Prelude.{◌≡◌, ◌<◌, ◌≤◌, true, false, None, IfOk, IfSome};
 ghost use Rattle.schedule.specs.System.{State};
 ghost use Rattle.search_settled.specs.Settled.{AreTame};
 ghost use Rattle.search_settled.specs.Next.{IsBeginning, IsSomewhere, HasEnded, NobodyTurns};
 ghost use Rattle.search_settled.specs.Threads.{ThreadSystem};
+ghost use Rattle.search_settled.specs.Parts.{HasParts};
+ghost use Rattle.search_settled.specs.declared.flat.Flat.{Flat as FlatState};
 ghost use Rattle.search_settled.specs.Flat.{
   AreBounded,
   IsThreadOf,
@@ -89,6 +91,15 @@ pub trait Moves {
         ensures gives_up { IfOk result (λ o. o ≡ None
             → IsStuckBy (threads self.now) (stuck self.now) made.now n thread.now m) };
 
+    /// Whether thread m, which is another one, may hear of an event of thread n.
+    fn hears(&self, made: &Self::Effect, n: usize, m: usize) -> bool
+        requires { m < (threads self.now).most }
+        ensures { result ≡ false → (t : Self.Thread) → ComesAfter (threads self.now) made.now n t m t };
+
+    /// The same thread, for one state more.
+    fn share(&self, thread: &Self::Thread) -> Result<Self::Thread, AllocError>
+        ensures { IfOk result (λ t. t ≡ thread.now) };
+
     /// Where thread m first comes to rest, which an event of thread n starts, or nothing where it cannot tell that.
     fn first_after(
         &self,
@@ -103,14 +114,16 @@ pub trait Moves {
         ensures gives_up { IfOk result
             (λ o. o ≡ None → IsStuckByStart (threads self.now) (stuck self.now) made.now n m) };
 
-    /// How a settled state has ended, where it has.
+    /// How a settled state of which these are the parts has ended, where it has.
     fn ending(
         &self,
         alloc: Global,
-        flat: &Flat<Self::Shared, Self::Thread>,
+        shared: &Self::Shared,
+        each: &[Self::Thread],
     ) -> Result<Option<Self::Ending>, AllocError>
-        requires { IsSomewhere (threads self.now) flat.now }
-        ensures { IfOk result (HasEnded (threads self.now) (ends self.now) flat.now) };
+        requires { (c : FlatState Self.Shared Self.Thread) × HasParts shared.now each.now c × IsSomewhere (threads self.now) c }
+        ensures { IfOk result (λ o. (c : FlatState Self.Shared Self.Thread) → HasParts shared.now each.now c
+            → HasEnded (threads self.now) (ends self.now) c o) };
 
     /// Answers go to who awaits them, and no more threads are there than can be.
     ghost tame: { (t : Self) → AreTame (threads t).system (threads t).first (threads t).most };

@@ -1,15 +1,21 @@
 //! All endings of threads that are moved one by one.
-ghost use Rattle.std.specs.Prelude.{◌≡◌, IfOk, vec_len};
+ghost use Rattle.std.specs.Prelude.{◌≡◌, IfOk, OnOk, vec_len};
 ghost use Rattle.indexmap.specs.IndexSet.{index_set_len};
 ghost use Rattle.search_reach.specs.Found.{AreEndings};
 ghost use Rattle.search_reach.specs.Liveness.{IsCount, IsLiveWhereAll};
+ghost use Rattle.search_table.specs.Tables.{HasSameParts};
 ghost use Rattle.search_settled.specs.Turns.{turns};
 ghost use Rattle.search_settled.specs.Same.{flat_eq};
+ghost use Rattle.search_settled.specs.Known.{PutsRows};
 
-use crate::next::next_states;
-use crate::{Flat, Moves};
-use search_reach::{Ended, Explores, Follows, Next, all_endings};
+use crate::Moves;
+use crate::met::{Met, NextRow};
+use crate::next::{next_rows, row_of, threads_of};
+use search_graph::Move;
+use search_reach::{Ended, Follows, Meets, all_endings};
+use search_table::Table;
 use std::alloc::{AllocError, Global};
+use std::hash::Hash;
 
 /// The turns of threads, in any order, gone through by their settled states.
 #[derive(Drop)]
@@ -17,41 +23,107 @@ struct Turns<'s, M> {
     system: &'s M,
 }
 
-impl<M: Moves> Explores for Turns<'_, M> {
-    ghost use Rattle.schedule.specs.System.{State as SystemState};
-    ghost use Rattle.search_settled.specs.Turns.{turns};
-    ghost use Rattle.search_settled.specs.Same.{flat_alike, stands_alike};
+/// Puts the rows of the next states of the one at this place, and notes the move to each.
+fn put_rows<S: Eq + Hash + Drop, T: Eq + Hash + Drop>(
+    table: &mut Table<S, T>,
+    moves: &mut Vec<Move>,
+    at: u32,
+    next: Vec<NextRow>,
+) -> Result<(), AllocError>
+    ensures parts { OnOk result (HasSameParts table.old table.new) }
+    ensures puts { OnOk result (PutsRows S.eq T.eq table.old table.new at next.items moves.old.items moves.new.items) }
+{
+    for one in next {
+        let place = table.put_row(one.row)?;
+        moves.push(Move {
+            from: at,
+            thread: one.thread,
+            next: place.min(u32::MAX as usize) as u32,
+        })?;
+    }
+    Ok(())
+}
 
-    type State = Flat<M::Shared, M::Thread>;
+impl<M: Moves> Meets for Turns<'_, M> {
+    ghost use Rattle.schedule.specs.System.{State as SystemState};
+    ghost use Rattle.search_settled.specs.declared.flat.Flat.{Flat as FlatState};
+    ghost use Rattle.search_settled.specs.Known.{HasStates};
+    ghost use Rattle.search_settled.specs.Turns.{turns};
+    ghost use Rattle.search_settled.specs.Same.{flat_eq, flat_alike, stands_alike};
+
+    type Table = Met<M::Shared, M::Thread>;
 
     type Ending = M::Ending;
+
+    ghost State = { FlatState M.Shared M.Thread };
 
     ghost World = { SystemState M.X M.T };
 
     ghost system = { λ t. turns M.Moves t.system.now };
 
-    ghost same = { λ t x y e. stands_alike (M.threads t.system.now) x y
+    ghost equal = { λ t. flat_eq M.Shared.eq M.Thread.eq };
+
+    ghost holds = { λ t. HasStates (M.threads t.system.now) };
+
+    ghost alike = { λ t x y e. stands_alike (M.threads t.system.now) x y
         (flat_alike M.Shared.eq M.Thread.eq (M.threads t.system.now)
         (M.same_shared t.system.now) (M.same_thread t.system.now) x y e) };
 
-    fn first(&self, alloc: Global) -> Result<Option<Flat<M::Shared, M::Thread>>, AllocError> {
-        self.system.first(alloc)
+    fn table(&self, alloc: Global) -> Met<M::Shared, M::Thread> {
+        Met {
+            table: Table::new(alloc),
+            known: Vec::new(alloc),
+        }
+    }
+
+    fn count(&self, met: &Met<M::Shared, M::Thread>) -> usize {
+        met.table.len()
+    }
+
+    fn first(
+        &self,
+        alloc: Global,
+        met: &mut Met<M::Shared, M::Thread>,
+    ) -> Result<bool, AllocError> {
+        let Some(flat) = self.system.first(alloc)? else {
+            return Ok(false);
+        };
+        let row = row_of(&mut met.table, flat)?;
+        met.table.put_row(row)?;
+        Ok(true)
     }
 
     fn next(
         &self,
         alloc: Global,
-        state: &Flat<M::Shared, M::Thread>,
-    ) -> Result<Option<Vec<Next<Flat<M::Shared, M::Thread>>>>, AllocError> {
-        next_states(alloc, self.system, state)
+        met: &mut Met<M::Shared, M::Thread>,
+        at: u32,
+        moves: &mut Vec<Move>,
+    ) -> Result<bool, AllocError> {
+        let Some(row) = met.table.row(at as usize) else {
+            return Ok(false);
+        };
+        let Some(next) = next_rows(alloc, self.system, met, row)? else {
+            return Ok(false);
+        };
+        put_rows(&mut met.table, moves, at, next)?;
+        Ok(true)
     }
 
     fn ending(
         &self,
         alloc: Global,
-        state: &Flat<M::Shared, M::Thread>,
+        met: &Met<M::Shared, M::Thread>,
+        at: usize,
     ) -> Result<Option<M::Ending>, AllocError> {
-        self.system.ending(alloc, state)
+        let Some(row) = met.table.row(at) else {
+            return Ok(None);
+        };
+        let Some(shared) = met.table.shared.get_index(row.shared as usize) else {
+            return Ok(None);
+        };
+        let threads = threads_of(alloc, self.system, &met.table, row.chain)?;
+        self.system.ending(alloc, shared, threads.as_slice())
     }
 }
 

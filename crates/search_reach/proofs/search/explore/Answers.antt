@@ -1,65 +1,42 @@
-use Rattle.std.proofs.Common.{arith, sym}
-use Rattle.search_reach.proofs.Searching.{if_some_at, Gains-begins, length-longer, sound-is_met, sound-more, sound-stuck, explored-more, explored-whole}
-use Rattle.search_reach.proofs.Graphing.{explored-all}
+use Rattle.std.proofs.Common.{◌+◌, arith, sym}
+use Rattle.search_reach.proofs.Meeting.{met-at, standing-more, reached-all, reached-stuck, reached-told}
 use Rattle.search_reach.proofs.search.explore.Goals as goal
 
-pub loop-state-init : goal.loop-state-init
-loop-state-init g c = record { sound = c.requires.sound; explored = λ few. c.requires }
+pub returns-then-met-at : goal.returns-then-met-at
+returns-then-met-at g c =
+    let m = c.args.system.now in
+    let so = c.loop-at.invariant in
+    reached-all (g.T.Meets.system m) (g.T.Meets.equal m) (g.T.Meets.holds m c.loop-at.table) c.loop-at.at c.loop-at.moves.items so c.count-met.result
+    (c.count-met.ensures.len so.states so.held) c.args.most _ (omega arith) (omega arith) (g.met.T.Meets.alike m)
 
 pub next-requires : goal.next-requires
-next-requires g c = sound-is_met g.T.State.PartialEq.eq (g.T.Explores.system c.args.system.now) c.loop-state.met.keys c.loop-state.at c.in-Some.state.now
-    c.loop-state.invariant.sound (sym c.in-Some.ensures.key)
+next-requires g c =
+    let m = c.args.system.now in
+    let so = c.loop-at.invariant in
+    met-at (g.T.Meets.system m) (g.T.Meets.equal m) (g.T.Meets.holds m c.loop-at.table) c.loop-at.at c.loop-at.moves.items so c.count-met.result
+    (c.count-met.ensures.len so.states so.held) (omega arith)
 
-pub loop-state-preserved : goal.loop-state-preserved
-loop-state-preserved g c =
-    let next = if_some_at _ _ _ c.in-Some-2.is c.in_ok-after.ensures.next in
-    let gains = c.in_ok-add_all.ensures.met in
-    record {
-      sound = sound-more g.T.State.PartialEq.eq (g.T.Explores.system c.args.system.now)
-          c.loop-state.met.keys c.add_all.new.met.keys c.loop-state.at c.in-Some.state.now c.in-Some-2.after.items
-          c.loop-state.invariant.sound (sym c.in-Some.ensures.key) next gains;
-      explored = λ few. explored-more g.T.State.PartialEq.eq (g.T.Explores.system c.args.system.now)
-          c.loop-state.met.keys c.add_all.new.met.keys c.in-Some-2.after.items c.loop-state.moves.items c.add_all.new.moves.items
-          c.loop-state.at c.in-Some.state.now
-          (c.loop-state.invariant.explored (let more = length-longer c.loop-state.met.keys c.add_all.new.met.keys
-          (Gains-begins c.loop-state.met.keys c.add_all.new.met.keys c.in-Some-2.after.items gains) in omega (arith, more, few)))
-          (sym c.in-Some.ensures.key) next gains (c.in_ok-add_all.ensures.noted few);
-    }
+pub returns-then-not-branch : goal.returns-then-not-branch
+returns-then-not-branch g c =
+    let m = c.args.system.now in
+    let so = c.loop-at.invariant in
+    reached-stuck (g.T.Meets.system m) (g.T.Meets.equal m) (g.T.Meets.holds m c.loop-at.table) c.loop-at.at c.loop-at.moves.items so c.count-met.result
+    (c.count-met.ensures.len so.states so.held) c.args.most _ (g.T.Meets.holds m c.next.new.table) c.next.new.moves.items (omega arith)
+    (c.in_ok-next.ensures.none c.if-not-branch.true) (c.in_ok-next.ensures.gives_up c.if-not-branch.true)
 
-pub returns-in-End-clause-found : goal.returns-in-End-clause-found
-returns-in-End-clause-found g c = record {
-  all = λ v. absurd (cc v);
-  sound = sound-more g.T.State.PartialEq.eq (g.T.Explores.system c.args.system.now)
-      c.loop-state.met.keys c.add_all.new.met.keys c.loop-state.at c.in-Some.state.now c.in-Some-2.after.items
-      c.loop-state.invariant.sound (sym c.in-Some.ensures.key) (if_some_at _ _ _ c.in-Some-2.is c.in_ok-after.ensures.next)
-      c.in_ok-add_all.ensures.met;
-  bound = λ v. absurd (cc v);
-  gives_up = λ v. absurd (cc v);
-  told = λ v. sym c.in-End.ensures;
-}
+pub loop-at-preserved : goal.loop-at-preserved
+loop-at-preserved g c =
+    let m = c.args.system.now in
+    let so = c.loop-at.invariant in
+    standing-more (g.T.Meets.system m) (g.T.Meets.equal m) (g.T.Meets.holds m c.loop-at.table) c.loop-at.at c.loop-at.moves.items so c.count-met.result
+    (c.count-met.ensures.len so.states so.held) (g.T.Meets.holds m c.next.new.table) c.next.new.moves.items (omega arith)
+    (c.in_ok-next.ensures.next c.if-not-branch.false)
 
-pub returns-clause-found : goal.returns-clause-found
-returns-clause-found g c = record {
-  all = λ v. explored-all (g.T.Explores.system c.args.system.now) g.T.State.PartialEq.eq c.loop-state.met.keys c.loop-state.moves.items
-      (g.met.T.Explores.same c.args.system.now)
-      (explored-whole g.T.State.PartialEq.eq (g.T.Explores.system c.args.system.now) c.loop-state.met.keys c.loop-state.moves.items c.loop-state.at
-      c.loop-state.invariant.explored (omega arith) (sym c.in_default.ensures.key));
-  sound = c.loop-state.invariant.sound;
-  bound = λ v. absurd (cc v);
-  gives_up = λ v. absurd (cc v);
-  told = λ v. absurd (cc v);
-}
-
-pub returns-clause-whole : goal.returns-clause-whole
-returns-clause-whole g c v = explored-whole g.T.State.PartialEq.eq (g.T.Explores.system c.args.system.now) c.loop-state.met.keys
-    c.loop-state.moves.items c.loop-state.at c.loop-state.invariant.explored (omega arith) (sym c.in_default.ensures.key)
-
-pub returns-in_default-2-clause-found : goal.returns-in_default-2-clause-found
-returns-in_default-2-clause-found g c = record {
-  all = λ v. absurd (cc v);
-  sound = c.loop-state.invariant.sound;
-  bound = λ v. absurd (cc v);
-  gives_up = λ v. sound-stuck g.T.State.PartialEq.eq (g.T.Explores.system c.args.system.now) c.loop-state.met.keys c.loop-state.at c.in-Some.state.now
-      c.loop-state.invariant.sound (sym c.in-Some.ensures.key) (c.in_ok-after.ensures.gives_up c.in_default-2.is);
-  told = λ v. absurd (cc v);
-}
+pub returns-in-End : goal.returns-in-End
+returns-in-End g c =
+    let m = c.args.system.now in
+    let so = c.loop-at.invariant in
+    reached-told (g.T.Meets.system m) (g.T.Meets.equal m) (g.T.Meets.holds m c.next.new.table) (c.loop-at.at + 1) c.next.new.moves.items c.args.most _
+    (standing-more (g.T.Meets.system m) (g.T.Meets.equal m) (g.T.Meets.holds m c.loop-at.table) c.loop-at.at c.loop-at.moves.items so c.count-met.result
+    (c.count-met.ensures.len so.states so.held) (g.T.Meets.holds m c.next.new.table) c.next.new.moves.items (omega arith)
+    (c.in_ok-next.ensures.next c.if-not-branch.false)) (sym c.in-End.ensures)

@@ -1,13 +1,9 @@
-use Rattle.std.proofs.Common.{◌<◌, ◌^◌, ◌-◌, length}
-use Rattle.search_reach.specs.Search.{IsSound}
-use Rattle.search_reach.specs.Explored.{Explored}
+use Rattle.std.proofs.Common.{◌-◌}
+use Rattle.search_reach.proofs.Meeting.{Standing}
 use Rattle.search_reach.proofs.search.explore.Given as goal
 
-abbrev pub invariant-loop-state : goal.invariant-loop-state
-invariant-loop-state g l = record {
-  sound : IsSound (g.T.Explores.system l.system) l.met.keys;
-  explored : length l.met.keys < 2 ^ 32 → Explored (g.T.Explores.system l.system) g.T.State.PartialEq.eq l.met.keys l.moves.items l.at;
-}
+abbrev pub invariant-loop-at : goal.invariant-loop-at
+invariant-loop-at g l = Standing (g.T.Meets.system l.system) (g.T.Meets.equal l.system) (g.T.Meets.holds l.system l.table) l.at l.moves.items
 
-abbrev pub decreases-loop-state : goal.decreases-loop-state
-decreases-loop-state g l = l.most - l.at
+abbrev pub decreases-loop-at : goal.decreases-loop-at
+decreases-loop-at g l = l.most - l.at

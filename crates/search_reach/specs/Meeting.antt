@@ -1,0 +1,64 @@
+-- States in a table, which has some states: what comes of going on from one, and where a search stands.
+use Rattle.std.specs.Prelude.{◌≡◌, ◌<◌, ◌^◌, ℕ, Bool, Some, List, [], ◌∷◌, length}
+use Rattle.std.specs.List.{slice_get, AllZip}
+use Rattle.search_graph.specs.declared.graph.Move.{Move}
+use Rattle.search_reach.specs.declared.explores.Next.{Next}
+use Rattle.search_reach.specs.declared.follows.Wish.{Wish}
+use Rattle.search_reach.specs.declared.search.Verdict.{Verdict}
+use Rattle.search_reach.specs.Search.{StepSystem, IsAll, IsSound, CanGetStuck, IsFirst, IsMet, AreNext, IsMarkedSo, AllEnds, AreEnds}
+use Rattle.search_reach.specs.Explored.{Gains, Notes, Explored, IsWhole}
+use Rattle.search_reach.specs.Found.{IsFound}
+
+module _ {S W E : Type 0} (k : StepSystem S W E) (has : List S → Type 0) where
+  -- One of the states has this index, and can be met.
+  abbrev pub HasMetAt : ℕ → Type 0
+  HasMetAt at = (ks : List S) × (s : S) × has ks × (slice_get ks at ≡ Some s) × IsMet k s
+
+  -- It is so of the one with this index.
+  abbrev pub OfStateAt : ℕ → (List S → S → Type 0) → Type 0
+  OfStateAt at so = (ks : List S) (s : S) → has ks → slice_get ks at ≡ Some s → IsMet k s → so ks s
+
+  -- It has a first state, and no other.
+  pub record HasFirst : Type 0 where
+    pub state : S
+    pub is : IsFirst k state
+    pub held : has (state ∷ [])
+
+  module _ (eq : S → S → Bool) where
+    -- It has the next states of s, and the moves to them were noted.
+    pub record GoesOn (ks : List S) (at : ℕ) (s : S) (before after : List Move) : Type 0 where
+      pub next : List (Next S)
+      pub are : AreNext k s next
+      pub states : List S
+      pub held : has states
+      pub gains : Gains ks next states
+      pub noted : length states < 2 ^ 32 → Notes eq states at next before after
+
+    -- Where a search begins.
+    pub record IsBegun (moves : List Move) : Type 0 where
+      pub states : List S
+      pub held : has states
+      pub explored : Explored k eq states moves 0
+
+    -- What a search found that was to meet no more than `most` states and a few.
+    pub record IsReached (most : ℕ) (wish : Wish) (moves : List Move) (verdict : Verdict) : Type 0 where
+      pub states : List S
+      pub held : has states
+      pub found : IsFound (record { complete = IsAll k; sound = IsSound k; lost = CanGetStuck k }) most wish verdict
+          (length states) states
+      pub whole : IsWhole k eq states moves verdict
+
+  -- Each of the states can be met.
+  abbrev pub HasSound : Type 0
+  HasSound = (ks : List S) × has ks × IsSound k ks
+
+  -- It is so where each of the states can be met.
+  abbrev pub OfStates : (List S → Type 0) → Type 0
+  OfStates so = (ks : List S) → has ks → IsSound k ks → so ks
+
+-- The endings of the states, which are compared so, and a mark for each.
+pub record AreGathered {S W E : Type 0} (k : StepSystem S W E) (eq : E → E → Bool) (ks : List S) (es : List E) (marks : List Bool)
+    : Type 0 where
+  pub all : AllEnds k eq ks es
+  pub sound : AreEnds k es
+  pub marks_are : AllZip (IsMarkedSo k) ks marks

@@ -1,0 +1,205 @@
+-- What is known of turns, as a table grows, and the turn of a thread of which nobody else hears.
+use Rattle.std.specs.Prelude.{ℕ, zero, suc, ◌≡◌, ◌≢◌, ◌+◌, ◌≤◌, ◌⊎◌, Bool, true, List, [], ◌∷◌, Option, Some, None, replicate, slice_set, refl}
+use Rattle.std.proofs.Common.{ap, subst, sym, ◌∙◌, inl, inr, arith}
+use Rattle.std.specs.List.{slice_get}
+use Rattle.std.proofs.lemmas.Bool.{cases_lt}
+use Rattle.std.proofs.lemmas.List.{length-set}
+use Rattle.std.proofs.lemmas.Option.{none-some, slice_get_within}
+use Rattle.schedule.specs.System.{State}
+use Rattle.search_table.specs.declared.table.Table.{Table}
+use Rattle.search_table.specs.Tables.{Keeps, IsOrdered, Grows, HasSameParts}
+use Rattle.search_settled.specs.declared.flat.Flat.{Flat}
+use Rattle.search_settled.specs.declared.met.Known.{Known}
+use Rattle.search_settled.specs.declared.met.Met.{Met}
+use Rattle.search_settled.specs.declared.met.Turn.{Turn}
+use Rattle.search_settled.specs.declared.met.Turn.TheVariants.{Still, Alone}
+use Rattle.search_settled.specs.Threads.{ThreadSystem}
+use Rattle.search_settled.specs.Flat.{AreBounded, IsThreadOf, IsEventOf, IsEventAt, RestsAfter, ComesAfter, IsBeforeSome, IsStuckBy}
+use Rattle.search_settled.specs.Alone.{IsUnheard}
+use Rattle.search_settled.specs.Known.{IsNotedIn, AreFrom, GoesAlone, IsTurn, IsRight, AreOfThread, OfNumbers, IsLostBy, AreKnown, HasStates}
+use Rattle.search_settled.proofs.Rows.{states-grow}
+
+-- what stands in a list in which one was replaced
+pub set-at : {A : Type 0} (xs : List A) (n : ℕ) (y : A) (m : ℕ) (x : A) → slice_get (slice_set xs n y) m ≡ Some x
+    → ((m ≡ n) × (y ≡ x)) ⊎ ((m ≢ n) × (slice_get xs m ≡ Some x))
+set-at [] n y m x at = absurd (none-some x at)
+set-at (z ∷ xs) zero y zero x at = inl (refl, cc at)
+set-at (z ∷ xs) zero y (suc m) x at = inr (λ e. cc e, at)
+set-at (z ∷ xs) (suc n) y zero x at = inr (λ e. cc e, at)
+set-at (z ∷ xs) (suc n) y (suc m) x at = elim (set-at xs n y m x at) [
+  | inl h ↦ inl (ap suc h.0, h.1)
+  | inr h ↦ inr (λ e. h.0 (cc e), h.1)
+]
+
+module _ {X T E V A G H M : Type 0} (k : ThreadSystem X T E V A G H M) where
+  module _ (t u : Table G H) (shared : Keeps t.shared.keys u.shared.keys) (threads : Keeps t.threads.keys u.threads.keys) where
+    turn-stays : (g : G) (h : H) (n : ℕ) (turn : Turn) → IsTurn k t g h n turn → IsTurn k u g h n turn
+    turn-stays g h n Still is = is
+    turn-stays g h n (Alone s r) is = (is.0, is.1, shared s is.0 is.2, threads r is.1 is.3, is.4)
+
+    right-stays : (known : Known) → IsRight k t known → IsRight k u known
+    right-stays known is = record {
+      shared_is = is.shared_is;
+      thread_is = is.thread_is;
+      shared_at = shared known.shared is.shared_is is.shared_at;
+      thread_at = threads known.thread is.thread_is is.thread_at;
+      so = turn-stays is.shared_is is.thread_is known.n known.turn is.so;
+    }
+
+    -- what is known stays so
+    pub known-stays : IsOrdered u.links.keys → (ks ls : List (Option Known)) → ls ≡ ks
+        → ((slot : ℕ) (known : Known) → slice_get ks slot ≡ Some (Some known) → IsRight k t known)
+        → (slot : ℕ) (known : Known) → slice_get ls slot ≡ Some (Some known) → IsRight k u known
+    known-stays ordered ks ls same so slot known at = right-stays known (so slot known (ap (λ l. slice_get l slot) (sym same) ∙ at))
+
+  pub turn-grows : (t u : Table G H) → Grows t u → (g : G) (h : H) (n : ℕ) (turn : Turn) → IsTurn k t g h n turn → IsTurn k u g h n turn
+  turn-grows t u grows = turn-stays t u grows.shared grows.threads
+
+  pub known-grows : (m : Met G H) (new : Met G H) → AreKnown k m → Grows m.table new.table → IsOrdered new.table.links.keys
+      → new.known.items ≡ m.known.items → AreKnown k new
+  known-grows m new so grows ordered same = record {
+    ordered = ordered;
+    right = known-stays m.table new.table grows.shared grows.threads ordered m.known.items new.known.items same so.right;
+  }
+
+  -- and where a row is put
+  pub known-same : (m : Met G H) (new : Met G H) → AreKnown k m → HasSameParts m.table new.table → new.known.items ≡ m.known.items → AreKnown k new
+  known-same m new so parts same =
+      let ordered = subst IsOrdered (sym parts.links) so.ordered in
+      record {
+        ordered = ordered;
+        right = known-stays m.table new.table (λ i x at. ap (λ l. slice_get l i) parts.shared ∙ at) (λ i x at. ap (λ l. slice_get l i) parts.threads ∙ at)
+            ordered m.known.items new.known.items same so.right;
+      }
+
+  pub known-noted : (m : Met G H) (new : Met G H) (one : Known) → AreKnown k m → new.table ≡ m.table → AreFrom m.known.items one new.known.items
+      → IsRight k m.table one → AreKnown k new
+  known-noted m new one so same from right = record {
+    ordered = subst (λ (t : Table G H). IsOrdered t.links.keys) (sym same) so.ordered;
+    right = λ slot known at. subst (λ (t : Table G H). IsRight k t known) (sym same) (elim (from slot known at) [
+      | inl is ↦ subst (IsRight k m.table) (sym is) right
+      | inr was ↦ so.right was.0 known was.1
+    ]);
+  }
+
+  -- what was noted of a turn
+  pub recalled : (m : Met G H) → AreKnown k m → (shared thread n : ℕ) (turn : Turn) → IsNotedIn m.known.items shared thread n turn
+      → OfNumbers k m.table shared thread (λ g h. IsTurn k m.table g h n turn)
+  recalled m so shared thread n turn noted g h shared_at thread_at =
+      let right = so.right noted.0 (record { shared = shared; thread = thread; n = n; turn = turn }) noted.1 in
+      let same : right.shared_is ≡ g = cc (right.shared_at, shared_at) in
+      let is : right.thread_is ≡ h = cc (right.thread_at, thread_at) in
+      subst (λ v. IsTurn k m.table g v n turn) is (subst (λ v. IsTurn k m.table v right.thread_is n turn) same right.so)
+
+  -- the states that a table has, as it grows
+  pub states-known : (m new : Met G H) → (cs : List (Flat G H)) → HasStates k m cs → Grows m.table new.table → AreKnown k new → HasStates k new cs
+  states-known m new cs so grows known = record { known = known; are = states-grow m.table new.table grows cs so.are }
+
+  pub unheard-none : (made : M) (n : ℕ) → IsUnheard k made n 0
+  unheard-none made n m low = absurd (omega (arith, low))
+
+  pub unheard-more : (made : M) (n m : ℕ) → IsUnheard k made n m → (m ≢ n → (t : H) → ComesAfter k made n t m t) → IsUnheard k made n (m + 1)
+  unheard-more made n m so one j low apart t = elim (cases_lt j m) [
+    | inl below ↦ so j below apart t
+    | inr past ↦ (let same : m ≡ j = omega (arith, low, past) in
+        subst (λ (i : ℕ). ComesAfter k made n t i t) same (one (λ is. apart (sym same ∙ is)) t))
+  ]
+
+  -- what has these numbers
+  pub of-read : (t : Table G H) (shared thread n : ℕ) → AreOfThread k t shared thread n → (g : G) (h : H) → slice_get t.shared.keys shared ≡ Some g
+      → slice_get t.threads.keys thread ≡ Some h → (z : State X T) × IsThreadOf k g h n z
+  of-read t shared thread n of g h shared_at thread_at =
+      let same : of.shared_is ≡ g = cc (of.shared_at, shared_at) in
+      let is : of.thread_is ≡ h = cc (of.thread_at, thread_at) in
+      let o = of.of in (
+        of.state,
+        (o.0, subst (λ v. k.shares v (of.state).shared) same o.1, subst (λ v. k.is_thread v ((of.state).threads n)) is o.2),
+      )
+
+  pub count-low : AreBounded k.system k.first k.count k.most → (g : G) (h : H) (n : ℕ) (z : State X T) → IsThreadOf k g h n z → (count : ℕ)
+      → ((x : X) → k.shares g x → count ≡ k.count x) → count ≤ k.most
+  count-low bounded g h n z of count is =
+      let few = bounded.few z of.0 in
+      let same = is z.shared of.1 in
+      omega (arith, few, same)
+
+  pub of-numbers : (t : Table G H) (shared thread : ℕ) (P : G → H → Type 0) (g : G) (h : H) → slice_get t.shared.keys shared ≡ Some g
+      → slice_get t.threads.keys thread ≡ Some h → P g h → OfNumbers k t shared thread P
+  of-numbers t shared thread P g h shared_at thread_at so x y at there =
+      let same : g ≡ x = cc (shared_at, at) in
+      let is : h ≡ y = cc (thread_at, there) in
+      subst (λ v. P v y) same (subst (P g) is so)
+
+  pub event-none : (g : G) (h : H) (n : ℕ) (o : Option (G × M)) → o ≡ None → IsEventAt k g h n o → IsEventAt k g h n None
+  event-none g h n o is event z of = subst (IsEventOf k z n) is (event z of)
+
+  pub event-some : (g : G) (h : H) (n : ℕ) (o : Option (G × M)) (p : G × M) → o ≡ Some p → IsEventAt k g h n o → IsEventAt k g h n (Some p)
+  event-some g h n o p is event z of = subst (IsEventOf k z n) is (event z of)
+
+  -- what is asked of the call for where the thread itself comes to rest
+  pub own-before : (g : G) (h : H) (n : ℕ) (p : G × M) (z : State X T) → IsThreadOf k g h n z → IsEventAt k g h n (Some p) → IsBeforeSome k p.1 n h n
+  own-before g h n p z of event =
+      let a = event z of in
+      (z, a.0, record { reached = of.0; wants = a.1; is = a.3 }, of.2)
+
+  -- where nothing can be told of it
+  pub own-lost : (stuck : State X T → Type 0) (g : G) (h : H) (n : ℕ) (p : G × M) → IsEventAt k g h n (Some p) → IsStuckBy k stuck p.1 n h n → IsLostBy k stuck n g h
+  own-lost stuck g h n p event lost z of =
+      let a = event z of in
+      (a.0, a.1, lost z a.0 (record { reached = of.0; wants = a.1; is = a.3 }) of.2)
+
+  module _ (eq_shared : G → G → Bool) (eq_thread : H → H → Bool) (symm : (x y : G) → eq_shared x y ≡ true → eq_shared y x ≡ true)
+      (same_shared : (x y : G) → eq_shared x y ≡ true → (w : X) → k.shares x w → k.shares y w)
+      (same_thread : (x y : H) → eq_thread x y ≡ true → (w : T) → k.is_thread x w → k.is_thread y w) where
+    pub event-alike : (g : G) (h : H) (n : ℕ) (x y : G) (made : M) → eq_shared x y ≡ true → IsEventAt k g h n (Some (x, made)) → IsEventAt k g h n (Some (y, made))
+    event-alike g h n x y made e is z of =
+        let a = is z of in
+        (a.0, a.1, same_shared x y e (k.system.after z.shared n a.0) a.2, a.3)
+
+    -- nobody else hears of it
+    pub alone : (g : G) (h : H) (n : ℕ) (new kept : G) (made : M) (rested stays : H) (count : ℕ) → ((x : X) → k.shares g x → count ≡ k.count x)
+        → ((x : X) → k.shares new x → count ≡ k.count x) → eq_shared new kept ≡ true → eq_thread rested stays ≡ true
+        → IsEventAt k g h n (Some (new, made)) → IsUnheard k made n count → ComesAfter k made n h n rested → GoesAlone k g h n kept stays
+    alone g h n new kept made rested stays count before after eq_new eq_rested event unheard comes = record {
+      made = made;
+      event = event-alike g h n new kept made eq_new event;
+      come = λ c shared at. record {
+        len = λ z e is move. (
+            let was : count ≡ k.count z.shared = before z.shared (subst (λ v. k.shares v z.shared) shared (is.settled_is).shared) in
+            let will : count ≡ k.count (k.system.after z.shared n e) =
+            after (k.system.after z.shared n e) (same_shared kept new (symm new kept eq_new) (k.system.after z.shared n e) move.shared) in
+            length-set c.threads.items n stays ∙ (move.len ∙ (sym was ∙ will)));
+        each = λ z e is move m t there. elim (set-at c.threads.items n stays m t there) [
+          | inl own ↦ (
+              let r = comes z e move.made_by (move.each n h at) in
+              subst (λ v. RestsAfter k z n e m v) own.1 (subst (λ (j : ℕ). RestsAfter k z n e j stays) (sym own.0)
+              (record { settled = r.settled; rests = r.rests; is = same_thread rested stays eq_rested r.settled r.is })))
+          | inr other ↦ (
+              let low = slice_get_within c.threads.items m t other.1 in
+              let was : count ≡ k.count z.shared = before z.shared (subst (λ v. k.shares v z.shared) shared (is.settled_is).shared) in
+              let len = move.len in
+              unheard m (omega (arith, low, was, len)) other.0 t z e move.made_by (move.each m t other.1))
+        ];
+      };
+    }
+
+-- a place of what is known
+pub noted-at : (known : List (Option Known)) (slot : ℕ) (o : Option Known) (one : Known) → slice_get known slot ≡ Some o → o ≡ Some one
+    → (shared thread n : ℕ) → one.shared ≡ shared → one.thread ≡ thread → one.n ≡ n → IsNotedIn known shared thread n one.turn
+noted-at known slot o one at is shared thread n a b c = (
+  slot,
+  at ∙ ap (λ v. Some v) (is ∙ ap (λ v. Some v) (λ i. record { shared = a i; thread = b i; n = c i; turn = one.turn })),
+)
+
+pub from-put : (items : List (Option Known)) (slot : ℕ) (new : Known) (before : List (Option Known))
+    → ((s : ℕ) (k : Known) → slice_get items s ≡ Some (Some k) → (was : ℕ) × (slice_get before was ≡ Some (Some k))) → AreFrom before new (slice_set items slot (Some new))
+from-put items slot new before old s k at = elim (set-at items slot (Some new) s (Some k) at) [
+  | inl h ↦ (let same : new ≡ k = cc h.1 in inl (sym same))
+  | inr h ↦ inr (old s k h.1)
+]
+
+pub none-there : (n : ℕ) (before : List (Option Known)) (s : ℕ) (k : Known) → slice_get (replicate n None) s ≡ Some (Some k)
+    → (was : ℕ) × (slice_get before was ≡ Some (Some k))
+none-there zero before s k at = absurd (none-some (Some k) at)
+none-there (suc n) before zero k at = absurd (cc at)
+none-there (suc n) before (suc s) k at = none-there n before s k at

@@ -1,0 +1,169 @@
+-- Turns that are known, and the states of a table. Types: as in Threads.
+use Rattle.std.specs.Prelude.{ℕ, ◌≡◌, ◌^◌, ◌<◌, ◌⊎◌, Bool, true, List, length, Option, Some, None, slice_set}
+use Rattle.std.specs.List.{slice_get, AllZip}
+use Rattle.std.specs.Cmp.Lexicographic.{pointwise}
+use Rattle.schedule.specs.System.{Want.Calls, State}
+use Rattle.schedule.specs.Scheduled.{after_event}
+use Rattle.search_table.specs.declared.table.Row.{Row}
+use Rattle.search_table.specs.declared.table.Table.{Table}
+use Rattle.search_table.specs.Tables.{IsOrdered, IsRow}
+use Rattle.search_graph.specs.declared.graph.Move.{Move}
+use Rattle.search_reach.specs.declared.explores.Next.{Next}
+use Rattle.search_reach.specs.Explored.{Gains, Notes}
+use Rattle.search_settled.specs.Same.{flat_eq}
+use Rattle.search_settled.specs.declared.flat.Flat.{Flat}
+use Rattle.search_settled.specs.declared.met.Known.{Known}
+use Rattle.search_settled.specs.declared.met.Met.{Met}
+use Rattle.search_settled.specs.declared.met.NextRow.{NextRow}
+use Rattle.search_settled.specs.declared.met.Turn.{Turn}
+use Rattle.search_settled.specs.declared.met.Turn.TheVariants.{Still, Alone}
+use Rattle.search_settled.specs.declared.turns.Made.{Made}
+use Rattle.search_settled.specs.declared.turns.Made.TheVariants.{Told, Heard, Unknown}
+use Rattle.search_settled.specs.Threads.{ThreadSystem}
+use Rattle.search_settled.specs.Next.{IsAt, IsSomewhere, HasNext}
+use Rattle.search_settled.specs.Flat.{IsThreadOf, IsEventAt, IsMove, RestsAfter, AllComeAfter, HasNextBelow}
+
+-- One of them says so.
+abbrev pub IsNotedIn : List (Option Known) → ℕ → ℕ → ℕ → Turn → Type 0
+IsNotedIn known shared thread n turn =
+    (slot : ℕ) × (slice_get known slot ≡ Some (Some (record { shared = shared; thread = thread; n = n; turn = turn })))
+
+-- Each is the new one, or was there before.
+abbrev pub AreFrom : List (Option Known) → Known → List (Option Known) → Type 0
+AreFrom before new after =
+    (slot : ℕ) (k : Known) → slice_get after slot ≡ Some (Some k)
+    → (k ≡ new) ⊎ ((was : ℕ) × (slice_get before was ≡ Some (Some k)))
+
+module _ {G H : Type 0} (t : Table G H) where
+  -- The row is of that state.
+  abbrev pub IsOf : Row → Flat G H → Type 0
+  IsOf r c = IsRow t r c.shared c.threads.items
+
+  -- The rows are of these states.
+  abbrev pub AreOf : List (Flat G H) → Type 0
+  AreOf cs = AllZip IsOf t.rows.keys cs
+
+  -- The row leads there, by that thread.
+  pub record IsNextRow (r : NextRow) (x : Next (Flat G H)) : Type 0 where
+    pub thread : x.thread ≡ r.thread
+    pub of : IsOf r.row x.state
+
+-- The row is of a state that equals this one.
+pub record IsRowOfEqual {G H : Type 0} (eq_shared : G → G → Bool) (eq_thread : H → H → Bool) (t : Table G H) (c : Flat G H)
+    (r : Row) : Type 0 where
+  pub shared : G
+  pub threads : List H
+  pub of : IsRow t r shared threads
+  pub shared_equal : eq_shared c.shared shared ≡ true
+  pub threads_equal : pointwise eq_thread c.threads.items threads ≡ true
+
+module _ {X T E V A G H M : Type 0} (k : ThreadSystem X T E V A G H M) where
+  -- After an event of thread n in the state that this is, all come to rest so.
+  pub record AllComeFrom (c : Flat G H) (after : G) (made : M) (n : ℕ) (rested : List H) : Type 0 where
+    pub len : (z : State X T) (e : E) → IsAt k c z → IsMove k after made n c.threads.items z e
+        → length rested ≡ k.count (k.system.after z.shared n e)
+    pub each : (z : State X T) (e : E) → IsAt k c z → IsMove k after made n c.threads.items z e
+        → (m : ℕ) (t : H) → slice_get rested m ≡ Some t → RestsAfter k z n e m t
+
+  -- By the event of thread n, which stands so where this is shared, that is shared, and it comes to rest there; all others
+  -- rest where they did.
+  pub record GoesAlone (shared : G) (thread : H) (n : ℕ) (after : G) (rested : H) : Type 0 where
+    pub made : M
+    pub event : IsEventAt k shared thread n (Some (after, made))
+    pub come : (c : Flat G H) → c.shared ≡ shared → slice_get c.threads.items n ≡ Some thread
+        → AllComeFrom c after made n (slice_set c.threads.items n rested)
+
+  module _ (t : Table G H) where
+    -- The turn of thread n, by the numbers of the table.
+    abbrev pub IsTurn : G → H → ℕ → Turn → Type 0
+    IsTurn shared thread n Still = IsEventAt k shared thread n None
+    IsTurn shared thread n (Alone s u) =
+        (after : G) × (rested : H) × (slice_get t.shared.keys s ≡ Some after) × (slice_get t.threads.keys u ≡ Some rested)
+        × GoesAlone shared thread n after rested
+
+    -- What is known is so.
+    pub record IsRight (known : Known) : Type 0 where
+      pub shared_is : G
+      pub thread_is : H
+      pub shared_at : slice_get t.shared.keys known.shared ≡ Some shared_is
+      pub thread_at : slice_get t.threads.keys known.thread ≡ Some thread_is
+      pub so : IsTurn shared_is thread_is known.n known.turn
+
+    -- What comes of the event of thread n.
+    abbrev pub IsMade : G → H → ℕ → Made G M → Type 0
+    IsMade shared thread n (Told turn) = IsTurn shared thread n turn
+    IsMade shared thread n (Heard after made) = IsEventAt k shared thread n (Some (after, made))
+    IsMade shared thread n Unknown = Unit {0}
+
+    -- Two numbers, of what is shared and of thread n of a state.
+    pub record AreOfThread (shared thread n : ℕ) : Type 0 where
+      pub shared_is : G
+      pub thread_is : H
+      pub shared_at : slice_get t.shared.keys shared ≡ Some shared_is
+      pub thread_at : slice_get t.threads.keys thread ≡ Some thread_is
+      pub state : State X T
+      pub of : IsThreadOf k shared_is thread_is n state
+
+    -- It is so of what has these numbers.
+    abbrev pub OfNumbers : ℕ → ℕ → (G → H → Type 0) → Type 0
+    OfNumbers shared thread so = (g : G) (h : H) → slice_get t.shared.keys shared ≡ Some g
+        → slice_get t.threads.keys thread ≡ Some h → so g h
+
+    -- Thread n of the state of a row has this number.
+    pub record IsThreadAt (r : Row) (thread n : ℕ) (c : Flat G H) : Type 0 where
+      pub of : IsOf t r c
+      pub somewhere : IsSomewhere k c
+      pub thread_is : H
+      pub thread_at : slice_get t.threads.keys thread ≡ Some thread_is
+      pub among : slice_get c.threads.items n ≡ Some thread_is
+
+    -- It is so of the state of a row.
+    abbrev pub OfRow : Row → (Flat G H → Type 0) → Type 0
+    OfRow r so = (c : Flat G H) → IsOf t r c → IsSomewhere k c → so c
+
+    -- The rows are those of the next states by the events of the threads below a number.
+    pub record AreNextBelow (c : Flat G H) (i : ℕ) (rs : List NextRow) : Type 0 where
+      pub next : List (Next (Flat G H))
+      pub below : HasNextBelow k c i next
+      pub are : AllZip (IsNextRow t) rs next
+
+    -- They are those of its next states.
+    pub record AreNextRows (c : Flat G H) (rs : List NextRow) : Type 0 where
+      pub next : List (Next (Flat G H))
+      pub has : HasNext k c next
+      pub are : AllZip (IsNextRow t) rs next
+
+    -- There is such a state of the row.
+    abbrev pub IsSomeRow : Row → Type 0
+    IsSomeRow r = (c : Flat G H) × IsOf t r c × IsSomewhere k c
+
+  -- The row is of a state that equals one to which threads come after an event of thread n.
+  pub record IsRowAfter (eq_shared : G → G → Bool) (eq_thread : H → H → Bool) (t : Table G H) (after : G) (made : M) (n : ℕ)
+      (threads : List H) (r : Row) : Type 0 where
+    pub state : Flat G H
+    pub shared : state.shared ≡ after
+    pub come : AllComeAfter k after made n threads state.threads.items
+    pub row : IsRowOfEqual eq_shared eq_thread t state r
+
+  -- Nothing can be told after the event of thread n.
+  abbrev pub IsLostBy : (State X T → Type 0) → ℕ → G → H → Type 0
+  IsLostBy stuck n shared thread = (z : State X T) → IsThreadOf k shared thread n z
+      → (e : E) × (k.system.wants (z.threads n) ≡ Calls e) × stuck (after_event k.system z n e)
+
+  -- Chains are in order, and what is known is so.
+  pub record AreKnown (m : Met G H) : Type 0 where
+    pub ordered : IsOrdered m.table.links.keys
+    pub right : (slot : ℕ) (known : Known) → slice_get m.known.items slot ≡ Some (Some known) → IsRight m.table known
+
+  -- The table has these states.
+  pub record HasStates (m : Met G H) (cs : List (Flat G H)) : Type 0 where
+    pub known : AreKnown m
+    pub are : AreOf m.table cs
+
+-- The table has the states of these rows too, and the moves to them were noted: of whatever states they are.
+abbrev pub PutsRows : {G H : Type 0} → (G → G → Bool) → (H → H → Bool) → Table G H → Table G H → ℕ → List NextRow → List Move
+    → List Move → Type 0
+PutsRows {G} {H} eq_shared eq_thread before after at rs moves noted =
+    (ks : List (Flat G H)) (xs : List (Next (Flat G H))) → AreOf before ks → AllZip (IsNextRow before) rs xs
+    → (ls : List (Flat G H)) × AreOf after ls × Gains ks xs ls
+    × (length ls < 2 ^ 32 → Notes (flat_eq eq_shared eq_thread) ls at xs moves noted)

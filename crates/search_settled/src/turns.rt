@@ -1,0 +1,130 @@
+//! The turn of a thread, by the numbers of a table.
+ghost use Rattle.std.specs.Prelude.{◌≡◌, ◌≢◌, ◌<◌, ◌≤◌, true, false, IfOk, OnOk};
+ghost use Rattle.search_table.specs.Tables.{Grows};
+ghost use Rattle.search_settled.specs.declared.turns.Made.TheVariants.{Unknown};
+ghost use Rattle.search_settled.specs.Known.{AreKnown, AreOfThread, OfNumbers, IsMade, IsLostBy};
+ghost use Rattle.search_settled.specs.Alone.{IsUnheard};
+ghost use Rattle.search_settled.specs.Flat.{ComesAfter};
+
+use crate::Moves;
+use crate::met::{Known, Met, Turn, note};
+use std::alloc::{AllocError, Global};
+
+/// What comes of the event that a thread wants.
+#[derive(Drop)]
+pub(crate) enum Made<S, E> {
+    /// Its turn.
+    Told(Turn),
+    /// Others hear of it: what is shared after it, and what it makes.
+    Heard(S, E),
+    /// That can't be told.
+    Unknown,
+}
+
+/// Whether thread m is another one that hears of an event of thread n.
+fn is_told<M: Moves>(system: &M, made: &M::Effect, n: usize, m: usize) -> bool
+    requires { m < (M.threads system.now).most }
+    ensures { result ≡ false → m ≢ n → (t : M.Thread) → ComesAfter (M.threads system.now) made.now n t m t }
+{
+    if m == n {
+        return false;
+    }
+    system.hears(made, n, m)
+}
+
+/// Whether nobody hears of an event of thread n but itself: of so many threads, which are as many after it.
+fn is_quiet<M: Moves>(
+    system: &M,
+    shared: &M::Shared,
+    made: &M::Effect,
+    n: usize,
+    count: usize,
+) -> bool
+    requires { count ≤ (M.threads system.now).most }
+    ensures unheard { result ≡ true → IsUnheard (M.threads system.now) made.now n count }
+    ensures counted { result ≡ true → (x : M.X) → (M.threads system.now).shares shared.now x → count ≡ (M.threads system.now).count x }
+{
+    if system.started(shared) != count {
+        return false;
+    }
+    for m in 0..count {
+        if is_told(system, made, n, m) {
+            return false;
+        }
+    }
+    true
+}
+
+/// What comes of the event that thread n wants, which was not known, before it is noted.
+fn made_anew<M: Moves>(
+    alloc: Global,
+    system: &M,
+    met: &mut Met<M::Shared, M::Thread>,
+    shared: u32,
+    thread: u32,
+    n: usize,
+) -> Result<Made<M::Shared, M::Effect>, AllocError>
+    requires known { AreKnown (M.threads system.now) met.old }
+    requires of { AreOfThread (M.threads system.now) met.old.table shared thread n }
+    requires few { n < (M.threads system.now).most }
+    ensures grows { OnOk result (Grows met.old.table met.new.table) }
+    ensures known { OnOk result (AreKnown (M.threads system.now) met.new) }
+    ensures made { IfOk result (λ r. OfNumbers (M.threads system.now) met.old.table shared thread
+        (λ g h. IsMade (M.threads system.now) met.new.table g h n r)) }
+    ensures gives_up { IfOk result (λ r. r ≡ Unknown → OfNumbers (M.threads system.now) met.old.table shared thread
+        (IsLostBy (M.threads system.now) (M.stuck system.now) n)) }
+{
+    let Some(old) = met.table.shared.get_index(shared as usize) else {
+        return Ok(Made::Unknown);
+    };
+    let Some(own) = met.table.threads.get_index(thread as usize) else {
+        return Ok(Made::Unknown);
+    };
+    let count = system.started(old);
+    let Some((new, made)) = system.event(alloc, old, own, n)? else {
+        return Ok(Made::Told(Turn::Still));
+    };
+    if !is_quiet(system, &new, &made, n, count) {
+        return Ok(Made::Heard(new, made));
+    }
+    let Some(rested) = system.after(alloc, &made, n, own, n)? else {
+        return Ok(Made::Unknown);
+    };
+    let shared = met.table.put_shared(new)?;
+    let thread = met.table.put_thread(rested)?;
+    Ok(Made::Told(Turn::Alone { shared, thread }))
+}
+
+/// What comes of the event that thread n wants, which was not known, and is noted if nobody else hears of it.
+pub(crate) fn made_by<M: Moves>(
+    alloc: Global,
+    system: &M,
+    met: &mut Met<M::Shared, M::Thread>,
+    shared: u32,
+    thread: u32,
+    n: usize,
+) -> Result<Made<M::Shared, M::Effect>, AllocError>
+    requires known { AreKnown (M.threads system.now) met.old }
+    requires of { AreOfThread (M.threads system.now) met.old.table shared thread n }
+    requires few { n < (M.threads system.now).most }
+    ensures grows { OnOk result (Grows met.old.table met.new.table) }
+    ensures known { OnOk result (AreKnown (M.threads system.now) met.new) }
+    ensures made { IfOk result (λ r. OfNumbers (M.threads system.now) met.old.table shared thread
+        (λ g h. IsMade (M.threads system.now) met.new.table g h n r)) }
+    ensures gives_up { IfOk result (λ r. r ≡ Unknown → OfNumbers (M.threads system.now) met.old.table shared thread
+        (IsLostBy (M.threads system.now) (M.stuck system.now) n)) }
+{
+    let made = made_anew(alloc, system, met, shared, thread, n)?;
+    if let Made::Told(turn) = made {
+        let states = met.table.rows.len();
+        let n = n as u32;
+        let new = Known {
+            shared,
+            thread,
+            n,
+            turn,
+        };
+        note(alloc, &mut met.known, states, new)?;
+    }
+    Ok(made)
+}
