@@ -25,9 +25,18 @@ def lines_of(folder):
         yield ["run", name, "--invoke", "f", "--json", "--fuel", "10000", "--limit", "50", "--dump", "5"]
         yield ["run", name, "--invoke", "f", "--json", "--fuel", "100", "--memory", "words", "1"]
         yield ["run", name, "--invoke", "no\"such\\name\t\u00e9", "--json"]
+        search = ["search", name, "--invoke", "f", "--json", "--fuel", "10000", "--limit", "50", "--dump", "5"]
+        yield [*search, "--runs", "20"]
+        yield [*search, "--runs", "20", "--expect", "i32:77", "--shrink", "--shrink-time", "1"]
+        yield [*search, "--runs", "20", "--races"]
+        yield [*search, "--runs", "20", "--races", "--shrink", "--shrink-time", "1"]
+        yield [*search, "--all", "--states", "2000"]
+        yield [*search, "--all", "--states", "2000", "--expect", "i32:77"]
+        yield [*search, "--all", "--states", "2000", "--orders", "all", "--find", "a fair run can go on for ever"]
     for name in sorted(name for name in os.listdir(DATA) if name.endswith(".record")):
         module = name.removesuffix(".record") + ".wasm"
         yield ["replay", module if module in modules else "counting.wasm", name, "--json", "--units", "--dump", "9"]
+        yield ["races", module if module in modules else "counting.wasm", name, "--json", "--most", "2"]
     yield ["check", "no\"such\nfile\u00e9", "--json"]
     yield ["run", "no such file", "--invoke", "f", "--json"]
     yield ["replay", "fac.wasm", "no such record", "--json"]

@@ -1,13 +1,3 @@
 mod Plain
-mod Searched
 mod Asking
-mod Sure
-mod Growing
-mod Printed
-mod DrawnRaces
-mod Wholly
-mod Counted
-mod Sought
 mod Silent
-mod Pairs
-mod Looking

@@ -1,12 +1,10 @@
--- What stays, by the fault that refuses.
+-- What stays, by the fault that refuses a call.
 use Rattle.std.proofs.Common.{◌≡◌, ℕ, arith}
-use Rattle.report_jobs.specs.Silence.{IsRefusal, trouble_status, unfit_status}
-use Rattle.report_jobs.specs.declared.replaying.Unfit.{Unfit}
-use Rattle.report_jobs.specs.declared.replaying.Unfit.TheVariants as unfits
+use Rattle.report_jobs.specs.Silence.{IsRefusal, trouble_status}
 use Rattle.report_jobs.specs.declared.running.Trouble.{Trouble}
 use Rattle.report_jobs.specs.declared.running.Trouble.TheVariants as troubles
-use Rattle.report.specs.Searches.{IsOfSystem}
-use Rattle.report.specs.Silent.{IfRefusedCall, IfRefusedRecord, IsNoRefusal}
+use Rattle.report_searches.specs.Searches.{IsOfSystem}
+use Rattle.report.specs.Silent.{IfRefusedCall}
 
 module _ (P : Type 0) where
   -- what holds holds there
@@ -35,21 +33,3 @@ module _ (P : Type 0) where
   by_status troubles.Output n is holds low = absurd (omega (arith, is, low.1))
   by_status troubles.Save n is holds low = absurd (omega (arith, is, low.1))
   by_status troubles.SaveMemory n is holds low = absurd (omega (arith, is, low.1))
-
-  pub at_record : (u : Unfit) → P → IfRefusedRecord u P
-  at_record (unfits.Unread fault) p = p
-  at_record (unfits.Misfit fault) p = p
-  at_record unfits.NoMemory p = tt
-  at_record unfits.Output p = tt
-
-  pub at_no_refusal : (u : Unfit) → IsNoRefusal u → IfRefusedRecord u P
-  at_no_refusal (unfits.Unread fault) none = absurd none
-  at_no_refusal (unfits.Misfit fault) none = absurd none
-  at_no_refusal unfits.NoMemory none = tt
-  at_no_refusal unfits.Output none = tt
-
-  pub by_unfit : (u : Unfit) (n : ℕ) → n ≡ unfit_status u → IfRefusedRecord u P → IsRefusal n → P
-  by_unfit (unfits.Unread fault) n is holds low = holds
-  by_unfit (unfits.Misfit fault) n is holds low = holds
-  by_unfit unfits.NoMemory n is holds low = absurd (omega (arith, is, low.1))
-  by_unfit unfits.Output n is holds low = absurd (omega (arith, is, low.1))

@@ -6,14 +6,13 @@ use Rattle.binary.specs.Grammar.{IsModuleText}
 use Rattle.report_command.specs.declared.command_line.Job.{Job}
 use Rattle.report_command.specs.declared.command_line.Job.TheVariants.{Show}
 use Rattle.report_command.specs.declared.command_line.Job.TheVariants as jobs
+use Rattle.report_command.specs.declared.form.Form.{Form}
 use Rattle.report_command.specs.declared.search.Search.{Search}
 use Rattle.report_jobs.specs.Prints.{WriterChange, Written}
 use Rattle.report_jobs.specs.Jobs.{IsNoValidModule, IsNoRecordOf, IsRecordOf, HasNoSuchCall}
 use Rattle.report_jobs.specs.Plain.{PerformsPlain}
-use Rattle.report.specs.Raced.{OfModule, IsRaceFree, IsRacy, PrintsRaces}
-use Rattle.report.specs.DrawnRaces.{IsDrawnForRaces}
-use Rattle.report.specs.Prints.{IsDrawn, IsPrintedOf}
-use Rattle.report.specs.Searches.{Finds, IsWellAt}
+use Rattle.report_looks.specs.Raced.{OfModule, IsRaceFree, IsRacy, PrintsRaces}
+use Rattle.report.specs.Searched.{HasSearched}
 
 -- What the status of a show says: 0 of a record of a run, 2 of a refused module, 4 of a record of no run. 5 is that
 -- memory or a stream failed.
@@ -25,24 +24,13 @@ pub record Shows (bytes saved : List ℕ) (status : ℕ) : Type 0 where
 
 -- What that of races says: 0 of a record of a run in which no accesses race, 1 of one in which some do, and 2, 4 and 5 as of
 -- a show.
-pub record TellsRaces (bytes saved : List ℕ) (most : ℕ) (out : WriterChange) (status : ℕ) : Type 0 where
-  pub prints : status ≤ 1 → OfModule (PrintsRaces most out) bytes saved
+pub record TellsRaces (bytes saved : List ℕ) (most : ℕ) (form : Form) (out : WriterChange) (status : ℕ) : Type 0 where
+  pub prints : status ≤ 1 → OfModule (PrintsRaces most form out) bytes saved
   pub free : status ≡ 0 → OfModule IsRaceFree bytes saved
   pub racy : status ≡ 1 → OfModule IsRacy bytes saved
   pub refused : status ≡ 2 → IsNoValidModule bytes
   pub unfit : status ≡ 4 → IsNoRecordOf bytes saved
   pub statuses : (status ≤ 2) ⊎ (status ≡ 4) ⊎ (status ≡ 5)
-
--- The bytes are a valid module's text, and its runs were searched.
-pub record HasSearched (bytes : List ℕ) (s : Search) (out save : WriterChange) (status : ℕ) : Type 0 where
-  pub parts : Parts
-  pub text : IsModuleText bytes parts
-  pub valid : IsValid parts
-  pub finds : Finds parts s save status
-  pub well : IsWellAt parts s status
-  pub drawn : IsDrawn parts s out save status
-  pub drawn_races : IsDrawnForRaces parts s out save status
-  pub prints : IsPrintedOf parts s out save status
 
 -- What that of a search says: 0 and 1 of runs that were made, 2 of a refused module, 3 of a call that can't be made. 5
 -- is that memory or a stream failed.
@@ -55,6 +43,6 @@ pub record Searches (bytes : List ℕ) (s : Search) (out save : WriterChange) (s
 -- What the status of a job says: of one that is no show and no search, what it says of a plain job.
 abbrev pub Performs : Job → List ℕ → List ℕ → Written → ℕ → Type 0
 Performs (Show file record_path names look at) bytes saved w status = Shows bytes saved status
-Performs (jobs.Races job) bytes saved w status = TellsRaces bytes saved job.most w.out status
+Performs (jobs.Races job) bytes saved w status = TellsRaces bytes saved job.most job.form w.out status
 Performs (jobs.Search s) bytes saved w status = Searches bytes s w.out w.save status
 Performs job bytes saved w status = PerformsPlain job bytes saved w status

@@ -1,10 +1,3 @@
 pub mod Jobs
-pub mod Raced
-pub mod Complete
-pub mod Drawn
-pub mod Endless
-pub mod Searches
-pub mod Racing
-pub mod Prints
-pub mod DrawnRaces
+pub mod Searched
 pub mod Silent

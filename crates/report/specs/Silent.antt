@@ -1,12 +1,10 @@
--- What stays as it was, where a call or a record is refused.
+-- What stays as it was, where a call is refused; and which jobs make a file.
 use Rattle.std.specs.Prelude.{Bool, false, is_some}
 use Rattle.report_command.specs.declared.command_line.Job.{Job}
 use Rattle.report_command.specs.declared.command_line.Job.TheVariants.{Show}
 use Rattle.report_command.specs.declared.command_line.Job.TheVariants as jobs
 use Rattle.report_command.specs.Views.{path_of}
 use Rattle.report_jobs.specs.Silence.{makes_file}
-use Rattle.report_jobs.specs.declared.replaying.Unfit.{Unfit}
-use Rattle.report_jobs.specs.declared.replaying.Unfit.TheVariants as unfits
 use Rattle.report_jobs.specs.declared.running.Trouble.{Trouble}
 use Rattle.report_jobs.specs.declared.running.Trouble.TheVariants as troubles
 
@@ -18,20 +16,6 @@ IfRefusedCall troubles.NoMemory P = Unit {0}
 IfRefusedCall troubles.Output P = Unit {0}
 IfRefusedCall troubles.Save P = Unit {0}
 IfRefusedCall troubles.SaveMemory P = Unit {0}
-
--- This holds where the record is refused.
-abbrev pub IfRefusedRecord : Unfit → Type 0 → Type 0
-IfRefusedRecord (unfits.Unread fault) P = P
-IfRefusedRecord (unfits.Misfit fault) P = P
-IfRefusedRecord unfits.NoMemory P = Unit {0}
-IfRefusedRecord unfits.Output P = Unit {0}
-
--- It isn't refused: memory or the stream failed.
-abbrev pub IsNoRefusal : Unfit → Type 0
-IsNoRefusal (unfits.Unread fault) = ⊥
-IsNoRefusal (unfits.Misfit fault) = ⊥
-IsNoRefusal unfits.NoMemory = Unit {0}
-IsNoRefusal unfits.Output = Unit {0}
 
 -- A file is made by the job: a record, a page or a trace.
 abbrev pub writes_file : Job → Bool

@@ -6,12 +6,15 @@ ghost use Rattle.report_jobs.specs.Jobs.{HasNoSuchCall, IsNoValidModule};
 ghost use Rattle.report_jobs.specs.Prints.{changed, written};
 ghost use Rattle.report_jobs.specs.Silence.{IsRefusal, Stays, makes_memory};
 ghost use Rattle.report_jobs.specs.Told.{TellsWhatIsWrong};
-ghost use Rattle.report.specs.Jobs.{HasSearched, Performs};
+ghost use Rattle.report.specs.Searched.{HasSearched};
+ghost use Rattle.report.specs.Jobs.{Performs};
 ghost use Rattle.report.specs.Silent.{writes_file};
 
-use crate::{Asked, races_saved, search_module, show_saved};
+use crate::searching::search_module;
 use report_command::{Job, Search};
 use report_jobs::{Streams, complain, load, perform_plain, refuse};
+use report_looks::{races_saved, show_saved};
+use report_searches::Asked;
 use search_finds::Hears;
 use spawn_host::own_function;
 use std::alloc::Global;
@@ -63,7 +66,11 @@ where
         Job::Show { look, view, .. } => {
             show_saved(alloc, module, module, saved, look, *view, streams)
         }
-        Job::Races(asked) => races_saved(alloc, module, module, saved, asked.most, streams),
+        Job::Races(asked) => {
+            races_saved(
+                alloc, module, module, saved, asked.most, asked.form, streams,
+            )
+        },
         Job::Search(asked) => search(rt, alloc, asked, module, streams, follower),
         _ => perform_plain(rt, alloc, job, module, saved, streams),
     }

@@ -6,7 +6,6 @@ use Rattle.report_command.specs.declared.command_line.Job.{Job}
 use Rattle.report_command.specs.declared.command_line.Job.TheVariants.{Check, Run, Replay, Show, Races, Search}
 use Rattle.report_command.specs.declared.command_line.RunJob.{RunJob}
 use Rattle.report_command.specs.declared.form.Form.{Form}
-use Rattle.report_command.specs.declared.form.Form.TheVariants.{Lines}
 use Rattle.report_command.specs.Searches.{IsSearchInRange, SearchKeepsItsModule}
 use Rattle.report_command.specs.Views.{IsViewInRange, form_of, path_of}
 
@@ -44,5 +43,5 @@ form_in (Check file form) = form
 form_in (Run job) = job.look.form
 form_in (Replay file saved look) = look.form
 form_in (Show file saved names how) = form_of how.view
-form_in (Races job) = Lines
-form_in (Search s) = Lines
+form_in (Races job) = job.form
+form_in (Search s) = s.form

@@ -182,6 +182,7 @@ pub record AsksRaces (f : Found) (job : RacesJob) : Type 0 where
   pub saved_is : HasText f (codes "record") job.saved
   pub names_is : HasTextIfAny f (codes "names") job.names
   pub most_is : HasNumber f (codes "most") job.most
+  pub form_is : AsksForm f job.form
 
 -- The strategy that a word names.
 abbrev pub IsWay : List ℕ → Way → Type 0
@@ -256,6 +257,7 @@ pub record AsksSearch (f : Found) (s : Search) : Type 0 where
   pub allow_races : HasFlag f (codes "allow-races") s.allow_races
   pub until : HasTextIfAny f (codes "until") s.until
   pub save : HasTextIfAny f (codes "record") s.save
+  pub form_is : AsksForm f s.form
 
 -- The job of a command.
 abbrev pub AsksJob : Found → Job → Type 0

@@ -90,7 +90,8 @@ impl Job<'_> {
             Job::Run(job) => job.look.form,
             Job::Replay { look, .. } => look.form,
             Job::Show { how, .. } => how.view.form(),
-            Job::Races(_) | Job::Search(_) => Form::Lines,
+            Job::Races(job) => job.form,
+            Job::Search(search) => search.form,
         }
     }
 }

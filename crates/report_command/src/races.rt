@@ -6,6 +6,7 @@ ghost use Rattle.report_command.specs.Options.{AsksNamed};
 
 use crate::arguments::{Argument, CommandRow, OPTION};
 use crate::command_line::{FILE, Job, RECORD};
+use crate::form::{Form, JSON, form_of};
 use crate::limits::{DEFAULT_RACES, MOST_RACES};
 use crate::show::NAMES;
 use crate::words::short_of;
@@ -23,6 +24,8 @@ pub struct RacesJob<'a> {
     pub names: Option<&'a str>,
     /// How many races are told at most, 1 to 10,000.
     pub most: u32,
+    /// In which form they are told.
+    pub form: Form,
 }
 
 /// How many races are told.
@@ -35,13 +38,13 @@ const MOST: Argument = Argument {
     ..OPTION
 };
 
-/// `races FILE RECORD [--most N] [--names FILE2]`
+/// `races FILE RECORD [--most N] [--names FILE2] [--json]`
 pub(crate) static RACES: CommandRow = CommandRow {
     name: "races",
     call: "wathread races",
     about: "Tells which accesses of a recorded run race: two threads touch a byte, one writes it, and nothing orders them",
     after_help: None,
-    arguments: &[FILE, RECORD, MOST, NAMES],
+    arguments: &[FILE, RECORD, MOST, NAMES, JSON],
 };
 
 /// The job of `races`, where its number is there and in range, as the parser sees to.
@@ -65,5 +68,6 @@ pub(crate) fn races_job<'a>(matches: &ArgMatches<'a>) -> Option<Job<'a>>
         saved,
         names,
         most,
+        form: form_of(matches),
     }))
 }

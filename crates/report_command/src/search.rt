@@ -11,6 +11,7 @@ ghost use Rattle.report_command.specs.Options.{AsksEffort, IsWay, IsFindOf, stop
 use crate::arguments::{Argument, CommandRow, FLAG, OPTION};
 use crate::call::{ARGS, CallWords, FUEL, INVOKE, call_of};
 use crate::command_line::{DUMP, FILE, Job, LIMIT, Misuse, limit_and_dump_of};
+use crate::form::{Form, JSON, form_of};
 use crate::limits::{
     DEFAULT_FROM, DEFAULT_RUNS, DEFAULT_SEARCH_FUEL, DEFAULT_SEARCH_LIMIT, DEFAULT_SEED,
     DEFAULT_SHRINK_SECONDS, DEFAULT_STATES, MOST_JOBS, MOST_RUNS, MOST_SECONDS, MOST_SEED,
@@ -54,6 +55,8 @@ pub struct Search<'a> {
     pub until: Option<&'a str>,
     /// The path of the record of what is found, if one is wanted.
     pub save: Option<&'a str>,
+    /// In which form it prints.
+    pub form: Form,
 }
 
 /// What the option is for that ends a search.
@@ -263,7 +266,7 @@ const UNTIL: Argument = Argument {
 
 /// `search FILE --invoke NAME [--runs N] [--from I] [--seed S] [--strategy mix|random|pct:D|spin] [--jobs N] [--all
 /// [--states N] [--orders needed|all] [--allow-races]] [--find WORDS] [--expect RESULT] [--races] [--record OUT]
-/// [--shrink [--shrink-time SECONDS]] [--time SECONDS] [--until PATH] [--fuel N] [--limit N] [--dump N] [ARG..]`
+/// [--shrink [--shrink-time SECONDS]] [--time SECONDS] [--until PATH] [--fuel N] [--limit N] [--dump N] [--json] [ARG..]`
 pub(crate) static SEARCH: CommandRow = CommandRow {
     name: "search",
     call: "wathread search",
@@ -292,6 +295,7 @@ pub(crate) static SEARCH: CommandRow = CommandRow {
         SEARCH_FUEL,
         SEARCH_LIMIT,
         DUMP,
+        JSON,
         ARGS,
     ],
 };
@@ -544,5 +548,6 @@ pub(crate) fn search_job<'a>(
         allow_races: matches.get_flag("allow-races"),
         until: matches.get_str("until"),
         save: matches.get_str("record"),
+        form: form_of(matches),
     })))
 }

@@ -10,6 +10,7 @@ use Rattle.report_json.specs.declared.complete.Complete.{Complete}
 use Rattle.report_json.specs.Json.{Json, Field, number, text, is, is_given, list_of, object_of}
 use Rattle.report_json.specs.Drawn.{ending_json}
 use Rattle.report_json.specs.Found.{found_json}
+use Rattle.report_json.specs.Raced.{words_field, race_field}
 
 -- Whether the endings are all, or why they aren't.
 abbrev pub verdict_words : Verdict → List ℕ
@@ -52,6 +53,8 @@ complete_fields complete =
     ∷ is (codes "states") (number complete.all.now.states)
     ∷ is (codes "most") (number complete.most)
     ∷ is (codes "endings") (list_of ending_json complete.all.now.endings.keys)
+    ∷ words_field complete.races
+    ∷ race_field complete.races
     ∷ is_given (codes "liveness") liveness_json complete.all.now.liveness
     ∷ is_given (codes "found") found_json complete.found
     ∷ []

@@ -11,6 +11,7 @@ use Rattle.report_json.specs.declared.drawn.Drawn.{Drawn}
 use Rattle.report_json.specs.Json.{Json, Field, number, text, is, list_of, object_of}
 use Rattle.report_json.specs.Ends.{outcomes_json, bytes_field}
 use Rattle.report_json.specs.Found.{found_json}
+use Rattle.report_json.specs.Raced.{words_field, race_field}
 
 -- Whether there are bytes.
 abbrev pub has_some : List ℕ → Bool
@@ -75,6 +76,8 @@ drawn_fields drawn =
     ∷ is (codes "verdict") (text (verdict_words drawn.halt))
     ∷ is (codes "runs") (runs_json drawn.runs)
     ∷ is (codes "endings") (list_of met_json drawn.met.now)
+    ∷ words_field drawn.races
+    ∷ race_field drawn.races
     ∷ end_field drawn.halt
     ∷ []
 

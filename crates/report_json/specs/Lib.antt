@@ -2,6 +2,7 @@ pub mod Json
 pub mod Sent
 pub mod Unwritten
 pub mod Places
+pub mod Raced
 pub mod Ends
 pub mod Refusals
 pub mod Found

@@ -10,6 +10,7 @@ ghost use Rattle.report_json.specs.Sent.{SendsField};
 
 use crate::found::Found;
 use crate::object::{ToJson, given, put, put_if, put_list, write_line};
+use crate::raced::{RunRaces, count_races, put_races};
 use search_endings::Ending;
 use search_reach::{Ended, FairCycle, FairRuns, Liveness, Verdict};
 use serde::Serializer;
@@ -20,12 +21,14 @@ use std::io::Write;
 /// What a search through every order of entries comes to.
 #[derive(Clone, Copy)]
 pub struct Complete<'a> {
-    /// 0 where there is an ending, all are there, all threads ended well, none is looked for, every state can end and
-    /// every fair run ends, and else 1.
+    /// 0 where there is an ending, all are there, all threads ended well, none is looked for, every state can end, every
+    /// fair run ends, and no run has a race or races are allowed, and else 1.
     pub status: u8,
     /// How many states it might meet.
     pub most: u32,
     pub all: &'a Ended<Ending>,
+    /// What is known of races, where that was asked.
+    pub races: Option<RunRaces<'a>>,
     pub found: Option<Found<'a>>,
 }
 
@@ -104,12 +107,14 @@ impl ToJson for Complete<'_> {
 
     fn send<S: Serializer>(&self, alloc: Global, out: &mut S) -> Result<(), S::Error> {
         let all = self.all;
-        out.begin_map(Some(5 + given(&all.liveness) + given(&self.found)))?;
+        let more = given(&all.liveness) + given(&self.found);
+        out.begin_map(Some(5 + count_races(&self.races) + more))?;
         put(alloc, out, "status", &self.status)?;
         put(alloc, out, "verdict", &verdict_of(all.verdict))?;
         put(alloc, out, "states", &all.states)?;
         put(alloc, out, "most", &self.most)?;
         put_list(alloc, out, "endings", all.endings.as_slice())?;
+        put_races(alloc, out, &self.races)?;
         put_if(alloc, out, "liveness", &all.liveness)?;
         put_if(alloc, out, "found", &self.found)?;
         out.end_map()

@@ -12,6 +12,7 @@ ghost use Rattle.report_json.specs.Sent.{SendsField, SendsFields, count};
 use crate::ends::{Outcomes, put_bytes};
 use crate::found::Found;
 use crate::object::{ToJson, put, put_list, send_two, write_line};
+use crate::raced::{RunRaces, count_races, put_races};
 use report_choice::Way;
 use search_endings::Ending;
 use serde::Serializer;
@@ -63,6 +64,9 @@ pub struct Drawn<'a> {
     pub runs: DrawnRuns,
     /// In the order of their first runs.
     pub met: &'a [MetEnding<'a>],
+    /// Where a run with a race is looked for: the race of the one that was found, or that it isn't known, where no run
+    /// that was made has one.
+    pub races: Option<RunRaces<'a>>,
     pub halt: DrawnEnd<'a>,
 }
 
@@ -177,11 +181,12 @@ impl ToJson for Drawn<'_> {
     ghost json = { drawn_json };
 
     fn send<S: Serializer>(&self, alloc: Global, out: &mut S) -> Result<(), S::Error> {
-        out.begin_map(Some(5))?;
+        out.begin_map(Some(5 + count_races(&self.races)))?;
         put(alloc, out, "status", &self.status)?;
         put(alloc, out, "verdict", &verdict_of(&self.halt))?;
         put(alloc, out, "runs", &self.runs)?;
         put_list(alloc, out, "endings", self.met)?;
+        put_races(alloc, out, &self.races)?;
         put_end(alloc, out, &self.halt)?;
         out.end_map()
     }

@@ -2,8 +2,8 @@
 
 use indexmap::IndexSet;
 use report_json::{
-    Complete, Drawn, DrawnEnd, DrawnRuns, Found, FoundAs, RunEnd, RunSize, Shrunk, write_complete,
-    write_drawn,
+    Complete, Coverage, Drawn, DrawnEnd, DrawnRuns, Found, FoundAs, RacingThreads, RunEnd,
+    RunRaces, RunSize, Shrunk, write_complete, write_drawn,
 };
 use search_endings::Ending;
 use search_reach::{Ended, FairCycle, FairRuns, Liveness, Verdict};
@@ -70,6 +70,7 @@ fn a_drawn_run_is_found(rt: HostRuntime) -> Result<(), Fail> {
         status: 1,
         runs,
         met: &[],
+        races: None,
         halt: DrawnEnd::Found(found),
     };
     if !is_drawn(
@@ -82,6 +83,34 @@ fn a_drawn_run_is_found(rt: HostRuntime) -> Result<(), Fail> {
         \"units\":3}],\"pages\":1}}}\n",
     ) {
         return Err(Fail::new("a run is found"));
+    }
+    Ok(())
+}
+
+#[test]
+fn no_drawn_run_has_a_race(rt: HostRuntime) -> Result<(), Fail> {
+    let drawn = Drawn {
+        status: 0,
+        runs: DrawnRuns {
+            made: 1,
+            asked: 2,
+            cut: 0,
+            limit: 1,
+        },
+        met: &[],
+        races: Some(RunRaces::Unknown),
+        halt: DrawnEnd::Told(Coverage {
+            late: 1,
+            singles: 1,
+        }),
+    };
+    if !is_drawn(
+        rt.alloc(),
+        &drawn,
+        "{\"status\":0,\"verdict\":\"told\",\"runs\":{\"made\":1,\"asked\":2,\"cut\":0,\"limit\":1},\"endings\":[],\
+        \"races\":\"unknown\",\"coverage\":{\"late\":1,\"singles\":1}}\n",
+    ) {
+        return Err(Fail::new("no run has a race"));
     }
     Ok(())
 }
@@ -108,12 +137,19 @@ fn gone_through(
 }
 
 /// Whether it is printed so.
-fn is_complete(alloc: Global, all: &Ended<Ending>, found: Option<Found>, text: &str) -> bool {
+fn is_complete(
+    alloc: Global,
+    all: &Ended<Ending>,
+    races: Option<RunRaces>,
+    found: Option<Found>,
+    text: &str,
+) -> bool {
     let mut out = Vec::new(alloc);
     let complete = Complete {
         status: 1,
         most: 1_000_000,
         all,
+        races,
         found,
     };
     write_complete(alloc, &mut out, &complete).is_ok() && out.as_slice() == text.as_bytes()
@@ -142,6 +178,7 @@ fn every_order(rt: HostRuntime) -> Result<(), Fail> {
     if !is_complete(
         alloc,
         &all,
+        None,
         Some(found),
         "{\"status\":1,\"verdict\":\"all\",\"states\":297,\"most\":1000000,\"endings\":[{\"threads\":[{\"thread\":0,\
         \"outcome\":{\"ok\":{\"i32\":2}}}],\"pages\":0}],\"liveness\":{\"endless\":1,\"fair_runs\":\"can go on\",\
@@ -154,9 +191,32 @@ fn every_order(rt: HostRuntime) -> Result<(), Fail> {
         alloc,
         &cut,
         None,
+        None,
         "{\"status\":1,\"verdict\":\"too many states\",\"states\":297,\"most\":1000000,\"endings\":[]}\n",
     ) {
         return Err(Fail::new("too many states"));
+    }
+    Ok(())
+}
+
+#[test]
+fn races_of_every_order(rt: HostRuntime) -> Result<(), Fail> {
+    let alloc = rt.alloc();
+    let all = gone_through(alloc, false, Verdict::All, None)?;
+    for (races, text) in [
+        (RunRaces::Never, "\"races\":\"never\""),
+        (
+            RunRaces::Between(RacingThreads { one: 1, other: 2 }),
+            "\"races\":\"found\",\"race\":{\"thread\":1,\"other_thread\":2}",
+        ),
+        (RunRaces::Unknown, "\"races\":\"unknown\""),
+    ] {
+        let line = format!(in alloc;
+            "{{\"status\":1,\"verdict\":\"all\",\"states\":297,\"most\":1000000,\"endings\":[],{text}}}\n"
+        )?;
+        if !is_complete(alloc, &all, Some(races), None, line.as_str()) {
+            return Err(Fail::new(text));
+        }
     }
     Ok(())
 }

@@ -21,7 +21,7 @@ fn is_atomic_write(log: &[Entry], kinds: &[Kind], thread: u32, at: usize) -> boo
 }
 
 /// The place of a thread's next atomic write behind a place, if it makes one.
-pub(crate) fn next_atomic_write(
+pub fn next_atomic_write(
     log: &[Entry],
     kinds: &[Kind],
     thread: u32,

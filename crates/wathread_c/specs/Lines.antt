@@ -44,6 +44,7 @@ pub record IsSearchText (all : Ended Ending) (most status : ℕ) (line : List �
   pub complete : Complete
   pub all_is : complete.all.now ≡ all
   pub most_is : complete.most ≡ most
+  pub races : complete.races ≡ None
   pub found : complete.found ≡ None
   pub status_said : complete.status ≡ status
   pub few : status ≤ 1

@@ -121,6 +121,7 @@ pub(crate) fn search_line(alloc: Global, all: &Ended<Ending>, most: u32) -> Resu
         status,
         most,
         all,
+        races: None,
         found: None,
     };
     let text = complete_text(alloc, &complete)?;

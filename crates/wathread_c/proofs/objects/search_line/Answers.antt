@@ -7,10 +7,12 @@ returns c = record {
     status = c.status_of-status.result;
     most = c.args.most;
     all = record { ref_ptr = (0, 0); now = c.args.all.now };
+    races = None;
     found = None;
   };
   all_is = refl;
   most_is = refl;
+  races = refl;
   found = refl;
   status_said = refl;
   few = c.status_of-status.ensures.few;

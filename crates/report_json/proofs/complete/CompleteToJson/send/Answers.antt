@@ -5,6 +5,8 @@ use Rattle.report_json.specs.Json.{text, list_of, is_given}
 use Rattle.report_json.specs.Drawn.{ending_json}
 use Rattle.report_json.specs.Found.{found_json}
 use Rattle.report_json.specs.Complete.{liveness_json, complete_fields}
+use Rattle.report_json.specs.Raced.{races_fields}
+use Rattle.report_json.proofs.Fields.{count_more, sent_more}
 use Rattle.report_json.proofs.Sent.{object_sent, count_given, same_field}
 use Rattle.report_json.proofs.complete.CompleteToJson.send.Goals as goal
 
@@ -14,7 +16,9 @@ returns g c =
     let last = is_given (codes "found") found_json complete.found ∷ [] in
     let n_live = count_given (codes "liveness") liveness_json complete.all.now.liveness last in
     let n_found = count_given (codes "found") found_json complete.found [] in
+    let live = is_given (codes "liveness") liveness_json complete.all.now.liveness ∷ last in
+    let n_more = count_more (races_fields complete.races) live in
     let fields = complete_fields complete in
-    let all : 5 + c.given.result + c.given-2.result ≡ count fields = omega (arith, n_live, n_found) in
+    let all : 5 + c.count_races.result + (c.given.result + c.given-2.result) ≡ count fields = omega (arith, n_live, n_found, n_more) in
     on_ok_weaker c.end_map.result (object_sent fields _ _ _ _ _ all c.in_ok-begin_map.ensures
-    (_, c.in_ok-put.ensures, (_, same_field (codes "verdict") _ _ _ _ (ap text c.verdict_of.ensures) c.in_ok-put-2.ensures, (_, c.in_ok-put-3.ensures, (_, c.in_ok-put-4.ensures, (_, same_field (codes "endings") _ _ _ _ (ap (list_of ending_json) c.as_slice.ensures.keys) c.in_ok-put_list.ensures, (_, c.in_ok-put_if.ensures, (_, c.in_ok-put_if-2.ensures, refl)))))))) c.end_map.ensures
+    (_, c.in_ok-put.ensures, (_, same_field (codes "verdict") _ _ _ _ (ap text c.verdict_of.ensures) c.in_ok-put-2.ensures, (_, c.in_ok-put-3.ensures, (_, c.in_ok-put-4.ensures, (_, same_field (codes "endings") _ _ _ _ (ap (list_of ending_json) c.as_slice.ensures.keys) c.in_ok-put_list.ensures, sent_more (races_fields complete.races) live _ _ _ c.in_ok-put_races.ensures (_, c.in_ok-put_if.ensures, (_, c.in_ok-put_if-2.ensures, refl)))))))) c.end_map.ensures

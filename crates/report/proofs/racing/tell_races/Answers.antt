@@ -1,4 +1,0 @@
-use Rattle.report.proofs.racing.tell_races.Goals as goal
-
-pub returns-clause-unfit : goal.returns-clause-unfit
-returns-clause-unfit g c = c.unfit_of.ensures.unfit c.args.module.now.parts c.args.saved.now

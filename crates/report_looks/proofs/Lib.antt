@@ -1,0 +1,2 @@
+mod Silent
+mod RacePairs

@@ -1,0 +1,21 @@
+use Rattle.std.proofs.Common.{sym, subst}
+use Rattle.std.specs.Prelude.{OnOk}
+use Rattle.report_command.specs.declared.form.Form.{Form}
+use Rattle.report_looks.specs.Raced.{TellsIn}
+use Rattle.report_looks.proofs.racing.write_told.Goals as goal
+
+pub returns-in-Lines : goal.returns-in-Lines
+returns-in-Lines g c =
+    let contents = g.W.Write.contents in
+    let before = contents c.args.out.now in
+    let after = contents c.write_races.new.out in
+    subst (λ (form : Form). OnOk c.write_races.result (TellsIn form c.args.shown c.args.story.now c.args.races.now before after)) (sym c.in-Lines.is)
+    c.write_races.ensures
+
+pub returns : goal.returns
+returns g c =
+    let contents = g.W.Write.contents in
+    let before = contents c.args.out.now in
+    let after = contents c.write_pairs.new.out in
+    subst (λ (form : Form). OnOk c.write_pairs.result (TellsIn form c.args.shown c.args.story.now c.args.races.now before after)) (sym c.in-Json.is)
+    c.write_pairs.ensures

@@ -1,0 +1,3 @@
+pub mod RaceObjects
+pub mod Raced
+pub mod Silent

@@ -1,0 +1,121 @@
+-- What is said of the races of a record's run.
+use Rattle.std.specs.Prelude.{ℕ, ◌≡◌, ◌≤◌, ◌⊎◌, Bool, true, false, List, length, Option}
+use Rattle.std.specs.Io.KnownBytes.{Appends}
+use Rattle.types.specs.declared.parts.Parts.{Parts}
+use Rattle.validate_typing.specs.Validity.{IsValid}
+use Rattle.binary.specs.Grammar.{IsModuleText}
+use Rattle.replay_text.specs.declared.parts.RecordParts.{RecordParts}
+use Rattle.replay_text.specs.Text.{IsRecord, record_text}
+use Rattle.spawn_host.specs.declared.end.EndState.{EndState}
+use Rattle.replay.specs.Runs.{IsRunOf}
+use Rattle.race_history.specs.declared.access.Kind.{Kind}
+use Rattle.race_history.specs.declared.race.Race.{Race}
+use Rattle.race_history.specs.Races.{IsLastRace}
+use Rattle.show_rows.specs.declared.rows.Row.{Row}
+use Rattle.show_rows.specs.Listing.{IsStoryOf}
+use Rattle.show_rows.specs.declared.listing.Shown.{Shown}
+use Rattle.show_rows.specs.declared.listing.Story.{Story}
+use Rattle.search_races.specs.Rows.{AreRowsOf, kinds_of}
+use Rattle.show_races.specs.Told.{AreApart, HasNoRace, TellsEach}
+use Rattle.show_races.specs.Written.{SaysRace, TellsRaces}
+use Rattle.show_races.specs.declared.found.Races.{Races}
+use Rattle.report_command.specs.declared.form.Form.{Form}
+use Rattle.report_command.specs.declared.form.Form.TheVariants.{Lines, Json}
+use Rattle.report_jobs.specs.Prints.{WriterChange}
+use Rattle.report_json.specs.declared.races.RacePair.{RacePair}
+use Rattle.report_looks.specs.RaceObjects.{IsPairOf, WritesPairs}
+
+-- The text is that of this record, of a run of the module, and these are its rows.
+pub record IsSeen (m : Parts) (saved : List ℕ) (r : RecordParts) (rows : List (Option Row)) : Type 0 where
+  pub ranges : IsRecord r
+  pub text : saved ≡ record_text r
+  pub end : EndState
+  pub run : IsRunOf m r end
+  pub rows_are : AreRowsOf m r end rows
+
+-- The text is that of a record of a run of the module, in which no two accesses race;
+pub record IsRaceFree (m : Parts) (saved : List ℕ) : Type 0 where
+  pub record_is : RecordParts
+  pub rows : List (Option Row)
+  pub seen : IsSeen m saved record_is rows
+  pub none : HasNoRace record_is.log (kinds_of m record_is rows)
+
+-- or in which two do.
+pub record IsRacy (m : Parts) (saved : List ℕ) : Type 0 where
+  pub record_is : RecordParts
+  pub rows : List (Option Row)
+  pub seen : IsSeen m saved record_is rows
+  pub race : Race
+  pub races : IsLastRace record_is.log (kinds_of m record_is rows) race
+
+-- They are told in lines, or in an object.
+abbrev pub TellsIn : Form → Shown → Story → Races → Option (List ℕ) → Option (List ℕ) → Type 0
+TellsIn Lines shown story races old new = TellsRaces shown story races old new
+TellsIn Json shown story races old new = WritesPairs shown story races old new
+
+-- What was written tells of so many races at most, no two of the same two places of the code, and of each race of the
+-- run at its places, where it isn't said that they are not all.
+pub record WritesRaces (m : Parts) (r : RecordParts) (rows : List (Option Row)) (most : ℕ) (form : Form)
+    (out : WriterChange) : Type 0 where
+  pub shown : Shown
+  pub of_record : shown.record.now ≡ r
+  pub of_rows : shown.rows.now ≡ rows
+  pub of_module : shown.code.now.parts.now ≡ m
+  pub story : Story
+  pub is_story : IsStoryOf shown.record.now.log story
+  pub races : Races
+  pub each : races.is_cut ≡ false → TellsEach shown story races.pairs.items
+  pub once : AreApart shown story races.pairs.items
+  pub few : length races.pairs.items ≤ most
+  pub tells : TellsIn form shown story races out.old out.new
+
+pub record PrintsRaces (most : ℕ) (form : Form) (out : WriterChange) (m : Parts) (saved : List ℕ) : Type 0 where
+  pub record_is : RecordParts
+  pub rows : List (Option Row)
+  pub seen : IsSeen m saved record_is rows
+  pub writes : WritesRaces m record_is rows most form out
+
+-- Whether there are races, as an answer says.
+abbrev pub SaysOf : Parts → List ℕ → Bool → Type 0
+SaysOf m saved true = IsRacy m saved
+SaysOf m saved false = IsRaceFree m saved
+
+abbrev pub OfModule : (Parts → List ℕ → Type 0) → List ℕ → List ℕ → Type 0
+OfModule Is bytes saved = (m : Parts) × IsModuleText bytes m × IsValid m × Is m saved
+
+-- The record of a run of the module as it is shown, with its rows.
+pub record IsShownOf (m : Parts) (r : RecordParts) (rows : List (Option Row)) (shown : Shown) (story : Story) : Type 0 where
+  pub of_record : shown.record.now ≡ r
+  pub of_rows : shown.rows.now ≡ rows
+  pub of_module : shown.code.now.parts.now ≡ m
+  pub is_story : IsStoryOf shown.record.now.log story
+
+-- Two entries of a run's record race, and this is said of them.
+pub record HasPair (m : Parts) (r : RecordParts) (IsSaid : Shown → Story → List Kind → Race → Type 0) : Type 0 where
+  pub rows : List (Option Row)
+  pub end : EndState
+  pub run : IsRunOf m r end
+  pub rows_are : AreRowsOf m r end rows
+  pub shown : Shown
+  pub story : Story
+  pub is_shown : IsShownOf m r rows shown story
+  pub race : Race
+  pub is_race : IsLastRace r.log (kinds_of m r rows) race
+  pub says : IsSaid shown story (kinds_of m r rows) race
+
+-- The text says so in the words of `races`.
+abbrev pub SaysPair : Parts → RecordParts → List ℕ → Type 0
+SaysPair m r text = HasPair m r (λ shown story kinds race. SaysRace shown story kinds race text)
+
+-- An object says so.
+abbrev pub SaysObject : Parts → RecordParts → RacePair → Type 0
+SaysObject m r pair = HasPair m r (λ shown story kinds race. IsPairOf shown story kinds race pair)
+
+-- The one or the other says of two entries of the run that they race.
+abbrev pub SaysRaceIn : Parts → RecordParts → Type 0
+SaysRaceIn m r = ((text : List ℕ) × SaysPair m r text) ⊎ ((pair : RacePair) × SaysObject m r pair)
+
+-- So the first race of a run is written, where it has one.
+abbrev pub WritesPair : Parts → RecordParts → WriterChange → Bool → Type 0
+WritesPair m r out true = (text : List ℕ) × Appends out.old out.new text × SaysPair m r text
+WritesPair m r out false = out.new ≡ out.old

@@ -1,0 +1,78 @@
+//! What is shown of a record as a JSON object.
+ghost use Rattle.report_looks.specs.RaceObjects.{IsOffset, IsPlaceOf, IsRowOf, IsSource};
+
+use report_choice::Look;
+use report_json::{Offset, Place, Row, Source, begin_rows, end_rows, write_row};
+use show_rows::{Shown, Spot, Story, chosen_entries};
+use show_text::Unwritten;
+use std::alloc::Global;
+use std::io::Write;
+use types::Entry;
+
+/// An offset in a function, where it is known.
+fn offset_of(offset: Option<usize>) -> Option<Offset>
+    ensures { IsOffset offset result }
+{
+    match offset {
+        Some(offset) => Some(Offset(offset)),
+        None => None,
+    }
+}
+
+/// A line of source, where it is known.
+fn source_of(source: Option<(&str, u64)>) -> Option<Source<'_>>
+    ensures { IsSource source.entry result }
+{
+    match source {
+        Some((file, line)) => Some(Source { file, line }),
+        None => None,
+    }
+}
+
+/// A place in the code.
+fn place_of(spot: Spot<'_>) -> Place<'_>
+    ensures { IsPlaceOf spot.entry result }
+{
+    Place {
+        function: spot.name,
+        offset: offset_of(spot.offset),
+        source: source_of(spot.source),
+    }
+}
+
+/// The entry at a place in the log.
+pub(crate) fn row_of<'a>(shown: &'a Shown, story: &'a Story, at: usize, entry: &Entry) -> Row<'a>
+    ensures { IsRowOf shown.now story.now at entry.now result }
+{
+    let place = match shown.place_at(story, at) {
+        Some(place) => Some(place_of(shown.code.spot(place))),
+        None => None,
+    };
+    Row {
+        line: shown.line_of(at),
+        words: shown.words_at(story, at, entry),
+        place,
+    }
+}
+
+/// Writes the entries that are chosen as one object, row by row.
+pub(crate) fn write_entries<W: Write>(
+    alloc: Global,
+    shown: Shown,
+    look: &Look,
+    out: &mut W,
+) -> Result<(), Unwritten> {
+    let log = shown.record.log.as_slice();
+    let story = Story::new(alloc, log)?;
+    let places = chosen_entries(alloc, shown, look)?;
+    begin_rows(out)?;
+    let mut is_first = true;
+    for at in places.iter() {
+        if let Some(entry) = log.get(*at) {
+            write_row(alloc, out, is_first, &row_of(&shown, &story, *at, entry))?;
+            is_first = false;
+        }
+    }
+    end_rows(out)?;
+    Ok(())
+}

@@ -1,0 +1,3 @@
+mod RacePairs
+mod Kept
+mod Objected

@@ -1,0 +1,2 @@
+pub mod SearchObjects
+pub mod Written
