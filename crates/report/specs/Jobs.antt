@@ -42,7 +42,7 @@ pub record Searches (bytes : List ℕ) (s : Search) (out save : WriterChange) (s
 
 -- What the status of a job says: of one that is no show and no search, what it says of a plain job.
 abbrev pub Performs : Job → List ℕ → List ℕ → Written → ℕ → Type 0
-Performs (Show file record_path names look at) bytes saved w status = Shows bytes saved status
+Performs (Show file record_path names how) bytes saved w status = Shows bytes saved status
 Performs (jobs.Races job) bytes saved w status = TellsRaces bytes saved job.most job.form w.out status
 Performs (jobs.Search s) bytes saved w status = Searches bytes s w.out w.save status
 Performs job bytes saved w status = PerformsPlain job bytes saved w status

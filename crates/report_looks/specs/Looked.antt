@@ -1,0 +1,98 @@
+-- What is asked for of a record's run, and what is printed of it.
+use Rattle.std.specs.Prelude.{ℕ, ◌≡◌, ◌+◌, ◌-◌, min, Bool, true, false, List, length, position}
+use Rattle.std.specs.Prelude.{Option, Some, None}
+use Rattle.std.specs.List.{slice_get}
+use Rattle.types.specs.declared.parts.Parts.{Parts}
+use Rattle.types.specs.declared.event.Entry.{Entry}
+use Rattle.types.specs.declared.event.Event.{Event}
+use Rattle.types.specs.declared.event.Event.TheVariants.{Ask}
+use Rattle.types.specs.declared.event.Question.TheVariants.{Leave}
+use Rattle.types.specs.declared.outcome.Outcome.{Outcome}
+use Rattle.types.specs.declared.outcome.Outcome.TheVariants as outcomes
+use Rattle.types.specs.declared.outcome.ThreadReport.{ThreadReport}
+use Rattle.replay_text.specs.declared.parts.RecordParts.{RecordParts}
+use Rattle.replay_text.specs.Versions.{header_count}
+use Rattle.report_choice.specs.declared.choice.Span.{Span}
+use Rattle.report_choice.specs.Choices.{span_of}
+use Rattle.report_command.specs.declared.places.Data.{Data}
+use Rattle.report_command.specs.declared.places.Data.TheVariants.{At, Named}
+use Rattle.report_command.specs.declared.places.When.{When}
+use Rattle.report_command.specs.declared.places.When.TheVariants.{Line, End, Trap}
+use Rattle.report_command.specs.declared.show.LastWrite.{LastWrite}
+use Rattle.report_command.specs.declared.show.View.{View}
+use Rattle.report_command.specs.declared.show.View.TheVariants as views
+use Rattle.report_jobs.specs.Prints.{WriterChange}
+use Rattle.show_data.specs.declared.place.Place.{Place}
+use Rattle.show_data.specs.Within.{IsWithinOne}
+use Rattle.show_rows.specs.declared.code.CodeMap.{CodeMap}
+use Rattle.show_rows.specs.declared.rows.Row.{Row}
+use Rattle.show_rows.specs.declared.listing.Shown.{Shown}
+use Rattle.show_rows.specs.declared.listing.Story.{Story}
+use Rattle.show_waits.specs.Lasts.{WritesLast}
+use Rattle.report_looks.specs.declared.wanted.Here.{Here}
+use Rattle.report_looks.specs.declared.wanted.Wanted.{Wanted}
+use Rattle.report_looks.specs.declared.wanted.Wanted.TheVariants as wanted
+use Rattle.report_looks.specs.Raced.{IsSeen, IsShownOf}
+
+abbrev pub is_trap : Outcome → Bool
+is_trap (outcomes.Trap trap) = true
+is_trap (outcomes.Stop stop) = false
+is_trap (outcomes.Done value) = false
+
+abbrev pub has_trapped : Option ThreadReport → Bool
+has_trapped (Some report) = is_trap report.outcome
+has_trapped None = false
+
+abbrev pub leaves_so : Event → Option ThreadReport → Bool
+leaves_so (Ask Leave) report = has_trapped report
+leaves_so event report = false
+
+-- A thread that trapped leaves.
+abbrev pub leaves_trapped : List ThreadReport → Entry → Bool
+leaves_trapped ends e = leaves_so e.event (slice_get ends e.thread)
+
+-- The place of the log that a moment stands before: that of the entry on a line, behind the last entry, or that of the
+-- first thread's leave that trapped, if one did.
+abbrev pub place_in : RecordParts → When → Option ℕ
+place_in r (Line line) = Some (min (line - (header_count r.version + 1)) (length r.log))
+place_in r End = Some (length r.log)
+place_in r Trap = position (leaves_trapped r.ends) r.log
+
+-- The addresses are those, or all of the bytes of static data that words name.
+abbrev pub AreAddresses : CodeMap → Data → Span → Type 0
+AreAddresses code (At addrs) span = span ≡ addrs
+AreAddresses code (Named words) span = (place : Place) × IsWithinOne code.data.items.items place
+    × (span ≡ span_of place.start place.size)
+
+-- What is wanted of a view, with addresses and places of this record.
+abbrev pub IsWanted : RecordParts → CodeMap → View → Wanted → Type 0
+IsWanted r code (views.Write write) w = (addrs : Span) × (before : ℕ) × (w ≡ wanted.Write addrs before)
+    × AreAddresses code write.bytes addrs × (place_in r write.before ≡ Some before)
+IsWanted r code (views.Moment at) w = (here : Here) × (w ≡ wanted.Moment here) × (place_in r at.when ≡ Some here.place)
+IsWanted r code view w = w ≡ wanted.Entries view
+
+-- Of a write that is sought the words of the last entry are printed that writes there, or that none does.
+abbrev pub PrintsWanted : Parts → RecordParts → List (Option Row) → CodeMap → Wanted → Option (List ℕ) → Option (List ℕ) → Type 0
+PrintsWanted m r rows code (wanted.Write addrs before) old new = (shown : Shown) × (story : Story)
+    × IsShownOf m r rows shown story × (shown.code.now ≡ code) × WritesLast shown story before addrs old new
+PrintsWanted m r rows code w old new = Unit {0}
+
+-- The same of a record's text: it is of a run of the module, these are the bytes that are asked for, and this is the place
+-- before which the write is sought.
+pub record PrintsLast (write : LastWrite) (out : WriterChange) (m : Parts) (saved : List ℕ) : Type 0 where
+  pub record_is : RecordParts
+  pub rows : List (Option Row)
+  pub seen : IsSeen m saved record_is rows
+  pub shown : Shown
+  pub story : Story
+  pub is_shown : IsShownOf m record_is rows shown story
+  pub addrs : Span
+  pub asked : AreAddresses shown.code.now write.bytes addrs
+  pub before : ℕ
+  pub stands : place_in record_is write.before ≡ Some before
+  pub writes : WritesLast shown story before addrs out.old out.new
+
+-- What is printed of a view. Of rows, moments, pages, traces and objects nothing is said here.
+abbrev pub PrintsView : View → WriterChange → Parts → List ℕ → Type 0
+PrintsView (views.Write write) out m saved = PrintsLast write out m saved
+PrintsView view out m saved = Unit {0}

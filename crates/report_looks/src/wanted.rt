@@ -1,0 +1,179 @@
+//! What is asked for of a record, with its own places and addresses; or why it has no such thing.
+ghost use Rattle.std.specs.Prelude.{◌≡◌, IfOk, MatchOption, position};
+ghost use Rattle.report_looks.specs.Looked as looked;
+ghost use Rattle.report_looks.specs.Looked.{AreAddresses, IsWanted, leaves_trapped};
+
+use replay_text::RecordParts;
+use report_choice::Span;
+use report_command::{At, Data, LastWrite, View, When};
+use report_jobs::Unfit;
+use show_data::{Place, Sought};
+use show_moments::Bytes;
+use show_rows::CodeMap;
+use std::alloc::{AllocError, Global};
+use std::fmt::{self, Formatter, Write};
+use types::{Entry, Event, Outcome, Question, ThreadReport};
+
+/// What a record of a run has not that is asked for.
+#[derive(Clone, Copy, PartialEq, Eq, Debug)]
+pub(crate) enum Absent {
+    /// No static data has the name, or the module has no debug section.
+    NoData,
+    /// Data at different places has it.
+    SeveralData,
+    /// No thread trapped.
+    NoTrap,
+}
+
+impl fmt::Display for Absent {
+    fn fmt<W: Write>(&self, f: &mut Formatter<W>) -> fmt::Result {
+        f.write_str(match self {
+            Absent::NoData => "no static data of this name; a debug section has names",
+            Absent::SeveralData => "data at several addresses has this name",
+            Absent::NoTrap => "no thread trapped",
+        })
+    }
+}
+
+/// Why nothing is shown.
+#[derive(Drop)]
+pub(crate) enum Unshown {
+    Unfit(Unfit),
+    Absent(Absent),
+}
+
+impl From<AllocError> for Unshown {
+    fn from(_: AllocError) -> Unshown {
+        Unshown::Unfit(Unfit::NoMemory)
+    }
+}
+
+/// A moment of a record: how many entries are before it, whether it is the end, and the bytes that are shown of it.
+#[derive(Clone, Copy)]
+pub(crate) struct Here {
+    pub place: usize,
+    pub is_end: bool,
+    pub bytes: Bytes,
+}
+
+/// What is shown of a record.
+#[derive(Clone, Copy)]
+pub(crate) enum Wanted<'a> {
+    /// Its entries, in the form of this view.
+    Entries(View<'a>),
+    /// A moment of it.
+    Moment(Here),
+    /// The last entry before the one of this place that writes a byte at these addresses.
+    Write { addrs: Span, before: usize },
+}
+
+/// Whether a thread leaves that trapped.
+fn leaves_trapped(ends: &[ThreadReport], entry: &Entry) -> bool
+    ensures { result ≡ looked.leaves_trapped ends.now entry.now }
+{
+    let Event::Ask(Question::Leave) = entry.event else {
+        return false;
+    };
+    match ends.get(entry.thread as usize) {
+        Some(report) => matches!(report.outcome, Outcome::Trap(_)),
+        None => false,
+    }
+}
+
+/// The place of the first entry by which a thread leaves that trapped.
+fn first_trap(log: &[Entry], ends: &[ThreadReport]) -> Option<usize>
+    ensures { result ≡ position (leaves_trapped ends.now) log.now }
+{
+    log.iter().position(|entry| leaves_trapped(ends, entry))
+}
+
+/// How many entries of a record stand before a moment; `None` where it has no such moment.
+pub(crate) fn place_in(parts: &RecordParts, when: When) -> Option<usize>
+    ensures { result ≡ looked.place_in parts.now when }
+{
+    let log = parts.log.as_slice();
+    match when {
+        When::Line(line) => {
+            let first = parts.version.header_lines() + 1;
+            let line = usize::try_from(line).unwrap_or(usize::MAX);
+            Some(line.saturating_sub(first).min(log.len()))
+        }
+        When::End => Some(log.len()),
+        When::Trap => first_trap(log, parts.ends.as_slice()),
+    }
+}
+
+/// The addresses of bytes.
+fn addresses_of(place: Place) -> Span
+    ensures { result ≡ span_of place.start place.size }
+{
+    Span {
+        first: place.start,
+        last: place.start.saturating_add(place.size.saturating_sub(1)),
+    }
+}
+
+/// The addresses of data.
+pub(crate) fn span_of(alloc: Global, code: &CodeMap, data: Data) -> Result<Span, Unshown>
+    ensures { IfOk result (AreAddresses code.now «data».entry) }
+{
+    let words = match data {
+        Data::At(addrs) => return Ok(addrs),
+        Data::Named(words) => words,
+    };
+    match code.data_named(alloc, words)? {
+        Sought::One(place) => Ok(addresses_of(place)),
+        Sought::Nothing => Err(Unshown::Absent(Absent::NoData)),
+        Sought::Several => Err(Unshown::Absent(Absent::SeveralData)),
+    }
+}
+
+/// The write that is sought.
+fn write_of<'a>(
+    alloc: Global,
+    parts: &RecordParts,
+    code: &CodeMap,
+    write: LastWrite<'a>,
+) -> Result<Wanted<'a>, Unshown>
+    ensures { IfOk result (IsWanted parts.now code.now (views.Write write.entry)) }
+{
+    let addrs = span_of(alloc, code, write.bytes)?;
+    match place_in(parts, write.before) {
+        Some(before) => Ok(Wanted::Write { addrs, before }),
+        None => Err(Unshown::Absent(Absent::NoTrap)),
+    }
+}
+
+/// The moment that is asked for.
+fn moment_of<'a>(parts: &RecordParts, at: At) -> Result<Wanted<'a>, Unshown>
+    ensures { IfOk result (λ w. (code : CodeMap) → IsWanted parts.now code (views.Moment at) w) }
+{
+    let Some(place) = place_in(parts, at.when) else {
+        return Err(Unshown::Absent(Absent::NoTrap));
+    };
+    Ok(Wanted::Moment(Here {
+        place,
+        is_end: at.when == When::End,
+        bytes: Bytes {
+            addr: at.addr,
+            count: at.count,
+        },
+    }))
+}
+
+/// What is shown of a record, by what is asked for.
+pub(crate) fn wanted_of<'a>(
+    alloc: Global,
+    parts: &RecordParts,
+    code: &CodeMap,
+    view: View<'a>,
+) -> Result<Wanted<'a>, Unshown>
+    ensures wanted { IfOk result (IsWanted parts.now code.now view.entry) }
+    ensures why { IfErr result IsAbsent }
+{
+    match view {
+        View::Write(write) => write_of(alloc, parts, code, write),
+        View::Moment(at) => moment_of(parts, at),
+        entries => Ok(Wanted::Entries(entries)),
+    }
+}
