@@ -1,6 +1,6 @@
 -- What is asked for of a record's run, and what is printed of it.
 use Rattle.std.specs.Prelude.{ℕ, ◌≡◌, ◌+◌, ◌-◌, min, Bool, true, false, List, length, position}
-use Rattle.std.specs.Prelude.{Option, Some, None}
+use Rattle.std.specs.Prelude.{Option, Some, None, MatchOption}
 use Rattle.std.specs.List.{slice_get}
 use Rattle.types.specs.declared.parts.Parts.{Parts}
 use Rattle.types.specs.declared.event.Entry.{Entry}
@@ -12,6 +12,7 @@ use Rattle.types.specs.declared.outcome.Outcome.TheVariants as outcomes
 use Rattle.types.specs.declared.outcome.ThreadReport.{ThreadReport}
 use Rattle.replay_text.specs.declared.parts.RecordParts.{RecordParts}
 use Rattle.replay_text.specs.Versions.{header_count}
+use Rattle.report_choice.specs.declared.choice.Look.{Look}
 use Rattle.report_choice.specs.declared.choice.Span.{Span}
 use Rattle.report_choice.specs.Choices.{span_of}
 use Rattle.report_command.specs.declared.places.Data.{Data}
@@ -19,6 +20,7 @@ use Rattle.report_command.specs.declared.places.Data.TheVariants.{At, Named}
 use Rattle.report_command.specs.declared.places.When.{When}
 use Rattle.report_command.specs.declared.places.When.TheVariants.{Line, End, Trap}
 use Rattle.report_command.specs.declared.show.LastWrite.{LastWrite}
+use Rattle.report_command.specs.declared.show.ShowLook.{ShowLook}
 use Rattle.report_command.specs.declared.show.View.{View}
 use Rattle.report_command.specs.declared.show.View.TheVariants as views
 use Rattle.report_jobs.specs.Prints.{WriterChange}
@@ -28,11 +30,13 @@ use Rattle.show_rows.specs.declared.code.CodeMap.{CodeMap}
 use Rattle.show_rows.specs.declared.rows.Row.{Row}
 use Rattle.show_rows.specs.declared.listing.Shown.{Shown}
 use Rattle.show_rows.specs.declared.listing.Story.{Story}
+use Rattle.show_rows.specs.Listing.{IsStoryOf}
 use Rattle.show_waits.specs.Lasts.{WritesLast}
+use Rattle.report_looks.specs.declared.wanted.Asked.{Asked}
 use Rattle.report_looks.specs.declared.wanted.Here.{Here}
 use Rattle.report_looks.specs.declared.wanted.Wanted.{Wanted}
 use Rattle.report_looks.specs.declared.wanted.Wanted.TheVariants as wanted
-use Rattle.report_looks.specs.Raced.{IsSeen, IsShownOf}
+use Rattle.report_looks.specs.Raced.{IsSeen}
 
 abbrev pub is_trap : Outcome → Bool
 is_trap (outcomes.Trap trap) = true
@@ -71,10 +75,35 @@ IsWanted r code (views.Write write) w = (addrs : Span) × (before : ℕ) × (w �
 IsWanted r code (views.Moment at) w = (here : Here) × (w ≡ wanted.Moment here) × (place_in r at.when ≡ Some here.place)
 IsWanted r code view w = w ≡ wanted.Entries view
 
--- Of a write that is sought the words of the last entry are printed that writes there, or that none does.
+-- The addresses at which entries are chosen: those that are asked for, or those of the data of a name.
+abbrev pub AreChosen : CodeMap → ShowLook → Option Span → Type 0
+AreChosen code how addrs = MatchOption how.named (addrs ≡ how.look.choice.addrs)
+    (λ words. (span : Span) × (addrs ≡ Some span) × AreAddresses code (Named words) span)
+
+-- A look that differs in the addresses alone.
+pub record IsLookWith (look : Look) (addrs : Option Span) (new : Look) : Type 0 where
+  pub lines : new.choice.lines ≡ look.choice.lines
+  pub threads : new.choice.threads.items ≡ look.choice.threads.items
+  pub addrs_are : new.choice.addrs ≡ addrs
+  pub width : new.width ≡ look.width
+  pub color : new.color ≡ look.color
+
+-- What is shown of a record, and how.
+pub record IsAsked (r : RecordParts) (code : CodeMap) (how : ShowLook) (asked : Asked) : Type 0 where
+  pub wanted_is : IsWanted r code how.view asked.wanted
+  pub addrs : Option Span
+  pub chosen : AreChosen code how addrs
+  pub look_is : IsLookWith how.look addrs asked.look
+
+-- The words of the last entry before a place that writes there are written, or that none does.
+abbrev pub WritesLastOf : Shown → ℕ → Span → Option (List ℕ) → Option (List ℕ) → Type 0
+WritesLastOf shown before addrs old new = (story : Story) × IsStoryOf shown.record.now.log story
+    × WritesLast shown story before addrs old new
+
+-- So it is of a write that is sought.
 abbrev pub PrintsWanted : Parts → RecordParts → List (Option Row) → CodeMap → Wanted → Option (List ℕ) → Option (List ℕ) → Type 0
-PrintsWanted m r rows code (wanted.Write addrs before) old new = (shown : Shown) × (story : Story)
-    × IsShownOf m r rows shown story × (shown.code.now ≡ code) × WritesLast shown story before addrs old new
+PrintsWanted m r rows code (wanted.Write addrs before) old new = (shown : Shown) × (shown.record.now ≡ r)
+    × (shown.rows.now ≡ rows) × (shown.code.now ≡ code) × (code.parts.now ≡ m) × WritesLastOf shown before addrs old new
 PrintsWanted m r rows code w old new = Unit {0}
 
 -- The same of a record's text: it is of a run of the module, these are the bytes that are asked for, and this is the place
@@ -84,13 +113,14 @@ pub record PrintsLast (write : LastWrite) (out : WriterChange) (m : Parts) (save
   pub rows : List (Option Row)
   pub seen : IsSeen m saved record_is rows
   pub shown : Shown
-  pub story : Story
-  pub is_shown : IsShownOf m record_is rows shown story
+  pub of_record : shown.record.now ≡ record_is
+  pub of_rows : shown.rows.now ≡ rows
+  pub of_module : shown.code.now.parts.now ≡ m
   pub addrs : Span
   pub asked : AreAddresses shown.code.now write.bytes addrs
   pub before : ℕ
   pub stands : place_in record_is write.before ≡ Some before
-  pub writes : WritesLast shown story before addrs out.old out.new
+  pub writes : WritesLastOf shown before addrs out.old out.new
 
 -- What is printed of a view. Of rows, moments, pages, traces and objects nothing is said here.
 abbrev pub PrintsView : View → WriterChange → Parts → List ℕ → Type 0

@@ -30,3 +30,8 @@ IfUnshown (unshown.Absent absent) P = P
 abbrev pub IsUnshown : Parts → List ℕ → Unshown → Type 0
 IsUnshown m saved (unshown.Unfit unfit) = IsUnfit m saved unfit
 IsUnshown m saved (unshown.Absent absent) = IsOfRun m saved
+
+-- No record is refused by this.
+abbrev pub IsUnrefused : Unshown → Type 0
+IsUnrefused (unshown.Unfit unfit) = IsNoRefusal unfit
+IsUnrefused (unshown.Absent absent) = Unit {0}

@@ -8,10 +8,13 @@
 //! write of the first one's thread.
 #![tactic(auto)]
 
+mod ends;
 mod objects;
 mod pairing;
+mod printing;
 mod racing;
 mod showing;
+mod wanted;
 
 pub use pairing::pair_of;
 pub use racing::races_saved;

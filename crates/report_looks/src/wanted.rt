@@ -1,11 +1,15 @@
 //! What is asked for of a record, with its own places and addresses; or why it has no such thing.
-ghost use Rattle.std.specs.Prelude.{◌≡◌, IfOk, MatchOption, position};
+ghost use Rattle.std.specs.Prelude.{◌≡◌, IfErr, IfOk, position};
+ghost use Rattle.report_choice.specs.Choices as chosen;
+ghost use Rattle.report_command.specs.declared.show.View.TheVariants as views;
+ghost use Rattle.show_rows.specs.declared.code.CodeMap.{CodeMap};
 ghost use Rattle.report_looks.specs.Looked as looked;
-ghost use Rattle.report_looks.specs.Looked.{AreAddresses, IsWanted, leaves_trapped};
+ghost use Rattle.report_looks.specs.Looked.{AreAddresses, AreChosen, IsAsked, IsLookWith, IsWanted};
+ghost use Rattle.report_looks.specs.Silent.{IsUnrefused};
 
 use replay_text::RecordParts;
-use report_choice::Span;
-use report_command::{At, Data, LastWrite, View, When};
+use report_choice::{Choice, Look, Span};
+use report_command::{At, Data, LastWrite, ShowLook, View, When};
 use report_jobs::Unfit;
 use show_data::{Place, Sought};
 use show_moments::Bytes;
@@ -42,18 +46,19 @@ pub(crate) enum Unshown {
     Absent(Absent),
 }
 
-impl From<AllocError> for Unshown {
-    fn from(_: AllocError) -> Unshown {
-        Unshown::Unfit(Unfit::NoMemory)
-    }
-}
-
 /// A moment of a record: how many entries are before it, whether it is the end, and the bytes that are shown of it.
 #[derive(Clone, Copy)]
 pub(crate) struct Here {
     pub place: usize,
     pub is_end: bool,
     pub bytes: Bytes,
+}
+
+/// What is shown of a record, and how.
+#[derive(Drop)]
+pub(crate) struct Asked<'a> {
+    pub wanted: Wanted<'a>,
+    pub look: Look,
 }
 
 /// What is shown of a record.
@@ -82,7 +87,7 @@ fn leaves_trapped(ends: &[ThreadReport], entry: &Entry) -> bool
 
 /// The place of the first entry by which a thread leaves that trapped.
 fn first_trap(log: &[Entry], ends: &[ThreadReport]) -> Option<usize>
-    ensures { result ≡ position (leaves_trapped ends.now) log.now }
+    ensures { result ≡ position (looked.leaves_trapped ends.now) log.now }
 {
     log.iter().position(|entry| leaves_trapped(ends, entry))
 }
@@ -105,7 +110,7 @@ pub(crate) fn place_in(parts: &RecordParts, when: When) -> Option<usize>
 
 /// The addresses of bytes.
 fn addresses_of(place: Place) -> Span
-    ensures { result ≡ span_of place.start place.size }
+    ensures { result ≡ chosen.span_of place.start place.size }
 {
     Span {
         first: place.start,
@@ -115,16 +120,18 @@ fn addresses_of(place: Place) -> Span
 
 /// The addresses of data.
 pub(crate) fn span_of(alloc: Global, code: &CodeMap, data: Data) -> Result<Span, Unshown>
-    ensures { IfOk result (AreAddresses code.now «data».entry) }
+    ensures addresses { IfOk result (AreAddresses code.now «data».entry) }
+    ensures why { IfErr result IsUnrefused }
 {
     let words = match data {
         Data::At(addrs) => return Ok(addrs),
         Data::Named(words) => words,
     };
-    match code.data_named(alloc, words)? {
-        Sought::One(place) => Ok(addresses_of(place)),
-        Sought::Nothing => Err(Unshown::Absent(Absent::NoData)),
-        Sought::Several => Err(Unshown::Absent(Absent::SeveralData)),
+    match code.data_named(alloc, words) {
+        Ok(Sought::One(place)) => Ok(addresses_of(place)),
+        Ok(Sought::Nothing) => Err(Unshown::Absent(Absent::NoData)),
+        Ok(Sought::Several) => Err(Unshown::Absent(Absent::SeveralData)),
+        Err(_) => Err(Unshown::Unfit(Unfit::NoMemory)),
     }
 }
 
@@ -135,9 +142,13 @@ fn write_of<'a>(
     code: &CodeMap,
     write: LastWrite<'a>,
 ) -> Result<Wanted<'a>, Unshown>
-    ensures { IfOk result (IsWanted parts.now code.now (views.Write write.entry)) }
+    ensures wanted { IfOk result (IsWanted parts.now code.now (views.Write write.entry)) }
+    ensures why { IfErr result IsUnrefused }
 {
-    let addrs = span_of(alloc, code, write.bytes)?;
+    let addrs = match span_of(alloc, code, write.bytes) {
+        Ok(addrs) => addrs,
+        Err(why) => return Err(why),
+    };
     match place_in(parts, write.before) {
         Some(before) => Ok(Wanted::Write { addrs, before }),
         None => Err(Unshown::Absent(Absent::NoTrap)),
@@ -146,7 +157,8 @@ fn write_of<'a>(
 
 /// The moment that is asked for.
 fn moment_of<'a>(parts: &RecordParts, at: At) -> Result<Wanted<'a>, Unshown>
-    ensures { IfOk result (λ w. (code : CodeMap) → IsWanted parts.now code (views.Moment at) w) }
+    ensures wanted { IfOk result (λ w. (code : CodeMap) → IsWanted parts.now code (views.Moment at) w) }
+    ensures why { IfErr result IsUnrefused }
 {
     let Some(place) = place_in(parts, at.when) else {
         return Err(Unshown::Absent(Absent::NoTrap));
@@ -162,18 +174,72 @@ fn moment_of<'a>(parts: &RecordParts, at: At) -> Result<Wanted<'a>, Unshown>
 }
 
 /// What is shown of a record, by what is asked for.
-pub(crate) fn wanted_of<'a>(
+fn wanted_of<'a>(
     alloc: Global,
     parts: &RecordParts,
     code: &CodeMap,
     view: View<'a>,
 ) -> Result<Wanted<'a>, Unshown>
     ensures wanted { IfOk result (IsWanted parts.now code.now view.entry) }
-    ensures why { IfErr result IsAbsent }
+    ensures why { IfErr result IsUnrefused }
 {
     match view {
         View::Write(write) => write_of(alloc, parts, code, write),
         View::Moment(at) => moment_of(parts, at),
         entries => Ok(Wanted::Entries(entries)),
+    }
+}
+
+/// The addresses at which entries are chosen, if some are.
+fn chosen_addresses(alloc: Global, code: &CodeMap, how: &ShowLook) -> Result<Option<Span>, Unshown>
+    ensures addresses { IfOk result (AreChosen code.now how.now) }
+    ensures why { IfErr result IsUnrefused }
+{
+    let Some(words) = how.named else {
+        return Ok(how.look.choice.addrs);
+    };
+    match span_of(alloc, code, Data::Named(words)) {
+        Ok(span) => Ok(Some(span)),
+        Err(why) => Err(why),
+    }
+}
+
+/// The same look, with these addresses.
+fn look_with(alloc: Global, look: &Look, addrs: Option<Span>) -> Result<Look, AllocError>
+    ensures { IfOk result (IsLookWith look.now addrs) }
+{
+    let threads = Vec::from_slice(alloc, look.choice.threads.as_slice())?;
+    Ok(Look {
+        choice: Choice {
+            lines: look.choice.lines,
+            threads,
+            addrs,
+        },
+        width: look.width,
+        color: look.color,
+    })
+}
+
+/// What is shown of a record, and how, by what is asked for.
+pub(crate) fn asked_of<'a>(
+    alloc: Global,
+    parts: &RecordParts,
+    code: &CodeMap,
+    how: &ShowLook<'a>,
+) -> Result<Asked<'a>, Unshown>
+    ensures asked { IfOk result (IsAsked parts.now code.now how.now) }
+    ensures why { IfErr result IsUnrefused }
+{
+    let wanted = match wanted_of(alloc, parts, code, how.view) {
+        Ok(wanted) => wanted,
+        Err(why) => return Err(why),
+    };
+    let addrs = match chosen_addresses(alloc, code, how) {
+        Ok(addrs) => addrs,
+        Err(why) => return Err(why),
+    };
+    match look_with(alloc, &how.look, addrs) {
+        Ok(look) => Ok(Asked { wanted, look }),
+        Err(_) => Err(Unshown::Unfit(Unfit::NoMemory)),
     }
 }

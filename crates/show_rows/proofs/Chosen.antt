@@ -41,8 +41,8 @@ keeps_same (Some a) = refl
 
 entry_behind : (shown : Shown) (story : Story) (at : ℕ) (a b c : Option (List ℕ)) → Keeps a b
     → AddsEntry shown story at b c → AddsEntry shown story at a c
-entry_behind shown story at a b c k (colored, row, says, text, named, wrote) =
-    (colored, row, says, text, named, (wrote.0, keeps_then a b c _ k wrote.1))
+entry_behind shown story at a b c k (colored, row, says, wrote) =
+    (colored, row, says, (wrote.0, keeps_then a b c _ k wrote.1))
 
 pub one_more : (shown : Shown) (story : Story) (ats : List ℕ) (at : ℕ) (a b c : Option (List ℕ))
     → AddsEntries shown story ats a b → AddsEntry shown story at b c → AddsEntries shown story (ats ++ at ∷ []) a c

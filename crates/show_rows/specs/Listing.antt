@@ -1,5 +1,5 @@
 -- What is written of a record: a row for each entry that is chosen.
-use Rattle.std.specs.Prelude.{ℕ, ◌≡◌, ◌+◌, ◌-◌, ◌^◌, min, Bool, false, List, [], ◌∷◌, ◌++◌, length, map, filter}
+use Rattle.std.specs.Prelude.{ℕ, ◌≡◌, ◌+◌, ◌-◌, ◌^◌, min, Bool, false, List, [], ◌∷◌, length, map, filter}
 use Rattle.std.specs.Prelude.{Option, Some, None, option_map, option_and_then, unwrap_or}
 use Rattle.std.specs.List.{slice_get, enumerate_from}
 use Rattle.std.specs.Io.KnownBytes.{Keeps}
@@ -28,7 +28,6 @@ use Rattle.show_rows.specs.declared.code.CodeMap.{CodeMap}
 use Rattle.show_rows.specs.declared.listing.Shown.{Shown}
 use Rattle.show_rows.specs.declared.listing.Story.{Story}
 use Rattle.show_rows.specs.Spots.{IsSpotOf, is_atomic, spot_text}
-use Rattle.show_rows.specs.DataNames.{IsDataText}
 
 -- The line of the record that has the entry at a place.
 abbrev pub line_at : Shown → ℕ → ℕ
@@ -99,19 +98,10 @@ pub record Says (shown : Shown) (story : Story) (at : ℕ) (row : RowText) : Typ
   pub words : row.words ≡ words_text said
   pub place : IsPlaceText shown.code.now (place_of shown story at) row.place
 
--- The name of an entry's data.
-abbrev pub IsDataAt : Shown → ℕ → List ℕ → Type 0
-IsDataAt shown at text = (made : Entry) × (slice_get shown.record.now.log at ≡ Some made)
-    × IsDataText shown.code.now made.event text
-
--- A row with the name of the data behind its words, which are otherwise as they are.
-abbrev pub with_data : RowText → List ℕ → RowText
-with_data row text = record row { words = row.words ++ text }
-
--- What is written is a row that says so of the entry at a place, with the name of its data.
+-- What is written is a row that says so of the entry at a place.
 abbrev pub AddsEntry : Shown → Story → ℕ → Option (List ℕ) → Option (List ℕ) → Type 0
-AddsEntry shown story at old new = (is_colored : Bool) × (row : RowText) × Says shown story at row
-    × (text : List ℕ) × IsDataAt shown at text × AddsRow is_colored (with_data row text) old new
+AddsEntry shown story at old new =
+    (is_colored : Bool) × (row : RowText) × Says shown story at row × AddsRow is_colored row old new
 
 -- What is written is a row for each of these places, in order, and nothing else.
 abbrev pub AddsEntries : Shown → Story → List ℕ → Option (List ℕ) → Option (List ℕ) → Type 0

@@ -1,25 +1,18 @@
 //! What is known of a module's code: where its instructions are, what its functions are called, and their lines of
 //! source.
 
-ghost use Rattle.std.specs.Prelude.{◌≡◌, ◌^◌, ◌-◌, min, count_by, option_map, find, string_bytes, IfOk, IsSome, OnSome};
+ghost use Rattle.std.specs.Prelude.{◌≡◌, ◌^◌, ◌-◌, min, count_by, option_map, IfOk};
 ghost use Rattle.show_places.specs.Names.{IsNames};
-ghost use Rattle.show_units.specs.Spans.{holds};
-ghost use Rattle.show_data.specs.Within.{NamesWithin};
 ghost use Rattle.show_rows.specs.Spots as specified;
 ghost use Rattle.show_rows.specs.Spots.{IsSpotOf, AreBodies, is_function_import, range_at};
-ghost use Rattle.show_rows.specs.DataNames.{IsDataText};
 
 use crate::spot::Spot;
 use binary_wire::ReadFault;
 use interp::CodePlace;
-use report_choice::touched;
-use show_data::{Sought, name_at, place_of, read_data};
 use show_lines::{DebugSections, LineTable, read_lines};
 use show_places::{BodyPlaces, Named, code_places, function_name, read_names, section_of};
-use show_text::Plain;
-use show_units::{InfoSections, Spans, Units, read_units};
 use std::alloc::{AllocError, Global};
-use types::{Event, Import, ImportDesc, Instr, Parts, PlainInstr, Sequence};
+use types::{Import, ImportDesc, Instr, Parts, PlainInstr, Sequence};
 
 /// The code of a module, and what a file says of it that may be another build of the same code.
 #[derive(Drop)]
@@ -31,9 +24,6 @@ pub struct CodeMap<'m, 'n> {
     named_bodies: Sequence<BodyPlaces>,
     names: Sequence<Named>,
     lines: LineTable<'n>,
-    /// What its debug section says of its data, and where that is.
-    units: Units<'n>,
-    data: Spans,
     /// How many functions are imported.
     imported: u32,
 }
@@ -87,16 +77,12 @@ impl<'m, 'n> CodeMap<'m, 'n> {
         ensures bodies { IfOk result (λ c. AreBodies bytes.now c.bodies) }
         ensures named_bodies { IfOk result (λ c. AreBodies names.now c.named_bodies) }
     {
-        let units = read_units(alloc, InfoSections::of(names))?;
-        let data = read_data(alloc, &units)?;
         Ok(CodeMap {
             parts,
             bodies: bodies_of(alloc, bytes)?,
             named_bodies: bodies_of(alloc, names)?,
             names: read_names(alloc, names)?,
             lines: read_lines(alloc, DebugSections::of(names))?,
-            units,
-            data,
             imported: count_functions(parts.imports.as_slice()),
         })
     }
@@ -112,36 +98,6 @@ impl<'m, 'n> CodeMap<'m, 'n> {
             offset: self.offset_in_body(place),
             source: self.source_of(place),
         }
-    }
-
-    /// What the data is called that an event touches first, or at which it waits or wakes, behind two blanks; empty
-    /// where that has no name.
-    pub fn data_text(&self, alloc: Global, event: Event) -> Result<String, AllocError>
-        ensures { IfOk result (λ text. IsDataText self.now event (string_bytes text)) }
-    {
-        let Some(addrs) = touched(event) else {
-            return Ok(String::new(alloc));
-        };
-        let Some(name) = self.data_name(alloc, addrs.first)? else {
-            return Ok(String::new(alloc));
-        };
-        let name = Plain(name.as_str());
-        let text = format!(in alloc; "  {name}")?;
-        Ok(text)
-    }
-
-    /// What the data is called that is at an address.
-    fn data_name(&self, alloc: Global, address: u64) -> Result<Option<String>, AllocError>
-        ensures { IfOk result (λ name. OnSome name (IsSome (find (holds address) self.now.«data».items.items))) }
-    {
-        name_at(alloc, &self.units, &self.data, address)
-    }
-
-    /// The bytes of data that words name, as `slots[3].item`.
-    pub fn data_named(&self, alloc: Global, words: &str) -> Result<Sought, AllocError>
-        ensures { IfOk result (NamesWithin self.now.«data».items.items) }
-    {
-        place_of(alloc, &self.units, &self.data, words)
     }
 
     /// How far behind the start of its body the instruction is.

@@ -238,11 +238,9 @@ fn write_entry<W: Write>(
     ensures { OnOk result (AddsEntry shown.entry story.now at (W.contents out.old) (W.contents out.new)) }
 {
     let entry = &shown.record.log.as_slice()[at];
-    let words = shown.words_at(story, at, entry);
-    let data = shown.code.data_text(alloc, entry.event)?;
-    let said = format!(in alloc; "{words}{data}")?;
+    let words = shown.words_at(story, at, entry).to_string(alloc)?;
     let place = shown.place_text(alloc, story, at)?;
     let line = shown.line_of(at);
-    sheet.write_row(out, line, entry.thread, said.as_str(), place.as_str())?;
+    sheet.write_row(out, line, entry.thread, words.as_str(), place.as_str())?;
     Ok(())
 }
