@@ -26,7 +26,7 @@ use Rattle.report_command.specs.declared.show.View.TheVariants as views
 use Rattle.report_jobs.specs.Prints.{WriterChange}
 use Rattle.show_data.specs.declared.place.Place.{Place}
 use Rattle.show_data.specs.Within.{IsWithinOne}
-use Rattle.show_rows.specs.declared.code.CodeMap.{CodeMap}
+use Rattle.show_named.specs.declared.data_map.DataMap.{DataMap}
 use Rattle.show_rows.specs.declared.rows.Row.{Row}
 use Rattle.show_rows.specs.declared.listing.Shown.{Shown}
 use Rattle.show_rows.specs.declared.listing.Story.{Story}
@@ -63,22 +63,22 @@ place_in r End = Some (length r.log)
 place_in r Trap = position (leaves_trapped r.ends) r.log
 
 -- The addresses are those, or all of the bytes of static data that words name.
-abbrev pub AreAddresses : CodeMap → Data → Span → Type 0
-AreAddresses code (At addrs) span = span ≡ addrs
-AreAddresses code (Named words) span = (place : Place) × IsWithinOne code.data.items.items place
+abbrev pub AreAddresses : DataMap → Data → Span → Type 0
+AreAddresses map (At addrs) span = span ≡ addrs
+AreAddresses map (Named words) span = (place : Place) × IsWithinOne map.spans.items.items place
     × (span ≡ span_of place.start place.size)
 
 -- What is wanted of a view, with addresses and places of this record.
-abbrev pub IsWanted : RecordParts → CodeMap → View → Wanted → Type 0
-IsWanted r code (views.Write write) w = (addrs : Span) × (before : ℕ) × (w ≡ wanted.Write addrs before)
-    × AreAddresses code write.bytes addrs × (place_in r write.before ≡ Some before)
-IsWanted r code (views.Moment at) w = (here : Here) × (w ≡ wanted.Moment here) × (place_in r at.when ≡ Some here.place)
-IsWanted r code view w = w ≡ wanted.Entries view
+abbrev pub IsWanted : RecordParts → DataMap → View → Wanted → Type 0
+IsWanted r map (views.Write write) w = (addrs : Span) × (before : ℕ) × (w ≡ wanted.Write addrs before)
+    × AreAddresses map write.bytes addrs × (place_in r write.before ≡ Some before)
+IsWanted r map (views.Moment at) w = (here : Here) × (w ≡ wanted.Moment here) × (place_in r at.when ≡ Some here.place)
+IsWanted r map view w = w ≡ wanted.Entries view
 
 -- The addresses at which entries are chosen: those that are asked for, or those of the data of a name.
-abbrev pub AreChosen : CodeMap → ShowLook → Option Span → Type 0
-AreChosen code how addrs = MatchOption how.named (addrs ≡ how.look.choice.addrs)
-    (λ words. (span : Span) × (addrs ≡ Some span) × AreAddresses code (Named words) span)
+abbrev pub AreChosen : DataMap → ShowLook → Option Span → Type 0
+AreChosen map how addrs = MatchOption how.named (addrs ≡ how.look.choice.addrs)
+    (λ words. (span : Span) × (addrs ≡ Some span) × AreAddresses map (Named words) span)
 
 -- A look that differs in the addresses alone.
 pub record IsLookWith (look : Look) (addrs : Option Span) (new : Look) : Type 0 where
@@ -89,22 +89,22 @@ pub record IsLookWith (look : Look) (addrs : Option Span) (new : Look) : Type 0 
   pub color : new.color ≡ look.color
 
 -- What is shown of a record, and how.
-pub record IsAsked (r : RecordParts) (code : CodeMap) (how : ShowLook) (asked : Asked) : Type 0 where
-  pub wanted_is : IsWanted r code how.view asked.wanted
+pub record IsAsked (r : RecordParts) (map : DataMap) (how : ShowLook) (asked : Asked) : Type 0 where
+  pub wanted_is : IsWanted r map how.view asked.wanted
   pub addrs : Option Span
-  pub chosen : AreChosen code how addrs
+  pub chosen : AreChosen map how addrs
   pub look_is : IsLookWith how.look addrs asked.look
 
 -- The words of the last entry before a place that writes there are written, or that none does.
-abbrev pub WritesLastOf : Shown → ℕ → Span → Option (List ℕ) → Option (List ℕ) → Type 0
-WritesLastOf shown before addrs old new = (story : Story) × IsStoryOf shown.record.now.log story
-    × WritesLast shown story before addrs old new
+abbrev pub WritesLastOf : Shown → DataMap → ℕ → Span → Option (List ℕ) → Option (List ℕ) → Type 0
+WritesLastOf shown map before addrs old new = (story : Story) × IsStoryOf shown.record.now.log story
+    × WritesLast shown map story before addrs old new
 
 -- So it is of a write that is sought.
-abbrev pub PrintsWanted : Parts → RecordParts → List (Option Row) → CodeMap → Wanted → Option (List ℕ) → Option (List ℕ) → Type 0
-PrintsWanted m r rows code (wanted.Write addrs before) old new = (shown : Shown) × (shown.record.now ≡ r)
-    × (shown.rows.now ≡ rows) × (shown.code.now ≡ code) × (code.parts.now ≡ m) × WritesLastOf shown before addrs old new
-PrintsWanted m r rows code w old new = Unit {0}
+abbrev pub PrintsWanted : Parts → RecordParts → List (Option Row) → DataMap → Wanted → Option (List ℕ) → Option (List ℕ) → Type 0
+PrintsWanted m r rows map (wanted.Write addrs before) old new = (shown : Shown) × (shown.record.now ≡ r)
+    × (shown.rows.now ≡ rows) × (shown.code.now.parts.now ≡ m) × WritesLastOf shown map before addrs old new
+PrintsWanted m r rows map w old new = Unit {0}
 
 -- The same of a record's text: it is of a run of the module, these are the bytes that are asked for, and this is the place
 -- before which the write is sought.
@@ -116,11 +116,12 @@ pub record PrintsLast (write : LastWrite) (out : WriterChange) (m : Parts) (save
   pub of_record : shown.record.now ≡ record_is
   pub of_rows : shown.rows.now ≡ rows
   pub of_module : shown.code.now.parts.now ≡ m
+  pub map : DataMap
   pub addrs : Span
-  pub asked : AreAddresses shown.code.now write.bytes addrs
+  pub asked : AreAddresses map write.bytes addrs
   pub before : ℕ
   pub stands : place_in record_is write.before ≡ Some before
-  pub writes : WritesLastOf shown before addrs out.old out.new
+  pub writes : WritesLastOf shown map before addrs out.old out.new
 
 -- What is printed of a view. Of rows, moments, pages, traces and objects nothing is said here.
 abbrev pub PrintsView : View → WriterChange → Parts → List ℕ → Type 0

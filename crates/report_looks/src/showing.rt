@@ -16,6 +16,7 @@ use replay_text::{Record, RecordFault, read_record};
 use report_command::ShowLook;
 use report_jobs::{Streams, Unfit, load, misfit, refuse, reject};
 use search_races::watched;
+use show_named::DataMap;
 use show_rows::{CodeMap, Row};
 use show_text::Unwritten;
 use std::alloc::Global;
@@ -123,15 +124,19 @@ fn show_record<W: Write>(
         Ok(seen) => seen,
         Err(unfit) => return Err(Unshown::Unfit(unfit)),
     };
-    let code = match CodeMap::read(alloc, module.parts(), code.module, code.names) {
-        Ok(code) => code,
+    let places = match CodeMap::read(alloc, module.parts(), code.module, code.names) {
+        Ok(places) => places,
         Err(_) => return Err(Unshown::Unfit(Unfit::NoMemory)),
     };
-    let asked = match asked_of(alloc, seen.record.parts(), &code, how) {
+    let map = match DataMap::read(alloc, code.names) {
+        Ok(map) => map,
+        Err(_) => return Err(Unshown::Unfit(Unfit::NoMemory)),
+    };
+    let asked = match asked_of(alloc, seen.record.parts(), &map, how) {
         Ok(asked) => asked,
         Err(why) => return Err(why),
     };
-    match print_asked(alloc, module, &seen, &code, &asked, out) {
+    match print_asked(alloc, module, &seen, &places, &map, &asked, out) {
         Ok(()) => Ok(()),
         Err(unwritten) => Err(Unshown::Unfit(unfit_of(unwritten))),
     }

@@ -2,7 +2,7 @@
 ghost use Rattle.std.specs.Prelude.{◌≡◌, IfErr, IfOk, position};
 ghost use Rattle.report_choice.specs.Choices as chosen;
 ghost use Rattle.report_command.specs.declared.show.View.TheVariants as views;
-ghost use Rattle.show_rows.specs.declared.code.CodeMap.{CodeMap};
+ghost use Rattle.show_named.specs.declared.data_map.DataMap.{DataMap};
 ghost use Rattle.report_looks.specs.Looked as looked;
 ghost use Rattle.report_looks.specs.Looked.{AreAddresses, AreChosen, IsAsked, IsLookWith, IsWanted};
 ghost use Rattle.report_looks.specs.Silent.{IsUnrefused};
@@ -13,7 +13,7 @@ use report_command::{At, Data, LastWrite, ShowLook, View, When};
 use report_jobs::Unfit;
 use show_data::{Place, Sought};
 use show_moments::Bytes;
-use show_rows::CodeMap;
+use show_named::DataMap;
 use std::alloc::{AllocError, Global};
 use std::fmt::{self, Formatter, Write};
 use types::{Entry, Event, Outcome, Question, ThreadReport};
@@ -119,15 +119,15 @@ fn addresses_of(place: Place) -> Span
 }
 
 /// The addresses of data.
-pub(crate) fn span_of(alloc: Global, code: &CodeMap, data: Data) -> Result<Span, Unshown>
-    ensures addresses { IfOk result (AreAddresses code.now «data».entry) }
+pub(crate) fn span_of(alloc: Global, map: &DataMap, data: Data) -> Result<Span, Unshown>
+    ensures addresses { IfOk result (AreAddresses map.now «data».entry) }
     ensures why { IfErr result IsUnrefused }
 {
     let words = match data {
         Data::At(addrs) => return Ok(addrs),
         Data::Named(words) => words,
     };
-    match code.data_named(alloc, words) {
+    match map.named(alloc, words) {
         Ok(Sought::One(place)) => Ok(addresses_of(place)),
         Ok(Sought::Nothing) => Err(Unshown::Absent(Absent::NoData)),
         Ok(Sought::Several) => Err(Unshown::Absent(Absent::SeveralData)),
@@ -139,13 +139,13 @@ pub(crate) fn span_of(alloc: Global, code: &CodeMap, data: Data) -> Result<Span,
 fn write_of<'a>(
     alloc: Global,
     parts: &RecordParts,
-    code: &CodeMap,
+    map: &DataMap,
     write: LastWrite<'a>,
 ) -> Result<Wanted<'a>, Unshown>
-    ensures wanted { IfOk result (IsWanted parts.now code.now (views.Write write.entry)) }
+    ensures wanted { IfOk result (IsWanted parts.now map.now (views.Write write.entry)) }
     ensures why { IfErr result IsUnrefused }
 {
-    let addrs = match span_of(alloc, code, write.bytes) {
+    let addrs = match span_of(alloc, map, write.bytes) {
         Ok(addrs) => addrs,
         Err(why) => return Err(why),
     };
@@ -157,7 +157,7 @@ fn write_of<'a>(
 
 /// The moment that is asked for.
 fn moment_of<'a>(parts: &RecordParts, at: At) -> Result<Wanted<'a>, Unshown>
-    ensures wanted { IfOk result (λ w. (code : CodeMap) → IsWanted parts.now code (views.Moment at) w) }
+    ensures wanted { IfOk result (λ w. (map : DataMap) → IsWanted parts.now map (views.Moment at) w) }
     ensures why { IfErr result IsUnrefused }
 {
     let Some(place) = place_in(parts, at.when) else {
@@ -177,28 +177,28 @@ fn moment_of<'a>(parts: &RecordParts, at: At) -> Result<Wanted<'a>, Unshown>
 fn wanted_of<'a>(
     alloc: Global,
     parts: &RecordParts,
-    code: &CodeMap,
+    map: &DataMap,
     view: View<'a>,
 ) -> Result<Wanted<'a>, Unshown>
-    ensures wanted { IfOk result (IsWanted parts.now code.now view.entry) }
+    ensures wanted { IfOk result (IsWanted parts.now map.now view.entry) }
     ensures why { IfErr result IsUnrefused }
 {
     match view {
-        View::Write(write) => write_of(alloc, parts, code, write),
+        View::Write(write) => write_of(alloc, parts, map, write),
         View::Moment(at) => moment_of(parts, at),
         entries => Ok(Wanted::Entries(entries)),
     }
 }
 
 /// The addresses at which entries are chosen, if some are.
-fn chosen_addresses(alloc: Global, code: &CodeMap, how: &ShowLook) -> Result<Option<Span>, Unshown>
-    ensures addresses { IfOk result (AreChosen code.now how.now) }
+fn chosen_addresses(alloc: Global, map: &DataMap, how: &ShowLook) -> Result<Option<Span>, Unshown>
+    ensures addresses { IfOk result (AreChosen map.now how.now) }
     ensures why { IfErr result IsUnrefused }
 {
     let Some(words) = how.named else {
         return Ok(how.look.choice.addrs);
     };
-    match span_of(alloc, code, Data::Named(words)) {
+    match span_of(alloc, map, Data::Named(words)) {
         Ok(span) => Ok(Some(span)),
         Err(why) => Err(why),
     }
@@ -224,17 +224,17 @@ fn look_with(alloc: Global, look: &Look, addrs: Option<Span>) -> Result<Look, Al
 pub(crate) fn asked_of<'a>(
     alloc: Global,
     parts: &RecordParts,
-    code: &CodeMap,
+    map: &DataMap,
     how: &ShowLook<'a>,
 ) -> Result<Asked<'a>, Unshown>
-    ensures asked { IfOk result (IsAsked parts.now code.now how.now) }
+    ensures asked { IfOk result (IsAsked parts.now map.now how.now) }
     ensures why { IfErr result IsUnrefused }
 {
-    let wanted = match wanted_of(alloc, parts, code, how.view) {
+    let wanted = match wanted_of(alloc, parts, map, how.view) {
         Ok(wanted) => wanted,
         Err(why) => return Err(why),
     };
-    let addrs = match chosen_addresses(alloc, code, how) {
+    let addrs = match chosen_addresses(alloc, map, how) {
         Ok(addrs) => addrs,
         Err(why) => return Err(why),
     };
