@@ -7,13 +7,13 @@ use Rattle.show_text.specs.Plain.{plain_text}
 use Rattle.show_units.specs.Spans.{holds}
 use Rattle.show_named.specs.declared.data_map.DataMap.{DataMap}
 
--- A name stands behind two blanks. Only what touches, or waits or wakes at, an address of static data has one.
+-- A name stands behind `at`. Only what touches, or waits or wakes at, an address of static data has one.
 pub record NamesData (map : DataMap) (event : Event) (text : List ℕ) : Type 0 where
   pub addrs : Span
   pub touches : touched event ≡ Some addrs
   pub within : IsSome (find (holds addrs.first) map.spans.items.items)
   pub name : List ℕ
-  pub words : text ≡ codes "  " ++ plain_text name
+  pub words : text ≡ codes " at " ++ plain_text name
 
 -- Nothing, or such a name.
 abbrev pub IsDataText : DataMap → Event → List ℕ → Type 0

@@ -33,7 +33,7 @@ impl<'n> DataMap<'n> {
         name_at(alloc, &self.units, &self.spans, address)
     }
 
-    /// What the data is called that an event touches first, or at which it waits or wakes, behind two blanks; empty
+    /// What the data is called that an event touches first, or at which it waits or wakes, behind `at`; empty
     /// where that has no name.
     pub(crate) fn text(&self, alloc: Global, event: Event) -> Result<String, AllocError>
         ensures { IfOk result (λ text. IsDataText self.now event (string_bytes text)) }
@@ -45,7 +45,7 @@ impl<'n> DataMap<'n> {
             return Ok(String::new(alloc));
         };
         let name = Plain(name.as_str());
-        let text = format!(in alloc; "  {name}")?;
+        let text = format!(in alloc; " at {name}")?;
         Ok(text)
     }
 
