@@ -1,2 +1,3 @@
 mod Silent
 mod RacePairs
+mod Printed

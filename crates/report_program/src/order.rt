@@ -44,9 +44,16 @@ fn colored<'a>(job: Job<'a>, is_terminal: bool) -> Job<'a>
             how,
         } => {
             let ShowLook { look, named, view } = how;
+            let Look {
+                choice,
+                width,
+                color,
+            } = look;
+            let color = color_on(color, is_terminal);
             let look = Look {
-                color: color_on(look.color, is_terminal),
-                ..look
+                choice,
+                width,
+                color,
             };
             Job::Show {
                 file,
