@@ -1,5 +1,5 @@
 //! What is written of a record that is shown.
-ghost use Rattle.std.specs.Prelude.{OnOk};
+ghost use Rattle.std.specs.Prelude.{◌≡◌, OnOk};
 ghost use Rattle.report_looks.specs.Looked.{PrintsWanted, WritesLastOf};
 
 use crate::ends::write_end;

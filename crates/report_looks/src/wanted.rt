@@ -186,7 +186,10 @@ fn wanted_of<'a>(
     match view {
         View::Write(write) => write_of(alloc, parts, map, write),
         View::Moment(at) => moment_of(parts, at),
-        entries => Ok(Wanted::Entries(entries)),
+        View::Rows => Ok(Wanted::Entries(View::Rows)),
+        View::Object => Ok(Wanted::Entries(View::Object)),
+        View::Page(path) => Ok(Wanted::Entries(View::Page(path))),
+        View::Trace(path) => Ok(Wanted::Entries(View::Trace(path))),
     }
 }
 
