@@ -1,8 +1,5 @@
 -- The jobs of the command line.
 use Rattle.std.specs.Prelude.{ℕ, ◌≡◌, ◌≤◌, ◌⊎◌, List}
-use Rattle.types.specs.declared.parts.Parts.{Parts}
-use Rattle.validate_typing.specs.Validity.{IsValid}
-use Rattle.binary.specs.Grammar.{IsModuleText}
 use Rattle.report_command.specs.declared.command_line.Job.{Job}
 use Rattle.report_command.specs.declared.command_line.Job.TheVariants.{Show}
 use Rattle.report_command.specs.declared.command_line.Job.TheVariants as jobs

@@ -1,18 +1,16 @@
 -- What is kept of what was found, where it was told in an object.
-use Rattle.std.proofs.Common.{ℕ, ◌≡◌, ◌≤◌, ◌∙◌, Bool, true, false, List, Option, Some, None, inl, inr, refl, sym, subst}
+use Rattle.std.proofs.Common.{ℕ, ◌≡◌, ◌≤◌, ◌∙◌, true, List, Option, Some, None, inl, inr, sym, subst}
 use Rattle.std.specs.Prelude.{IfSome, is_some}
 use Rattle.spawn_host.specs.Requests.{Requested}
 use Rattle.search_scheduled.specs.Headers.{IsOfCall}
 use Rattle.search_scheduled.specs.declared.running.MadeRun.{MadeRun}
-use Rattle.search_finds.specs.Endings.{ending_left}
 use Rattle.search_finds.specs.Finds.{IsFind, IsLookedFor, EndsAsLookedFor}
 use Rattle.search_finds.specs.declared.met.Table.{Table}
 use Rattle.report_command.specs.declared.search.Search.{Search}
 use Rattle.report_jobs.specs.Asked.{IsAskedBy}
-use Rattle.report_jobs.specs.Prints.{WriterChange, KeepsRecord, change}
-use Rattle.report_searches.specs.Racing.{keeps_race}
-use Rattle.report_search_objects.specs.SearchObjects.{HasEndless, HasFirst, HasFound, HasKnown, HasLast, HasMet, HasOne, HasOther, HasRun, KeepsFound, KeepsMade}
-use Rattle.report_searches.specs.Searches.{Finds, IsEndlessKept, IsFindKept}
+use Rattle.report_jobs.specs.Prints.{WriterChange, KeepsRecord}
+use Rattle.report_search_objects.specs.SearchObjects.{HasFirst, HasFound, HasKnown, HasLast, KeepsFound, KeepsMade}
+use Rattle.report_searches.specs.Searches.{Finds, IsFindKept}
 use Rattle.report_search_objects.specs.declared.found.FoundRun.{FoundRun}
 use Rattle.report_searches.specs.declared.whole.Whole.{Whole}
 use Rattle.report_searches.proofs.Sought.{known_is_sought}

@@ -1,7 +1,6 @@
 -- The object of every order, and what is kept beside it, from what was written.
 use Rattle.std.proofs.Common.{ℕ, ◌≡◌, ◌∙◌, Bool, true, false, List, Option, Some, None, inl, inr, refl, sym, subst, true≢false}
-use Rattle.std.specs.Prelude.{IfSome, is_some}
-use Rattle.std.proofs.lemmas.Option.{same_Some}
+use Rattle.std.specs.Prelude.{IfSome}
 use Rattle.types.specs.declared.parts.Parts.{Parts}
 use Rattle.spawn_host.specs.Requests.{Requested}
 use Rattle.search_race_free.specs.declared.race.Race.{Race}
@@ -10,14 +9,13 @@ use Rattle.search_finds.specs.Finds.{IsFind}
 use Rattle.report_command.specs.declared.search.Search.{Search}
 use Rattle.report_jobs.specs.Asked.{IsAskedBy}
 use Rattle.report_jobs.specs.Prints.{WriterChange, KeepsRecord, change}
-use Rattle.report_json.specs.declared.races.RacePair.{RacePair}
 use Rattle.report_json.specs.declared.raced.RunRaces.{RunRaces}
 use Rattle.report_json.specs.declared.raced.RunRaces.TheVariants as said
 use Rattle.report_searches.specs.Prints.{stops_behind}
 use Rattle.replay_text.specs.declared.parts.RecordParts.{RecordParts}
 use Rattle.report_looks.specs.Raced.{SaysRaceIn}
 use Rattle.report_searches.specs.Racing.{keeps_race}
-use Rattle.report_search_objects.specs.SearchObjects.{AreFoundIn, AreRacesIn, HasFound, KeepsFound, KeepsRaced, ObjectOfAll, WritesBeside, WritesRaced, WritesTold, races_alone, threads_of}
+use Rattle.report_search_objects.specs.SearchObjects.{AreFoundIn, AreRacesIn, HasFound, KeepsFound, KeepsRaced, ObjectOfAll, WritesBeside, WritesRaced, WritesTold, races_alone}
 use Rattle.report_searches.specs.Searches.{KeepsNoneOrRace}
 use Rattle.report_search_objects.specs.declared.all_object.Told.{Told}
 use Rattle.report_search_objects.specs.declared.found.FoundRun.{FoundRun}

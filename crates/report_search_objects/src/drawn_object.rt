@@ -19,7 +19,7 @@ use report_json::{
     Coverage, Drawn, DrawnEnd, DrawnRuns, Found, FoundAs, MetEnding, RunRaces, write_drawn,
 };
 use report_searches::{
-    cut_in_all, is_all_well, jobs_of, late_of, no_memory, singles_of, trouble_of,
+    cut_in_all, jobs_of, late_of, no_memory, singles_of, status_of_none, trouble_of,
 };
 use search_finds::{Halt, Hears, Met, SearchResult, Table, first_found};
 use spawn_host::Request;
@@ -153,12 +153,9 @@ pub(crate) fn write_none<W: Write>(
     ensures trouble { IfErr result IsOfSystem }
 {
     let halt = none_of(is_told, coverage_of(sought, table));
-    if is_all_well(alloc, sought, table)? {
-        write_table(alloc, sought, table, 0, races, halt, out)?;
-        return Ok(0);
-    }
-    write_table(alloc, sought, table, 1, races, halt, out)?;
-    Ok(1)
+    let status = status_of_none(alloc, sought, table)?;
+    write_table(alloc, sought, table, status, races, halt, out)?;
+    Ok(status)
 }
 
 /// Makes the runs that a search asks for, as `search_drawn` does, writes the object of what comes of them, and then the

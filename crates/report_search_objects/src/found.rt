@@ -1,6 +1,5 @@
 //! What a search finds, before it is told: the run to an ending that is looked for, or one that never ends.
-ghost use Rattle.std.specs.Prelude.{◌≡◌, false, None, IfOk, IfErr, IfSome};
-ghost use Rattle.search_finds.specs.Endings.{HaveOneEnding};
+ghost use Rattle.std.specs.Prelude.{◌≡◌, None, IfOk, IfErr, IfSome};
 ghost use Rattle.search_finds.specs.Finds.{IsFind};
 ghost use Rattle.report_searches.specs.Prints.{IsStatusOf};
 ghost use Rattle.report_searches.specs.Searches.{IsOfSystem};
@@ -12,9 +11,9 @@ use report_jobs::Trouble;
 use report_json::{FoundAs, RunSize, Shrunk};
 use report_searches::{
     EndlessRun, SoughtEnding, Whole, are_well, choices_in, course_of, endless_run, filled,
-    first_sought, no_memory, stops_behind,
+    first_sought, no_memory, smaller_if_asked, stops_behind,
 };
-use search_finds::{Hears, Size, entries_leading, run_round, run_to, shrunk, size_of};
+use search_finds::{Hears, Size, entries_leading, run_round, run_to, size_of};
 use search_scheduled::MadeRun;
 use spawn_host::Request;
 use std::alloc::Global;
@@ -25,32 +24,6 @@ pub(crate) struct FoundRun {
     pub found_as: FoundAs,
     pub shrunk: Option<Shrunk>,
     pub made: Option<MadeRun>,
-}
-
-/// The run that was found, or where that is asked for a smaller one that ends alike.
-fn smaller_if_asked<F: Hears>(
-    alloc: Global,
-    request: &Request,
-    search: &Search,
-    found: MadeRun,
-    follower: &mut F,
-) -> Result<MadeRun, Trouble>
-    requires { IsFind request.now search.now.sought.limit found }
-    ensures run { IfOk result (IsFind request.now search.now.sought.limit) }
-    ensures ending { IfOk result (λ made. HaveOneEnding search.now.sought.dump found.end made.end) }
-    ensures same { IfOk result (λ made. search.now.shrink ≡ false → made ≡ found) }
-    ensures trouble { IfErr result IsOfSystem }
-{
-    if !search.shrink {
-        return Ok(found);
-    }
-    let Sought { limit, dump, .. } = search.sought;
-    let made = match shrunk(alloc, request, limit, dump, found, follower) {
-        Ok(made) => made,
-        Err(fault) => return Err(no_memory(fault)),
-    };
-    follower.end();
-    Ok(made)
 }
 
 /// A size as it is told.

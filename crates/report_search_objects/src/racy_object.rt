@@ -19,8 +19,8 @@ use report_command::{Search, Sought};
 use report_jobs::{Trouble, keep};
 use report_json::{DrawnEnd, Found, FoundAs, RacePair, RunRaces, Shrunk};
 use report_looks::pair_of;
-use report_searches::{Asked, jobs_of, no_memory};
-use search_finds::{Halt, Hears, SearchResult, Table, first_judged, shrunk_by, size_of};
+use report_searches::{Asked, jobs_of, no_memory, smaller_racy};
+use search_finds::{Halt, Hears, SearchResult, Table, first_judged, size_of};
 use search_races::{RaceJudge, watched};
 use search_scheduled::MadeRun;
 use show_races::races_shown;
@@ -37,34 +37,6 @@ pub(crate) struct RacyRun {
     pub run: u64,
     pub shrunk: Option<Shrunk>,
     pub made: MadeRun,
-}
-
-/// The run that was found, or where that is asked for a smaller one that has a race too.
-fn smaller_racy<F: Hears>(
-    alloc: Global,
-    request: &Request,
-    search: &Search,
-    found: MadeRun,
-    follower: &mut F,
-) -> Result<MadeRun, Trouble>
-    requires { IsFindBy (SaysRaceOf request.now) request.now search.now.sought.limit found }
-    ensures run { IfOk result (IsFindBy (SaysRaceOf request.now) request.now search.now.sought.limit) }
-    ensures same { IfOk result (λ made. search.now.shrink ≡ false → made ≡ found) }
-    ensures trouble { IfErr result IsOfSystem }
-{
-    if !search.shrink {
-        return Ok(found);
-    }
-    let judge = RaceJudge {
-        module: request.module(),
-    };
-    let limit = search.sought.limit;
-    let made = match shrunk_by(alloc, request, limit, &judge, found, follower) {
-        Ok(made) => made,
-        Err(fault) => return Err(no_memory(fault)),
-    };
-    follower.end();
-    Ok(made)
 }
 
 /// The run of this number that was found, or a smaller one, and what became of its size.

@@ -1,6 +1,6 @@
 -- What is printed of a search, and what is written of what it found.
 use Rattle.std.specs.Prelude.{ℕ, ◌≡◌, ◌≢◌, ◌≤◌, ◌<◌, ◌+◌, ◌-◌, ◌⊎◌, ◌↔◌, ◌&&◌, not, All, Bool, List, [], ◌++◌, length, take, true, false}
-use Rattle.std.specs.Prelude.{Option, Some, is_some, option_map, unwrap_or, slice_index_or}
+use Rattle.std.specs.Prelude.{Option, is_some, option_map, unwrap_or, slice_index_or}
 use Rattle.std.specs.List.{slice_get}
 use Rattle.std.specs.Io.KnownBytes.{Appends}
 use Rattle.types.specs.declared.parts.Parts.{Parts}

@@ -1,5 +1,5 @@
 //! Every order of the entries of a call: what is printed, and the record of what was found.
-ghost use Rattle.std.specs.Prelude.{◌≡◌, ◌≤◌, ◌-◌, ◌⊎◌, ◌↔◌, All, Some, None, is_some, true, false, IfOk, IfErr, IfSome, IfNone, MatchOption};
+ghost use Rattle.std.specs.Prelude.{◌≡◌, ◌-◌, ◌↔◌, All, Some, None, is_some, true, false, IfOk, IfErr, IfSome, IfNone};
 ghost use Rattle.replay_forms.specs.Texts.{Wrote};
 ghost use Rattle.search_finds.specs.Finds.{IsLookedFor};
 ghost use Rattle.report_jobs.specs.Asked.{IsAskedBy};

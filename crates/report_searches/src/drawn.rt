@@ -8,41 +8,24 @@ ghost use Rattle.std.specs.Io.KnownBytes.{Appends};
 ghost use Rattle.replay_forms.specs.Texts.{Wrote};
 ghost use Rattle.report_lines.specs.Found.{found_run_line};
 ghost use Rattle.search_finds.specs.Sizes.{size_in};
-ghost use Rattle.report_searches.specs.Drawn.{size_text, sizes_line, sizes_if, behind_text};
+ghost use Rattle.report_searches.specs.Drawn.{sizes_if, behind_text};
 ghost use Rattle.report_searches.specs.Searches.{Finds, IsFindKept, IsOfSystem};
 ghost use Rattle.report_searches.specs.Prints.{PrintsDrawn, Tells, TellsOfRun, TellsOfTable};
 ghost use Rattle.report_jobs.specs.Prints.{changed};
 ghost use Rattle.report_jobs.specs.Silence.{Stays};
 
 use crate::asked::{jobs_of, no_memory};
-use crate::table::{is_all_well, write_cut_of, write_table, write_unseen_of};
+use crate::smaller::{smaller_if_asked, write_sizes_if};
+use crate::table::{status_of_none, write_cut_of, write_table, write_unseen_of};
 use report_command::{Search, Sought};
 use report_jobs::{Trouble, keep, print};
 use report_lines::{write_found_run, write_stopped};
-use search_finds::{Found, Halt, Hears, SearchResult, Size, Table, first_found, shrunk, size_of};
+use search_finds::{Found, Halt, Hears, SearchResult, Table, first_found, size_of};
 use search_scheduled::MadeRun;
 use spawn_host::Request;
 use std::alloc::Global;
 use std::io::{self, Write};
 use std::thread::Threads;
-
-/// How large a run is.
-fn write_size<W: Write>(out: &mut W, size: Size) -> io::Result<()>
-    ensures { Wrote W.contents out.old out.new result (size_text size) }
-{
-    let Size { switches, entries } = size;
-    write!(out, "{entries} entries, {switches} switches")
-}
-
-/// What became of the size of a run.
-pub(crate) fn write_sizes<W: Write>(out: &mut W, before: Size, after: Size) -> io::Result<()>
-    ensures { Wrote W.contents out.old out.new result (sizes_line before after) }
-{
-    write_size(out, before)?;
-    write!(out, " -> ")?;
-    write_size(out, after)?;
-    write!(out, "\n")
-}
 
 /// What is said behind the table of a search that found nothing: that it was told to end, where it was, and what is
 /// unseen.
@@ -73,10 +56,8 @@ fn tell_none<W: Write>(
     ensures trouble { IfErr result IsOfSystem }
 {
     write_behind(out, sought, table, is_told)?;
-    if is_all_well(alloc, sought, table)? {
-        return Ok(0);
-    }
-    Ok(1)
+    let status = status_of_none(alloc, sought, table)?;
+    Ok(status)
 }
 
 /// Makes the runs that a search asks for, prints the table of their endings, and of a run that was found its lines, or
@@ -135,17 +116,9 @@ fn shrunk_if_asked<F: Hears, W: Write>(
         (sizes_if search.now.shrink (size_in found.record) (size_in made.record))) }
     ensures trouble { IfErr result IsOfSystem }
 {
-    if !search.shrink {
-        return Ok(found);
-    }
     let before = size_of(&found.record);
-    let Sought { limit, dump, .. } = search.sought;
-    let made = match shrunk(alloc, request, limit, dump, found, follower) {
-        Ok(made) => made,
-        Err(fault) => return Err(no_memory(fault)),
-    };
-    follower.end();
-    write_sizes(out, before, size_of(&made.record))?;
+    let made = smaller_if_asked(alloc, request, search, found, follower)?;
+    write_sizes_if(out, search.shrink, before, size_of(&made.record))?;
     Ok(made)
 }
 

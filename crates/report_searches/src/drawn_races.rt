@@ -17,13 +17,13 @@ ghost use Rattle.report_searches.specs.Prints.{Tells};
 ghost use Rattle.report_searches.specs.Searches.{Finds, IsOfSystem, IsRaceKept};
 
 use crate::asked::{Asked, jobs_of, no_memory};
-use crate::drawn::write_sizes;
 use crate::raced::{trouble_of, write_pair};
-use crate::table::{is_all_well, write_cut_of, write_table, write_unseen_of};
+use crate::smaller::{smaller_racy, write_sizes_if};
+use crate::table::{status_of_none, write_cut_of, write_table, write_unseen_of};
 use report_command::Sought;
 use report_jobs::{Trouble, keep, print};
 use report_lines::{write_found_run, write_stopped};
-use search_finds::{Found, Halt, Hears, SearchResult, Table, first_judged, shrunk_by, size_of};
+use search_finds::{Found, Halt, Hears, SearchResult, Table, first_judged, size_of};
 use search_races::RaceJudge;
 use search_scheduled::MadeRun;
 use spawn_host::Request;
@@ -102,10 +102,8 @@ fn tell_raceless<W: Write>(
     ensures trouble { IfErr result IsOfSystem }
 {
     write_raceless(out, sought, table, is_told)?;
-    if is_all_well(alloc, sought, table)? {
-        return Ok(0);
-    }
-    Ok(1)
+    let status = status_of_none(alloc, sought, table)?;
+    Ok(status)
 }
 
 /// The run that was found, or where that is asked for a smaller one that has a race too, of which the sizes are printed.
@@ -125,20 +123,9 @@ fn shrunk_if_asked<F: Hears, W: Write>(
     ensures trouble { IfErr result IsOfSystem }
 {
     let search = asked.search;
-    if !search.shrink {
-        return Ok(found);
-    }
     let before = size_of(&found.record);
-    let judge = RaceJudge {
-        module: request.module(),
-    };
-    let limit = search.sought.limit;
-    let made = match shrunk_by(alloc, request, limit, &judge, found, follower) {
-        Ok(made) => made,
-        Err(fault) => return Err(no_memory(fault)),
-    };
-    follower.end();
-    write_sizes(out, before, size_of(&made.record))?;
+    let made = smaller_racy(alloc, request, search, found, follower)?;
+    write_sizes_if(out, search.shrink, before, size_of(&made.record))?;
     Ok(made)
 }
 

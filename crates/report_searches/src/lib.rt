@@ -19,6 +19,7 @@ mod complete;
 mod drawn;
 mod drawn_races;
 mod raced;
+mod smaller;
 mod table;
 mod whole;
 
@@ -31,5 +32,6 @@ pub use complete::{Complete, are_well};
 pub use drawn::search_drawn;
 pub use drawn_races::search_drawn_races;
 pub use raced::{keeps_race, trouble_of};
-pub use table::{cut_in_all, is_all_well, late_of, singles_of};
+pub use smaller::{smaller_if_asked, smaller_racy};
+pub use table::{cut_in_all, late_of, singles_of, status_of_none};
 pub use whole::{FirstLook, Racing, Whole, first_look, whole_of};

@@ -40,7 +40,7 @@ pub(crate) fn write_table<W: Write>(out: &mut W, sought: &Sought, table: &Table)
 }
 
 /// Whether a run was made, in each ending of the table all threads ended well, and none is looked for.
-pub fn is_all_well(alloc: Global, sought: &Sought, table: &Table) -> Result<bool, AllocError>
+fn is_all_well(alloc: Global, sought: &Sought, table: &Table) -> Result<bool, AllocError>
     ensures { IfOk result (λ is. (is ≡ true) ↔ IsAllWell sought.now table.now) }
 {
     if table.runs == 0 {
@@ -52,6 +52,20 @@ pub fn is_all_well(alloc: Global, sought: &Sought, table: &Table) -> Result<bool
         }
     }
     Ok(true)
+}
+
+/// The status of a search that found nothing: 0 where all is well, and else 1.
+///
+/// # Errors
+/// Where memory is refused.
+pub fn status_of_none(alloc: Global, sought: &Sought, table: &Table) -> Result<u8, AllocError>
+    ensures well { IfOk result (λ status. (status ≡ 0) ↔ IsAllWell sought.now table.now) }
+    ensures statuses { IfOk result (λ status. status ≤ 1) }
+{
+    if is_all_well(alloc, sought, table)? {
+        return Ok(0);
+    }
+    Ok(1)
 }
 
 /// Whether a thread found the log full.

@@ -12,8 +12,8 @@ returns-in-Lines g c =
     subst (λ (form : Form). OnOk c.write_races.result (TellsIn form c.args.shown c.args.story.now c.args.races.now before after)) (sym c.in-Lines.is)
     c.write_races.ensures
 
-pub returns : goal.returns
-returns g c =
+pub returns-in-Json : goal.returns-in-Json
+returns-in-Json g c =
     let contents = g.W.Write.contents in
     let before = contents c.args.out.now in
     let after = contents c.write_pairs.new.out in

@@ -1,6 +1,5 @@
-use Rattle.std.proofs.Common.{false, subst, sym, ◌∙◌}
+use Rattle.std.proofs.Common.{false, ◌∙◌}
 use Rattle.report_jobs.specs.Prints.{changed}
-use Rattle.report_search_objects.specs.SearchObjects.{KeepsRaced}
 use Rattle.report_search_objects.proofs.Objected.{raced_kept}
 use Rattle.report_searches.proofs.Pairs.{if_on}
 use Rattle.report_search_objects.proofs.all_object.keep_raced.Goals as goal

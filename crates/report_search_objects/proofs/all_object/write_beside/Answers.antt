@@ -1,4 +1,4 @@
-use Rattle.std.proofs.Common.{◌∙◌, List, Option, Some, ap, arith, subst}
+use Rattle.std.proofs.Common.{◌∙◌, Some, arith, subst}
 use Rattle.std.proofs.lemmas.Grind.{common_steps}
 use Rattle.report_json.specs.declared.raced.RacingThreads.{RacingThreads}
 use Rattle.report_json.specs.declared.raced.RunRaces.TheVariants.{Between}

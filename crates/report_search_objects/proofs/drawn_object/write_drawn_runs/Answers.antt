@@ -2,7 +2,7 @@ use Rattle.std.proofs.Common.{false, true, None, refl, inl, inr, true≢false}
 use Rattle.std.proofs.lemmas.Result.{IfOk-weaker}
 use Rattle.report_jobs.specs.Prints.{changed}
 use Rattle.report_search_objects.specs.Written.{WritesDrawn}
-use Rattle.report_search_objects.specs.SearchObjects.{HasLast, WritesNone}
+use Rattle.report_search_objects.specs.SearchObjects.{WritesNone}
 use Rattle.report_searches.proofs.Counted.{cut_within}
 use Rattle.report_search_objects.proofs.Kept.{last_kept}
 use Rattle.report_search_objects.proofs.drawn_object.write_drawn_runs.Goals as goal

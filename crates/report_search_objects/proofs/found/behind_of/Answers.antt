@@ -1,4 +1,4 @@
-use Rattle.std.proofs.Common.{refl, sym, ◌∙◌, inl, inr, true≢false}
+use Rattle.std.proofs.Common.{sym, ◌∙◌, inl, inr, true≢false}
 use Rattle.report_searches.proofs.Printed.{first_is_sought, status_0, status_1, well_has_none}
 use Rattle.report_searches.proofs.Sought.{none_of}
 use Rattle.report_search_objects.proofs.found.behind_of.Goals as goal

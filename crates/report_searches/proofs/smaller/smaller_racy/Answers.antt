@@ -2,7 +2,7 @@ use Rattle.std.proofs.Common.{subst}
 use Rattle.types.specs.declared.parts.Parts.{Parts}
 use Rattle.search_finds.specs.Judged.{IsFindBy}
 use Rattle.report_searches.proofs.DrawnRaces.{says_in}
-use Rattle.report_search_objects.proofs.racy_object.smaller_racy.Goals as goal
+use Rattle.report_searches.proofs.smaller.smaller_racy.Goals as goal
 
 pub returns-clause-run : goal.returns-clause-run
 returns-clause-run g c =

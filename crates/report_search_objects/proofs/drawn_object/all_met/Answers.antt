@@ -1,0 +1,13 @@
+use Rattle.std.proofs.Common.{◌+◌, List, sym, subst, take}
+use Rattle.std.specs.List.{AllZip}
+use Rattle.report_json.specs.declared.drawn.MetEnding.{MetEnding}
+use Rattle.report_looks.proofs.Zipped.{zipped_more}
+use Rattle.report_search_objects.specs.SearchObjects.{IsMetOf}
+use Rattle.report_search_objects.proofs.drawn_object.all_met.Goals as goal
+
+pub loop-at-preserved : goal.loop-at-preserved
+loop-at-preserved c =
+    let s = c.args.sought.now in
+    subst (λ (all : List MetEnding). AllZip (IsMetOf s) (take (c.loop-at.at + 1) c.args.met.now) all) (sym c.in_ok-push.ensures.items)
+    (zipped_more (IsMetOf s) c.args.met.now c.loop-at.all.items c.loop-at.at _ c.met_of-ending.result c.loop-at-test.true
+    c.loop-at.invariant c.met_of-ending.ensures)
