@@ -19,7 +19,7 @@ IfRefusedCall troubles.SaveMemory P = Unit {0}
 
 -- A file is made by the job: a record, a page or a trace.
 abbrev pub writes_file : Job → Bool
-writes_file (Show file record_path names look view) = is_some (path_of view)
+writes_file (Show file record_path names how) = is_some (path_of how.view)
 writes_file (jobs.Races job) = false
 writes_file (jobs.Search s) = is_some s.save
 writes_file job = makes_file job

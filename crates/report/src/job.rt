@@ -63,9 +63,7 @@ where
     ensures unwanted { writes_file job.now ≡ false → Stays streams.old.save streams.new.save }
 {
     match job {
-        Job::Show { look, view, .. } => {
-            show_saved(alloc, module, module, saved, look, *view, streams)
-        }
+        Job::Show { how, .. } => show_saved(alloc, module, module, saved, how, streams),
         Job::Races(asked) => {
             races_saved(
                 alloc, module, module, saved, asked.most, asked.form, streams,

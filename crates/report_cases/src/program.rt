@@ -101,15 +101,9 @@ where
         wish,
     } = input;
     gave.status = match job {
-        Job::Show { look, view, .. } if !names.is_empty() => show_saved(
-            alloc,
-            module,
-            names,
-            saved,
-            look,
-            *view,
-            &mut gave.streams,
-        ),
+        Job::Show { how, .. } if !names.is_empty() => {
+            show_saved(alloc, module, names, saved, how, &mut gave.streams)
+        }
         _ => perform(
             rt,
             alloc,

@@ -3,7 +3,7 @@ use Rattle.std.specs.Prelude.{ℕ, ◌≡◌, ◌↔◌, Bool, true, false, List
 use Rattle.std.specs.Prelude.{Option, Some, None, is_some, option_map, unwrap_or}
 use Rattle.std.specs.Borrow.{Bor}
 use Rattle.std.specs.Str.Parse.{digits_value, without_leading_plus}
-use Rattle.clap.specs.Words.{first_value, one_text, matched_of, raw_values, typed_values}
+use Rattle.clap.specs.Words.{first_value, one_text, matched_of, raw_values}
 use Rattle.clap.specs.declared.parser.matches.Found.{Found}
 
 -- It isn't there.
@@ -44,10 +44,6 @@ HasNumberIfAny f name n = number_found f name ≡ n
 -- It is this number, or where it isn't there the other one.
 abbrev pub HasNumberOr : Found → List ℕ → ℕ → ℕ → Type 0
 HasNumberOr f name other n = unwrap_or (number_found f name) other ≡ n
-
--- It is these numbers.
-abbrev pub HasNumbers : Found → List ℕ → List ℕ → Type 0
-HasNumbers f name all = all ≡ map number_in (unwrap_or (option_map typed_values (matched_of f name)) [])
 
 -- A flag, which says `true` or `false`, and is false where it isn't there.
 pub record HasFlag (f : Found) (name : List ℕ) (is : Bool) : Type 0 where

@@ -14,7 +14,7 @@ abbrev pub IsInRange : Job → Type 0
 IsInRange (Check file form) = Unit {0}
 IsInRange (Run job) = (job.call.fuel ≤ MOST_FUEL) × (1 ≤ job.limit) × (job.limit ≤ MOST_LIMIT) × (job.look.dump ≤ MOST_DUMP)
 IsInRange (Replay file saved look) = look.dump ≤ MOST_DUMP
-IsInRange (Show file saved names look view) = (NARROWEST ≤ look.width) × (look.width ≤ WIDEST) × IsViewInRange view
+IsInRange (Show file saved names how) = (NARROWEST ≤ how.look.width) × (how.look.width ≤ WIDEST) × IsViewInRange how.view
 IsInRange (Races job) = (1 ≤ job.most) × (job.most ≤ MOST_RACES)
 IsInRange (Search s) = IsSearchInRange s
 
@@ -32,7 +32,7 @@ abbrev pub KeepsItsModule : Job → Type 0
 KeepsItsModule (Check file form) = Unit {0}
 KeepsItsModule (Run job) = KeepsRecordApart job × KeepsMemoryApart job
 KeepsItsModule (Replay file saved look) = Unit {0}
-KeepsItsModule (Show file saved names look view) = IfSome (path_of view) (λ path. (path.now ≢ file.now)
+KeepsItsModule (Show file saved names how) = IfSome (path_of how.view) (λ path. (path.now ≢ file.now)
     × (path.now ≢ saved.now))
 KeepsItsModule (Races job) = Unit {0}
 KeepsItsModule (Search s) = SearchKeepsItsModule s
@@ -42,6 +42,6 @@ abbrev pub form_in : Job → Form
 form_in (Check file form) = form
 form_in (Run job) = job.look.form
 form_in (Replay file saved look) = look.form
-form_in (Show file saved names look view) = form_of view
+form_in (Show file saved names how) = form_of how.view
 form_in (Races job) = job.form
 form_in (Search s) = s.form

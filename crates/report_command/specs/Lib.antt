@@ -4,4 +4,5 @@ pub mod Jobs
 pub mod FaultNumbers
 pub mod Results
 pub mod Found
+pub mod Addresses
 pub mod Options

@@ -2,7 +2,7 @@
 use Rattle.std.specs.Prelude.{ℕ, ◌≡◌, ◌≢◌, ◌⊎◌, ◌||◌, Bool, true, false, List, map, ◌++◌, codes}
 use Rattle.std.specs.Prelude.{Option, Some, None, is_some, option_map, IfSome, MatchOption}
 use Rattle.std.specs.Borrow.{Bor}
-use Rattle.std.specs.Str.Parse.{digits_value, without_leading_plus}
+use Rattle.std.specs.List.{AllZip}
 use Rattle.clap.specs.Words.{first_value, rows_of, subcommand_name_of, subcommand_rows_of}
 use Rattle.clap.specs.Words.{HasMatchesOf, app_of, IsParsedFrom}
 use Rattle.clap.specs.declared.builder.command.Command.{Command}
@@ -14,6 +14,7 @@ use Rattle.report_choice.specs.declared.way.Way.TheVariants.{Mix, Random, Priori
 use Rattle.report_choice.specs.declared.choice.Color.{Color}
 use Rattle.report_choice.specs.declared.choice.Color.TheVariants.{Auto, Always, Never}
 use Rattle.report_choice.specs.declared.choice.Look.{Look}
+use Rattle.report_choice.specs.declared.choice.Span.{Span}
 use Rattle.report_choice.specs.declared.sought.Find.{Find}
 use Rattle.report_choice.specs.declared.sought.Find.TheVariants.{Nothing, Failure, Words, NoEnd, ForEver}
 use Rattle.report_choice.specs.declared.sought.Target.{Target}
@@ -30,10 +31,15 @@ use Rattle.report_command.specs.declared.command_line.Job.TheVariants as jobs
 use Rattle.report_command.specs.declared.command_line.Order.{Order}
 use Rattle.report_command.specs.declared.races.RacesJob.{RacesJob}
 use Rattle.report_command.specs.declared.show.View.{View}
-use Rattle.report_command.specs.declared.show.View.TheVariants.{Rows, Moment, Page, Trace, Object}
+use Rattle.report_command.specs.declared.show.View.TheVariants.{Rows, Moment, Write, Page, Trace, Object}
+use Rattle.report_command.specs.declared.show.LastWrite.{LastWrite}
+use Rattle.report_command.specs.declared.show.ShowLook.{ShowLook}
+use Rattle.report_command.specs.declared.places.When.{When}
+use Rattle.report_command.specs.declared.places.When.TheVariants.{End}
+use Rattle.report_command.specs.Addresses.{IsAddress, IsBytes, IsData, IsMoment, IsSpan, IsStretch, IsThread}
 use Rattle.report_command.specs.declared.search.Search.{Search}
 use Rattle.report_command.specs.Found.{HasNo, is_given, HasText, HasTextIfAny, HasTexts, number_in, HasFlag, IsWord}
-use Rattle.report_command.specs.Found.{HasNumber, HasNumberIfAny, HasNumberOr, HasNumbers}
+use Rattle.report_command.specs.Found.{HasNumber, HasNumberIfAny, HasNumberOr}
 use Rattle.report_command.specs.Results.{IsSpelledBy}
 
 -- The call of a run and of a search.
@@ -56,11 +62,6 @@ pub record AsksEndLook (f : Found) (look : EndLook) : Type 0 where
   pub units_is : HasFlag f (codes "units") look.units
   pub callers_is : HasFlag f (codes "explain") look.callers
   pub form_is : AsksForm f look.form
-
--- An address: decimal digits, or hexadecimal ones behind `0x`.
-abbrev pub IsAddress : List ℕ → ℕ → Type 0
-IsAddress text addr = (addr ≡ number_in text)
-    ⊎ ((digits : List ℕ) × (text ≡ codes "0x" ++ digits) × (addr ≡ digits_value 16 (without_leading_plus digits)))
 
 -- A path with an address behind its last `@`, or a path alone.
 abbrev pub IsMemoryFile : List ℕ → MemoryFile → Type 0
@@ -94,12 +95,6 @@ pub record AsksReplay (f : Found) (file saved : Bor (List ℕ)) (look : EndLook)
   pub saved_is : HasText f (codes "record") saved
   pub look_is : AsksEndLook f look
 
--- The address and the number of a text `A:N`.
-abbrev pub IsBytes : List ℕ → ℕ → ℕ → Type 0
-IsBytes text addr count =
-    (first : List ℕ) × (last : List ℕ) × (text ≡ first ++ codes ":" ++ last) × (addr ≡ number_in first)
-    × (count ≡ number_in last)
-
 -- Those of `--dump A:N`, or none.
 abbrev pub AsksBytes : Found → ℕ → ℕ → Type 0
 AsksBytes f addr count =
@@ -110,24 +105,37 @@ abbrev pub AsksEntries : Found → View → Type 0
 AsksEntries f Rows = AsksForm f Lines
 AsksEntries f Object = AsksForm f Json
 AsksEntries f (Moment at) = ⊥
+AsksEntries f (Write write) = ⊥
 AsksEntries f (Page path) = ⊥
 AsksEntries f (Trace path) = ⊥
 
+-- Which moment is asked for; where none is, nothing is.
+abbrev pub AsksMoment : Found → When → Type 0
+AsksMoment f when = (text : List ℕ) × (first_value f (codes "at") ≡ Some text) × IsMoment text when
+
+-- Before which moment a write is sought; where none is asked for, before the end.
+abbrev pub AsksBefore : Found → When → Type 0
+AsksBefore f when = MatchOption (first_value f (codes "at")) (when ≡ End) (λ text. IsMoment text when)
+
+-- The last write of which bytes, and before which moment.
+abbrev pub AsksLastWrite : Found → LastWrite → Type 0
+AsksLastWrite f write = ((text : List ℕ) × (first_value f (codes "last-write") ≡ Some text)
+    × IsData IsStretch text write.bytes) × AsksBefore f write.before
+
 -- What is made of a record, where no file is.
 abbrev pub AsksShown : Found → View → Type 0
-AsksShown f Rows = HasNumberIfAny f (codes "at") None × AsksForm f Lines
-AsksShown f Object = HasNumberIfAny f (codes "at") None × AsksForm f Json
-AsksShown f (Moment at) = HasNumber f (codes "at") at.line × AsksBytes f at.addr at.count
+AsksShown f Rows = HasNo f (codes "last-write") × HasNo f (codes "at") × AsksForm f Lines
+AsksShown f Object = HasNo f (codes "last-write") × HasNo f (codes "at") × AsksForm f Json
+AsksShown f (Moment at) = HasNo f (codes "last-write") × AsksMoment f at.when × AsksBytes f at.addr at.count
+AsksShown f (Write write) = AsksLastWrite f write
 AsksShown f (Page path) = ⊥
 AsksShown f (Trace path) = ⊥
 
 -- What is made of a record.
 abbrev pub AsksView : Found → View → Type 0
-AsksView f Rows = HasNo f (codes "html") × HasNo f (codes "trace") × HasNumberIfAny f (codes "at") None × AsksForm f Lines
-AsksView f Object = HasNo f (codes "html") × HasNo f (codes "trace") × HasNumberIfAny f (codes "at") None × AsksForm f Json
-AsksView f (Moment at) = HasNumber f (codes "at") at.line × AsksBytes f at.addr at.count
 AsksView f (Page path) = HasText f (codes "html") path
 AsksView f (Trace path) = HasText f (codes "trace") path
+AsksView f view = HasNo f (codes "html") × HasNo f (codes "trace") × AsksShown f view
 
 abbrev pub AsksColor : Found → Color → Type 0
 AsksColor f Always = first_value f (codes "color") ≡ Some (codes "always")
@@ -135,22 +143,38 @@ AsksColor f Never = first_value f (codes "color") ≡ Some (codes "never")
 AsksColor f Auto =
     (first_value f (codes "color") ≢ Some (codes "always")) × (first_value f (codes "color") ≢ Some (codes "never"))
 
--- How a record is shown. Which lines and addresses a text `A-B` spells is read elsewhere.
+-- The lines of a text, or all.
+abbrev pub AsksLines : Found → Option Span → Type 0
+AsksLines f None = HasNo f (codes "lines")
+AsksLines f (Some lines) = (text : List ℕ) × (first_value f (codes "lines") ≡ Some text) × IsSpan text lines
+
+-- The threads of texts, one for each.
+abbrev pub AsksThreads : Found → List ℕ → Type 0
+AsksThreads f threads = (texts : List (Bor (List ℕ))) × HasTexts f (codes "thread") texts
+    × AllZip (λ text n. IsThread text.now n) texts threads
+
+-- The addresses of a text, or the words of which somebody else knows the addresses; or all.
+abbrev pub AsksAddresses : Found → Option Span → Option (Bor (List ℕ)) → Type 0
+AsksAddresses f None None = HasNo f (codes "addr")
+AsksAddresses f (Some addrs) None = (text : List ℕ) × (first_value f (codes "addr") ≡ Some text) × IsSpan text addrs
+AsksAddresses f None (Some words) = HasText f (codes "addr") words
+AsksAddresses f (Some addrs) (Some words) = ⊥
+
+-- How a record is shown.
 pub record AsksLook (f : Found) (look : Look) : Type 0 where
-  pub lines : is_some look.choice.lines ≡ is_given f (codes "lines")
-  pub threads : HasNumbers f (codes "thread") look.choice.threads.items
-  pub addrs : is_some look.choice.addrs ≡ is_given f (codes "addr")
+  pub lines : AsksLines f look.choice.lines
+  pub threads : AsksThreads f look.choice.threads.items
   pub width : HasNumber f (codes "width") look.width
   pub color : AsksColor f look.color
 
 -- `show`
-pub record AsksShow (f : Found) (file saved : Bor (List ℕ)) (names : Option (Bor (List ℕ))) (look : Look)
-    (view : View) : Type 0 where
+pub record AsksShow (f : Found) (file saved : Bor (List ℕ)) (names : Option (Bor (List ℕ))) (how : ShowLook) : Type 0 where
   pub file_is : HasText f (codes "file") file
   pub saved_is : HasText f (codes "record") saved
   pub names_is : HasTextIfAny f (codes "names") names
-  pub look_is : AsksLook f look
-  pub view_is : AsksView f view
+  pub look_is : AsksLook f how.look
+  pub addrs_is : AsksAddresses f how.look.choice.addrs how.named
+  pub view_is : AsksView f how.view
 
 -- `races`
 pub record AsksRaces (f : Found) (job : RacesJob) : Type 0 where
@@ -240,7 +264,7 @@ abbrev pub AsksJob : Found → Job → Type 0
 AsksJob f (jobs.Check file form) = AsksCheck f file form
 AsksJob f (jobs.Run job) = AsksRun f job
 AsksJob f (jobs.Replay file saved look) = AsksReplay f file saved look
-AsksJob f (jobs.Show file saved names look view) = AsksShow f file saved names look view
+AsksJob f (jobs.Show file saved names how) = AsksShow f file saved names how
 AsksJob f (jobs.Races job) = AsksRaces f job
 AsksJob f (jobs.Search s) = AsksSearch f s
 
@@ -249,7 +273,7 @@ abbrev pub command_name : Job → List ℕ
 command_name (jobs.Check file form) = codes "check"
 command_name (jobs.Run job) = codes "run"
 command_name (jobs.Replay file saved look) = codes "replay"
-command_name (jobs.Show file saved names look view) = codes "show"
+command_name (jobs.Show file saved names how) = codes "show"
 command_name (jobs.Races job) = codes "races"
 command_name (jobs.Search s) = codes "search"
 

@@ -15,12 +15,11 @@ use crate::limits::{DEFAULT_DUMP, DEFAULT_LIMIT, MOST_DUMP};
 use crate::memory::{MEMORY_IN, MEMORY_OUT, MemoryFile, memory_in_of, memory_misread};
 use crate::races::{RACES, RacesJob, races_job};
 use crate::search::{SEARCH, Search, search_job, search_misuse};
-use crate::show::{SHOW, View, show_job, show_misread};
+use crate::show::{SHOW, ShowLook, show_job, show_misread, threads_misread};
 use crate::words::short_of;
 use clap::builder::ValueParser;
 use clap::error::ErrorKind;
 use clap::{ArgMatches, Command, Error};
-use report_choice::Look;
 use std::alloc::{AllocError, Global};
 use types::MOST_LIMIT;
 
@@ -73,9 +72,7 @@ pub enum Job<'a> {
         /// The path of another build of the module's code, for names and lines, if one is given.
         names: Option<&'a str>,
         /// What is shown, and how.
-        look: Look,
-        /// What is made of the record.
-        view: View<'a>,
+        how: ShowLook<'a>,
     },
     /// Tell the races of a record's run.
     Races(RacesJob<'a>),
@@ -92,7 +89,7 @@ impl Job<'_> {
             Job::Check { form, .. } => *form,
             Job::Run(job) => job.look.form,
             Job::Replay { look, .. } => look.form,
-            Job::Show { view, .. } => view.form(),
+            Job::Show { how, .. } => how.view.form(),
             Job::Races(job) => job.form,
             Job::Search(search) => search.form,
         }
@@ -428,6 +425,12 @@ pub enum Misuse {
     NoLines,
     /// Its addresses are none.
     NoAddresses,
+    /// A thread of it is none.
+    NoThreads,
+    /// Its moment is none.
+    NoMoment,
+    /// What is sought the last write of is neither bytes nor a name.
+    NoTarget,
     /// The bytes of its dump are none.
     NoBytes,
     /// What it makes would take the place of a file that it reads.
@@ -464,6 +467,9 @@ impl Misuse {
             | Misuse::NoAddress
             | Misuse::NoLines
             | Misuse::NoAddresses
+            | Misuse::NoThreads
+            | Misuse::NoMoment
+            | Misuse::NoTarget
             | Misuse::NoBytes
             | Misuse::Strategy
             | Misuse::FindsAll
@@ -481,9 +487,13 @@ impl Misuse {
             | Misuse::ReplacesModule
             | Misuse::MemoryReplaces
             | Misuse::NoAddress => Some(CommandName::Run),
-            Misuse::NoLines | Misuse::NoAddresses | Misuse::NoBytes | Misuse::ReplacesRead => {
-                Some(CommandName::Show)
-            }
+            Misuse::NoLines
+            | Misuse::NoAddresses
+            | Misuse::NoThreads
+            | Misuse::NoMoment
+            | Misuse::NoTarget
+            | Misuse::NoBytes
+            | Misuse::ReplacesRead => Some(CommandName::Show),
             Misuse::FindReplacesModule
             | Misuse::Strategy
             | Misuse::FindsAll
@@ -515,10 +525,21 @@ impl Misuse {
             }
             Misuse::Unreadable => "the command line can't be read",
             Misuse::NoLines => {
-                "invalid value for '--lines <A-B>': it is one unsigned decimal, or two with the lower one first"
+                "invalid value for '--lines <A-B>': it is a number, two with the lower one first, or the first one and a dash"
             }
             Misuse::NoAddresses => {
-                "invalid value for '--addr <A[-B]>': it is one unsigned decimal, or two with the lower one first"
+                "invalid value for '--addr <A[-B]>': it is an address, two with the lower one first, or a name of data; an \
+                address is decimal digits, or hexadecimal ones behind 0x"
+            }
+            Misuse::NoThreads => {
+                "invalid value for '--thread <T,..>': a thread is a number from 0 to 63, alone or behind a t"
+            }
+            Misuse::NoMoment => {
+                "invalid value for '--at <LINE>': it is a line of the record, 1 to 2000000, or the word end or trap"
+            }
+            Misuse::NoTarget => {
+                "invalid value for '--last-write <A[:N]>': it is an address, one with a number of bytes from 1 to 4096, or a \
+                name of data; an address is decimal digits, or hexadecimal ones behind 0x"
             }
             Misuse::NoBytes => {
                 "invalid value for '--dump <A:N>': it is an address and a number of bytes up to 4096"
@@ -630,9 +651,9 @@ fn misuse_of(job: &Job) -> Option<Misuse>
         Job::Show {
             file,
             saved,
-            view,
+            how,
             ..
-        } => match view.path() {
+        } => match how.view.path() {
             Some(path) if path == *file || path == *saved => Some(Misuse::ReplacesRead),
             _ => None,
         },
@@ -680,11 +701,14 @@ pub fn command<'a>(alloc: Global, words: &'a [&'a str]) -> Result<Job<'a>, Usage
 }
 
 /// Which of the arguments of a command can't be read, if one can't.
-fn misread(name: &str, matches: &ArgMatches) -> Option<Misuse> {
+fn misread(alloc: Global, name: &str, matches: &ArgMatches) -> Result<Option<Misuse>, AllocError> {
     match name {
-        "show" => show_misread(matches),
-        "run" => memory_misread(matches),
-        _ => None,
+        "show" => match show_misread(matches) {
+            Some(misuse) => Ok(Some(misuse)),
+            None => threads_misread(alloc, matches),
+        },
+        "run" => Ok(memory_misread(matches)),
+        _ => Ok(None),
     }
 }
 
@@ -697,7 +721,7 @@ fn order_of<'a>(alloc: Global, matches: &ArgMatches<'a>) -> Result<Order<'a>, Us
     let Some((name, matches)) = matches.subcommand() else {
         return Err(misused(alloc, Misuse::Unreadable));
     };
-    if let Some(misuse) = misread(name, matches) {
+    if let Some(misuse) = misread(alloc, name, matches)? {
         return Err(misused(alloc, misuse));
     }
     if let Some(misuse) = search_misuse(alloc, name, matches)? {

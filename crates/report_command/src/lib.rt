@@ -3,8 +3,8 @@
 //! Proved: each field of a job is what `clap` found of the argument that it is (`specs/Options.antt`, a line for each),
 //! and its numbers are in their ranges. No run keeps a record in place of its module, or one of a memory of words or
 //! with bytes laid over it, and none writes its memory in place of a file that it reads or of its record. A result that
-//! is expected of a search is spelled whole. Which numbers `A-B` of lines and addresses spell, and what `clap` finds in
-//! words, cases say.
+//! is expected of a search is spelled whole. The lines, addresses and moments of a show are those that its words spell
+//! (`specs/Addresses.antt`). What `clap` finds in words, cases say.
 #![tactic(auto)]
 
 mod advice;
@@ -15,6 +15,7 @@ mod form;
 mod limits;
 mod lines;
 mod memory;
+mod places;
 mod races;
 mod search;
 mod show;
@@ -25,7 +26,8 @@ pub use call::CallWords;
 pub use command_line::{Job, Misuse, Order, RunJob, Usage, asked, command, misused};
 pub use form::{EndLook, Form};
 pub use memory::MemoryFile;
+pub use places::{Data, When};
 pub use races::RacesJob;
 pub use report_choice::{Color, Find, Look, Sought, Target, Way};
 pub use search::Search;
-pub use show::{At, View};
+pub use show::{At, LastWrite, ShowLook, View};

@@ -2,7 +2,8 @@
 //! bytes in the end.
 ghost use Rattle.std.specs.Prelude.{IfSome};
 ghost use Rattle.clap.specs.Words.{found_of};
-ghost use Rattle.report_command.specs.Options.{AsksMemoryIn, IsAddress, IsMemoryFile};
+ghost use Rattle.report_command.specs.Addresses.{IsAddress};
+ghost use Rattle.report_command.specs.Options.{AsksMemoryIn, IsMemoryFile};
 
 use crate::arguments::{Argument, OPTION};
 use crate::command_line::Misuse;

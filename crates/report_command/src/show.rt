@@ -1,33 +1,40 @@
 //! The command `show`, and its job.
 
-ghost use Rattle.std.specs.Prelude.{◌≡◌, ◌≤◌, IfOk, IfSome, is_some, codes};
+ghost use Rattle.std.specs.Prelude.{◌≡◌, ◌≤◌, IfOk, IfSome, codes};
 ghost use Rattle.clap.specs.Words.{found_of};
 ghost use Rattle.report_command.specs.declared.limits.TheConstants.{MOST_DUMP, NARROWEST, WIDEST};
 ghost use Rattle.report_command.specs.Jobs.{IsInRange};
 ghost use Rattle.report_command.specs.Views as views;
 ghost use Rattle.report_command.specs.Views.{IsViewInRange, path_of};
-ghost use Rattle.report_command.specs.Found.{is_given};
-ghost use Rattle.report_command.specs.Options.{AsksBytes, AsksColor, AsksEntries, AsksLook, AsksNamed, AsksShown, AsksView};
-ghost use Rattle.report_command.specs.Options.{IsBytes};
+ghost use Rattle.report_command.specs.Addresses.{IsData, IsMoment, IsStretch};
+ghost use Rattle.report_command.specs.Options.{AsksAddresses, AsksBytes, AsksColor, AsksEntries, AsksBefore, AsksLines};
+ghost use Rattle.report_command.specs.Options.{AsksLook, AsksNamed, AsksShown, AsksThreads, AsksView};
 
 use crate::arguments::{Argument, CommandRow, Kind, OPTION};
 use crate::command_line::{FILE, Job, Misuse, RECORD};
 use crate::form::{Form, JSON, form_of};
-use crate::limits::{DEFAULT_WIDTH, MOST_DUMP, MOST_LINE, NARROWEST, WIDEST};
-use crate::words::{number_if_any, numbers_of, short_of};
+use crate::limits::{DEFAULT_WIDTH, MOST_DUMP, NARROWEST, WIDEST};
+use crate::places::{Data, When, bytes_in, data_in, moment_in, span_in, target_in, threads_in};
+use crate::words::{short_of, texts_of};
 use clap::ArgMatches;
 use clap::builder::ValueParser;
 use report_choice::{Choice, Color, Look, Span};
 use std::alloc::{AllocError, Global};
-use types::MOST_THREADS;
 
-/// A line of a record, before which threads and memory are shown.
+/// A moment of a record's run, at which threads and memory are shown.
 #[derive(Clone, Copy)]
 pub struct At {
-    pub line: u64,
+    pub when: When,
     /// The bytes of the memory that are shown: the first one's address, and how many, 0 to 4096.
     pub addr: u64,
     pub count: u32,
+}
+
+/// The last write of some bytes before a moment.
+#[derive(Clone, Copy)]
+pub struct LastWrite<'a> {
+    pub bytes: Data<'a>,
+    pub before: When,
 }
 
 /// What is made of a record.
@@ -35,8 +42,10 @@ pub struct At {
 pub enum View<'a> {
     /// Rows on standard output.
     Rows,
-    /// What threads and memory are like before a line, on standard output.
+    /// What threads and memory are like at a moment, on standard output.
     Moment(At),
+    /// Who wrote some bytes last, on standard output.
+    Write(LastWrite<'a>),
     /// A page of HTML in the file at this path.
     Page(&'a str),
     /// A text in the Trace Event Format in the file at this path.
@@ -51,7 +60,7 @@ impl<'a> View<'a> {
         ensures { result ≡ path_of self.now }
     {
         match self {
-            View::Rows | View::Moment(_) | View::Object => None,
+            View::Rows | View::Moment(_) | View::Write(_) | View::Object => None,
             View::Page(path) | View::Trace(path) => Some(*path),
         }
     }
@@ -62,35 +71,38 @@ impl<'a> View<'a> {
     {
         match self {
             View::Object => Form::Json,
-            View::Rows | View::Moment(_) | View::Page(_) | View::Trace(_) => Form::Lines,
+            View::Rows | View::Moment(_) | View::Write(_) | View::Page(_) | View::Trace(_) =>
+                Form::Lines,
         }
     }
 }
 
-/// An address and a number of bytes, of a text `A:N`.
-fn bytes_of(text: &str) -> Option<(u64, u32)>
-    ensures range { IfSome result (λ bytes. bytes.1 ≤ MOST_DUMP) }
-    ensures spelled { IfSome result (λ bytes. IsBytes text.now bytes.0 bytes.1) }
-{
-    let Some((addr, count)) = text.split_once(':') else {
-        return None;
-    };
-    let (Ok(addr), Ok(count)) = (addr.parse::<u64>(), count.parse::<u32>()) else {
-        return None;
-    };
-    if count <= MOST_DUMP {
-        Some((addr, count))
-    } else {
-        None
-    }
+/// How a record is shown, and what is made of it.
+#[derive(Drop)]
+pub struct ShowLook<'a> {
+    pub look: Look,
+    /// The words that name the addresses at which entries are shown, in place of addresses in `look`.
+    pub named: Option<&'a str>,
+    pub view: View<'a>,
 }
 
-/// The line of the moment.
+/// The moment.
 const AT: Argument = Argument {
     name: "at",
     value: "LINE",
-    help: "In place of rows, what threads and memory are like before this line of the record",
-    parser: ValueParser::Unsigned(1, MOST_LINE),
+    help: "In place of rows, threads and memory before this line of the record, or at the `end`, or where the first `trap` is",
+    conflicts: &["lines", "thread", "addr", "width", "color"],
+    ..OPTION
+};
+
+/// The bytes of which the last write is told.
+const LAST_WRITE: Argument = Argument {
+    name: "last-write",
+    value: "A[:N]",
+    help: "In place of rows, who wrote these N bytes last, or this data by its name; with --at: before that",
+    conflicts: &[
+        "lines", "thread", "addr", "width", "color", "dump", "html", "trace",
+    ],
     ..OPTION
 };
 
@@ -125,7 +137,7 @@ const TRACE: Argument = Argument {
 const LINES: Argument = Argument {
     name: "lines",
     value: "A-B",
-    help: "Only the entries on these lines of the record",
+    help: "Only the entries on these lines of the record; A- goes to its end",
     ..OPTION
 };
 
@@ -133,9 +145,8 @@ const LINES: Argument = Argument {
 const THREADS: Argument = Argument {
     name: "thread",
     value: "T,..",
-    help: "Only the entries of these threads, 0 to 63",
+    help: "Only the entries of these threads, 0 to 63, as 2 or t2",
     kind: Kind::List,
-    parser: ValueParser::Signed(0, MOST_THREADS as i64 - 1),
     ..OPTION
 };
 
@@ -143,14 +154,14 @@ const THREADS: Argument = Argument {
 const ADDRESSES: Argument = Argument {
     name: "addr",
     value: "A[-B]",
-    help: "Only the entries at these addresses, unsigned decimals",
+    help: "Only the entries at these addresses, decimal or behind 0x, or at the data of this name, as queue.head",
     ..OPTION
 };
 
 /// Whether the rows are an object.
 const OBJECT: Argument = Argument {
     help: "Print one JSON object in place of rows, also of a refusal",
-    conflicts: &["at", "html", "trace"],
+    conflicts: &["at", "last-write", "html", "trace"],
     ..JSON
 };
 
@@ -183,50 +194,86 @@ const COLOR: Argument = Argument {
 };
 
 /// `show FILE RECORD [--lines A-B] [--thread T,..] [--addr A[-B]] [--names FILE2] [--width N] [--color WHEN] [--html
-/// OUT] [--trace OUT] [--json]`, and `show FILE RECORD --at LINE [--dump A:N] [--names FILE2]`
+/// OUT] [--trace OUT] [--json]`, `show FILE RECORD --at LINE [--dump A:N] [--names FILE2]`, and `show FILE RECORD
+/// --last-write A[:N] [--at LINE] [--names FILE2]`
 pub(crate) static SHOW: CommandRow = CommandRow {
     name: "show",
     call: "wathread show",
     about: "Shows the entries of a record in words, with the place in the module of each",
     after_help: None,
     arguments: &[
-        FILE, RECORD, LINES, THREADS, ADDRESSES, NAMES, WIDTH, COLOR, AT, BYTES, HTML, TRACE,
-        OBJECT,
+        FILE, RECORD, LINES, THREADS, ADDRESSES, NAMES, WIDTH, COLOR, AT, BYTES, LAST_WRITE, HTML,
+        TRACE, OBJECT,
     ],
 };
 
-/// The span in an argument that may be left out; `None` where what is there is no span.
-fn span_of(matches: &ArgMatches, name: &str) -> Option<Option<Span>>
-    ensures { IfSome result (λ span. is_some span ≡ is_given (found_of matches.now) name.now) }
+/// Which of the arguments of `show` can't be read, if one can't. Threads are read by themselves.
+pub(crate) fn show_misread(matches: &ArgMatches) -> Option<Misuse> {
+    match matches.get_str("lines") {
+        Some(text) if span_in(text).is_none() => return Some(Misuse::NoLines),
+        _ => {}
+    }
+    match matches.get_str("addr") {
+        Some(text) if data_in(text).is_none() => return Some(Misuse::NoAddresses),
+        _ => {}
+    }
+    match matches.get_str("at") {
+        Some(text) if moment_in(text).is_none() => return Some(Misuse::NoMoment),
+        _ => {}
+    }
+    match matches.get_str("last-write") {
+        Some(text) if target_in(text).is_none() => return Some(Misuse::NoTarget),
+        _ => {}
+    }
+    match matches.get_str("dump") {
+        Some(text) if bytes_in(text).is_none() => Some(Misuse::NoBytes),
+        _ => None,
+    }
+}
+
+/// The lines that are chosen, if they are; `None` where what is there can't be read.
+fn lines_of(matches: &ArgMatches) -> Option<Option<Span>>
+    ensures { IfSome result (AsksLines (found_of matches.now)) }
 {
-    match matches.get_str(name) {
-        Some(text) => match Span::read(text) {
-            Some(span) => Some(Some(span)),
+    match matches.get_str("lines") {
+        Some(text) => match span_in(text) {
+            Some(lines) => Some(Some(lines)),
             None => None,
         },
         None => Some(None),
     }
 }
 
-/// Whether the argument is given and no span.
-fn is_no_span(matches: &ArgMatches, name: &str) -> bool {
-    match matches.get_str(name) {
-        Some(text) => Span::read(text).is_none(),
-        None => false,
+/// The addresses that are chosen, or the words that name them, if they are; `None` where what is there can't be read.
+fn addresses_of<'a>(matches: &ArgMatches<'a>) -> Option<(Option<Span>, Option<&'a str>)>
+    ensures { IfSome result (λ a. AsksAddresses (found_of matches.now) a.0 a.1) }
+{
+    let Some(text) = matches.get_str("addr") else {
+        return Some((None, None));
+    };
+    match data_in(text) {
+        Some(Data::At(addrs)) => Some((Some(addrs), None)),
+        Some(Data::Named(words)) => Some((None, Some(words))),
+        None => None,
     }
 }
 
-/// Which of the arguments of `show` can't be read, if one can't.
-pub(crate) fn show_misread(matches: &ArgMatches) -> Option<Misuse> {
-    if is_no_span(matches, "lines") {
-        return Some(Misuse::NoLines);
-    }
-    if is_no_span(matches, "addr") {
-        return Some(Misuse::NoAddresses);
-    }
-    match matches.get_str("dump") {
-        Some(text) if bytes_of(text).is_none() => Some(Misuse::NoBytes),
-        _ => None,
+/// The threads that are chosen; `None` where one of them is none.
+fn threads_of(alloc: Global, matches: &ArgMatches) -> Result<Option<Vec<u32>>, AllocError>
+    ensures { IfOk result (λ read. IfSome read (λ threads. AsksThreads (found_of matches.now) threads.items)) }
+{
+    let texts = texts_of(alloc, matches, "thread")?;
+    threads_in(alloc, texts.as_slice())
+}
+
+/// Why the threads that are chosen are none, if one is none.
+pub(crate) fn threads_misread(
+    alloc: Global,
+    matches: &ArgMatches,
+) -> Result<Option<Misuse>, AllocError> {
+    match threads_of(alloc, matches)? {
+        Some(_) => Ok(None),
+        None => Ok(Some(Misuse::NoThreads)),
     }
 }
 
@@ -241,21 +288,23 @@ fn color_of(matches: &ArgMatches) -> Color
     }
 }
 
-/// How the record is shown; `None` where an argument can't be read.
-fn look_of(alloc: Global, matches: &ArgMatches) -> Result<Option<Look>, AllocError>
+/// How the record is shown, with these addresses; `None` where an argument can't be read.
+fn look_of(
+    alloc: Global,
+    matches: &ArgMatches,
+    addrs: Option<Span>,
+) -> Result<Option<Look>, AllocError>
     ensures width { IfOk result (λ look. IfSome look (λ l. (NARROWEST ≤ l.width) × (l.width ≤ WIDEST))) }
     ensures asks { IfOk result (λ look. IfSome look (AsksLook (found_of matches.now))) }
+    ensures addrs { IfOk result (λ look. IfSome look (λ l. l.choice.addrs ≡ addrs)) }
 {
-    let (Some(lines), Some(addrs)) = (span_of(matches, "lines"), span_of(matches, "addr")) else {
-        return Ok(None);
-    };
-    let Some(width) = short_of(matches, "width") else {
+    let (Some(lines), Some(width)) = (lines_of(matches), short_of(matches, "width")) else {
         return Ok(None);
     };
     if width < NARROWEST || width > WIDEST {
         return Ok(None);
     }
-    let Some(threads) = numbers_of(alloc, matches, "thread")? else {
+    let Some(threads) = threads_of(alloc, matches)? else {
         return Ok(None);
     };
     Ok(Some(Look {
@@ -275,7 +324,7 @@ fn moment_bytes_of(matches: &ArgMatches) -> Option<(u64, u32)>
     ensures asks { IfSome result (λ bytes. AsksBytes (found_of matches.now) bytes.0 bytes.1) }
 {
     match matches.get_str("dump") {
-        Some(text) => bytes_of(text),
+        Some(text) => bytes_in(text),
         None => Some((0, 0)),
     }
 }
@@ -291,18 +340,53 @@ fn entries_of<'a>(matches: &ArgMatches<'a>) -> View<'a>
     }
 }
 
+/// The moment with this text, and the bytes that are shown of it; `None` where an argument can't be read.
+fn at_of(matches: &ArgMatches, text: &str) -> Option<At>
+    ensures range { IfSome result (λ at. at.count ≤ MOST_DUMP) }
+    ensures asks { IfSome result (λ at. IsMoment text.now at.when × AsksBytes (found_of matches.now) at.addr at.count) }
+{
+    let (Some(when), Some((addr, count))) = (moment_in(text), moment_bytes_of(matches)) else {
+        return None;
+    };
+    Some(At { when, addr, count })
+}
+
+/// Before which moment a write is sought; `None` where what is there can't be read.
+fn before_of(matches: &ArgMatches) -> Option<When>
+    ensures { IfSome result (AsksBefore (found_of matches.now)) }
+{
+    match matches.get_str("at") {
+        Some(text) => moment_in(text),
+        None => Some(When::End),
+    }
+}
+
+/// The write that is sought of bytes with this text; `None` where an argument can't be read.
+fn write_of<'a>(matches: &ArgMatches<'a>, text: &'a str) -> Option<LastWrite<'a>>
+    ensures { IfSome result
+        (λ write. IsData IsStretch text.now write.bytes × AsksBefore (found_of matches.now) write.before) }
+{
+    let (Some(bytes), Some(before)) = (target_in(text), before_of(matches)) else {
+        return None;
+    };
+    Some(LastWrite { bytes, before })
+}
+
 /// What is to be made of the record, where it makes no file; `None` where an argument can't be read.
 fn shown_of<'a>(matches: &ArgMatches<'a>) -> Option<View<'a>>
     ensures range { IfSome result IsViewInRange }
     ensures asks { IfSome result (AsksShown (found_of matches.now)) }
 {
-    match number_if_any(matches, "at") {
-        Ok(Some(line)) => match moment_bytes_of(matches) {
-            Some((addr, count)) => Some(View::Moment(At { line, addr, count })),
+    match (matches.get_str("last-write"), matches.get_str("at")) {
+        (Some(text), _) => match write_of(matches, text) {
+            Some(write) => Some(View::Write(write)),
             None => None,
         },
-        Ok(None) => Some(entries_of(matches)),
-        Err(_) => None,
+        (None, Some(text)) => match at_of(matches, text) {
+            Some(at) => Some(View::Moment(at)),
+            None => None,
+        },
+        (None, None) => Some(entries_of(matches)),
     }
 }
 
@@ -329,17 +413,16 @@ pub(crate) fn show_job<'a>(
     let (Some(file), Some(saved)) = (matches.get_str("file"), matches.get_str("record")) else {
         return Ok(None);
     };
-    let Some(view) = view_of(matches) else {
+    let (Some(view), Some((addrs, named))) = (view_of(matches), addresses_of(matches)) else {
         return Ok(None);
     };
-    let Some(look) = look_of(alloc, matches)? else {
+    let Some(look) = look_of(alloc, matches, addrs)? else {
         return Ok(None);
     };
     Ok(Some(Job::Show {
         file,
         saved,
         names: matches.get_str("names"),
-        look,
-        view,
+        how: ShowLook { look, named, view },
     }))
 }

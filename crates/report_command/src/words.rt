@@ -1,7 +1,7 @@
 //! What the parser found of an argument.
 ghost use Rattle.std.specs.Prelude.{IfOk, IfSome};
 ghost use Rattle.clap.specs.Words.{found_of};
-ghost use Rattle.report_command.specs.Found.{HasNumber, HasNumberIfAny, HasNumbers, HasTexts};
+ghost use Rattle.report_command.specs.Found.{HasNumber, HasNumberIfAny, HasTexts};
 
 use clap::ArgMatches;
 use std::alloc::{AllocError, Global};
@@ -31,16 +31,6 @@ pub(crate) fn short_if_any(matches: &ArgMatches, name: &str) -> Result<Option<u3
     matches.try_get_one::<u32>(name)
 }
 
-/// The same, of 64 bits.
-///
-/// # Errors
-/// Where what is there is no number of 64 bits.
-pub(crate) fn number_if_any(matches: &ArgMatches, name: &str) -> Result<Option<u64>, ParseIntError>
-    ensures { IfOk result (HasNumberIfAny (found_of matches.now) name.now) }
-{
-    matches.try_get_one::<u64>(name)
-}
-
 /// The texts of an argument; none where it isn't there.
 pub(crate) fn texts_of<'a>(
     alloc: Global,
@@ -53,25 +43,4 @@ pub(crate) fn texts_of<'a>(
         Some(texts) => Vec::from_slice(alloc, texts),
         None => Ok(Vec::new(alloc)),
     }
-}
-
-/// The numbers of an argument, of 32 bits each, and none where it isn't there; `None` where a text is no such number.
-pub(crate) fn numbers_of(
-    alloc: Global,
-    matches: &ArgMatches,
-    name: &str,
-) -> Result<Option<Vec<u32>>, AllocError>
-    ensures { IfOk result (λ read. IfSome read (λ all. HasNumbers (found_of matches.now) name.now all.items)) }
-{
-    let mut numbers = Vec::new(alloc);
-    let Some(values) = matches.get_many::<u32>(name) else {
-        return Ok(Some(numbers));
-    };
-    for value in values {
-        let Ok(number) = value else {
-            return Ok(None);
-        };
-        numbers.push(number)?;
-    }
-    Ok(Some(numbers))
 }

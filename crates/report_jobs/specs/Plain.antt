@@ -11,7 +11,7 @@ abbrev pub IsPlain : Job → Type 0
 IsPlain (Check file form) = Unit {0}
 IsPlain (Run job) = Unit {0}
 IsPlain (Replay file record_path look) = Unit {0}
-IsPlain (Show file record_path names look at) = ⊥
+IsPlain (Show file record_path names how) = ⊥
 IsPlain (jobs.Races job) = ⊥
 IsPlain (jobs.Search s) = ⊥
 
@@ -20,6 +20,6 @@ abbrev pub PerformsPlain : Job → List ℕ → List ℕ → Written → ℕ →
 PerformsPlain (Check file form) bytes saved w status = Checks bytes form w.out status
 PerformsPlain (Run job) bytes saved w status = Runs bytes saved job w status
 PerformsPlain (Replay file record_path look) bytes saved w status = Replays bytes saved look w.out w.err status
-PerformsPlain (Show file record_path names look at) bytes saved w status = Unit {0}
+PerformsPlain (Show file record_path names how) bytes saved w status = Unit {0}
 PerformsPlain (jobs.Races job) bytes saved w status = Unit {0}
 PerformsPlain (jobs.Search s) bytes saved w status = Unit {0}

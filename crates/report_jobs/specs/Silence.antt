@@ -65,7 +65,7 @@ abbrev pub makes_memory : Job → Bool
 makes_memory (jobs.Run job) = is_some job.memory_out
 makes_memory (jobs.Check file form) = false
 makes_memory (jobs.Replay file saved look) = false
-makes_memory (jobs.Show file saved names look view) = false
+makes_memory (jobs.Show file saved names how) = false
 makes_memory (jobs.Races job) = false
 makes_memory (jobs.Search s) = false
 
@@ -74,6 +74,6 @@ abbrev pub makes_file : Job → Bool
 makes_file (jobs.Run job) = is_some job.save
 makes_file (jobs.Check file form) = false
 makes_file (jobs.Replay file saved look) = false
-makes_file (jobs.Show file saved names look view) = false
+makes_file (jobs.Show file saved names how) = false
 makes_file (jobs.Races job) = false
 makes_file (jobs.Search s) = is_some s.save

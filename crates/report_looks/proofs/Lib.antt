@@ -1,3 +1,4 @@
 mod Silent
 mod RacePairs
 pub mod Zipped
+mod Printed

@@ -1,3 +1,4 @@
 pub mod RaceObjects
 pub mod Raced
 pub mod Silent
+pub mod Looked

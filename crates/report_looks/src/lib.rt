@@ -1,17 +1,24 @@
 //! What the program shows of a record: its entries in words, and its races. `showing` has the entries as rows, a moment, a
-//! page, a trace or an object; `racing` has the races, as lines or as the object that `pairing` makes.
+//! page, a trace or an object, or the last write of some bytes: `wanted` finds what is asked for in the record, `printing`
+//! writes it, and `ends` what the end of its run is like; `racing` has the races, as lines or as the object that `pairing`
+//! makes.
 //!
 //! Proved: 0 of a show says that the record is of a run of the module, 0 of races that no two accesses of that run race, 1
-//! that some do, 2 and 4 that there is no such module or record, and then nothing is written but what is wrong; the races
-//! that are told are races of the run, none twice, and each one, where it isn't said that they are cut. Of a show nothing
-//! is said of what it prints. The object of races has what its lines say: of each the two entries, and the next atomic
-//! write of the first one's thread.
+//! that some do, 2 and 4 that there is no such module or record, 3 of a show that there is one which has not what is asked
+//! for, and then nothing is written but what is wrong; the races that are told are races of the run, none twice, and each
+//! one, where it isn't said that they are cut. A last write that is shown is the last entry before the moment that is asked
+//! for which writes one of the bytes, and where none is said to write there, none does (`specs/Looked.antt`); of the rest
+//! that a show prints nothing is said. The object of races has what its lines say: of each the two entries, and the next
+//! atomic write of the first one's thread.
 #![tactic(auto)]
 
+mod ends;
 mod objects;
 mod pairing;
+mod printing;
 mod racing;
 mod showing;
+mod wanted;
 
 pub use pairing::pair_of;
 pub use racing::races_saved;

@@ -6,56 +6,62 @@ ghost use Rattle.report_jobs.specs.Prints.{changed};
 ghost use Rattle.report_jobs.specs.Told.{TellsWhatIsWrong};
 ghost use Rattle.report_command.specs.Views.{path_of};
 ghost use Rattle.report_jobs.specs.Silence.{IsRefusal, Stays};
-ghost use Rattle.report_looks.specs.Raced.{IsSeen};
-ghost use Rattle.report_looks.specs.Silent.{IfRefusedRecord, IsNoRefusal};
+ghost use Rattle.report_looks.specs.Looked.{PrintsView};
+ghost use Rattle.report_looks.specs.Raced.{IsSeen, OfModule};
+ghost use Rattle.report_looks.specs.Silent.{IfUnshown, IsNoRefusal, IsUnshown};
 
-use crate::objects::write_entries;
-use replay::replay_watched;
-use replay_text::{Record, RecordFault, RecordParts, read_record};
-use report_command::{At, Look, View};
+use crate::printing::print_asked;
+use crate::wanted::{Unshown, asked_of};
+use replay_text::{Record, RecordFault, read_record};
+use report_command::ShowLook;
 use report_jobs::{Streams, Unfit, load, misfit, refuse, reject};
 use search_races::watched;
-use show_events::{write_page, write_trace};
-use show_moments::{Bytes, Moment, write_moment};
-use show_rows::{CodeMap, Row, Shown, write_rows};
+use show_named::DataMap;
+use show_rows::{CodeMap, Row};
 use show_text::Unwritten;
 use std::alloc::Global;
 use std::io::Write;
 use validate_module::ValidModule;
 
+/// The status where a record has not what is asked for.
+const SHOW_REFUSED: u8 = 3;
+
 /// Shows the entries of the record whose text `saved` is: each in words, with its place in the module. `names` are the
-/// bytes that have the names of functions and the lines of source: those of the module, or of another build of its
-/// code. `view` may ask for what threads and memory are like before a line, for a page or for a trace, in place of
-/// rows. A page and a trace are the file that it makes.
+/// bytes that have the names of functions and data and the lines of source: those of the module, or of another build of
+/// its code. `how` may ask for what threads and memory are like at a moment, for the last write of some bytes, for a page
+/// or for a trace, in place of rows. A page and a trace are the file that it makes.
 ///
-/// Answers 0 only where the record is of a run of the module, 4 only where the bytes are the text of no record of a run
-/// of it, 2 for a refused module, and 5 where memory or a stream failed. At 2 and 4 nothing is written but to `err`, and
-/// where no page and no trace is asked for the file's writer stays as it is.
+/// Answers 0 only where the record is of a run of the module, 3 only where it is one and has not what is asked for, 4 only
+/// where the bytes are the text of no record of a run of it, 2 for a refused module, and 5 where memory or a stream failed.
+/// At 2, 3 and 4 nothing is written but to `err`, and where no page and no trace is asked for the file's writer stays as it
+/// is.
 pub fn show_saved<W: Write, E: Write, S: Write>(
     alloc: Global,
     module: &[u8],
     names: &[u8],
     saved: &[u8],
-    look: &Look,
-    view: View,
+    how: &ShowLook,
     streams: &mut Streams<W, E, S>,
 ) -> u8
     ensures shown { result ≡ 0 → IsRecordOf «module».now saved.now }
+    ensures prints { result ≡ 0 → OfModule (PrintsView how.now.view (changed W.contents streams.old.out streams.new.out))
+        «module».now saved.now }
     ensures refused { result ≡ 2 → IsNoValidModule «module».now }
+    ensures absent { result ≡ 3 → IsRecordOf «module».now saved.now }
     ensures none { result ≡ 4 → IsNoRecordOf «module».now saved.now }
     ensures told { result ≡ 4
         → TellsWhatIsWrong «module».now saved.now (changed E.contents streams.old.err streams.new.err) }
-    ensures status { (result ≡ 0) ⊎ (result ≡ 2) ⊎ (result ≡ 4) ⊎ (result ≡ 5) }
+    ensures status { (result ≡ 0) ⊎ (result ≡ 2) ⊎ (result ≡ 3) ⊎ (result ≡ 4) ⊎ (result ≡ 5) }
     ensures silent { IsRefusal result → Stays streams.old.out streams.new.out × Stays streams.old.save streams.new.save }
-    ensures unwanted { is_some (path_of view.entry) ≡ false → Stays streams.old.save streams.new.save }
+    ensures unwanted { is_some (path_of how.now.view) ≡ false → Stays streams.old.save streams.new.save }
     ensures no_memory { Stays streams.old.memory streams.new.memory }
 {
     let Streams { out, err, save, .. } = streams;
     let code = CodeBytes { module, names };
-    if view.path().is_some() {
-        return show_to(alloc, code, saved, look, view, save, err);
+    if how.view.path().is_some() {
+        return show_to(alloc, code, saved, how, save, err);
     }
-    show_to(alloc, code, saved, look, view, out, err)
+    show_to(alloc, code, saved, how, out, err)
 }
 
 /// The same on one of the streams.
@@ -63,26 +69,32 @@ fn show_to<W: Write, E: Write>(
     alloc: Global,
     code: CodeBytes,
     saved: &[u8],
-    look: &Look,
-    view: View,
+    how: &ShowLook,
     out: &mut W,
     err: &mut E,
 ) -> u8
     ensures shown { result ≡ 0 → IsRecordOf code.entry.«module».now saved.now }
+    ensures prints { result ≡ 0 → OfModule (PrintsView how.now.view (changed W.contents out.old out.new))
+        code.entry.«module».now saved.now }
     ensures refused { result ≡ 2 → IsNoValidModule code.entry.«module».now }
+    ensures absent { result ≡ 3 → IsRecordOf code.entry.«module».now saved.now }
     ensures none { result ≡ 4 → IsNoRecordOf code.entry.«module».now saved.now }
     ensures told { result ≡ 4
         → TellsWhatIsWrong code.entry.«module».now saved.now (changed E.contents err.old err.new) }
-    ensures status { (result ≡ 0) ⊎ (result ≡ 2) ⊎ (result ≡ 4) ⊎ (result ≡ 5) }
+    ensures status { (result ≡ 0) ⊎ (result ≡ 2) ⊎ (result ≡ 3) ⊎ (result ≡ 4) ⊎ (result ≡ 5) }
     ensures silent { IsRefusal result → Stays out.old out.new }
 {
     let valid = match load(alloc, code.module) {
         Ok(valid) => valid,
         Err(refusal) => return refuse(err, refusal),
     };
-    match show_record(alloc, &valid, code, saved, look, view, out) {
+    match show_record(alloc, &valid, code, saved, how, out) {
         Ok(()) => 0,
-        Err(unfit) => reject(err, unfit),
+        Err(Unshown::Unfit(unfit)) => reject(err, unfit),
+        Err(Unshown::Absent(absent)) => {
+            let _ = write!(err, "show refused: {absent}\n");
+            SHOW_REFUSED
+        }
     }
 }
 
@@ -93,41 +105,40 @@ pub struct CodeBytes<'a> {
     pub names: &'a [u8],
 }
 
-/// Shows the entries of the record whose text `saved` is.
+/// Shows of the record whose text `saved` is what is asked for.
 fn show_record<W: Write>(
     alloc: Global,
     module: &ValidModule,
     code: CodeBytes,
     saved: &[u8],
-    look: &Look,
-    view: View,
+    how: &ShowLook,
     out: &mut W,
-) -> Result<(), Unfit>
+) -> Result<(), Unshown>
     ensures shown { IfOk result (λ _. IsOfRun «module».now.parts saved.now) }
-    ensures unfit { IfErr result (λ unfit. IsUnfit «module».now.parts saved.now unfit) }
-    ensures silent { IfErr result (λ unfit. IfRefusedRecord unfit (Stays out.old out.new)) }
+    ensures prints { IfOk result
+        (λ _. PrintsView how.now.view (changed W.contents out.old out.new) «module».now.parts saved.now) }
+    ensures unshown { IfErr result (IsUnshown «module».now.parts saved.now) }
+    ensures silent { IfErr result (λ why. IfUnshown why (Stays out.old out.new)) }
 {
-    let seen = rows_of(alloc, module, saved)?;
-    match print_seen(alloc, module, &seen, code, look, view, out) {
+    let seen = match rows_of(alloc, module, saved) {
+        Ok(seen) => seen,
+        Err(unfit) => return Err(Unshown::Unfit(unfit)),
+    };
+    let places = match CodeMap::read(alloc, module.parts(), code.module, code.names) {
+        Ok(places) => places,
+        Err(_) => return Err(Unshown::Unfit(Unfit::NoMemory)),
+    };
+    let map = match DataMap::read(alloc, code.names) {
+        Ok(map) => map,
+        Err(_) => return Err(Unshown::Unfit(Unfit::NoMemory)),
+    };
+    let asked = match asked_of(alloc, seen.record.parts(), &map, how) {
+        Ok(asked) => asked,
+        Err(why) => return Err(why),
+    };
+    match print_asked(alloc, module, &seen, &places, &map, &asked, out) {
         Ok(()) => Ok(()),
-        Err(unwritten) => Err(unfit_of(unwritten)),
-    }
-}
-
-/// Writes what is asked for of the record.
-fn print_seen<W: Write>(
-    alloc: Global,
-    module: &ValidModule,
-    seen: &SeenRun,
-    code: CodeBytes,
-    look: &Look,
-    view: View,
-    out: &mut W,
-) -> Result<(), Unwritten> {
-    let code = CodeMap::read(alloc, module.parts(), code.module, code.names)?;
-    match view {
-        View::Moment(at) => print_moment(alloc, module, seen, &code, at, out),
-        _ => print_rows(alloc, seen, &code, look, view, out),
+        Err(unwritten) => Err(Unshown::Unfit(unfit_of(unwritten))),
     }
 }
 
@@ -164,71 +175,4 @@ pub(crate) fn rows_of(alloc: Global, module: &ValidModule, saved: &[u8]) -> Resu
         Ok(rows) => Ok(SeenRun { record, rows }),
         Err(fault) => Err(misfit(fault)),
     }
-}
-
-/// Writes the rows, or the object, the page or the trace that has them.
-fn print_rows<W: Write>(
-    alloc: Global,
-    seen: &SeenRun,
-    code: &CodeMap,
-    look: &Look,
-    view: View,
-    out: &mut W,
-) -> Result<(), Unwritten> {
-    let shown = Shown {
-        record: seen.record.parts(),
-        rows: seen.rows.as_slice(),
-        code,
-    };
-    match view {
-        View::Page(_) => write_page(alloc, shown, look, out),
-        View::Trace(_) => write_trace(alloc, shown, look, out),
-        View::Object => write_entries(alloc, shown, look, out),
-        View::Rows | View::Moment(_) => write_rows(alloc, shown, look, out),
-    }
-}
-
-/// How many entries of a record stand before a line; all of them before a line behind the log.
-fn entries_before(parts: &RecordParts, line: u64) -> usize {
-    let first = parts.version.header_lines().saturating_add(1);
-    let line = usize::try_from(line).unwrap_or(usize::MAX);
-    line.saturating_sub(first).min(parts.log.as_slice().len())
-}
-
-/// The record before a line, seen by a second replay.
-fn moment_of<'r>(
-    alloc: Global,
-    module: &ValidModule,
-    record: &'r Record,
-    at: At,
-) -> Result<Moment<'r>, Unwritten> {
-    let parts = record.parts();
-    let wanted = Bytes {
-        addr: at.addr,
-        count: at.count,
-    };
-    let entries = entries_before(parts, at.line);
-    let mut moment = Moment::new(alloc, parts.log.as_slice(), entries, wanted)?;
-    match replay_watched(alloc, module, record, &mut moment) {
-        Ok(_) => Ok(moment),
-        Err(_) => Err(Unwritten::NoMemory),
-    }
-}
-
-/// Writes what threads and memory are like before a line.
-fn print_moment<W: Write>(
-    alloc: Global,
-    module: &ValidModule,
-    seen: &SeenRun,
-    code: &CodeMap,
-    at: At,
-    out: &mut W,
-) -> Result<(), Unwritten> {
-    let moment = moment_of(alloc, module, &seen.record, at)?;
-    let shown = Shown {
-        record: seen.record.parts(),
-        rows: seen.rows.as_slice(),
-        code,
-    };
-    write_moment(alloc, module, shown, &moment, out)
 }

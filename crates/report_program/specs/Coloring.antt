@@ -12,8 +12,8 @@ IsRecolored old new = (new.choice ≡ old.choice) × (new.width ≡ old.width)
 
 -- The same job, but for the look of a show.
 abbrev pub IsColored : Job → Job → Type 0
-IsColored (Show file saved names look view) new =
-    (colored : Look) × (new ≡ Show file saved names colored view) × IsRecolored look colored
+IsColored (Show file saved names how) new =
+    (colored : Look) × (new ≡ Show file saved names (record how { look = colored })) × IsRecolored how.look colored
 IsColored (Check file form) new = new ≡ Check file form
 IsColored (Run job) new = new ≡ Run job
 IsColored (Replay file saved look) new = new ≡ Replay file saved look

@@ -5,7 +5,7 @@ ghost use Rattle.report_command.specs.Jobs.{IsInRange};
 ghost use Rattle.report_command.specs.Options.{texts_in};
 ghost use Rattle.report_program.specs.Coloring.{IsColored, IsColoredOrderOf};
 
-use report_command::{Color, Job, Look, Misuse, Order, Usage, asked, misused};
+use report_command::{Color, Job, Look, Misuse, Order, ShowLook, Usage, asked, misused};
 use std::env;
 use std::io::{ErrorKind, IsTerminal};
 
@@ -41,9 +41,9 @@ fn colored<'a>(job: Job<'a>, is_terminal: bool) -> Job<'a>
             file,
             saved,
             names,
-            look,
-            view,
+            how,
         } => {
+            let ShowLook { look, named, view } = how;
             let Look {
                 choice,
                 width,
@@ -59,8 +59,7 @@ fn colored<'a>(job: Job<'a>, is_terminal: bool) -> Job<'a>
                 file,
                 saved,
                 names,
-                look,
-                view,
+                how: ShowLook { look, named, view },
             }
         }
         other => other,

@@ -34,7 +34,7 @@ pub struct Task<'a, W: Write + Drop> {
 fn record_of<'a>(job: &Job<'a>) -> Option<&'a str> {
     match job {
         Job::Check { .. } | Job::Replay { .. } | Job::Races(_) => None,
-        Job::Show { view, .. } => view.path(),
+        Job::Show { how, .. } => how.view.path(),
         Job::Run(RunJob { save, .. }) | Job::Search(Search { save, .. }) => *save,
     }
 }
@@ -104,9 +104,9 @@ fn keep_module<'a>(rt: &HostRuntime, job: &Job<'a>) -> Result<(), Stop<'a>> {
         Job::Show {
             file,
             saved,
-            view,
+            how,
             ..
-        } => match view.path() {
+        } => match how.view.path() {
             Some(path) if is_one_file(rt, file, path) || is_one_file(rt, saved, path) => {
                 Err(Stop::Usage(misused(rt.alloc(), Misuse::ReplacesRead)))
             }

@@ -92,13 +92,17 @@ fn of_words(alloc: Global, call: &CallWords, bytes: &[u8]) -> Option<Refused<'st
     }
 }
 
-/// Why a run or a search can't be made.
+/// What is said of a name that `show` can't take.
+const UNNAMED: &str = "no static data of this name, or at several addresses";
+
+/// Why a run or a search can't be made, or entries can't be chosen.
 fn of_job(alloc: Global, job: &Job, done: Done) -> Option<Refused<'static>>
     ensures { IfSome result (λ refused. status_of_refused refused ≡ 3) }
 {
     match job {
         Job::Run(run) => of_run(alloc, run, done.module, done.saved),
         Job::Search(Search { call, .. }) => of_words(alloc, call, done.module),
+        Job::Show { .. } => Some(Refused::Call(UNNAMED)),
         _ => None,
     }
 }

@@ -15,7 +15,8 @@ use Rattle.show_races.proofs.Texts.{AreWritten}
 use Rattle.show_rows.specs.declared.listing.Shown.{Shown}
 use Rattle.show_rows.specs.declared.listing.Story.{Story}
 use Rattle.show_rows.specs.Listing.{line_at}
-use Rattle.show_races.specs.Written.{IsEntryText}
+use Rattle.show_named.specs.declared.data_map.DataMap.{DataMap}
+use Rattle.show_named.specs.Rows.{IsEntryText}
 use Rattle.show_writes.specs.declared.lasts.Act.TheVariants as acts
 use Rattle.show_writes.specs.declared.stands.Stand.{Stand}
 use Rattle.show_writes.specs.Stands.{IsStand}
@@ -28,41 +29,41 @@ stand_words times last line written notified = last ++ (codes "\n  so " ++ (time
     ++ (decimal line ++ (codes "\n  last write there: " ++ (written
     ++ (codes "\n  last notify there: " ++ (notified ++ codes "\n"))))))))
 
-module _ (shown : Shown) (story : Story) (n : ℕ) (stand : Stand) (is : IsStand n shown.record.now.log stand) where
+module _ (shown : Shown) (map : DataMap) (story : Story) (n : ℕ) (stand : Stand) (is : IsStand n shown.record.now.log stand) where
   pub says_stand : (end line : ℕ) (last written notified text : List ℕ) → end ≡ length shown.record.now.log
-      → line ≡ line_at shown stand.since → IsEntryText shown story stand.last last
-      → SaysLast shown story end (acts.Write stand.addrs) (codes "nobody") written
-      → SaysLast shown story end (acts.Notify stand.addrs.first) (codes "nobody") notified
+      → line ≡ line_at shown stand.since → IsEntryText shown map story stand.last last
+      → SaysLast shown map story end (acts.Write stand.addrs) (codes "nobody") written
+      → SaysLast shown map story end (acts.Notify stand.addrs.first) (codes "nobody") notified
       → text ≡ last ++ (codes "\n  so " ++ (times_text stand.times ++ (codes " since line "
       ++ (decimal line ++ (codes "\n  last write there: " ++ (written
       ++ (codes "\n  last notify there: " ++ (notified ++ codes "\n"))))))))
-      → SaysStand shown story n text
+      → SaysStand shown map story n text
   says_stand end line last written notified text whole line_is last_is written_is notified_is words = record {
     stand = stand;
     is = is;
     last = last;
     last_is = last_is;
     written = written;
-    written_is = subst (λ k. SaysLast shown story k (acts.Write stand.addrs) (codes "nobody") written) whole written_is;
+    written_is = subst (λ k. SaysLast shown map story k (acts.Write stand.addrs) (codes "nobody") written) whole written_is;
     notified = notified;
-    notified_is = subst (λ k. SaysLast shown story k (acts.Notify stand.addrs.first) (codes "nobody") notified) whole
+    notified_is = subst (λ k. SaysLast shown map story k (acts.Notify stand.addrs.first) (codes "nobody") notified) whole
         notified_is;
     words = words ∙ ap (λ k. stand_words stand.times last k written notified) line_is;
   }
 
 -- of a thread that was stopped, by its report
-pub says_stopped : (shown : Shown) (story : Story) (n : ℕ) (ends : List ThreadReport) (d : ThreadReport) (stop : Stop) (place text : List ℕ)
+pub says_stopped : (shown : Shown) (map : DataMap) (story : Story) (n : ℕ) (ends : List ThreadReport) (d : ThreadReport) (stop : Stop) (place text : List ℕ)
     → ends ≡ shown.record.now.ends → n < length shown.record.now.ends → (slice_index_or ends n d).outcome ≡ outcomes.Stop stop
-    → (SaysStand shown story n place ⊎ SaysNowhere shown n place)
+    → (SaysStand shown map story n place ⊎ SaysNowhere shown n place)
     → text ≡ codes "t" ++ (decimal n ++ (codes ": " ++ (outcome_text (slice_index_or ends n d).outcome ++ (codes ": " ++ place))))
-    → SaysWait shown story n text
-says_stopped shown story n ends d stop place text same within ended says words =
+    → SaysWait shown map story n text
+says_stopped shown map story n ends d stop place text same within ended says words =
     let at : slice_get shown.record.now.ends n ≡ Some (slice_index_or ends n d) =
     subst (λ (l : List ThreadReport). slice_get l n ≡ Some (slice_index_or ends n d)) same
     (slice_get-get_or ends n d (subst (λ (l : List ThreadReport). n < length l) (sym same) within)) in (
       slice_index_or ends n d,
       at,
-      subst (λ (o : Outcome). SaysEnd shown story n o text) (sym ended)
+      subst (λ (o : Outcome). SaysEnd shown map story n o text) (sym ended)
           (place, says, words ∙ ap (λ (o : Outcome). codes "t" ++ (decimal n ++ (codes ": " ++ (outcome_text o ++ (codes ": " ++ place))))) ended),
     )
 

@@ -10,7 +10,8 @@ use Rattle.types.specs.Outcomes.{outcome_text}
 use Rattle.show_rows.specs.declared.listing.Shown.{Shown}
 use Rattle.show_rows.specs.declared.listing.Story.{Story}
 use Rattle.show_rows.specs.Listing.{line_at}
-use Rattle.show_races.specs.Written.{IsEntryText}
+use Rattle.show_named.specs.declared.data_map.DataMap.{DataMap}
+use Rattle.show_named.specs.Rows.{IsEntryText}
 use Rattle.show_writes.specs.declared.lasts.Act.TheVariants as acts
 use Rattle.show_writes.specs.declared.stands.Stand.{Stand}
 use Rattle.show_writes.specs.Stands.{IsStand, TouchesNothing}
@@ -21,15 +22,15 @@ times_text n = if n == 1 then codes "once" else decimal n ++ codes " times"
 
 -- Where a thread stands: its last entry that touches bytes, since which line it touches no others, and how often; then
 -- who wrote them last, and who notified their first address last.
-pub record SaysStand (shown : Shown) (story : Story) (n : ℕ) (text : List ℕ) : Type 0 where
+pub record SaysStand (shown : Shown) (map : DataMap) (story : Story) (n : ℕ) (text : List ℕ) : Type 0 where
   pub stand : Stand
   pub is : IsStand n shown.record.now.log stand
   pub last : List ℕ
-  pub last_is : IsEntryText shown story stand.last last
+  pub last_is : IsEntryText shown map story stand.last last
   pub written : List ℕ
-  pub written_is : SaysLast shown story (length shown.record.now.log) (acts.Write stand.addrs) (codes "nobody") written
+  pub written_is : SaysLast shown map story (length shown.record.now.log) (acts.Write stand.addrs) (codes "nobody") written
   pub notified : List ℕ
-  pub notified_is : SaysLast shown story (length shown.record.now.log) (acts.Notify stand.addrs.first) (codes "nobody") notified
+  pub notified_is : SaysLast shown map story (length shown.record.now.log) (acts.Notify stand.addrs.first) (codes "nobody") notified
   pub words : text ≡ last ++ (codes "\n  so " ++ (times_text stand.times ++ (codes " since line "
       ++ (decimal (line_at shown stand.since) ++ (codes "\n  last write there: " ++ (written
       ++ (codes "\n  last notify there: " ++ (notified ++ codes "\n"))))))))
@@ -39,18 +40,18 @@ abbrev pub SaysNowhere : Shown → ℕ → List ℕ → Type 0
 SaysNowhere shown n text = TouchesNothing n shown.record.now.log × (text ≡ codes "it touched nothing\n")
 
 -- What is told of a thread that ended so: of one that wasn't stopped nothing.
-abbrev pub SaysEnd : Shown → Story → ℕ → Outcome → List ℕ → Type 0
-SaysEnd shown story n (outcomes.Stop stop) text = (where_is : List ℕ)
-    × (SaysStand shown story n where_is ⊎ SaysNowhere shown n where_is)
+abbrev pub SaysEnd : Shown → DataMap → Story → ℕ → Outcome → List ℕ → Type 0
+SaysEnd shown map story n (outcomes.Stop stop) text = (where_is : List ℕ)
+    × (SaysStand shown map story n where_is ⊎ SaysNowhere shown n where_is)
     × (text ≡ codes "t" ++ (decimal n ++ (codes ": " ++ (outcome_text (outcomes.Stop stop) ++ (codes ": " ++ where_is)))))
-SaysEnd shown story n outcome text = text ≡ []
+SaysEnd shown map story n outcome text = text ≡ []
 
 -- What is told of this thread, as the record's end has it.
-abbrev pub SaysWait : Shown → Story → ℕ → List ℕ → Type 0
-SaysWait shown story n text = (report : ThreadReport) × (slice_get shown.record.now.ends n ≡ Some report)
-    × SaysEnd shown story n report.outcome text
+abbrev pub SaysWait : Shown → DataMap → Story → ℕ → List ℕ → Type 0
+SaysWait shown map story n text = (report : ThreadReport) × (slice_get shown.record.now.ends n ≡ Some report)
+    × SaysEnd shown map story n report.outcome text
 
 -- That of each thread, in order.
-abbrev pub WritesWaits : Shown → Story → Option (List ℕ) → Option (List ℕ) → Type 0
-WritesWaits shown story old new = (texts : List (List ℕ))
-    × AllZip (SaysWait shown story) (range_with_len 0 (length shown.record.now.ends)) texts × Appends old new (concat texts)
+abbrev pub WritesWaits : Shown → DataMap → Story → Option (List ℕ) → Option (List ℕ) → Type 0
+WritesWaits shown map story old new = (texts : List (List ℕ))
+    × AllZip (SaysWait shown map story) (range_with_len 0 (length shown.record.now.ends)) texts × Appends old new (concat texts)

@@ -4,7 +4,7 @@ ghost use Rattle.show_writes.specs.declared.lasts.Act.TheVariants as acts;
 ghost use Rattle.show_waits.specs.Lasts.{SaysLast, WritesLast, unwritten_text};
 
 use report_choice::Span;
-use show_races::entry_text;
+use show_named::{DataMap, named_text};
 use show_rows::{Shown, Story};
 use show_text::Unwritten;
 use show_writes::{Act, last_of};
@@ -16,15 +16,16 @@ use std::io::Write;
 pub(crate) fn last_text(
     alloc: Global,
     shown: Shown,
+    map: &DataMap,
     story: &Story,
     before: usize,
     act: Act,
     none: &str,
 ) -> Result<String, AllocError>
-    ensures { IfOk result (λ text. SaysLast shown.entry story.now before act none.now (string_bytes text)) }
+    ensures { IfOk result (λ text. SaysLast shown.entry map.now story.now before act none.now (string_bytes text)) }
 {
     match last_of(shown.record.log.as_slice(), before, act) {
-        Some(at) => entry_text(alloc, shown, story, at),
+        Some(at) => named_text(alloc, shown, map, story, at),
         None => none.to_string(alloc),
     }
 }
@@ -68,17 +69,19 @@ fn unwritten(alloc: Global, addrs: Span) -> Result<String, AllocError>
 pub fn write_last<W: Write>(
     alloc: Global,
     shown: Shown,
+    map: &DataMap,
     story: &Story,
     before: usize,
     addrs: Span,
     out: &mut W,
 ) -> Result<(), Unwritten>
-    ensures { OnOk result (WritesLast shown.entry story.now before addrs (W.contents out.old) (W.contents out.new)) }
+    ensures { OnOk result (WritesLast shown.entry map.now story.now before addrs (W.contents out.old) (W.contents out.new)) }
 {
     let none = unwritten(alloc, addrs)?;
     let text = last_text(
         alloc,
         shown,
+        map,
         story,
         before,
         Act::Write(addrs),

@@ -4,7 +4,7 @@ ghost use Rattle.show_writes.specs.Stands.{IsStand};
 ghost use Rattle.show_waits.specs.Waits.{SaysNowhere, SaysStand, SaysWait, WritesWaits};
 
 use crate::last::last_text;
-use show_races::entry_text;
+use show_named::{DataMap, named_text};
 use show_rows::{Shown, Story};
 use show_text::Unwritten;
 use show_writes::{Act, Stand, stand_of};
@@ -37,12 +37,13 @@ impl fmt::Display for Times {
 fn stand_text(
     alloc: Global,
     shown: Shown,
+    map: &DataMap,
     story: &Story,
     n: usize,
     stand: Stand,
 ) -> Result<String, AllocError>
     requires { IsStand n shown.record.now.log stand }
-    ensures { IfOk result (λ text. SaysStand shown.entry story.now n (string_bytes text)) }
+    ensures { IfOk result (λ text. SaysStand shown.entry map.now story.now n (string_bytes text)) }
 {
     let end = shown.record.log.len();
     let Stand {
@@ -51,9 +52,17 @@ fn stand_text(
         last,
         times,
     } = stand;
-    let last = entry_text(alloc, shown, story, last)?;
-    let written = last_text(alloc, shown, story, end, Act::Write(addrs), "nobody")?;
-    let notified = last_text(alloc, shown, story, end, Act::Notify(addrs.first), "nobody")?;
+    let last = named_text(alloc, shown, map, story, last)?;
+    let written = last_text(alloc, shown, map, story, end, Act::Write(addrs), "nobody")?;
+    let notified = last_text(
+        alloc,
+        shown,
+        map,
+        story,
+        end,
+        Act::Notify(addrs.first),
+        "nobody",
+    )?;
     let (times, line) = (Times(times), shown.line_of(since));
     let text = format!(in alloc;
         "{last}\n  so {times} since line {line}\n  last write there: {written}\n  last notify there: {notified}\n"
@@ -62,26 +71,38 @@ fn stand_text(
 }
 
 /// The same of a thread that may have touched no bytes.
-fn place_text(alloc: Global, shown: Shown, story: &Story, n: usize) -> Result<String, AllocError>
-    ensures { IfOk result (λ text. SaysStand shown.entry story.now n (string_bytes text)
+fn place_text(
+    alloc: Global,
+    shown: Shown,
+    map: &DataMap,
+    story: &Story,
+    n: usize,
+) -> Result<String, AllocError>
+    ensures { IfOk result (λ text. SaysStand shown.entry map.now story.now n (string_bytes text)
         ⊎ SaysNowhere shown.entry n (string_bytes text)) }
 {
     match stand_of(shown.record.log.as_slice(), n) {
-        Some(stand) => stand_text(alloc, shown, story, n, stand),
+        Some(stand) => stand_text(alloc, shown, map, story, n, stand),
         None => "it touched nothing\n".to_string(alloc),
     }
 }
 
 /// What is told of a thread: nothing of one that wasn't stopped.
-fn wait_text(alloc: Global, shown: Shown, story: &Story, n: usize) -> Result<String, AllocError>
+fn wait_text(
+    alloc: Global,
+    shown: Shown,
+    map: &DataMap,
+    story: &Story,
+    n: usize,
+) -> Result<String, AllocError>
     requires { n < length shown.record.now.ends }
-    ensures { IfOk result (λ text. SaysWait shown.entry story.now n (string_bytes text)) }
+    ensures { IfOk result (λ text. SaysWait shown.entry map.now story.now n (string_bytes text)) }
 {
     let outcome = shown.record.ends.as_slice()[n].outcome;
     let Outcome::Stop(_) = outcome else {
         return Ok(String::new(alloc));
     };
-    let place = place_text(alloc, shown, story, n)?;
+    let place = place_text(alloc, shown, map, story, n)?;
     let text = format!(in alloc; "t{n}: {outcome}: {place}")?;
     Ok(text)
 }
@@ -94,13 +115,14 @@ fn wait_text(alloc: Global, shown: Shown, story: &Story, n: usize) -> Result<Str
 pub fn write_waits<W: Write>(
     alloc: Global,
     shown: Shown,
+    map: &DataMap,
     story: &Story,
     out: &mut W,
 ) -> Result<(), Unwritten>
-    ensures { OnOk result (WritesWaits shown.entry story.now (W.contents out.old) (W.contents out.new)) }
+    ensures { OnOk result (WritesWaits shown.entry map.now story.now (W.contents out.old) (W.contents out.new)) }
 {
     for n in 0..shown.record.ends.len() {
-        let text = wait_text(alloc, shown, story, n)?;
+        let text = wait_text(alloc, shown, map, story, n)?;
         write!(out, "{text}")?;
     }
     out.flush()?;

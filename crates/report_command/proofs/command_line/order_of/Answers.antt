@@ -7,8 +7,8 @@ use Rattle.report_command.proofs.command_line.order_of.Goals as goal
 pub returns-in-None-clause-asks : goal.returns-in-None-clause-asks
 returns-in-None-clause-asks c =
     let f = found_of c.in-Some.matches.now in
-    let asks : AsksNamed c.in-Some.name.now f c.in-Some-3.job
-    = subst (λ (o : Option Job). IfSome o (AsksNamed c.in-Some.name.now f)) c.in-Some-3.is c.in_ok-job.ensures.asks in
+    let asks : AsksNamed c.in-Some.name.now f c.in-Some-4.job
+    = subst (λ (o : Option Job). IfSome o (AsksNamed c.in-Some.name.now f)) c.in-Some-4.is c.in_ok-job.ensures.asks in
     record {
       found = f;
       command = sym c.in-Some.ensures.name ∙ ap Some (sym asks.0);

@@ -5,8 +5,8 @@ pub returns-in-Show-clause-same : goal.returns-in-Show-clause-same
 returns-in-Show-clause-same c =
     rw c.in-Show.is (
       record {
-        choice = c.in-Show.look.choice;
-        width = c.in-Show.look.width;
+        choice = c.in-Show.how.look.choice;
+        width = c.in-Show.how.look.width;
         color = c.color_on-color.result;
       },
       refl,

@@ -1,0 +1,142 @@
+//! What is written of a record that is shown.
+ghost use Rattle.std.specs.Prelude.{◌≡◌, OnOk};
+ghost use Rattle.report_looks.specs.Looked.{PrintsWanted, WritesLastOf};
+
+use crate::ends::write_end;
+use crate::objects::write_entries;
+use crate::showing::SeenRun;
+use crate::wanted::{Asked, Here, Wanted};
+use replay::replay_watched;
+use replay_text::Record;
+use report_choice::{Choice, Look, Span};
+use report_command::View;
+use show_events::{write_page, write_trace};
+use show_moments::{Moment, write_moment};
+use show_named::{DataMap, write_rows};
+use show_rows::{CodeMap, Shown, Story};
+use show_text::Unwritten;
+use show_waits::{write_last, write_waits};
+use std::alloc::Global;
+use std::io::Write;
+use types::{Outcome, ThreadReport};
+use validate_module::ValidModule;
+
+/// Writes of a record what is asked for.
+pub(crate) fn print_asked<W: Write>(
+    alloc: Global,
+    module: &ValidModule,
+    seen: &SeenRun,
+    code: &CodeMap,
+    map: &DataMap,
+    asked: &Asked,
+    out: &mut W,
+) -> Result<(), Unwritten>
+    requires { code.now.parts.now ≡ «module».now.parts }
+    ensures { OnOk result (PrintsWanted «module».now.parts seen.now.«record» seen.now.rows.items map.now asked.now.wanted
+        (W.contents out.old) (W.contents out.new)) }
+{
+    let shown = Shown {
+        record: seen.record.parts(),
+        rows: seen.rows.as_slice(),
+        code,
+    };
+    match asked.wanted {
+        Wanted::Write { addrs, before } => print_last(alloc, shown, map, before, addrs, out),
+        Wanted::Moment(here) => {
+            let moment = moment_of(alloc, module, &seen.record, here)?;
+            print_moment(alloc, module, shown, map, &moment, here, out)
+        },
+        Wanted::Entries(view) => print_entries(alloc, shown, map, &asked.look, view, out),
+    }
+}
+
+/// Writes the words of the last entry before a place that writes a byte at these addresses.
+fn print_last<W: Write>(
+    alloc: Global,
+    shown: Shown,
+    map: &DataMap,
+    before: usize,
+    addrs: Span,
+    out: &mut W,
+) -> Result<(), Unwritten>
+    ensures { OnOk result (WritesLastOf shown.entry map.now before addrs (W.contents out.old) (W.contents out.new)) }
+{
+    let story = Story::new(alloc, shown.record.log.as_slice())?;
+    write_last(alloc, shown, map, &story, before, addrs, out)
+}
+
+/// Writes the rows, or the object, the page or the trace that has them.
+fn print_entries<W: Write>(
+    alloc: Global,
+    shown: Shown,
+    map: &DataMap,
+    look: &Look,
+    view: View,
+    out: &mut W,
+) -> Result<(), Unwritten> {
+    match view {
+        View::Page(_) => write_page(alloc, shown, look, out),
+        View::Trace(_) => write_trace(alloc, shown, look, out),
+        View::Object => write_entries(alloc, shown, look, out),
+        View::Rows | View::Moment(_) | View::Write(_) => print_rows(alloc, shown, map, look, out),
+    }
+}
+
+/// Whether all entries are chosen.
+fn chooses_all(choice: &Choice) -> bool {
+    choice.lines.is_none() && choice.addrs.is_none() && choice.threads.is_empty()
+}
+
+/// Whether a thread was stopped.
+fn has_stopped(ends: &[ThreadReport]) -> bool {
+    ends.iter()
+        .any(|report| matches!(report.outcome, Outcome::Stop(_)))
+}
+
+/// Writes the rows; and below them, where all are asked for, what each thread waits for that was stopped.
+fn print_rows<W: Write>(
+    alloc: Global,
+    shown: Shown,
+    map: &DataMap,
+    look: &Look,
+    out: &mut W,
+) -> Result<(), Unwritten> {
+    write_rows(alloc, shown, map, look, out)?;
+    if chooses_all(&look.choice) && has_stopped(shown.record.ends.as_slice()) {
+        let story = Story::new(alloc, shown.record.log.as_slice())?;
+        write_waits(alloc, shown, map, &story, out)?;
+    }
+    Ok(())
+}
+
+/// A moment of a record, seen by a second replay.
+fn moment_of<'r>(
+    alloc: Global,
+    module: &ValidModule,
+    record: &'r Record,
+    here: Here,
+) -> Result<Moment<'r>, Unwritten> {
+    let log = record.parts().log.as_slice();
+    let mut moment = Moment::new(alloc, log, here.place, here.bytes)?;
+    match replay_watched(alloc, module, record, &mut moment) {
+        Ok(_) => Ok(moment),
+        Err(_) => Err(Unwritten::NoMemory),
+    }
+}
+
+/// Writes what threads and memory are like at a moment.
+fn print_moment<W: Write>(
+    alloc: Global,
+    module: &ValidModule,
+    shown: Shown,
+    map: &DataMap,
+    moment: &Moment,
+    here: Here,
+    out: &mut W,
+) -> Result<(), Unwritten> {
+    if here.is_end {
+        write_end(alloc, module, shown, map, moment, out)
+    } else {
+        write_moment(alloc, module, shown, moment, out)
+    }
+}

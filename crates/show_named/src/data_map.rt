@@ -1,0 +1,58 @@
+//! The static data of a module, by its debug section.
+ghost use Rattle.std.specs.Prelude.{◌≡◌, IfOk, IsSome, OnSome, find, string_bytes};
+ghost use Rattle.show_data.specs.Within.{NamesWithin};
+ghost use Rattle.show_units.specs.Spans.{holds};
+ghost use Rattle.show_named.specs.Names.{IsDataText};
+
+use report_choice::touched;
+use show_data::{Sought, name_at, place_of, read_data};
+use show_text::Plain;
+use show_units::{InfoSections, Spans, Units, read_units};
+use std::alloc::{AllocError, Global};
+use types::Event;
+
+/// What a debug section says of static data, and where that is.
+#[derive(Drop)]
+pub struct DataMap<'n> {
+    units: Units<'n>,
+    spans: Spans,
+}
+
+impl<'n> DataMap<'n> {
+    /// What the bytes of a module say. Nothing is asked of them: what can't be read has no name.
+    pub fn read(alloc: Global, names: &'n [u8]) -> Result<DataMap<'n>, AllocError> {
+        let units = read_units(alloc, InfoSections::of(names))?;
+        let spans = read_data(alloc, &units)?;
+        Ok(DataMap { units, spans })
+    }
+
+    /// What the data is called that is at an address.
+    fn name(&self, alloc: Global, address: u64) -> Result<Option<String>, AllocError>
+        ensures { IfOk result (λ name. OnSome name (IsSome (find (holds address) self.now.spans.items.items))) }
+    {
+        name_at(alloc, &self.units, &self.spans, address)
+    }
+
+    /// What the data is called that an event touches first, or at which it waits or wakes, behind `at`; empty
+    /// where that has no name.
+    pub(crate) fn text(&self, alloc: Global, event: Event) -> Result<String, AllocError>
+        ensures { IfOk result (λ text. IsDataText self.now event (string_bytes text)) }
+    {
+        let Some(addrs) = touched(event) else {
+            return Ok(String::new(alloc));
+        };
+        let Some(name) = self.name(alloc, addrs.first)? else {
+            return Ok(String::new(alloc));
+        };
+        let name = Plain(name.as_str());
+        let text = format!(in alloc; " at {name}")?;
+        Ok(text)
+    }
+
+    /// The bytes of data that words name, as `slots[3].item`.
+    pub fn named(&self, alloc: Global, words: &str) -> Result<Sought, AllocError>
+        ensures { IfOk result (NamesWithin self.now.spans.items.items) }
+    {
+        place_of(alloc, &self.units, &self.spans, words)
+    }
+}

@@ -1,0 +1,15 @@
+//! Rows of a record, and entries in words, with the names of the static data that they are about, as a module's debug
+//! section has them.
+//!
+//! Proved: of each entry stand its line, its thread, its words and its place, as without names; behind the words stands
+//! at most the name of its data, and only where the first address of the entry is one of a static variable.
+//!
+//! - `specs/Names.antt`: which entries have names.
+//! - `specs/Rows.antt`: where these stand.
+#![tactic(auto)]
+
+mod data_map;
+mod rows;
+
+pub use data_map::DataMap;
+pub use rows::{named_text, write_rows};
