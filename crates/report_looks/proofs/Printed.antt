@@ -1,5 +1,5 @@
 -- What is printed of a view.
-use Rattle.std.proofs.Common.{ℕ, ◌≡◌, ◌∙◌, List, Option, Some, true, false, is_some, ap, subst, sym}
+use Rattle.std.proofs.Common.{ℕ, ◌≡◌, List, Option, Some, true, is_some, subst}
 use Rattle.types.specs.declared.parts.Parts.{Parts}
 use Rattle.replay_text.specs.declared.parts.RecordParts.{RecordParts}
 use Rattle.report_command.specs.Views.{path_of}

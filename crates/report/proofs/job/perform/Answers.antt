@@ -18,7 +18,9 @@ pub returns-in-Show-clause-performs : goal.returns-in-Show-clause-performs
 returns-in-Show-clause-performs g c =
     rw c.in-Show.is (record {
       shown = c.show_saved.ensures.shown;
+      prints = c.show_saved.ensures.prints;
       refused = c.show_saved.ensures.refused;
+      absent = c.show_saved.ensures.absent;
       none = c.show_saved.ensures.none;
       statuses = c.show_saved.ensures.status;
     })
