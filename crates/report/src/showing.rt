@@ -10,6 +10,7 @@ ghost use Rattle.report.specs.Raced.{IsSeen};
 ghost use Rattle.report.specs.Silent.{IfRefusedRecord, IsNoRefusal};
 
 use crate::objects::write_entries;
+use race_history::{Race, is_history};
 use replay::replay_watched;
 use replay_text::{Record, RecordFault, RecordParts, read_record};
 use report_command::{At, Look, View};
@@ -17,11 +18,15 @@ use report_jobs::{Streams, Unfit, load, misfit, refuse, reject};
 use search_races::watched;
 use show_events::{write_page, write_trace};
 use show_moments::{Bytes, Moment, write_moment};
+use show_races::racing_pairs;
 use show_rows::{CodeMap, Row, Shown, write_rows};
 use show_text::Unwritten;
-use std::alloc::Global;
+use std::alloc::{AllocError, Global};
 use std::io::Write;
 use validate_module::ValidModule;
+
+/// How many races a page or a trace marks, at most.
+const MOST_MARKS: usize = 100_000;
 
 /// Shows the entries of the record whose text `saved` is: each in words, with its place in the module. `names` are the
 /// bytes that have the names of functions and the lines of source: those of the module, or of another build of its
@@ -166,6 +171,14 @@ pub(crate) fn rows_of(alloc: Global, module: &ValidModule, saved: &[u8]) -> Resu
     }
 }
 
+/// The pairs of entries that race. A log of more threads than 64 has none that are known.
+fn races_in(alloc: Global, shown: Shown) -> Result<Vec<Race>, AllocError> {
+    if !is_history(shown.record.log.as_slice()) {
+        return Ok(Vec::new(alloc));
+    }
+    racing_pairs(alloc, shown, MOST_MARKS)
+}
+
 /// Writes the rows, or the object, the page or the trace that has them.
 fn print_rows<W: Write>(
     alloc: Global,
@@ -181,8 +194,14 @@ fn print_rows<W: Write>(
         code,
     };
     match view {
-        View::Page(_) => write_page(alloc, shown, look, out),
-        View::Trace(_) => write_trace(alloc, shown, look, out),
+        View::Page(_) => {
+            let races = races_in(alloc, shown)?;
+            write_page(alloc, shown, look, &races, out)
+        }
+        View::Trace(_) => {
+            let races = races_in(alloc, shown)?;
+            write_trace(alloc, shown, look, &races, out)
+        }
         View::Object => write_entries(alloc, shown, look, out),
         View::Rows | View::Moment(_) => write_rows(alloc, shown, look, out),
     }
