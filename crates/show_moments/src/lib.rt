@@ -8,6 +8,7 @@
 mod moment;
 mod scene;
 mod standing;
+mod texts;
 
 pub use moment::{Bytes, Moment};
 pub use scene::write_moment;

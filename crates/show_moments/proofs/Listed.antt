@@ -1,0 +1,52 @@
+-- Texts of items, one behind the other.
+use Rattle.std.proofs.Common.{◌≡◌, ◌∙◌, ℕ, ◌+◌, ◌<◌, ◌≤◌, List, [], ◌∷◌, ◌++◌, length, take, get_or, codes, refl, sym, ap, subst, arith}
+use Rattle.std.specs.List.{enumerate_from, flat_map}
+use Rattle.std.proofs.lemmas.List.{take_more, take_all, flat_map_more}
+use Rattle.std.proofs.lemmas.List.FromFn.{length-enumerate_from, get_or-enumerate_from}
+use Rattle.types.specs.declared.value.ValType.{ValType}
+use Rattle.shared_memory.specs.declared.sleeper.Sleeper.{Sleeper}
+use Rattle.show_moments.specs.Texts.{typed_text, listed_text, sleeper_text, sleepers_text, byte_text, dump_text}
+
+-- One more item.
+pub item_next : {X : Type 0} (f : X → List ℕ) (xs : List X) (k : ℕ) (z x : X) (a b c : List ℕ) → k < length xs
+    → x ≡ get_or xs k z → b ≡ a ++ flat_map f (take k xs) → c ≡ b ++ f x → c ≡ a ++ flat_map f (take (k + 1) xs)
+item_next {X} f xs k z x a b c lt is before adds =
+    let e : take (k + 1) xs ≡ take k xs ++ x ∷ [] = take_more xs k z lt ∙ ap (λ (y : X). take k xs ++ y ∷ []) (sym is) in
+    adds ∙ (ap (λ (t : List ℕ). t ++ f x) before
+    ∙ (flat_map_more f a (take k xs) x ∙ ap (λ (ys : List X). a ++ flat_map f ys) (sym e)))
+
+-- The same of items with their numbers.
+pub numbered_next : {X : Type 0} (f : ℕ × X → List ℕ) (xs : List X) (k : ℕ) (z x : X) (a b c : List ℕ) → k < length xs
+    → x ≡ get_or xs k z → b ≡ a ++ flat_map f (take k (enumerate_from 0 xs)) → c ≡ b ++ f (k, x)
+    → c ≡ a ++ flat_map f (take (k + 1) (enumerate_from 0 xs))
+numbered_next {X} f xs k z x a b c lt is before adds =
+    let number : k ≡ 0 + k = omega arith in
+    let pair : X → ℕ × X = λ y. (k, y) in
+    let zero_pair : ℕ → ℕ × X = λ n. (n, get_or xs k z) in
+    let e : pair x ≡ get_or (enumerate_from 0 xs) k (0, z) =
+    ap pair is ∙ (ap zero_pair number ∙ sym (get_or-enumerate_from 0 xs k (0, z) lt)) in
+    item_next f (enumerate_from 0 xs) k (0, z) (k, x) a b c (omega (arith, lt, length-enumerate_from 0 xs)) e before adds
+
+none : {P : Type 0} → 0 < 0 → P
+none lt = absurd (omega (arith, lt))
+
+pub listed : (name : List ℕ) (words : List ℕ) (types : List ValType) (k : ℕ) (text : List ℕ) → 0 < length words → length words ≤ k
+    → text ≡ (codes "  " ++ name) ++ flat_map (typed_text types) (take k (enumerate_from 0 words))
+    → text ≡ listed_text name words types
+listed name [] types k text some le is = none some
+listed name (w ∷ words) types k text some le is = is ∙ ap (λ (xs : List (ℕ × ℕ)). codes "  " ++ (name ++ flat_map (typed_text types) xs))
+    (take_all k (enumerate_from 0 (w ∷ words)) (omega (arith, le, length-enumerate_from 0 (w ∷ words))))
+
+pub asleep : (sleepers : List Sleeper) (k : ℕ) (text all : List ℕ) → 0 < length sleepers → length sleepers ≤ k
+    → text ≡ codes "asleep:" ++ flat_map sleeper_text (take k sleepers) → all ≡ text ++ codes "\n" → all ≡ sleepers_text sleepers
+asleep [] k text all some le is last = none some
+asleep (s ∷ sleepers) k text all some le is last =
+    last ∙ ap (λ (t : List ℕ). t ++ codes "\n") (is ∙ ap (λ (xs : List Sleeper). codes "asleep:" ++ flat_map sleeper_text xs)
+    (take_all k (s ∷ sleepers) le))
+
+pub dumped : (addr : ℕ) (bytes : List ℕ) (k : ℕ) (text all : List ℕ) → 0 < length bytes → length bytes ≤ k
+    → text ≡ flat_map (byte_text addr) (take k (enumerate_from 0 bytes)) → all ≡ text ++ codes "\n" → all ≡ dump_text addr bytes
+dumped addr [] k text all some le is last = none some
+dumped addr (b ∷ bytes) k text all some le is last =
+    last ∙ ap (λ (t : List ℕ). t ++ codes "\n") (is ∙ ap (λ (xs : List (ℕ × ℕ)). flat_map (byte_text addr) xs)
+    (take_all k (enumerate_from 0 (b ∷ bytes)) (omega (arith, le, length-enumerate_from 0 (b ∷ bytes)))))
