@@ -16,7 +16,8 @@ use Rattle.show_events.specs.declared.links.Link.{Link}
 use Rattle.show_events.specs.declared.links.LinkKind.{LinkKind}
 use Rattle.show_events.specs.declared.links.LinkKind.TheVariants as kinds
 use Rattle.show_events.specs.Forward.{IsForward}
-use Rattle.show_events.specs.Links.{link_between, in_list, wake_link, spawned_at, spawn_link, race_link}
+use Rattle.show_rows.specs.declared.listing.Story.{Story}
+use Rattle.show_events.specs.Links.{link_between, in_list, wake_link, spawned_at, spawn_link, race_link, AreAnswers, AreFirsts, AreLinks}
 
 single : {X Y : Type 0} (h : X → Option Y) (x : X) (o : Option Y) → h x ≡ o → filter_map h (x ∷ []) ≡ option_to_list o
 single h x None e = simp e
@@ -119,3 +120,33 @@ all_ahead log contexts answers firsts wakes races m n a b c d m_is n_is a_is b_i
     let first : ahead b = subst ahead (sym b_is) (All-append (IsForward (length log)) a _ none woken) in
     let second : ahead c = subst ahead (sym c_is) (All-append (IsForward (length log)) b _ first spawned) in
     subst ahead (sym d_is) (All-append (IsForward (length log)) c _ second raced)
+
+-- They are the links of the log, where what they were made of is what is known of it.
+pub links_are : (log : List Entry) (story : Story) (races : List Race) (told contexts : List Context)
+    (answers taken firsts found : List (Option ℕ)) (wakes : List Wake) (a b c d : List Link) → told ≡ story.contexts.items
+    → AreAnswers told (length log) answers → taken ≡ answers → AreFirsts log firsts → found ≡ firsts
+    → contexts ≡ story.contexts.items → wakes ≡ story.wakes.all.items → a ≡ []
+    → b ≡ a ++ filter_map (wake_link (length log) taken) wakes
+    → c ≡ b ++ filter_map (spawn_link log contexts found) (range_with_len 0 (length log))
+    → d ≡ c ++ filter_map (race_link (length log)) races → AreLinks log story races d
+links_are log story races told contexts answers taken firsts found wakes a b c d told_is are_answers taken_is are_firsts found_is
+    contexts_is wakes_is a_is b_is c_is d_is =
+    let woken : List (Option ℕ) → List Wake → List Link = λ xs ws. filter_map (wake_link (length log) xs) ws in
+    let spawned : List Context → List (Option ℕ) → List Link =
+    λ cs xs. filter_map (spawn_link log cs xs) (range_with_len 0 (length log)) in
+    let by_wakes : woken taken wakes ≡ woken answers story.wakes.all.items =
+    ap (λ (xs : List (Option ℕ)). woken xs wakes) taken_is ∙ ap (λ (ws : List Wake). woken answers ws) wakes_is in
+    let by_spawns : spawned contexts found ≡ spawned story.contexts.items firsts =
+    ap (λ (cs : List Context). spawned cs found) contexts_is ∙ ap (λ (xs : List (Option ℕ)). spawned story.contexts.items xs) found_is in
+    let first : b ≡ woken answers story.wakes.all.items =
+    b_is ∙ (ap (λ (ls : List Link). ls ++ woken taken wakes) a_is ∙ by_wakes) in
+    let second : c ≡ woken answers story.wakes.all.items ++ spawned story.contexts.items firsts =
+    c_is ∙ (ap (λ (ls : List Link). ls ++ spawned contexts found) first
+    ∙ ap (λ (ls : List Link). woken answers story.wakes.all.items ++ ls) by_spawns) in
+    record {
+      answers = answers;
+      are_answers = subst (λ (cs : List Context). AreAnswers cs (length log) answers) told_is are_answers;
+      firsts = firsts;
+      are_firsts = are_firsts;
+      are = d_is ∙ ap (λ (ls : List Link). ls ++ filter_map (race_link (length log)) races) second;
+    }

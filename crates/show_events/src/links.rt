@@ -1,6 +1,6 @@
 //! What leads from one entry to another: wake-ups, spawns, races, and sleep.
 
-ghost use Rattle.std.specs.Prelude.{◌≡◌, ◌<◌, ◌++◌, Some, length, slice_set, All, IfOk, OnOk};
+ghost use Rattle.std.specs.Prelude.{◌≡◌, ◌<◌, ◌++◌, length, replicate, slice_set, All, IfOk, OnOk};
 ghost use Rattle.std.specs.List.{slice_get, filter_map, range_with_len};
 ghost use Rattle.std.specs.Option.{option_to_list};
 ghost use Rattle.show_text.specs.Contexts.{AreContexts};
@@ -189,6 +189,14 @@ fn note_answer(answers: &mut [Option<usize>], context: Context, at: usize)
     }
 }
 
+/// So many places, none of which is known.
+fn none_known(alloc: Global, long: usize) -> Result<Vec<Option<usize>>, AllocError>
+    ensures { IfOk result (λ places. places.items ≡ replicate long None) }
+{
+    let places = vec![in alloc; None; long]?;
+    Ok(places)
+}
+
 /// Where each question is answered, of a log that is so long.
 fn answers_of(
     alloc: Global,
@@ -197,7 +205,7 @@ fn answers_of(
 ) -> Result<Vec<Option<usize>>, AllocError>
     ensures { IfOk result (λ answers. AreAnswers contexts.now long answers.items) }
 {
-    let mut answers = vec![in alloc; None; long]?;
+    let mut answers = none_known(alloc, long)?;
     for at in 0..contexts.len() {
         note_answer(&mut answers, contexts[at], at);
     }
@@ -224,7 +232,7 @@ fn note_first(firsts: &mut [Option<usize>], thread: u32, at: usize)
 fn first_entries(alloc: Global, log: &[Entry]) -> Result<Vec<Option<usize>>, AllocError>
     ensures { IfOk result (λ firsts. AreFirsts log.now firsts.items) }
 {
-    let mut firsts = vec![in alloc; None; MOST_THREADS]?;
+    let mut firsts = none_known(alloc, MOST_THREADS)?;
     for at in 0..log.len() {
         note_first(&mut firsts, log[at].thread, at);
     }

@@ -6,8 +6,7 @@ use Rattle.show_events.proofs.links.answers_of.Goals as goal
 
 pub loop-at-init : goal.loop-at-init
 loop-at-init c =
-    let made : c.in_ok-answers.answers.items ≡ replicate c.args.long None =
-    c.in_ok-answers.ensures.items_if_clones_equal (λ y e. e) in
+    let made = c.in_ok-answers.ensures in
     record {
       long = ap length made ∙ length-replicate c.args.long None;
       known = subst (AreKnown c.args.contexts.now 0) (sym made) (known_first c.args.contexts.now c.args.long);

@@ -1,4 +1,4 @@
-use Rattle.std.proofs.Common.{◌≡◌, ◌∙◌, None, get_or, length, replicate, ap, subst, sym}
+use Rattle.std.proofs.Common.{◌≡◌, ◌∙◌, ℕ, Option, None, get_or, length, replicate, ap, subst, sym}
 use Rattle.std.proofs.lemmas.List.{length-replicate, take_at}
 use Rattle.types.specs.declared.limits.TheConstants.{MOST_THREADS}
 use Rattle.show_events.specs.Links.{noted_first}
@@ -7,10 +7,9 @@ use Rattle.show_events.proofs.links.first_entries.Goals as goal
 
 pub loop-at-init : goal.loop-at-init
 loop-at-init c =
-    let made : c.in_ok-firsts.firsts.items ≡ replicate MOST_THREADS None =
-    c.in_ok-firsts.ensures.items_if_clones_equal (λ y e. e) in
+    let made = c.in_ok-firsts.ensures in
     record {
-      long = ap length made ∙ length-replicate MOST_THREADS None;
+      long = ap length made ∙ length-replicate {A = Option ℕ} MOST_THREADS None;
       seen = subst (AreSeen c.args.log.now 0) (sym made) (seen_first c.args.log.now MOST_THREADS);
     }
 
