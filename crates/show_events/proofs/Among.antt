@@ -1,15 +1,15 @@
 -- The threads of entries at some places.
 use Rattle.std.proofs.Common.{◌≡◌, ◌∙◌, ◌⊎◌, ℕ, ◌+◌, ◌<◌, ◌≤◌, List, [], ◌∷◌, ◌++◌, length, take, replicate, get_or, slice_get, slice_set}
-use Rattle.std.proofs.Common.{Option, Some, None, All, inl, inr, refl, sym, ap, subst, arith, option_map, option_and_then, length-set}
+use Rattle.std.proofs.Common.{Option, Some, None, inl, inr, refl, sym, ap, subst, arith, option_map, option_and_then}
 use Rattle.std.proofs.lemmas.Bool.{cases_eq}
 use Rattle.std.proofs.lemmas.List.{take_more, take_all}
-use Rattle.std.proofs.lemmas.List.Elements.{AllZip-get_or, Contains-get_or, Contains-push, Contains-push_cases, Contains-append_left, length_all_zip, All-contains}
-use Rattle.std.proofs.lemmas.Option.{slice_get_within, slice_get-get_or, get_or_from_slice_get}
+use Rattle.std.proofs.lemmas.List.Elements.{AllZip-get_or, Contains-get_or, Contains-push, Contains-push_cases, Contains-append_left, length_all_zip}
+use Rattle.std.proofs.lemmas.Option.{slice_get-get_or}
 use Rattle.std.specs.List.{AllZip, Contains}
 use Rattle.std.specs.List.Sorted.{IsStrictlyIncreasing}
 use Rattle.types.specs.declared.event.Entry.{Entry}
 use Rattle.show_rows.proofs.Zipped.{zip_next}
-use Rattle.show_events.specs.Links.{thread_at, in_list}
+use Rattle.show_events.specs.Links.{in_list}
 use Rattle.show_events.specs.Events.{IsThreadAt, AreThreadsOf, AreAmong}
 use Rattle.show_events.proofs.Places.{set_same, set_other, replicate_is}
 

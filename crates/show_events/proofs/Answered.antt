@@ -3,7 +3,6 @@ use Rattle.std.proofs.Common.{◌≡◌, ◌∙◌, ℕ, ◌+◌, ◌-◌, ◌<�
 use Rattle.std.proofs.Common.{inl, inr, refl, sym, ap, subst, arith, get_or, slice_get, slice_set, below_more, option_and_then}
 use Rattle.std.proofs.lemmas.Bool.{cases_eq}
 use Rattle.std.proofs.lemmas.Option.{slice_get_within, slice_get-get_or}
-use Rattle.types.specs.declared.event.Event.{Event}
 use Rattle.types.specs.declared.event.Event.TheVariants.{Ask}
 use Rattle.types.specs.declared.event.Question.{Question}
 use Rattle.types.specs.declared.event.Answer.{Answer}
@@ -11,8 +10,8 @@ use Rattle.types.specs.declared.event.Entry.{Entry}
 use Rattle.types.specs.declared.limits.TheConstants.{MOST_THREADS}
 use Rattle.show_text.specs.declared.context.Context.{Context}
 use Rattle.show_text.specs.declared.context.Context.TheVariants.{Alone, Answered, Asked}
-use Rattle.show_text.specs.Contexts.{IsOf, IsAnswered, AreContexts}
-use Rattle.show_events.specs.Links.{IsAnswerTo, IsAnswerAt, AreAnswers, noted_answer, is_wait, is_wait_over, EndsWait, Lasts, in_list}
+use Rattle.show_text.specs.Contexts.{AreContexts}
+use Rattle.show_events.specs.Links.{IsAnswerTo, IsAnswerAt, AreAnswers, noted_answer, is_wait, is_wait_over, Lasts, in_list}
 use Rattle.show_events.proofs.Places.{set_is, set_other, replicate_is}
 
 -- What the first entries say.
@@ -126,9 +125,12 @@ pub lasts_plain : (log : List Entry) (contexts : List Context) (at told : ℕ) (
     → in_list answers at ≡ Some told → b ≡ is_wait_over (slice_get contexts told) → b ≡ false → Lasts contexts at 1
 lasts_plain log contexts at told answers b are answered is over never =
     let p = answered.each at (Some told) (listed (slice_get answers at) told is) in
-    inr (λ other ends. both_ways (is_wait p.0)
-        (ap is_wait (one_question log contexts are at told other p.0 ends.answer.0 p.1 ends.answer.1) ∙ ends.wait)
-        (over_asked (slice_get contexts told) p.0 at b p.1 over ∙ never), refl)
+    inr (
+      λ other ends. both_ways (is_wait p.0)
+          (ap is_wait (one_question log contexts are at told other p.0 ends.answer.0 p.1 ends.answer.1) ∙ ends.wait)
+          (over_asked (slice_get contexts told) p.0 at b p.1 over ∙ never),
+      refl,
+    )
 
 pub lasts_wait : (contexts : List Context) (long at told : ℕ) (answers : List (Option ℕ)) (b : Bool)
     → AreAnswers contexts long answers → in_list answers at ≡ Some told → b ≡ is_wait_over (slice_get contexts told)

@@ -1,5 +1,5 @@
 -- What is written of an entry, of all that are chosen, and what stands around it.
-use Rattle.std.proofs.Common.{◌≡◌, ◌∙◌, ◌<◌, ℕ, List, [], ◌++◌, Option, Some, length, get_or, codes, refl, sym, ap, subst}
+use Rattle.std.proofs.Common.{◌≡◌, ◌∙◌, ◌<◌, ℕ, List, [], ◌++◌, Option, Some, length, get_or, codes, refl, ap, subst}
 use Rattle.std.specs.List.{enumerate_from}
 use Rattle.std.specs.Io.KnownBytes.{Appends, Keeps}
 use Rattle.types.specs.declared.event.Entry.{Entry}
@@ -44,25 +44,25 @@ pub events_of : (shown : Shown) (races : List Race) (places : List ℕ) (story :
     → Appends e f (line_text Close []) → AddsEvents shown races places a f
 events_of shown races places story log links linked threads named among known a b c d e f same of_log are_links are_threads are_among
     linked_is named_is known_is opens names says draws closes = record {
-  story = story;
-  of_log = subst (λ (l : List Entry). IsStoryOf l story) same of_log;
-  links = links;
-  of_story = subst (λ (l : List Entry). AreLinks l story races links) same are_links;
-  threads = threads;
-  of_places = subst (λ (l : List Entry). AreThreadsOf l places threads) same are_threads;
-  among = among;
-  are_among = subst (λ (l : List Entry). AreAmong l places among) same are_among;
-  opened = b;
-  opens = opens;
-  named = c;
-  names = subst (λ (ts : List ℕ). InTurn AddsName ts b c) named_is names;
-  said = d;
-  says = says;
-  drawn = e;
-  draws = subst (λ (xs : List (Option ℕ)). InTurn (AddsArrow xs) (enumerate_from 0 links) d e) known_is
-      (subst (λ (ls : List Link). InTurn (AddsArrow known) (enumerate_from 0 ls) d e) linked_is draws);
-  closes = closes;
-}
+      story = story;
+      of_log = subst (λ (l : List Entry). IsStoryOf l story) same of_log;
+      links = links;
+      of_story = subst (λ (l : List Entry). AreLinks l story races links) same are_links;
+      threads = threads;
+      of_places = subst (λ (l : List Entry). AreThreadsOf l places threads) same are_threads;
+      among = among;
+      are_among = subst (λ (l : List Entry). AreAmong l places among) same are_among;
+      opened = b;
+      opens = opens;
+      named = c;
+      names = subst (λ (ts : List ℕ). InTurn AddsName ts b c) named_is names;
+      said = d;
+      says = says;
+      drawn = e;
+      draws = subst (λ (xs : List (Option ℕ)). InTurn (AddsArrow xs) (enumerate_from 0 links) d e) known_is
+          (subst (λ (ls : List Link). InTurn (AddsArrow known) (enumerate_from 0 ls) d e) linked_is draws);
+      closes = closes;
+    }
 
 -- The events of the entries that are chosen, and what stands before and behind them.
 pub around : (shown : Shown) (races : List Race) (look : Look) (places front back : List ℕ) (a b c d e : Option (List ℕ))

@@ -1,5 +1,5 @@
 -- What leads from one entry to another.
-use Rattle.std.specs.Prelude.{ℕ, ℤ, ◌≡◌, ◌≢◌, ◌<◌, ◌+◌, ◌-◌, ◌⊎◌, ◌++◌, max, Bool, true, false, List, length}
+use Rattle.std.specs.Prelude.{ℕ, ◌≡◌, ◌<◌, ◌-◌, ◌⊎◌, ◌++◌, max, Bool, true, false, List, length}
 use Rattle.std.specs.Prelude.{Option, Some, None, if◌then◌else◌, ◌&&◌, nat_lt, option_map, option_and_then, slice_set}
 use Rattle.std.specs.List.{slice_get, filter_map, range_with_len}
 use Rattle.types.specs.declared.event.Event.{Event}

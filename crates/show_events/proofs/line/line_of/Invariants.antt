@@ -1,4 +1,4 @@
-use Rattle.std.proofs.Common.{◌≡◌, ◌∷◌, ◌++◌, flat_map, take, All}
+use Rattle.std.proofs.Common.{◌≡◌, ◌∷◌, flat_map, take, All}
 use Rattle.show_events.specs.Lines.{IsTame}
 use Rattle.show_events.specs.Events.{front_byte, tame}
 use Rattle.show_events.proofs.line.line_of.Given as goal

@@ -1,4 +1,4 @@
-use Rattle.std.proofs.Common.{◌≡◌, ◌∙◌, None, get_or, length, replicate, ap, subst, sym}
+use Rattle.std.proofs.Common.{◌∙◌, None, length, ap, subst, sym}
 use Rattle.std.proofs.lemmas.List.{length-replicate, take_at}
 use Rattle.show_events.specs.Links.{noted_answer}
 use Rattle.show_events.proofs.Answered.{AreKnown, known_first, known_next, known_all}

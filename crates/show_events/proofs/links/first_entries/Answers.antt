@@ -1,4 +1,4 @@
-use Rattle.std.proofs.Common.{◌≡◌, ◌∙◌, ℕ, Option, None, get_or, length, replicate, ap, subst, sym}
+use Rattle.std.proofs.Common.{◌∙◌, ℕ, Option, None, length, ap, subst, sym}
 use Rattle.std.proofs.lemmas.List.{length-replicate, take_at}
 use Rattle.types.specs.declared.limits.TheConstants.{MOST_THREADS}
 use Rattle.show_events.specs.Links.{noted_first}
