@@ -1,11 +1,10 @@
 -- Texts of items, one behind the other.
-use Rattle.std.proofs.Common.{◌≡◌, ◌∙◌, ℕ, ◌+◌, ◌<◌, ◌≤◌, List, [], ◌∷◌, ◌++◌, length, take, get_or, codes, refl, sym, ap, subst, arith}
+use Rattle.std.proofs.Common.{◌≡◌, ◌==◌, ◌∙◌, ℕ, ◌+◌, ◌<◌, ◌≤◌, Bool, true, false, List, [], ◌∷◌, ◌++◌, length, take, get_or, codes, refl, sym, ap, subst, arith}
 use Rattle.std.specs.List.{enumerate_from, flat_map}
 use Rattle.std.proofs.lemmas.List.{take_more, take_all, flat_map_more}
 use Rattle.std.proofs.lemmas.List.FromFn.{length-enumerate_from, get_or-enumerate_from}
 use Rattle.types.specs.declared.value.ValType.{ValType}
-use Rattle.shared_memory.specs.declared.sleeper.Sleeper.{Sleeper}
-use Rattle.show_moments.specs.Texts.{typed_text, listed_text, sleeper_text, sleepers_text, byte_text, dump_text}
+use Rattle.show_moments.specs.Texts.{typed_text, listed_text, byte_text, dump_text}
 
 -- One more item.
 pub item_next : {X : Type 0} (f : X → List ℕ) (xs : List X) (k : ℕ) (z x : X) (a b c : List ℕ) → k < length xs
@@ -27,26 +26,20 @@ numbered_next {X} f xs k z x a b c lt is before adds =
     ap pair is ∙ (ap zero_pair number ∙ sym (get_or-enumerate_from 0 xs k (0, z) lt)) in
     item_next f (enumerate_from 0 xs) k (0, z) (k, x) a b c (omega (arith, lt, length-enumerate_from 0 xs)) e before adds
 
-none : {P : Type 0} → 0 < 0 → P
-none lt = absurd (omega (arith, lt))
+none : {P : Type 0} (b : Bool) → b ≡ true → b ≡ false → P
+none b empty not = absurd (cc (sym empty ∙ not))
 
-pub listed : (name : List ℕ) (words : List ℕ) (types : List ValType) (k : ℕ) (text : List ℕ) → 0 < length words → length words ≤ k
+pub listed : (name : List ℕ) (words : List ℕ) (types : List ValType) (k : ℕ) (text : List ℕ) (b : Bool)
+    → b ≡ (length words == 0) → b ≡ false → length words ≤ k
     → text ≡ (codes "  " ++ name) ++ flat_map (typed_text types) (take k (enumerate_from 0 words))
     → text ≡ listed_text name words types
-listed name [] types k text some le is = none some
-listed name (w ∷ words) types k text some le is = is ∙ ap (λ (xs : List (ℕ × ℕ)). codes "  " ++ (name ++ flat_map (typed_text types) xs))
+listed name [] types k text b empty not le is = none b empty not
+listed name (w ∷ words) types k text b empty not le is = is ∙ ap (λ (xs : List (ℕ × ℕ)). codes "  " ++ (name ++ flat_map (typed_text types) xs))
     (take_all k (enumerate_from 0 (w ∷ words)) (omega (arith, le, length-enumerate_from 0 (w ∷ words))))
 
-pub asleep : (sleepers : List Sleeper) (k : ℕ) (text all : List ℕ) → 0 < length sleepers → length sleepers ≤ k
-    → text ≡ codes "asleep:" ++ flat_map sleeper_text (take k sleepers) → all ≡ text ++ codes "\n" → all ≡ sleepers_text sleepers
-asleep [] k text all some le is last = none some
-asleep (s ∷ sleepers) k text all some le is last =
-    last ∙ ap (λ (t : List ℕ). t ++ codes "\n") (is ∙ ap (λ (xs : List Sleeper). codes "asleep:" ++ flat_map sleeper_text xs)
-    (take_all k (s ∷ sleepers) le))
-
-pub dumped : (addr : ℕ) (bytes : List ℕ) (k : ℕ) (text all : List ℕ) → 0 < length bytes → length bytes ≤ k
+pub dumped : (addr : ℕ) (bytes : List ℕ) (k : ℕ) (text all : List ℕ) (b : Bool) → b ≡ (length bytes == 0) → b ≡ false → length bytes ≤ k
     → text ≡ flat_map (byte_text addr) (take k (enumerate_from 0 bytes)) → all ≡ text ++ codes "\n" → all ≡ dump_text addr bytes
-dumped addr [] k text all some le is last = none some
-dumped addr (b ∷ bytes) k text all some le is last =
+dumped addr [] k text all b empty not le is last = none b empty not
+dumped addr (x ∷ bytes) k text all b empty not le is last =
     last ∙ ap (λ (t : List ℕ). t ++ codes "\n") (is ∙ ap (λ (xs : List (ℕ × ℕ)). flat_map (byte_text addr) xs)
-    (take_all k (enumerate_from 0 (b ∷ bytes)) (omega (arith, le, length-enumerate_from 0 (b ∷ bytes)))))
+    (take_all k (enumerate_from 0 (x ∷ bytes)) (omega (arith, le, length-enumerate_from 0 (x ∷ bytes)))))

@@ -1,8 +1,8 @@
 -- A moment as text.
 use Rattle.std.specs.Prelude.{ℕ, ◌≡◌, ◌+◌, ◌-◌, ◌^◌, ◌<◌, ◌≤◌, ◌==◌, min, zero, suc, nat_le, Bool, true, false, if◌then◌else◌}
-use Rattle.std.specs.Prelude.{List, [], ◌∷◌, ◌++◌, codes, length, list_any, Option, Some, None, option_map}
+use Rattle.std.specs.Prelude.{List, [], ◌∷◌, ◌++◌, codes, length, Option, Some, None, option_map}
 use Rattle.std.specs.Global.{Vec}
-use Rattle.std.specs.List.{slice_get}
+use Rattle.std.specs.List.{slice_get, list_any}
 use Rattle.std.specs.Fmt.{decimal}
 use Rattle.std.specs.Io.KnownBytes.{Appends}
 use Rattle.types.specs.declared.event.Event.{Event}
@@ -72,7 +72,7 @@ IsAskedText s asked (Some made) text = (said : Words) × AreWordsOf s.shown s.st
 abbrev pub IsOwedText : Seen → Bool → Option Context → List ℕ → Type 0
 IsOwedText s true (Some (Asked question asked)) text =
     IsAskedText s asked (slice_get s.shown.record.now.log asked) text
-IsOwedText s is_asleep context text = text ≡ codes "is owed its answer; "
+IsOwedText s sleeps context text = text ≡ codes "is owed its answer; "
 
 -- How a thread stands to its first entry.
 abbrev pub IsFrontText : Seen → ℕ → ℕ → Event → List ℕ → Type 0

@@ -1,7 +1,7 @@
 //! A moment as text.
 
-ghost use Rattle.std.specs.Prelude.{◌≡◌, ◌<◌, All, IfOk, OnOk, length, string_bytes};
-ghost use Rattle.std.specs.List.{slice_get};
+ghost use Rattle.std.specs.Prelude.{◌≡◌, ◌==◌, ◌<◌, All, IfOk, OnOk, length, string_bytes};
+ghost use Rattle.std.specs.List.{slice_get, list_any};
 ghost use Rattle.show_moments.specs.Scenes as specified;
 ghost use Rattle.show_races.specs.Told.{IsWithin};
 ghost use Rattle.show_moments.specs.Scenes.{AddsFunctions, AddsRace, AddsRaces, AddsThread, AddsThreads, IsAskedText};
@@ -12,6 +12,7 @@ use crate::standing::{OpenFunction, ThreadSnapshot};
 use crate::texts::{dump_text, listed_text, queue_text};
 use interp::CodePlace;
 use race_history::Race;
+use shared_memory::Sleeper;
 use show_races::entry_text;
 use show_rows::{Shown, Story};
 use show_text::{Context, Unwritten};
@@ -81,6 +82,13 @@ fn next_of(log: &[Entry], from: usize, thread: usize) -> Option<usize>
     None
 }
 
+/// Whether a thread is one of these sleepers.
+fn sleeps(sleepers: &[Sleeper], thread: u32) -> bool
+    ensures { result ≡ list_any (λ s. s.thread == thread) sleepers.now }
+{
+    sleepers.iter().any(|s| s.thread == thread)
+}
+
 /// With which entry another one races, if it is one of the two.
 fn other_of(race: Race, at: usize) -> Option<usize>
     ensures { result ≡ specified.other_of at race }
@@ -109,7 +117,7 @@ impl Scene<'_, '_, '_, '_, '_, '_, '_, '_, '_> {
         ensures { result ≡ specified.is_asleep self.now.moment.now.queue thread }
     {
         match &self.moment.queue {
-            Some(queue) => queue.sleepers.iter().any(|s| s.thread == thread),
+            Some(queue) => sleeps(&queue.sleepers, thread),
             None => false,
         }
     }
@@ -213,15 +221,15 @@ impl Scene<'_, '_, '_, '_, '_, '_, '_, '_, '_> {
 
     /// An open function. What it called has taken operands from the top, so that there may be fewer than before the
     /// call.
-    fn function_text(&self, open: OpenFunction) -> Result<String, AllocError>
-        ensures { IfOk result (λ text. IsFunctionText (specified.seen self.now) open.entry (string_bytes text)) }
+    fn function_text(&self, opened: OpenFunction) -> Result<String, AllocError>
+        ensures { IfOk result (λ text. IsFunctionText (specified.seen self.now) opened.entry (string_bytes text)) }
     {
-        let CodePlace { function, instr } = open.place;
+        let CodePlace { function, instr } = opened.place;
         let locals = self.valid.local_types(self.alloc, function)?;
         let operands = operand_types(self.alloc, self.valid, function, instr)?;
-        let spot = self.shown.code.spot(open.place);
-        let locals = listed_text(self.alloc, "locals", open.locals, types_of(&locals))?;
-        let operands = listed_text(self.alloc, "operands", open.operands, types_of(&operands))?;
+        let spot = self.shown.code.spot(opened.place);
+        let locals = listed_text(self.alloc, "locals", opened.locals, types_of(&locals))?;
+        let operands = listed_text(self.alloc, "operands", opened.operands, types_of(&operands))?;
         let text = format!(in self.alloc; "    {spot}{locals}{operands}\n")?;
         Ok(text)
     }
