@@ -1,27 +1,17 @@
 -- What is written of a moment, one behind the other.
-use Rattle.std.proofs.Common.{◌≡◌, ◌∙◌, ℕ, zero, suc, ◌+◌, ◌<◌, ◌≤◌, List, [], ◌∷◌, ◌++◌, length, take, get_or, slice_get, codes}
-use Rattle.std.proofs.Common.{Option, Some, None, Bool, true, false, refl, sym, ap, subst, arith}
+use Rattle.std.proofs.Common.{◌≡◌, ◌∙◌, ℕ, suc, ◌+◌, ◌<◌, ◌≤◌, List, [], ◌∷◌, ◌++◌, length, take, get_or, codes}
+use Rattle.std.proofs.Common.{Option, Some, None, refl, sym, ap, subst, arith}
 use Rattle.std.proofs.lemmas.List.{take_more, take_all}
-use Rattle.std.proofs.lemmas.Option.{slice_get-get_or}
 use Rattle.std.specs.Fmt.{decimal}
-use Rattle.std.specs.Io.KnownBytes.{Appends, Keeps}
-use Rattle.types.specs.declared.event.Entry.{Entry}
-use Rattle.types.specs.declared.limits.TheConstants.{MOST_THREADS}
-use Rattle.types.specs.declared.parts.Parts.{Parts}
+use Rattle.std.specs.Io.KnownBytes.{Appends}
 use Rattle.race_history.specs.declared.race.Race.{Race}
-use Rattle.show_rows.specs.declared.listing.Shown.{Shown}
-use Rattle.show_rows.specs.declared.listing.Story.{Story}
-use Rattle.show_rows.specs.Listing.{line_at, IsStoryOf}
-use Rattle.show_rows.proofs.Chosen.{appends_keeps}
+use Rattle.show_rows.specs.Listing.{line_at}
 use Rattle.show_races.specs.Written.{IsEntryText}
-use Rattle.show_moments.specs.declared.moment.Moment.{Moment}
 use Rattle.show_moments.specs.declared.standing.ThreadSnapshot.{ThreadSnapshot}
 use Rattle.show_moments.specs.declared.standing.OpenFunction.{OpenFunction}
-use Rattle.show_moments.specs.Moments.{standing_at}
 use Rattle.show_moments.specs.Opened.{IsOpenFunction}
-use Rattle.show_moments.specs.Texts.{queue_text, dump_text}
-use Rattle.show_moments.specs.Scenes.{Seen, AddsFunction, AddsFunctions, AddsNext, AddsOther, AddsRace, AddsRaces, AddsSpawned, AddsStanding}
-use Rattle.show_moments.specs.Scenes.{AddsThread, AddsThreads, IsFunctionText, IsNextOf, IsNextText, WritesMoment}
+use Rattle.show_moments.specs.Scenes.{Seen, AddsFunction, AddsFunctions, AddsOther, AddsRace, AddsRaces}
+use Rattle.show_moments.specs.Scenes.{AddsThread, AddsThreads, IsFunctionText}
 
 -- Threads, from 0 on.
 pub no_threads : (s : Seen) (a : Option (List ℕ)) → AddsThreads s 0 a a
@@ -85,5 +75,9 @@ pub some_other : (s : Seen) (o : Option ℕ) (other line : ℕ) (text : List ℕ
     → IsEntryText s.shown s.story other text → line ≡ line_at s.shown s.moment.at
     → Appends a b (codes "line " ++ (decimal line ++ (codes " races with " ++ (text ++ codes "\n")))) → AddsOther s o a b
 some_other s o other line text a b is says line_is wrote =
-    subst (λ (x : Option ℕ). AddsOther s x a b) is (text, says, subst (λ (n : ℕ). Appends a b (codes "line " ++ (decimal n
-    ++ (codes " races with " ++ (text ++ codes "\n"))))) line_is wrote)
+    subst (λ (x : Option ℕ). AddsOther s x a b) is (
+      text,
+      says,
+      subst (λ (n : ℕ). Appends a b (codes "line " ++ (decimal n
+          ++ (codes " races with " ++ (text ++ codes "\n"))))) line_is wrote,
+    )

@@ -5,15 +5,12 @@ use Rattle.std.specs.Fmt.{decimal}
 use Rattle.std.specs.Global.{Vec}
 use Rattle.std.specs.Io.KnownBytes.{Appends, Keeps}
 use Rattle.types.specs.declared.event.Entry.{Entry}
-use Rattle.types.specs.declared.event.Question.{Question}
 use Rattle.types.specs.declared.limits.TheConstants.{MOST_THREADS}
 use Rattle.types.specs.declared.parts.Parts.{Parts}
 use Rattle.types.specs.declared.value.ValType.{ValType}
 use Rattle.race_history.specs.declared.race.Race.{Race}
 use Rattle.validate.specs.Operands.{OwnOperandsAt}
 use Rattle.validate_module.specs.Own.{FindsLocals}
-use Rattle.show_text.specs.declared.context.Context.{Context}
-use Rattle.show_text.specs.declared.context.Context.TheVariants.{Asked}
 use Rattle.show_text.specs.declared.words.Words.{Words}
 use Rattle.show_text.specs.Words.{words_text}
 use Rattle.show_rows.specs.declared.listing.Shown.{Shown}
@@ -28,7 +25,7 @@ use Rattle.show_moments.specs.declared.standing.ThreadSnapshot.{ThreadSnapshot}
 use Rattle.show_moments.specs.Moments.{standing_at}
 use Rattle.show_moments.specs.Texts.{listed_text, queue_text, dump_text}
 use Rattle.show_moments.specs.Scenes.{Seen, depth, is_spawned, AddsFunctions, AddsNext, AddsRaces, AddsStanding, AddsThread, AddsThreads, AddsSpawned}
-use Rattle.show_moments.specs.Scenes.{IsAskedText, IsFrontText, IsFunctionText, IsNextOf, IsNextText, IsOwedText, WritesMoment, types_of}
+use Rattle.show_moments.specs.Scenes.{IsAskedText, IsFrontText, IsFunctionText, IsNextOf, IsNextText, WritesMoment, types_of}
 
 stands : (log whole : List Entry) (at : ℕ) (d : Entry) → log ≡ whole → at < length whole → slice_get whole at ≡ Some (get_or log at d)
 stands log whole at d same within = subst (λ (l : List Entry). slice_get l at ≡ Some (get_or log at d)) same
@@ -112,7 +109,7 @@ function_says s o spot locals operands l p text spot_is locals_are operands_are 
   operands_are = operands_are;
   is = is ∙ (ap (λ (x : List ℕ). codes "    " ++ (spot_text spot ++ (x ++ (p ++ codes "\n")))) l_is
       ∙ ap (λ (x : List ℕ). codes "    " ++ (spot_text spot
-          ++ (listed_text (codes "locals") o.locals.now (types_of locals) ++ (x ++ codes "\n")))) p_is);
+      ++ (listed_text (codes "locals") o.locals.now (types_of locals) ++ (x ++ codes "\n")))) p_is);
 }
 
 pub moment_of : (m : Parts) (shown : Shown) (moment : Moment) (races : List Race) (story : Story) (log : List Entry)
