@@ -1,11 +1,12 @@
 //! The entries of a record by the program, in words: what is printed, or why there is nothing to print.
-ghost use Rattle.std.specs.Prelude.{◌≡◌, ◌⊎◌, ℕ, List, IfOk, IfErr, is_some, false};
+ghost use Rattle.std.specs.Prelude.{◌≡◌, ◌⊎◌, ℕ, List, All, IfOk, IfErr, is_some, false};
 ghost use Rattle.types.specs.declared.parts.Parts.{Parts};
 ghost use Rattle.report_jobs.specs.Jobs.{IsNoRecordOf, IsNoValidModule, IsUnfit, IsRecordOf, IsOfRun};
 ghost use Rattle.report_jobs.specs.Prints.{changed};
 ghost use Rattle.report_jobs.specs.Told.{TellsWhatIsWrong};
 ghost use Rattle.report_command.specs.Views.{path_of};
 ghost use Rattle.report_jobs.specs.Silence.{IsRefusal, Stays};
+ghost use Rattle.show_races.specs.Told.{IsWithin};
 ghost use Rattle.report.specs.Raced.{IsSeen};
 ghost use Rattle.report.specs.Silent.{IfRefusedRecord, IsNoRefusal};
 
@@ -172,7 +173,9 @@ pub(crate) fn rows_of(alloc: Global, module: &ValidModule, saved: &[u8]) -> Resu
 }
 
 /// The pairs of entries that race. A log of more threads than 64 has none that are known.
-fn races_in(alloc: Global, shown: Shown) -> Result<Vec<Race>, AllocError> {
+fn races_in(alloc: Global, shown: Shown) -> Result<Vec<Race>, AllocError>
+    ensures { IfOk result (λ races. All (IsWithin shown.entry.record.now.log) races.items) }
+{
     if !is_history(shown.record.log.as_slice()) {
         return Ok(Vec::new(alloc));
     }
@@ -249,5 +252,6 @@ fn print_moment<W: Write>(
         rows: seen.rows.as_slice(),
         code,
     };
-    write_moment(alloc, module, shown, &moment, out)
+    let races = races_in(alloc, shown)?;
+    write_moment(alloc, module, shown, &moment, &races, out)
 }
