@@ -3,8 +3,8 @@
 //!
 //! Proved: `write_events` writes exactly the lines of its events, in which no `<` is: the process, the threads of the
 //! entries that are chosen, each of these entries in order, with its words, its thread, its line, its place and how long
-//! it is, and both ends of each wake-up, spawn and race between two of them; a trace and the data of a page are these
-//! lines.
+//! it is, and both ends of each wake-up, spawn and race from one of them to a later one; a trace and the data of a page
+//! are these lines.
 //!
 //! A link leads to a later entry, and a wait is as long as it takes to its answer. In a page no `<` stands before the end
 //! of its data's element.
