@@ -1,11 +1,13 @@
 //! What is written of a record that is shown.
-ghost use Rattle.std.specs.Prelude.{◌≡◌, OnOk};
+ghost use Rattle.std.specs.Prelude.{◌≡◌, All, IfOk, OnOk};
+ghost use Rattle.show_races.specs.Told.{IsWithin};
 ghost use Rattle.report_looks.specs.Looked.{PrintsWanted, WritesLastOf};
 
 use crate::ends::write_end;
 use crate::objects::write_entries;
 use crate::showing::SeenRun;
 use crate::wanted::{Asked, Here, Wanted};
+use race_history::{Race, is_history};
 use replay::replay_watched;
 use replay_text::Record;
 use report_choice::{Choice, Look, Span};
@@ -13,13 +15,27 @@ use report_command::View;
 use show_events::{write_page, write_trace};
 use show_moments::{Moment, write_moment};
 use show_named::{DataMap, write_rows};
+use show_races::racing_pairs;
 use show_rows::{CodeMap, Shown, Story};
 use show_text::Unwritten;
 use show_waits::{write_last, write_waits};
-use std::alloc::Global;
+use std::alloc::{AllocError, Global};
 use std::io::Write;
 use types::{Outcome, ThreadReport};
 use validate_module::ValidModule;
+
+/// How many races a page, a trace or a moment marks, at most.
+const MOST_MARKS: usize = 100_000;
+
+/// The pairs of entries that race. A log of more threads than 64 has none that are known.
+fn races_in(alloc: Global, shown: Shown) -> Result<Vec<Race>, AllocError>
+    ensures { IfOk result (λ races. All (IsWithin shown.entry.record.now.log) races.items) }
+{
+    if !is_history(shown.record.log.as_slice()) {
+        return Ok(Vec::new(alloc));
+    }
+    racing_pairs(alloc, shown, MOST_MARKS)
+}
 
 /// Writes of a record what is asked for.
 pub(crate) fn print_asked<W: Write>(
@@ -75,8 +91,14 @@ fn print_entries<W: Write>(
     out: &mut W,
 ) -> Result<(), Unwritten> {
     match view {
-        View::Page(_) => write_page(alloc, shown, look, out),
-        View::Trace(_) => write_trace(alloc, shown, look, out),
+        View::Page(_) => {
+            let races = races_in(alloc, shown)?;
+            write_page(alloc, shown, look, &races, out)
+        }
+        View::Trace(_) => {
+            let races = races_in(alloc, shown)?;
+            write_trace(alloc, shown, look, &races, out)
+        }
         View::Object => write_entries(alloc, shown, look, out),
         View::Rows | View::Moment(_) | View::Write(_) => print_rows(alloc, shown, map, look, out),
     }
@@ -135,8 +157,8 @@ fn print_moment<W: Write>(
     out: &mut W,
 ) -> Result<(), Unwritten> {
     if here.is_end {
-        write_end(alloc, module, shown, map, moment, out)
-    } else {
-        write_moment(alloc, module, shown, moment, out)
+        return write_end(alloc, module, shown, map, moment, out);
     }
+    let races = races_in(alloc, shown)?;
+    write_moment(alloc, module, shown, moment, &races, out)
 }

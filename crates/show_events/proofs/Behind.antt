@@ -40,3 +40,8 @@ two_lines a b c first second = (2, (b, (a, no_line a, first), second))
 
 pub some_more : (n m : ℕ) (a b c : Option (List ℕ)) → AddsLines n a b → AddsLines m b c → (x : ℕ) × AddsLines x a c
 some_more n m a b c p q = (n + m, lines_then n m a b c p q)
+
+pub lines_more : (n : ℕ) (a b c : Option (List ℕ)) → AddsLines n a b → AddsLine b c → AddsLines (n + 1) a c
+lines_more n a b c p line =
+    let e : suc n ≡ n + 1 = omega arith in
+    subst (λ (k : ℕ). AddsLines k a c) e (b, p, line)

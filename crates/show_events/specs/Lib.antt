@@ -1,3 +1,5 @@
+pub mod Events
 pub mod Forward
 pub mod Lines
+pub mod Links
 pub mod Page

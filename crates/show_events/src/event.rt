@@ -1,128 +1,141 @@
 //! The events of the Trace Event Format, as they are spelt in JSON. Times are numbers of entries, from 0 on, as
-//! microseconds.
+//! microseconds; all threads are of one process.
 
-use serde::Serialize;
+ghost use Rattle.std.specs.Prelude.{◌≡◌, string_bytes, IfOk};
+ghost use Rattle.show_events.specs.Events as specified;
+ghost use Rattle.show_events.specs.Events.{entry_json, name_json, start_json, finish_json};
 
-/// The one process that all threads are of.
-const PROCESS: u32 = 1;
+use serde_json::Value;
+use std::alloc::{AllocError, Global};
+use std::fmt::{self, Formatter, Write};
 
-/// What a thread is called.
-#[derive(Drop, Serialize)]
-pub(crate) struct NameEvent<'a> {
-    ph: &'static str,
-    name: &'static str,
-    ts: u64,
-    pid: u32,
-    tid: u32,
-    args: NameArgs<'a>,
-}
-
-/// What is said of a thread.
-#[derive(Drop, Serialize)]
-pub(crate) struct NameArgs<'a> {
-    pub(crate) name: &'a str,
-}
-
-/// An entry.
-#[derive(Drop, Serialize)]
-pub(crate) struct EntryEvent<'a> {
-    ph: &'static str,
-    name: &'a str,
-    cat: &'static str,
-    ts: u64,
-    dur: u64,
-    pid: u32,
-    tid: u32,
-    args: EntryArgs<'a>,
+/// A text in quotes, with an escape for what can't stand in them.
+fn quoted(alloc: Global, text: &str) -> Result<String, AllocError>
+    ensures { IfOk result (λ s. string_bytes s ≡ specified.quoted text.now) }
+{
+    Value::String(String::from_str(alloc, text)?).to_string(alloc)
 }
 
 /// What is said of an entry.
-#[derive(Drop, Serialize)]
-pub(crate) struct EntryArgs<'a> {
+#[derive(Clone, Copy)]
+pub(crate) struct EntryEvent<'a> {
+    pub(crate) thread: u32,
+    /// Its number in the log.
+    pub(crate) at: u64,
+    /// How many entries long it is.
+    pub(crate) length: u64,
+    pub(crate) words: &'a str,
+    /// The line of the record.
     pub(crate) line: u64,
+    /// Where it was made.
     pub(crate) place: &'a str,
 }
 
-/// Where an arrow begins.
-#[derive(Drop, Serialize)]
-pub(crate) struct StartEvent {
-    ph: &'static str,
-    name: &'static str,
-    cat: &'static str,
-    id: u64,
-    ts: u64,
-    pid: u32,
-    tid: u32,
+/// The front of an entry: its words, as JSON has them, its number in the log, and how long it is.
+#[derive(Clone, Copy)]
+struct Named<'a> {
+    words: &'a str,
+    at: u64,
+    length: u64,
 }
 
-/// Where it ends: at the entry there.
-#[derive(Drop, Serialize)]
-pub(crate) struct FinishEvent {
-    ph: &'static str,
-    name: &'static str,
-    cat: &'static str,
-    id: u64,
-    bp: &'static str,
-    ts: u64,
-    pid: u32,
-    tid: u32,
+impl fmt::Display for Named<'_> {
+    ghost use Rattle.std.specs.Prelude.{Some};
+    ghost use Rattle.show_events.specs.Events.{named_json};
+
+    ghost output = { λ n. Some (named_json n.words.now n.at n.length) };
+
+    fn fmt<W: Write>(&self, f: &mut Formatter<W>) -> fmt::Result {
+        let (words, at, length) = (self.words, self.at, self.length);
+        write!(
+            f,
+            "{{\"ph\":\"X\",\"name\":{words},\"cat\":\"entry\",\"ts\":{at},\"dur\":{length}"
+        )
+    }
+}
+
+/// The end of an entry: its thread, its line of the record, and its place, as JSON has it.
+#[derive(Clone, Copy)]
+struct Placed<'a> {
+    thread: u32,
+    line: u64,
+    place: &'a str,
+}
+
+impl fmt::Display for Placed<'_> {
+    ghost use Rattle.std.specs.Prelude.{Some};
+    ghost use Rattle.show_events.specs.Events.{placed_json};
+
+    ghost output = { λ p. Some (placed_json p.thread p.line p.place.now) };
+
+    fn fmt<W: Write>(&self, f: &mut Formatter<W>) -> fmt::Result {
+        let (thread, line, place) = (self.thread, self.line, self.place);
+        write!(
+            f,
+            ",\"pid\":1,\"tid\":{thread},\"args\":{{\"line\":{line},\"place\":{place}"
+        )
+    }
 }
 
 /// An entry with its words, from its number on and so many long.
-pub(crate) fn entry_event<'a>(
-    thread: u32,
-    at: u64,
-    length: u64,
-    words: &'a str,
-    args: EntryArgs<'a>,
-) -> EntryEvent<'a> {
-    EntryEvent {
-        ph: "X",
-        name: words,
-        cat: "entry",
-        ts: at,
-        dur: length,
-        pid: PROCESS,
-        tid: thread,
-        args,
-    }
+pub(crate) fn entry_event(alloc: Global, event: EntryEvent) -> Result<String, AllocError>
+    ensures { IfOk result (λ s. string_bytes s ≡ entry_json (record {
+      line = event.entry.line;
+      thread = event.entry.thread;
+      words = event.entry.words.now;
+      place = event.entry.place.now;
+    }) event.entry.at event.entry.length) }
+{
+    let words = quoted(alloc, event.words)?;
+    let place = quoted(alloc, event.place)?;
+    let named = Named {
+        words: words.as_str(),
+        at: event.at,
+        length: event.length,
+    };
+    let placed = Placed {
+        thread: event.thread,
+        line: event.line,
+        place: place.as_str(),
+    };
+    format!(in alloc; "{named}{placed}}}}}")
 }
 
 /// The name of a thread.
-pub(crate) fn name_event(thread: u32, name: &str) -> NameEvent<'_> {
-    NameEvent {
-        ph: "M",
-        name: "thread_name",
-        ts: 0,
-        pid: PROCESS,
-        tid: thread,
-        args: NameArgs { name },
-    }
+pub(crate) fn name_event(alloc: Global, thread: u32) -> Result<String, AllocError>
+    ensures { IfOk result (λ s. string_bytes s ≡ name_json thread) }
+{
+    format!(in alloc;
+        "{{\"ph\":\"M\",\"name\":\"thread_name\",\"ts\":0,\"pid\":1,\"tid\":{thread},\"args\":{{\"name\":\"t{thread}\"}}}}"
+    )
 }
 
 /// The beginning of an arrow.
-pub(crate) fn start_event(kind: &'static str, id: u64, thread: u32, at: u64) -> StartEvent {
-    StartEvent {
-        ph: "s",
-        name: kind,
-        cat: "flow",
-        id,
-        ts: at,
-        pid: PROCESS,
-        tid: thread,
-    }
+pub(crate) fn start_event(
+    alloc: Global,
+    kind: &str,
+    id: u64,
+    thread: u32,
+    at: u64,
+) -> Result<String, AllocError>
+    ensures { IfOk result (λ s. string_bytes s ≡ start_json kind.now id thread at) }
+{
+    format!(in alloc;
+        "{{\"ph\":\"s\",\"name\":\"{kind}\",\"cat\":\"flow\",\"id\":{id},\"ts\":{at},\"pid\":1,\"tid\":{thread}}}"
+    )
 }
 
 /// The end of an arrow.
-pub(crate) fn finish_event(kind: &'static str, id: u64, thread: u32, at: u64) -> FinishEvent {
-    FinishEvent {
-        ph: "f",
-        name: kind,
-        cat: "flow",
-        id,
-        bp: "e",
-        ts: at,
-        pid: PROCESS,
-        tid: thread,
-    }
+pub(crate) fn finish_event(
+    alloc: Global,
+    kind: &str,
+    id: u64,
+    thread: u32,
+    at: u64,
+) -> Result<String, AllocError>
+    ensures { IfOk result (λ s. string_bytes s ≡ finish_json kind.now id thread at) }
+{
+    format!(in alloc;
+        "{{\"ph\":\"f\",\"name\":\"{kind}\",\"cat\":\"flow\",\"id\":{id},\"bp\":\"e\",\"ts\":{at},\"pid\":1,\"tid\":{thread}}}"
+    )
 }

@@ -1,8 +1,13 @@
 //! The rows of a record as data: Trace Event JSON, an event a line, as Perfetto and chrome://tracing read it; and as a
 //! page that needs nothing else, with a lane for each thread, and its entries one below the other.
 //!
-//! Proved: `write_events` adds whole lines without `<`, one for each entry at least. A link leads to a later entry.
-//! `write_page` adds a page with the element of its data, and no `<` before that element's end.
+//! Proved: `write_events` writes exactly the lines of its events, in which no `<` is: the process, the threads of the
+//! entries that are chosen, each of these entries in order, with its words, its thread, its line, its place and how long
+//! it is, and both ends of each wake-up, spawn and race from one of them to a later one; a trace and the data of a page
+//! are these lines.
+//!
+//! A link leads to a later entry, and a wait is as long as it takes to its answer. In a page no `<` stands before the end
+//! of its data's element.
 #![tactic(auto)]
 
 mod event;
@@ -15,4 +20,4 @@ mod write;
 
 pub use links::{Link, LinkKind, Links};
 pub use page::write_page;
-pub use write::{chosen_entries, write_events, write_trace};
+pub use write::{write_events, write_trace};

@@ -1,9 +1,11 @@
-//! An event as a line.
+//! A JSON text as a line.
 
-ghost use Rattle.std.specs.Prelude.{All, IfOk, OnOk};
+ghost use Rattle.std.specs.Prelude.{◌≡◌, ◌++◌, All, IfOk, OnOk};
+ghost use Rattle.std.specs.Io.KnownBytes.{Appends};
+ghost use Rattle.show_events.specs.Events as specified;
+ghost use Rattle.show_events.specs.Events.{tame, line_text};
 ghost use Rattle.show_events.specs.Lines.{IsTame, IsLine, AddsLine};
 
-use serde::Serialize;
 use show_text::Unwritten;
 use std::alloc::{AllocError, Global};
 use std::io::Write;
@@ -17,7 +19,8 @@ pub(crate) enum Front {
 }
 
 fn front_byte(front: Front) -> u8
-    ensures { IsTame result }
+    ensures tame { IsTame result }
+    ensures which { result ≡ specified.front_byte front }
 {
     match front {
         Front::Open => b'[',
@@ -28,12 +31,13 @@ fn front_byte(front: Front) -> u8
 
 /// A JSON text as a line. It has an escape for each `<`; that is nowhere but in strings.
 fn line_of(alloc: Global, front: Front, json: &str) -> Result<Vec<u8>, AllocError>
-    ensures { IfOk result (λ v. IsLine v.items) }
+    ensures line { IfOk result (λ v. IsLine v.items) }
+    ensures text { IfOk result (λ v. v.items ≡ line_text front json.now) }
 {
     let mut line = Vec::with_capacity(alloc, json.len())?;
-    push_tame(&mut line, front_byte(front))?;
-    for byte in json.bytes() {
-        push_tame(&mut line, byte)?;
+    line.push(front_byte(front))?;
+    for byte in json.as_bytes() {
+        push_tame(&mut line, *byte)?;
     }
     line.push(b'\n')?;
     Ok(line)
@@ -41,7 +45,8 @@ fn line_of(alloc: Global, front: Front, json: &str) -> Result<Vec<u8>, AllocErro
 
 fn push_tame(line: &mut Vec<u8>, byte: u8) -> Result<(), AllocError>
     requires { All IsTame line.old.items }
-    ensures { All IsTame line.new.items }
+    ensures tame { All IsTame line.new.items }
+    ensures text { OnOk result (line.new.items ≡ line.old.items ++ tame byte) }
 {
     match byte {
         b'<' => line.extend_from_slice(b"\\u003c")?,
@@ -58,23 +63,10 @@ pub(crate) fn write_line<W: Write>(
     front: Front,
     json: &str,
 ) -> Result<(), Unwritten>
-    ensures { OnOk result (AddsLine (W.contents out.old) (W.contents out.new)) }
+    ensures line { OnOk result (AddsLine (W.contents out.old) (W.contents out.new)) }
+    ensures text { OnOk result (Appends (W.contents out.old) (W.contents out.new) (line_text front json.now)) }
 {
     let line = line_of(alloc, front, json)?;
     out.write_all(&line)?;
     Ok(())
-}
-
-/// Writes an event as a line.
-pub(crate) fn write_event<W: Write, E: Serialize>(
-    alloc: Global,
-    out: &mut W,
-    event: &E,
-) -> Result<(), Unwritten>
-    ensures { OnOk result (AddsLine (W.contents out.old) (W.contents out.new)) }
-{
-    let Ok(json) = serde_json::to_string(alloc, event) else {
-        return Err(Unwritten::NoMemory);
-    };
-    write_line(alloc, out, Front::Next, &json)
 }

@@ -20,6 +20,7 @@ for (const e of events) {
     if (from !== undefined && to !== undefined) arrows.push({ kind: e.name, from, to });
   }
 }
+const racing = new Set(arrows.filter(a => a.kind === 'races').flatMap(a => [a.from, a.to]));
 // A bar goes down to the row of the answer, or to the last row before it that is there.
 const firstRow = ts => {
   let low = 0, high = entries.length;
@@ -43,7 +44,8 @@ const middleOf = row => row * ROW + ROW / 2;
 
 function drawRow(row) {
   const e = entries[row];
-  const name = 'row' + (foundSet.has(row) ? ' found' : '') + (row === chosen ? ' chosen' : '');
+  const name = 'row' + (racing.has(row) ? ' racing' : '') + (foundSet.has(row) ? ' found' : '')
+    + (row === chosen ? ' chosen' : '');
   const node = make('div', name);
   node.style.top = row * ROW + 'px';
   node.dataset.row = row;
@@ -116,9 +118,10 @@ function choose(row, keep) {
   if (e.dur > 1) facts.push(['waits for', e.dur + ' entries']);
   for (const [name, text] of facts) list.append(make('dt', '', name), make('dd', '', text));
   details.replaceChildren(make('h2', '', 'Entry'), list);
-  const has = { wakes: 'woken by', spawns: 'spawned by' };
+  const does = { wakes: 'wakes', spawns: 'spawns', races: 'races with' };
+  const has = { wakes: 'woken by', spawns: 'spawned by', races: 'races with' };
   for (const arrow of arrows) {
-    if (arrow.from === row) details.append(jump(arrow.kind + ' t' + entries[arrow.to].tid, arrow.to));
+    if (arrow.from === row) details.append(jump(does[arrow.kind] + ' t' + entries[arrow.to].tid, arrow.to));
     if (arrow.to === row) details.append(jump(has[arrow.kind] + ' t' + entries[arrow.from].tid, arrow.from));
   }
   const bar = bars.find(b => b.from === row);

@@ -12,11 +12,13 @@ pub(crate) const STYLE: &str = r#"<!DOCTYPE html>
   color-scheme: light dark;
   --ground: #ffffff; --text: #1b1f24; --dim: #656d76; --line: #d8dee4; --bar: #eef1f4;
   --chosen: #fff1c2; --found: #ffe08a; --light: 42%; --wake: #1f7a3d; --spawn: #8250df;
+  --race: #cf222e;
 }
 @media (prefers-color-scheme: dark) {
   :root {
     --ground: #0f1419; --text: #e4e9ee; --dim: #8b949e; --line: #30363d; --bar: #1a2027;
     --chosen: #4a3d10; --found: #6b5410; --light: 68%; --wake: #57c27a; --spawn: #b794f6;
+    --race: #ff7b72;
   }
 }
 * { box-sizing: border-box; }
@@ -50,6 +52,8 @@ main { flex: 1; min-height: 0; display: flex; }
 .bar { position: absolute; width: 6px; border-radius: 3px; opacity: .45; z-index: 1; }
 .lane { position: absolute; top: 0; bottom: 0; width: 1px; background: var(--line); }
 path.wakes { stroke: var(--wake); } path.spawns { stroke: var(--spawn); }
+path.races { stroke: var(--race); stroke-dasharray: 5 3; }
+.row.racing i { color: var(--race); font-weight: 600; }
 path { fill: none; stroke-width: 1.5; }
 aside { flex: 0 0 300px; overflow: auto; border-left: 1px solid var(--line); padding: 10px 14px; }
 aside h2 { font-size: 13px; margin: 0 0 6px; }

@@ -1,1 +1,5 @@
 pub mod Seen
+mod Listed
+mod Nexts
+mod Scenes
+mod Told

@@ -1,2 +1,4 @@
 pub mod Moments
 pub mod Opened
+pub mod Scenes
+pub mod Texts

@@ -83,8 +83,8 @@ fn written_of(
     let look = look_at(alloc, threads)?;
     let mut out = Vec::new(alloc);
     match output {
-        Output::Trace => write_trace(alloc, shown, &look, &mut out)?,
-        Output::Page => write_page(alloc, shown, &look, &mut out)?,
+        Output::Trace => write_trace(alloc, shown, &look, &[], &mut out)?,
+        Output::Page => write_page(alloc, shown, &look, &[], &mut out)?,
     }
     Ok(out)
 }

@@ -1,0 +1,7 @@
+use Rattle.std.proofs.Common.{◌≡◌, ◌++◌, take}
+use Rattle.std.specs.List.{filter_map}
+use Rattle.show_events.specs.Links.{wake_link}
+use Rattle.show_events.proofs.links.add_wakes.Given as goal
+
+abbrev pub invariant-loop-k : goal.invariant-loop-k
+invariant-loop-k l = l.links.items ≡ l.initial.links.items ++ filter_map (wake_link l.fn.long l.answers) (take l.k l.wakes)

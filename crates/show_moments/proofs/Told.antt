@@ -1,0 +1,131 @@
+-- What is said of a thread at a moment.
+use Rattle.std.proofs.Common.{◌≡◌, ◌∙◌, ℕ, ◌<◌, List, ◌++◌, length, get_or, slice_get, codes, Option, Some, None, Bool, true, false, refl, sym, ap, subst}
+use Rattle.std.proofs.lemmas.Option.{slice_get-get_or}
+use Rattle.std.specs.Fmt.{decimal}
+use Rattle.std.specs.Global.{Vec}
+use Rattle.std.specs.Io.KnownBytes.{Appends, Keeps}
+use Rattle.types.specs.declared.event.Entry.{Entry}
+use Rattle.types.specs.declared.limits.TheConstants.{MOST_THREADS}
+use Rattle.types.specs.declared.parts.Parts.{Parts}
+use Rattle.types.specs.declared.value.ValType.{ValType}
+use Rattle.race_history.specs.declared.race.Race.{Race}
+use Rattle.validate.specs.Operands.{OwnOperandsAt}
+use Rattle.validate_module.specs.Own.{FindsLocals}
+use Rattle.show_text.specs.declared.words.Words.{Words}
+use Rattle.show_text.specs.Words.{words_text}
+use Rattle.show_rows.specs.declared.listing.Shown.{Shown}
+use Rattle.show_rows.specs.declared.listing.Story.{Story}
+use Rattle.show_rows.specs.declared.spot.Spot.{Spot}
+use Rattle.show_rows.specs.Listing.{line_at, AreWordsOf, IsStoryOf}
+use Rattle.show_rows.specs.Spots.{IsSpotOf, spot_text}
+use Rattle.show_rows.proofs.Chosen.{appends_keeps}
+use Rattle.show_moments.specs.declared.moment.Moment.{Moment}
+use Rattle.show_moments.specs.declared.standing.OpenFunction.{OpenFunction}
+use Rattle.show_moments.specs.declared.standing.ThreadSnapshot.{ThreadSnapshot}
+use Rattle.show_moments.specs.Moments.{standing_at}
+use Rattle.show_moments.specs.Texts.{listed_text, queue_text, dump_text}
+use Rattle.show_moments.specs.Scenes.{Seen, depth, is_spawned, AddsFunctions, AddsNext, AddsRaces, AddsStanding, AddsThread, AddsThreads, AddsSpawned}
+use Rattle.show_moments.specs.Scenes.{IsAskedText, IsFrontText, IsFunctionText, IsNextOf, IsNextText, WritesMoment, types_of}
+
+stands : (log whole : List Entry) (at : ℕ) (d : Entry) → log ≡ whole → at < length whole → slice_get whole at ≡ Some (get_or log at d)
+stands log whole at d same within = subst (λ (l : List Entry). slice_get l at ≡ Some (get_or log at d)) same
+    (slice_get-get_or log at d (subst (λ (l : List Entry). at < length l) (sym same) within))
+
+pub not_spawned : (s : Seen) (thread : ℕ) (b : Bool) (a : Option (List ℕ)) → b ≡ is_spawned s.moment.queue thread → b ≡ false
+    → AddsThread s thread a a
+not_spawned s thread b a is not = subst (λ (x : Bool). AddsSpawned s thread x a a) (sym not ∙ is) refl
+
+spawned : (s : Seen) (thread : ℕ) (b : Bool) (log : List Entry) (next : Option ℕ) (old new : Option (List ℕ))
+    → b ≡ is_spawned s.moment.queue thread → b ≡ true → log ≡ s.shown.record.now.log → IsNextOf log s.moment.at thread next
+    → AddsNext s thread next old new → AddsThread s thread old new
+spawned s thread b log next old new is there same comes adds =
+    let here : IsNextOf s.shown.record.now.log s.moment.at thread next =
+    subst (λ (l : List Entry). IsNextOf l s.moment.at thread next) same comes in
+    subst (λ (x : Bool). AddsSpawned s thread x old new) (sym there ∙ is) (next, here, adds)
+
+pub thread_gone : (s : Seen) (thread : ℕ) (b : Bool) (log : List Entry) (o : Option ℕ) (old new : Option (List ℕ))
+    → b ≡ is_spawned s.moment.queue thread → b ≡ true → log ≡ s.shown.record.now.log → IsNextOf log s.moment.at thread o → o ≡ None
+    → Appends old new (codes "t" ++ (decimal thread ++ codes " is gone\n")) → AddsThread s thread old new
+thread_gone s thread b log o old new is there same comes none wrote =
+    spawned s thread b log None old new is there same (subst (λ (x : Option ℕ). IsNextOf log s.moment.at thread x) none comes) wrote
+
+pub thread_comes : (s : Seen) (thread : ℕ) (b : Bool) (log : List Entry) (at : ℕ) (d : Entry) (next : List ℕ)
+    (old middle new : Option (List ℕ)) → b ≡ is_spawned s.moment.queue thread → b ≡ true → log ≡ s.shown.record.now.log
+    → at < length s.shown.record.now.log → IsNextOf log s.moment.at thread (Some at) → IsNextText s at next
+    → Appends old middle (codes "t" ++ (decimal thread ++ (codes " " ++ next)))
+    → AddsStanding s (standing_at s.moment (get_or log at d)) middle new → AddsThread s thread old new
+thread_comes s thread b log at d next old middle new is there same within comes says wrote adds =
+    spawned s thread b log (Some at) old new is there same comes
+    (get_or log at d, stands log s.shown.record.now.log at d same within, next, says, middle, wrote, adds)
+
+pub standing_none : (s : Seen) (o : Option ThreadSnapshot) (a : Option (List ℕ)) → None ≡ o → AddsStanding s o a a
+standing_none s o a is = subst (λ (x : Option ThreadSnapshot). AddsStanding s x a a) is refl
+
+pub standing_some : (s : Seen) (o : Option ThreadSnapshot) (standing : ThreadSnapshot) (a b : Option (List ℕ)) → Some standing ≡ o
+    → AddsFunctions s standing (depth standing) a b → AddsStanding s o a b
+standing_some s o standing a b is adds = subst (λ (x : Option ThreadSnapshot). AddsStanding s x a b) is adds
+
+pub next_says : (s : Seen) (at : ℕ) (log : List Entry) (d : Entry) (said : Words) (line : ℕ) (front text : List ℕ)
+    → log ≡ s.shown.record.now.log → at < length s.shown.record.now.log
+    → IsFrontText s at (get_or log at d).thread (get_or log at d).event front → line ≡ line_at s.shown at
+    → AreWordsOf s.shown s.story at (get_or log at d) said
+    → text ≡ front ++ (codes "on line " ++ (decimal line ++ (codes ": " ++ (words_text said ++ codes "\n")))) → IsNextText s at text
+next_says s at log d said line front text same within front_is line_is of is = record {
+  made = get_or log at d;
+  stands = stands log s.shown.record.now.log at d same within;
+  front = front;
+  front_is = front_is;
+  said = said;
+  words_of = of;
+  is = is ∙ ap (λ (n : ℕ). front ++ (codes "on line " ++ (decimal n ++ (codes ": " ++ (words_text said ++ codes "\n"))))) line_is;
+}
+
+pub asked_none : (s : Seen) (asked : ℕ) (o : Option Entry) (text : List ℕ) → o ≡ None → text ≡ codes "sleeps; "
+    → IsAskedText s asked o text
+asked_none s asked o text none is = subst (λ (x : Option Entry). IsAskedText s asked x text) (sym none) is
+
+pub asked_says : (s : Seen) (asked : ℕ) (log : List Entry) (made : Entry) (said : Words) (line : ℕ) (text : List ℕ)
+    → log ≡ s.shown.record.now.log → asked < length log → made ≡ get_or log asked made → AreWordsOf s.shown s.story asked made said
+    → line ≡ line_at s.shown asked → text ≡ words_text said ++ (codes ", since line " ++ (decimal line ++ codes "; "))
+    → IsAskedText s asked (slice_get s.shown.record.now.log asked) text
+asked_says s asked log made said line text same within made_is of line_is is =
+    let here : slice_get s.shown.record.now.log asked ≡ Some made =
+    ap (λ (l : List Entry). slice_get l asked) (sym same)
+    ∙ (slice_get-get_or log asked made within ∙ ap (λ (e : Entry). Some e) (sym made_is)) in
+    subst (λ (x : Option Entry). IsAskedText s asked x text) (sym here)
+    (said, of, is ∙ ap (λ (n : ℕ). words_text said ++ (codes ", since line " ++ (decimal n ++ codes "; "))) line_is)
+
+pub function_says : (s : Seen) (o : OpenFunction) (spot : Spot) (locals operands : Option (Vec ValType)) (l p text : List ℕ)
+    → IsSpotOf s.shown.code.now o.place spot → FindsLocals s.m o.place.function locals
+    → OwnOperandsAt s.m o.place.function o.place.instr operands → l ≡ listed_text (codes "locals") o.locals.now (types_of locals)
+    → p ≡ listed_text (codes "operands") o.operands.now (types_of operands)
+    → text ≡ codes "    " ++ (spot_text spot ++ (l ++ (p ++ codes "\n"))) → IsFunctionText s o text
+function_says s o spot locals operands l p text spot_is locals_are operands_are l_is p_is is = record {
+  spot = spot;
+  spot_is = spot_is;
+  locals = locals;
+  locals_are = locals_are;
+  operands = operands;
+  operands_are = operands_are;
+  is = is ∙ (ap (λ (x : List ℕ). codes "    " ++ (spot_text spot ++ (x ++ (p ++ codes "\n")))) l_is
+      ∙ ap (λ (x : List ℕ). codes "    " ++ (spot_text spot
+      ++ (listed_text (codes "locals") o.locals.now (types_of locals) ++ (x ++ codes "\n")))) p_is);
+}
+
+pub moment_of : (m : Parts) (shown : Shown) (moment : Moment) (races : List Race) (story : Story) (log : List Entry)
+    (queue dump : List ℕ) (a b c d e : Option (List ℕ)) → log ≡ shown.record.now.log → IsStoryOf log story
+    → AddsThreads (record { m = m; shown = shown; story = story; moment = moment }) MOST_THREADS a b
+    → AddsRaces (record { m = m; shown = shown; story = story; moment = moment }) races b c → queue ≡ queue_text moment.queue
+    → dump ≡ dump_text moment.wanted.addr moment.bytes.items → Appends c d (queue ++ dump) → Keeps d e
+    → WritesMoment m shown moment races a e
+moment_of m shown moment races story log queue dump a b c d e same of_log says raced queue_is dump_is wrote last = record {
+  story = story;
+  of_log = subst (λ (l : List Entry). IsStoryOf l story) same of_log;
+  said = b;
+  says = says;
+  raced = c;
+  races_with = raced;
+  ends = appends_keeps c d e (queue_text moment.queue ++ dump_text moment.wanted.addr moment.bytes.items)
+      (subst (λ (t : List ℕ). Appends c d (queue_text moment.queue ++ t)) dump_is
+      (subst (λ (t : List ℕ). Appends c d (t ++ dump)) queue_is wrote)) last;
+}
