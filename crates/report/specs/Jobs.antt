@@ -5,19 +5,19 @@ use Rattle.report_command.specs.declared.command_line.Job.TheVariants.{Show}
 use Rattle.report_command.specs.declared.command_line.Job.TheVariants as jobs
 use Rattle.report_command.specs.declared.form.Form.{Form}
 use Rattle.report_command.specs.declared.search.Search.{Search}
-use Rattle.report_command.specs.declared.show.View.{View}
+use Rattle.report_command.specs.declared.show.ShowLook.{ShowLook}
 use Rattle.report_jobs.specs.Prints.{WriterChange, Written}
 use Rattle.report_jobs.specs.Jobs.{IsNoValidModule, IsNoRecordOf, IsRecordOf, HasNoSuchCall}
 use Rattle.report_jobs.specs.Plain.{PerformsPlain}
-use Rattle.report_looks.specs.Looked.{PrintsView}
+use Rattle.report_looks.specs.Looked.{PrintsShow, stream_of}
 use Rattle.report_looks.specs.Raced.{OfModule, IsRaceFree, IsRacy, PrintsRaces}
 use Rattle.report.specs.Searched.{HasSearched}
 
 -- What the status of a show says: 0 of a record of a run, and what was printed of it, 2 of a refused module, 3 of a record
 -- of a run that has not what is asked for, 4 of a record of no run. 5 is that memory or a stream failed.
-pub record Shows (bytes saved : List ℕ) (view : View) (out : WriterChange) (status : ℕ) : Type 0 where
+pub record Shows (bytes saved : List ℕ) (how : ShowLook) (out save : WriterChange) (status : ℕ) : Type 0 where
   pub shown : status ≡ 0 → IsRecordOf bytes saved
-  pub prints : status ≡ 0 → OfModule (PrintsView view out) bytes saved
+  pub prints : status ≡ 0 → OfModule (PrintsShow how (stream_of how.view out save)) bytes saved
   pub refused : status ≡ 2 → IsNoValidModule bytes
   pub absent : status ≡ 3 → IsRecordOf bytes saved
   pub none : status ≡ 4 → IsNoRecordOf bytes saved
@@ -43,7 +43,7 @@ pub record Searches (bytes : List ℕ) (s : Search) (out save : WriterChange) (s
 
 -- What the status of a job says: of one that is no show and no search, what it says of a plain job.
 abbrev pub Performs : Job → List ℕ → List ℕ → Written → ℕ → Type 0
-Performs (Show file record_path names how) bytes saved w status = Shows bytes saved how.view w.out status
+Performs (Show file record_path names how) bytes saved w status = Shows bytes saved how w.out w.save status
 Performs (jobs.Races job) bytes saved w status = TellsRaces bytes saved job.most job.form w.out status
 Performs (jobs.Search s) bytes saved w status = Searches bytes s w.out w.save status
 Performs job bytes saved w status = PerformsPlain job bytes saved w status

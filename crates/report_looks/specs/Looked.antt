@@ -1,7 +1,7 @@
 -- What is asked for of a record's run, and what is printed of it.
-use Rattle.std.specs.Prelude.{ℕ, ◌≡◌, ◌+◌, ◌-◌, min, Bool, true, false, List, length, position}
-use Rattle.std.specs.Prelude.{Option, Some, None, MatchOption}
-use Rattle.std.specs.List.{slice_get}
+use Rattle.std.specs.Prelude.{ℕ, ◌≡◌, ◌==◌, ◌+◌, ◌-◌, min, Bool, true, false, cond, List, length, position}
+use Rattle.std.specs.Prelude.{Option, Some, None, MatchOption, is_some}
+use Rattle.std.specs.List.{list_any, slice_get}
 use Rattle.types.specs.declared.parts.Parts.{Parts}
 use Rattle.types.specs.declared.event.Entry.{Entry}
 use Rattle.types.specs.declared.event.Event.{Event}
@@ -10,8 +10,10 @@ use Rattle.types.specs.declared.event.Question.TheVariants.{Leave}
 use Rattle.types.specs.declared.outcome.Outcome.{Outcome}
 use Rattle.types.specs.declared.outcome.Outcome.TheVariants as outcomes
 use Rattle.types.specs.declared.outcome.ThreadReport.{ThreadReport}
+use Rattle.race_history.specs.declared.race.Race.{Race}
 use Rattle.replay_text.specs.declared.parts.RecordParts.{RecordParts}
 use Rattle.replay_text.specs.Versions.{header_count}
+use Rattle.report_choice.specs.declared.choice.Choice.{Choice}
 use Rattle.report_choice.specs.declared.choice.Look.{Look}
 use Rattle.report_choice.specs.declared.choice.Span.{Span}
 use Rattle.report_choice.specs.Choices.{span_of}
@@ -19,19 +21,22 @@ use Rattle.report_command.specs.declared.places.Data.{Data}
 use Rattle.report_command.specs.declared.places.Data.TheVariants.{At, Named}
 use Rattle.report_command.specs.declared.places.When.{When}
 use Rattle.report_command.specs.declared.places.When.TheVariants.{Line, End, Trap}
-use Rattle.report_command.specs.declared.show.LastWrite.{LastWrite}
 use Rattle.report_command.specs.declared.show.ShowLook.{ShowLook}
 use Rattle.report_command.specs.declared.show.View.{View}
 use Rattle.report_command.specs.declared.show.View.TheVariants as views
+use Rattle.report_command.specs.Views.{path_of}
 use Rattle.report_jobs.specs.Prints.{WriterChange}
 use Rattle.show_data.specs.declared.place.Place.{Place}
 use Rattle.show_data.specs.Within.{IsWithinOne}
+use Rattle.show_events.specs.Events.{WritesPage, WritesTrace}
 use Rattle.show_named.specs.declared.data_map.DataMap.{DataMap}
+use Rattle.show_named.specs.Rows.{WritesRows}
 use Rattle.show_rows.specs.declared.rows.Row.{Row}
 use Rattle.show_rows.specs.declared.listing.Shown.{Shown}
 use Rattle.show_rows.specs.declared.listing.Story.{Story}
 use Rattle.show_rows.specs.Listing.{IsStoryOf}
 use Rattle.show_waits.specs.Lasts.{WritesLast}
+use Rattle.show_waits.specs.Waits.{WritesWaits}
 use Rattle.report_looks.specs.declared.wanted.Asked.{Asked}
 use Rattle.report_looks.specs.declared.wanted.Here.{Here}
 use Rattle.report_looks.specs.declared.wanted.Wanted.{Wanted}
@@ -100,30 +105,61 @@ abbrev pub WritesLastOf : Shown → DataMap → ℕ → Span → Option (List �
 WritesLastOf shown map before addrs old new = (story : Story) × IsStoryOf shown.record.now.log story
     × WritesLast shown map story before addrs old new
 
--- So it is of a write that is sought.
-abbrev pub PrintsWanted : Parts → RecordParts → List (Option Row) → DataMap → Wanted → Option (List ℕ) → Option (List ℕ) → Type 0
-PrintsWanted m r rows map (wanted.Write addrs before) old new = (shown : Shown) × (shown.record.now ≡ r)
-    × (shown.rows.now ≡ rows) × (shown.code.now.parts.now ≡ m) × WritesLastOf shown map before addrs old new
-PrintsWanted m r rows map w old new = Unit {0}
+-- Whether all entries are chosen, and whether a thread was stopped.
+abbrev pub chooses_all : Choice → Bool
+chooses_all choice = cond (is_some choice.lines) false (cond (is_some choice.addrs) false (length choice.threads.items == 0))
 
--- The same of a record's text: it is of a run of the module, these are the bytes that are asked for, and this is the place
--- before which the write is sought.
-pub record PrintsLast (write : LastWrite) (out : WriterChange) (m : Parts) (saved : List ℕ) : Type 0 where
+abbrev pub is_stop : Outcome → Bool
+is_stop (outcomes.Trap trap) = false
+is_stop (outcomes.Stop stop) = true
+is_stop (outcomes.Done value) = false
+
+abbrev pub has_stopped : List ThreadReport → Bool
+has_stopped ends = list_any (λ report. is_stop report.outcome) ends
+
+-- Below the rows stands what each thread waits for that was stopped, where all entries are chosen and one was.
+abbrev pub WritesBelow : Bool → Shown → DataMap → Option (List ℕ) → Option (List ℕ) → Type 0
+WritesBelow true shown map old new = (story : Story) × IsStoryOf shown.record.now.log story × WritesWaits shown map story old new
+WritesBelow false shown map old new = new ≡ old
+
+abbrev pub WritesRowsOf : Shown → DataMap → Look → Option (List ℕ) → Option (List ℕ) → Type 0
+WritesRowsOf shown map look old new = (between : Option (List ℕ)) × WritesRows shown map look old between
+    × WritesBelow (cond (chooses_all look.choice) (has_stopped shown.record.now.ends) false) shown map between new
+
+-- Entries as rows, as a page or as a trace; of an object nothing is said here.
+abbrev pub WritesEntries : View → Shown → DataMap → Look → Option (List ℕ) → Option (List ℕ) → Type 0
+WritesEntries (views.Page path) shown map look old new = (races : List Race) × WritesPage shown races look old new
+WritesEntries (views.Trace path) shown map look old new = (races : List Race) × WritesTrace shown races look old new
+WritesEntries views.Object shown map look old new = Unit {0}
+WritesEntries view shown map look old new = WritesRowsOf shown map look old new
+
+-- What is wanted of a record is written; of a moment nothing is said here.
+abbrev pub WritesWanted : Shown → DataMap → Look → Wanted → Option (List ℕ) → Option (List ℕ) → Type 0
+WritesWanted shown map look (wanted.Write addrs before) old new = WritesLastOf shown map before addrs old new
+WritesWanted shown map look (wanted.Entries view) old new = WritesEntries view shown map look old new
+WritesWanted shown map look (wanted.Moment here) old new = Unit {0}
+
+-- A record as it is shown: its entries, their rows, and places of this module.
+pub record IsShown (m : Parts) (r : RecordParts) (rows : List (Option Row)) (shown : Shown) : Type 0 where
+  pub of_record : shown.record.now ≡ r
+  pub of_rows : shown.rows.now ≡ rows
+  pub of_module : shown.code.now.parts.now ≡ m
+
+-- What is asked for of it is written.
+abbrev pub PrintsAsked : Parts → RecordParts → List (Option Row) → DataMap → Asked → Option (List ℕ) → Option (List ℕ) → Type 0
+PrintsAsked m r rows map asked old new = (shown : Shown) × IsShown m r rows shown
+    × WritesWanted shown map asked.look asked.wanted old new
+
+-- The same of a record's text: it is of a run of the module, and this is what is asked for of it.
+pub record PrintsShow (how : ShowLook) (out : WriterChange) (m : Parts) (saved : List ℕ) : Type 0 where
   pub record_is : RecordParts
   pub rows : List (Option Row)
   pub seen : IsSeen m saved record_is rows
-  pub shown : Shown
-  pub of_record : shown.record.now ≡ record_is
-  pub of_rows : shown.rows.now ≡ rows
-  pub of_module : shown.code.now.parts.now ≡ m
   pub map : DataMap
-  pub addrs : Span
-  pub asked : AreAddresses map write.bytes addrs
-  pub before : ℕ
-  pub stands : place_in record_is write.before ≡ Some before
-  pub writes : WritesLastOf shown map before addrs out.old out.new
+  pub asked : Asked
+  pub asked_is : IsAsked record_is map how asked
+  pub prints : PrintsAsked m record_is rows map asked out.old out.new
 
--- What is printed of a view. Of rows, moments, pages, traces and objects nothing is said here.
-abbrev pub PrintsView : View → WriterChange → Parts → List ℕ → Type 0
-PrintsView (views.Write write) out m saved = PrintsLast write out m saved
-PrintsView view out m saved = Unit {0}
+-- A page and a trace are written to the file that is made, and all else to standard output.
+abbrev pub stream_of : View → WriterChange → WriterChange → WriterChange
+stream_of view out save = cond (is_some (path_of view)) save out

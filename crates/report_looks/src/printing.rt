@@ -1,7 +1,8 @@
 //! What is written of a record that is shown.
 ghost use Rattle.std.specs.Prelude.{◌≡◌, All, IfOk, OnOk};
 ghost use Rattle.show_races.specs.Told.{IsWithin};
-ghost use Rattle.report_looks.specs.Looked.{PrintsWanted, WritesLastOf};
+ghost use Rattle.report_looks.specs.Looked as looked;
+ghost use Rattle.report_looks.specs.Looked.{PrintsAsked, WritesEntries, WritesLastOf, WritesRowsOf};
 
 use crate::ends::write_end;
 use crate::objects::write_entries;
@@ -48,7 +49,7 @@ pub(crate) fn print_asked<W: Write>(
     out: &mut W,
 ) -> Result<(), Unwritten>
     requires { code.now.parts.now ≡ «module».now.parts }
-    ensures { OnOk result (PrintsWanted «module».now.parts seen.now.«record» seen.now.rows.items map.now asked.now.wanted
+    ensures { OnOk result (PrintsAsked «module».now.parts seen.now.«record» seen.now.rows.items map.now asked.now
         (W.contents out.old) (W.contents out.new)) }
 {
     let shown = Shown {
@@ -89,7 +90,9 @@ fn print_entries<W: Write>(
     look: &Look,
     view: View,
     out: &mut W,
-) -> Result<(), Unwritten> {
+) -> Result<(), Unwritten>
+    ensures { OnOk result (WritesEntries view.entry shown.entry map.now look.now (W.contents out.old) (W.contents out.new)) }
+{
     match view {
         View::Page(_) => {
             let races = races_in(alloc, shown)?;
@@ -105,14 +108,24 @@ fn print_entries<W: Write>(
 }
 
 /// Whether all entries are chosen.
-fn chooses_all(choice: &Choice) -> bool {
+fn chooses_all(choice: &Choice) -> bool
+    ensures { result ≡ looked.chooses_all choice.now }
+{
     choice.lines.is_none() && choice.addrs.is_none() && choice.threads.is_empty()
 }
 
+/// Whether a thread was stopped that ended so.
+fn is_stop(outcome: Outcome) -> bool
+    ensures { result ≡ looked.is_stop outcome }
+{
+    matches!(outcome, Outcome::Stop(_))
+}
+
 /// Whether a thread was stopped.
-fn has_stopped(ends: &[ThreadReport]) -> bool {
-    ends.iter()
-        .any(|report| matches!(report.outcome, Outcome::Stop(_)))
+fn has_stopped(ends: &[ThreadReport]) -> bool
+    ensures { result ≡ looked.has_stopped ends.now }
+{
+    ends.iter().any(|report| is_stop(report.outcome))
 }
 
 /// Writes the rows; and below them, where all are asked for, what each thread waits for that was stopped.
@@ -122,7 +135,9 @@ fn print_rows<W: Write>(
     map: &DataMap,
     look: &Look,
     out: &mut W,
-) -> Result<(), Unwritten> {
+) -> Result<(), Unwritten>
+    ensures { OnOk result (WritesRowsOf shown.entry map.now look.now (W.contents out.old) (W.contents out.new)) }
+{
     write_rows(alloc, shown, map, look, out)?;
     if chooses_all(&look.choice) && has_stopped(shown.record.ends.as_slice()) {
         let story = Story::new(alloc, shown.record.log.as_slice())?;

@@ -6,7 +6,7 @@ ghost use Rattle.report_jobs.specs.Prints.{changed};
 ghost use Rattle.report_jobs.specs.Told.{TellsWhatIsWrong};
 ghost use Rattle.report_command.specs.Views.{path_of};
 ghost use Rattle.report_jobs.specs.Silence.{IsRefusal, Stays};
-ghost use Rattle.report_looks.specs.Looked.{PrintsView};
+ghost use Rattle.report_looks.specs.Looked.{PrintsShow, stream_of};
 ghost use Rattle.report_looks.specs.Raced.{IsSeen, OfModule};
 ghost use Rattle.report_looks.specs.Silent.{IfUnshown, IsNoRefusal, IsUnshown};
 
@@ -44,7 +44,8 @@ pub fn show_saved<W: Write, E: Write, S: Write>(
     streams: &mut Streams<W, E, S>,
 ) -> u8
     ensures shown { result ≡ 0 → IsRecordOf «module».now saved.now }
-    ensures prints { result ≡ 0 → OfModule (PrintsView how.now.view (changed W.contents streams.old.out streams.new.out))
+    ensures prints { result ≡ 0 → OfModule (PrintsShow how.now (stream_of how.now.view
+        (changed W.contents streams.old.out streams.new.out) (changed S.contents streams.old.save streams.new.save)))
         «module».now saved.now }
     ensures refused { result ≡ 2 → IsNoValidModule «module».now }
     ensures absent { result ≡ 3 → IsRecordOf «module».now saved.now }
@@ -74,8 +75,8 @@ fn show_to<W: Write, E: Write>(
     err: &mut E,
 ) -> u8
     ensures shown { result ≡ 0 → IsRecordOf code.entry.«module».now saved.now }
-    ensures prints { result ≡ 0 → OfModule (PrintsView how.now.view (changed W.contents out.old out.new))
-        code.entry.«module».now saved.now }
+    ensures prints { result ≡ 0
+        → OfModule (PrintsShow how.now (changed W.contents out.old out.new)) code.entry.«module».now saved.now }
     ensures refused { result ≡ 2 → IsNoValidModule code.entry.«module».now }
     ensures absent { result ≡ 3 → IsRecordOf code.entry.«module».now saved.now }
     ensures none { result ≡ 4 → IsNoRecordOf code.entry.«module».now saved.now }
@@ -116,7 +117,7 @@ fn show_record<W: Write>(
 ) -> Result<(), Unshown>
     ensures shown { IfOk result (λ _. IsOfRun «module».now.parts saved.now) }
     ensures prints { IfOk result
-        (λ _. PrintsView how.now.view (changed W.contents out.old out.new) «module».now.parts saved.now) }
+        (λ _. PrintsShow how.now (changed W.contents out.old out.new) «module».now.parts saved.now) }
     ensures unshown { IfErr result (IsUnshown «module».now.parts saved.now) }
     ensures silent { IfErr result (λ why. IfUnshown why (Stays out.old out.new)) }
 {

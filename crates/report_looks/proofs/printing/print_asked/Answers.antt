@@ -4,4 +4,11 @@ use Rattle.report_looks.proofs.printing.print_asked.Goals as goal
 pub returns-in-Write : goal.returns-in-Write
 returns-in-Write g c =
     rw c.in-Write.is (on_ok_weaker c.print_last.result
-    (λ writes. (_, c.parts.ensures.parts, c.as_slice.ensures.value, c.requires, writes)) c.print_last.ensures)
+    (λ writes. (_, record { of_record = c.parts.ensures.parts; of_rows = c.as_slice.ensures.value; of_module = c.requires; }, writes))
+    c.print_last.ensures)
+
+pub returns-in-Entries : goal.returns-in-Entries
+returns-in-Entries g c =
+    rw c.in-Entries.is (on_ok_weaker c.print_entries.result
+    (λ writes. (_, record { of_record = c.parts.ensures.parts; of_rows = c.as_slice.ensures.value; of_module = c.requires; }, writes))
+    c.print_entries.ensures)
