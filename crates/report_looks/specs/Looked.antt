@@ -122,9 +122,12 @@ abbrev pub WritesBelow : Bool → Shown → DataMap → Option (List ℕ) → Op
 WritesBelow true shown map old new = (story : Story) × IsStoryOf shown.record.now.log story × WritesWaits shown map story old new
 WritesBelow false shown map old new = new ≡ old
 
+abbrev pub has_waits : Shown → Look → Bool
+has_waits shown look = cond (chooses_all look.choice) (has_stopped shown.record.now.ends) false
+
 abbrev pub WritesRowsOf : Shown → DataMap → Look → Option (List ℕ) → Option (List ℕ) → Type 0
 WritesRowsOf shown map look old new = (between : Option (List ℕ)) × WritesRows shown map look old between
-    × WritesBelow (cond (chooses_all look.choice) (has_stopped shown.record.now.ends) false) shown map between new
+    × WritesBelow (has_waits shown look) shown map between new
 
 -- Entries as rows, as a page or as a trace; of an object nothing is said here.
 abbrev pub WritesEntries : View → Shown → DataMap → Look → Option (List ℕ) → Option (List ℕ) → Type 0

@@ -2,7 +2,7 @@
 ghost use Rattle.std.specs.Prelude.{◌≡◌, All, IfOk, OnOk};
 ghost use Rattle.show_races.specs.Told.{IsWithin};
 ghost use Rattle.report_looks.specs.Looked as looked;
-ghost use Rattle.report_looks.specs.Looked.{PrintsAsked, WritesEntries, WritesLastOf, WritesRowsOf};
+ghost use Rattle.report_looks.specs.Looked.{PrintsAsked, WritesBelow, WritesEntries, WritesLastOf, WritesRowsOf};
 
 use crate::ends::write_end;
 use crate::objects::write_entries;
@@ -128,6 +128,30 @@ fn has_stopped(ends: &[ThreadReport]) -> bool
     ends.iter().any(|report| is_stop(report.outcome))
 }
 
+/// Whether all entries are chosen, and a thread was stopped.
+fn has_waits(shown: Shown, look: &Look) -> bool
+    ensures { result ≡ looked.has_waits shown.entry look.now }
+{
+    chooses_all(&look.choice) && has_stopped(shown.record.ends.as_slice())
+}
+
+/// Writes what each thread waits for that was stopped, if that is wanted.
+fn print_waits<W: Write>(
+    alloc: Global,
+    shown: Shown,
+    map: &DataMap,
+    is_wanted: bool,
+    out: &mut W,
+) -> Result<(), Unwritten>
+    ensures { OnOk result (WritesBelow is_wanted shown.entry map.now (W.contents out.old) (W.contents out.new)) }
+{
+    if !is_wanted {
+        return Ok(());
+    }
+    let story = Story::new(alloc, shown.record.log.as_slice())?;
+    write_waits(alloc, shown, map, &story, out)
+}
+
 /// Writes the rows; and below them, where all are asked for, what each thread waits for that was stopped.
 fn print_rows<W: Write>(
     alloc: Global,
@@ -139,11 +163,7 @@ fn print_rows<W: Write>(
     ensures { OnOk result (WritesRowsOf shown.entry map.now look.now (W.contents out.old) (W.contents out.new)) }
 {
     write_rows(alloc, shown, map, look, out)?;
-    if chooses_all(&look.choice) && has_stopped(shown.record.ends.as_slice()) {
-        let story = Story::new(alloc, shown.record.log.as_slice())?;
-        write_waits(alloc, shown, map, &story, out)?;
-    }
-    Ok(())
+    print_waits(alloc, shown, map, has_waits(shown, look), out)
 }
 
 /// A moment of a record, seen by a second replay.

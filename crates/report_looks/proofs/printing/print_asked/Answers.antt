@@ -1,14 +1,22 @@
 use Rattle.std.proofs.lemmas.Result.{on_ok_weaker}
+use Rattle.show_rows.specs.declared.listing.Shown.{Shown}
+use Rattle.report_looks.proofs.Printed.{on_ok_always}
 use Rattle.report_looks.proofs.printing.print_asked.Goals as goal
 
 pub returns-in-Write : goal.returns-in-Write
 returns-in-Write g c =
     rw c.in-Write.is (on_ok_weaker c.print_last.result
-    (λ writes. (_, record { of_record = c.parts.ensures.parts; of_rows = c.as_slice.ensures.value; of_module = c.requires; }, writes))
+    (λ writes. (_, record { of_record = c.parts.ensures.parts; of_rows = c.as_slice.ensures.value; of_module = c.requires }, writes))
     c.print_last.ensures)
 
 pub returns-in-Entries : goal.returns-in-Entries
 returns-in-Entries g c =
     rw c.in-Entries.is (on_ok_weaker c.print_entries.result
-    (λ writes. (_, record { of_record = c.parts.ensures.parts; of_rows = c.as_slice.ensures.value; of_module = c.requires; }, writes))
+    (λ writes. (_, record { of_record = c.parts.ensures.parts; of_rows = c.as_slice.ensures.value; of_module = c.requires }, writes))
     c.print_entries.ensures)
+
+pub returns-in_ok-moment-in-Moment : goal.returns-in_ok-moment-in-Moment
+returns-in_ok-moment-in-Moment g c =
+    let shown : Shown = record { «record» = c.parts.result; rows = c.as_slice.result; code = c.args.code } in
+    rw c.in-Moment.is (on_ok_always c.print_moment.result
+    (shown, record { of_record = c.parts.ensures.parts; of_rows = c.as_slice.ensures.value; of_module = c.requires }, tt))

@@ -15,6 +15,6 @@ returns-in-Ok-print_asked-clause-prints g c =
       map = map;
       asked = asked;
       asked_is = subst (λ (r : RecordParts). IsAsked r map c.args.how.now asked) c.parts-2.ensures.parts
-        c.in-Ok-asked_of.ensures.asked;
+          c.in-Ok-asked_of.ensures.asked;
       prints = c.in-Ok-print_asked.ensures;
     }
