@@ -60,7 +60,8 @@ by_first log upto t firsts (Some (Some k)) was here seen thread first is =
     ]
 by_first log upto t firsts (Some None) was here seen thread first is =
     elim (cases_eq thread t) [
-      | inl same ↦ (let e : Some upto ≡ first = set_is firsts t (Some upto) first (subst (λ (n : ℕ). slice_get (slice_set firsts t (Some upto)) n ≡ Some first) same is) in
+      | inl same ↦ (let is_here = subst (λ (n : ℕ). slice_get (slice_set firsts t (Some upto)) n ≡ Some first) same is in
+          let e : Some upto ≡ first = set_is firsts t (Some upto) first is_here in
           let known : IsSeenOf log upto t None = seen.each t None was in
           let found : IsSeenOf log (upto + 1) t (Some upto) = (here, known) in
           subst (λ (x : Option ℕ). IsSeenOf log (upto + 1) thread x) e (subst (λ (n : ℕ). IsSeenOf log (upto + 1) n (Some upto)) (sym same) found))

@@ -23,16 +23,23 @@ single : {X Y : Type 0} (h : X → Option Y) (x : X) (o : Option Y) → h x ≡ 
 single h x None e = simp e
 single h x (Some y) e = simp e
 
+one_behind : {X Y : Type 0} (h : X → Option Y) (xs : List X) (x : X) (o : Option Y) (a b c : List Y) → o ≡ h x
+    → b ≡ a ++ filter_map h xs → c ≡ b ++ option_to_list o → c ≡ a ++ filter_map h (xs ++ x ∷ [])
+one_behind {X} {Y} h xs x o a b c gives before adds =
+    let here : List Y = filter_map h xs in
+    let last : List Y = option_to_list o in
+    let more : filter_map h (xs ++ x ∷ []) ≡ here ++ last =
+    filter_map-append h xs (x ∷ []) ∙ ap (λ (ys : List Y). here ++ ys) (single h x o (sym gives)) in
+    adds ∙ (ap (λ (ys : List Y). ys ++ last) before
+    ∙ (append_assoc a here last ∙ ap (λ (ys : List Y). a ++ ys) (sym more)))
+
 -- One more, where what is added is what its item gives.
 added_next : {X Y : Type 0} (h : X → Option Y) (xs : List X) (k : ℕ) (d : X) (o : Option Y) (a b c : List Y) → k < length xs
     → o ≡ h (get_or xs k d) → b ≡ a ++ filter_map h (take k xs) → c ≡ b ++ option_to_list o
     → c ≡ a ++ filter_map h (take (k + 1) xs)
-added_next {X} {Y} h xs k d o a b c lt gives before adds =
-    let x : X = get_or xs k d in
-    let e : take (k + 1) xs ≡ take k xs ++ x ∷ [] = take_more xs k d lt in
-    let more : filter_map h (take (k + 1) xs) ≡ filter_map h (take k xs) ++ option_to_list o =
-    ap (filter_map h) e ∙ (filter_map-append h (take k xs) (x ∷ []) ∙ ap (λ (ys : List Y). filter_map h (take k xs) ++ ys) (single h x o (sym gives))) in
-    adds ∙ (ap (λ (ys : List Y). ys ++ option_to_list o) before ∙ (append_assoc a (filter_map h (take k xs)) (option_to_list o) ∙ ap (λ (ys : List Y). a ++ ys) (sym more)))
+added_next {X} h xs k d o a b c lt gives before adds =
+    let e : take (k + 1) xs ≡ take k xs ++ get_or xs k d ∷ [] = take_more xs k d lt in
+    subst (λ (ys : List X). c ≡ a ++ filter_map h ys) (sym e) (one_behind h (take k xs) (get_or xs k d) o a b c gives before adds)
 
 pub wake_next : (long : ℕ) (answers : List (Option ℕ)) (wakes : List Wake) (k : ℕ) (d : Wake) (told : Option ℕ) (link : Option Link)
     (a b c : List Link) → k < length wakes → told ≡ in_list answers (get_or wakes k d).wait
@@ -56,11 +63,8 @@ range_more n =
 -- The same of numbers from 0 on.
 counted_next : {Y : Type 0} (h : ℕ → Option Y) (k : ℕ) (o : Option Y) (a b c : List Y) → o ≡ h k
     → b ≡ a ++ filter_map h (range_with_len 0 k) → c ≡ b ++ option_to_list o → c ≡ a ++ filter_map h (range_with_len 0 (k + 1))
-counted_next {Y} h k o a b c gives before adds =
-    let e : range_with_len 0 (k + 1) ≡ range_with_len 0 k ++ k ∷ [] = range_more k in
-    let more : filter_map h (range_with_len 0 (k + 1)) ≡ filter_map h (range_with_len 0 k) ++ option_to_list o =
-    ap (filter_map h) e ∙ (filter_map-append h (range_with_len 0 k) (k ∷ []) ∙ ap (λ (ys : List Y). filter_map h (range_with_len 0 k) ++ ys) (single h k o (sym gives))) in
-    adds ∙ (ap (λ (ys : List Y). ys ++ option_to_list o) before ∙ (append_assoc a (filter_map h (range_with_len 0 k)) (option_to_list o) ∙ ap (λ (ys : List Y). a ++ ys) (sym more)))
+counted_next h k o a b c gives before adds =
+    subst (λ (ks : List ℕ). c ≡ a ++ filter_map h ks) (sym (range_more k)) (one_behind h (range_with_len 0 k) k o a b c gives before adds)
 
 pub spawn_next : (log : List Entry) (contexts : List Context) (firsts : List (Option ℕ)) (at : ℕ) (first : Option ℕ)
     (link : Option Link) (a b c : List Link) → first ≡ spawned_at log contexts firsts at

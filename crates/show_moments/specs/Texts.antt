@@ -42,6 +42,7 @@ abbrev pub queue_text : Option KeptQueue → List ℕ
 queue_text None = []
 queue_text (Some queue) = sleepers_text queue.sleepers.items
 
+-- A byte by two hexadecimal digits.
 abbrev pub hex_text : ℕ → List ℕ
 hex_text byte = padded_integral (format_spec 32 0 4 2 (2 ^ 64 - 1)) false [] (digits 16 false byte)
 

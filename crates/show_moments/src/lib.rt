@@ -2,11 +2,9 @@
 //!
 //! Proved: `write_moment` writes exactly what each spawned thread comes to next or on what it sleeps, with the places,
 //! locals and operands of its open functions, the one that runs first; with what the moment's entry races; who sleeps;
-//! and the bytes.
-//!
-//! The queue, the bytes and where each thread stands at a moment are those of the walk there, and from then on a thread
-//! stands where it first wants something, or where it has ended; its open functions have the locals and operands that
-//! are kept of it.
+//! and the bytes; the queue, the bytes and where each thread stands are those of the walk there, and from then on a thread
+//! stands where it first wants something, or where it has ended. Its open functions have the locals and operands that are
+//! kept of it.
 #![tactic(auto)]
 
 mod moment;
