@@ -1,5 +1,5 @@
 use Rattle.std.proofs.Common.{◌<◌, false, true, Some, arith, refl, inl, inr, subst, true≢false}
-use Rattle.std.proofs.lemmas.Result.{IfOk-weaker}
+use Rattle.std.proofs.lemmas.Result.{IfOk-weaker, err_from_is_err_and}
 use Rattle.types.specs.declared.parts.Parts.{Parts}
 use Rattle.search_finds.specs.Judged.{IsFindBy, IsPassed}
 use Rattle.search_finds.specs.Noted.{AreNotedBy}
@@ -135,3 +135,9 @@ returns-clause-writes g c =
       });
     })
     c.write_none-in-Told.ensures.written
+
+pub returns-in_err-keep_racy-in-Found-clause-trouble : goal.returns-in_err-keep_racy-in-Found-clause-trouble
+returns-in_err-keep_racy-in-Found-clause-trouble g c =
+    let r = c.from_residual-in_err-keep_racy-in-Found in
+    let p = err_from_is_err_and r.result r.ensures.1 in
+    rw (p.1, p.2) c.in_err-keep_racy-in-Found.ensures.trouble
