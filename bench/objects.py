@@ -40,12 +40,16 @@ def lines_of(folder):
     yield ["check", "no\"such\nfile\u00e9", "--json"]
     yield ["run", "no such file", "--invoke", "f", "--json"]
     yield ["replay", "fac.wasm", "no such record", "--json"]
+    yield ["races", "fac.wasm", "no such record", "--json"]
+    yield ["search", "no such file", "--invoke", "f", "--json"]
     for number, text in enumerate([b"", b"\0", b"\0asm\1\0\0\0\xff", b"wathread-record 2\n"]):
         path = os.path.join(folder, str(number))
         with open(path, "wb") as file:
             file.write(text)
         yield ["check", path, "--json"]
         yield ["replay", "fac.wasm", path, "--json"]
+        yield ["races", "fac.wasm", path, "--json"]
+        yield ["search", path, "--invoke", "f", "--all", "--json"]
 
 
 def fault_of(validator, words, done):

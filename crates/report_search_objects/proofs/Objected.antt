@@ -31,6 +31,11 @@ raced_of m raced t out race made racing there true written = (race, made, racing
 raced_of m raced t out race made racing there false written =
     subst (λ (x : Racing). WritesTold t (races_alone x) out) (sym racing) written
 
+-- so of the request's module too
+pub raced_in : (m n : Parts) (raced : Option MadeRun) (t : Told) (out : WriterChange) (is : Bool) → m ≡ n → WritesRaced m raced t out is
+    → WritesRaced n raced t out is
+raced_in m n raced t out is same = subst (λ (p : Parts). WritesRaced p raced t out is) same
+
 -- races without a run that was made
 alone_in : (q : Requested) (s : Search) (racing : Racing) (save : WriterChange) → save.new ≡ save.old
     → AreRacesIn q s racing (races_alone racing) save
@@ -74,7 +79,7 @@ module _ (q : Requested) (s : Search) (t : Told) (out : WriterChange) (a b last 
 -- the record of the run with the race
 pub raced_kept : (s : Search) (is : Bool) (raced : Option MadeRun) (made : MadeRun) (save : WriterChange) → is ≡ true → raced ≡ Some made
     → KeepsRecord (keeps_race s) save made.record → KeepsRaced s is raced save
-raced_kept s is raced made save yes there kept = subst (λ (b : Bool). KeepsRaced s b raced save) (sym yes)
+raced_kept s is raced made save told there kept = subst (λ (b : Bool). KeepsRaced s b raced save) (sym told)
     (subst (λ (o : Option MadeRun). KeepsRaced s true o save) (sym there) kept)
 
 said_beside : (m : Parts) (r : RecordParts) (race : Race) (t : Told) (out : WriterChange) → WritesBeside m r race t out true → SaysRaceIn m r

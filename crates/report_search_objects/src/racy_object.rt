@@ -3,7 +3,7 @@ ghost use Rattle.std.specs.Prelude.{◌≡◌, ◌≤◌, true, false, is_some, 
 ghost use Rattle.search_finds.specs.Judged.{IsFindBy};
 ghost use Rattle.report_command.specs.Searches.{IsSearchInRange};
 ghost use Rattle.report_jobs.specs.Asked.{IsAskedBy};
-ghost use Rattle.report_jobs.specs.Prints.{changed};
+ghost use Rattle.report_jobs.specs.Prints.{KeepsRecord, changed};
 ghost use Rattle.report_jobs.specs.Silence.{Stays};
 ghost use Rattle.report_searches.specs.Drawn.{cut_in};
 ghost use Rattle.report_searches.specs.DrawnRaces.{SaysRaceOf};
@@ -48,7 +48,7 @@ fn racy_found<F: Hears>(
     found: MadeRun,
     follower: &mut F,
 ) -> Result<RacyRun, Trouble>
-    requires { IsFindBy (SaysRaceOf request.now) request.now search.now.sought.limit found }
+    requires find { IsFindBy (SaysRaceOf request.now) request.now search.now.sought.limit found }
     ensures has { IfOk result (HasRacy request.now search.now run found) }
     ensures trouble { IfErr result IsOfSystem }
 {
@@ -123,6 +123,16 @@ fn write_racy<W: Write>(
     write_racy_table(alloc, &asked.search.sought, table, racy, pair, out)
 }
 
+/// Keeps the record of that run, where one is wanted.
+fn keep_racy<S: Write>(search: &Search, racy: &RacyRun, save: &mut S) -> Result<(), Trouble>
+    ensures kept { IfOk result (λ _. KeepsRecord (is_some search.now.save) (changed S.contents save.old save.new)
+        racy.now.made.«record») }
+    ensures unwanted { is_some search.now.save ≡ false → Stays save.old save.new }
+    ensures trouble { IfErr result IsOfSystem }
+{
+    keep(&racy.made.record, search.save.is_some(), save)
+}
+
 /// Makes the runs that a search asks for up to the first with a race, as `search_drawn_races` does, writes the object of
 /// what comes of them, and then the record of what was found, where one is wanted. Answers the status.
 pub fn write_drawn_races<R: Threads + Sync, F: Hears, W: Write, S: Write>(
@@ -160,7 +170,7 @@ pub fn write_drawn_races<R: Threads + Sync, F: Hears, W: Write, S: Write>(
         Halt::Found(found) => {
             let kept = racy_found(alloc, request, search, found.run, found.made, follower)?;
             write_racy(alloc, valid, asked, &table, &kept, out)?;
-            keep(&kept.made.record, search.save.is_some(), save)?;
+            keep_racy(search, &kept, save)?;
             Ok(1)
         }
         Halt::AllMade => write_none(alloc, sought, &table, false, raceless, out),

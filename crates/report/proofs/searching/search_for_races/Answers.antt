@@ -14,8 +14,8 @@ returns-in-Lines-clause-prints g c =
     subst (λ (form : Form). IfOk c.search_drawn_races.result (DrawnRacesIn form q.parts s out save)) (sym c.in-Lines.is)
     c.search_drawn_races.ensures.prints
 
-pub returns-clause-prints : goal.returns-clause-prints
-returns-clause-prints g c =
+pub returns-in-Json-clause-prints : goal.returns-in-Json-clause-prints
+returns-in-Json-clause-prints g c =
     let q = c.args.request.now in
     let s = c.args.asked.search.now in
     let out = changed g.W.Write.contents c.args.out.now c.write_drawn_races.new.out in

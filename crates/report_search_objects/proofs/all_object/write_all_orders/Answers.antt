@@ -2,7 +2,7 @@ use Rattle.std.proofs.Common.{◌∙◌, refl, ap}
 use Rattle.std.specs.Prelude.{is_some}
 use Rattle.report_jobs.specs.Prints.{change}
 use Rattle.report_search_objects.proofs.Kept.{found_kept}
-use Rattle.report_search_objects.proofs.Objected.{object_by, quiet_by, race_or_none}
+use Rattle.report_search_objects.proofs.Objected.{object_by, quiet_by, race_or_none, raced_in}
 use Rattle.report_searches.proofs.Wholly.{and_none, finds_all, well_by}
 use Rattle.report_search_objects.proofs.all_object.write_all_orders.Goals as goal
 
@@ -22,7 +22,7 @@ returns-clause-finds g c =
     finds_all q.parts s a b last behind.status s.races refl
     (λ unkept. ap saved (c.keep_raced.ensures.unwanted unkept)) (quiet_by q s w behind.found (change b last) has kept)
     (race_or_none q s c.requires.asked _ _ c.in_ok-raced.raced c.in_ok-raced.ensures.find c.in_ok-is_raced.is_raced
-    c.in_ok-is_raced.ensures.written (change a b) c.in_ok-keep_raced.ensures.kept (λ unkept. ap saved (c.keep_raced.ensures.unwanted unkept)))
+    (raced_in _ _ _ _ _ c.in_ok-is_raced.is_raced c.module.ensures c.in_ok-is_raced.ensures.written) (change a b) c.in_ok-keep_raced.ensures.kept (λ unkept. ap saved (c.keep_raced.ensures.unwanted unkept)))
     (found_kept q s c.requires.asked (change b last) w behind.status few behind.found (ap is_some c.requires.every_order) c.in_ok-behind.ensures.one has kept) few
 
 pub returns-clause-writes : goal.returns-clause-writes
@@ -38,7 +38,8 @@ returns-clause-writes g c =
       is_whole = c.in_ok-whole.ensures.whole;
       object = object_by q s _ _ (saved c.args.save.now) (saved c.keep_raced.new.save) (saved c.keep_found.new.save) refl
           c.in_ok-behind.ensures.has c.in_ok-keep_found.ensures.kept c.in_ok-raced.raced c.in_ok-raced.ensures.find
-          c.in_ok-is_raced.is_raced c.in_ok-is_raced.ensures.written c.in_ok-keep_raced.ensures.kept;
+          c.in_ok-is_raced.is_raced (raced_in _ _ _ _ _ c.in_ok-is_raced.is_raced c.module.ensures c.in_ok-is_raced.ensures.written)
+          c.in_ok-keep_raced.ensures.kept;
       status_is = c.in_ok-behind.ensures.status;
     }
 
@@ -50,3 +51,10 @@ returns-clause-well g c =
 pub returns-clause-unwanted : goal.returns-clause-unwanted
 returns-clause-unwanted g c none =
     c.keep_found.ensures.unwanted none ∙ c.keep_raced.ensures.unwanted (and_none c.args.asked.search.now.races none)
+
+pub returns-in_err-keep_found-clause-unwanted : goal.returns-in_err-keep_found-clause-unwanted
+returns-in_err-keep_found-clause-unwanted g c none =
+    c.keep_found.ensures.unwanted none ∙ c.keep_raced.ensures.unwanted (and_none c.args.asked.search.now.races none)
+
+pub returns-in_err-keep_raced-clause-unwanted : goal.returns-in_err-keep_raced-clause-unwanted
+returns-in_err-keep_raced-clause-unwanted g c none = c.keep_raced.ensures.unwanted (and_none c.args.asked.search.now.races none)

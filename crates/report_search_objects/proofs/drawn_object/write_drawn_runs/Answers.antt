@@ -13,8 +13,8 @@ write_found-requires g c = cut_within c.args.request.now c.args.search.now.sough
 pub write_none-requires : goal.write_none-requires
 write_none-requires g c = cut_within c.args.request.now c.args.search.now.sought c.in-Ok.searched.table c.in-Ok.ensures.noted
 
-pub write_none-in-Told-requires : goal.write_none-in-Told-requires
-write_none-in-Told-requires g c = cut_within c.args.request.now c.args.search.now.sought c.in-Ok.searched.table c.in-Ok.ensures.noted
+pub write_none-requires-in-Told : goal.write_none-requires-in-Told
+write_none-requires-in-Told g c = cut_within c.args.request.now c.args.search.now.sought c.in-Ok.searched.table c.in-Ok.ensures.noted
 
 pub returns-in-Found-clause-finds : goal.returns-in-Found-clause-finds
 returns-in-Found-clause-finds g c =

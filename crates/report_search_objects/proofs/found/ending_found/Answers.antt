@@ -19,8 +19,8 @@ returns-in-Some-clause-has g c =
     }))
     c.run_found.ensures.has
 
-pub returns-clause-has : goal.returns-clause-has
-returns-clause-has g c = inr (record {
+pub returns-in-None-clause-has : goal.returns-in-None-clause-has
+returns-in-None-clause-has g c = inr (record {
   other = rw c.in-None.is at c.in-Ok.ensures.none;
   none = record { none = refl; as_is = refl; shrunk_is = refl };
 })

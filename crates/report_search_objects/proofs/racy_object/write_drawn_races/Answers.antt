@@ -1,5 +1,5 @@
-use Rattle.std.proofs.Common.{◌<◌, ◌∙◌, false, true, Some, arith, refl, inl, inr, subst, true≢false}
-use Rattle.std.proofs.lemmas.Result.{IfOk-weaker}
+use Rattle.std.proofs.Common.{◌<◌, false, true, Some, arith, refl, inl, inr, subst, true≢false}
+use Rattle.std.proofs.lemmas.Result.{IfOk-weaker, err_from_is_err_and}
 use Rattle.types.specs.declared.parts.Parts.{Parts}
 use Rattle.search_finds.specs.Judged.{IsFindBy, IsPassed}
 use Rattle.search_finds.specs.Noted.{AreNotedBy}
@@ -13,8 +13,8 @@ use Rattle.report_searches.proofs.DrawnRaces.{none_races, race_is_kept, says_in}
 use Rattle.report_search_objects.proofs.RacePairs.{racy_pair}
 use Rattle.report_search_objects.proofs.racy_object.write_drawn_races.Goals as goal
 
-pub racy_found-requires : goal.racy_found-requires
-racy_found-requires g c =
+pub racy_found-requires-clause-find : goal.racy_found-requires-clause-find
+racy_found-requires-clause-find g c κs within =
     let q = c.args.request.now in
     let limit = c.args.asked.search.now.sought.limit in
     let found = rw c.in-Found.is at c.in-Ok.ensures.found in
@@ -32,8 +32,8 @@ write_none-requires g c =
     let s = c.args.asked.search.now in
     cut_within q s.sought c.in-Ok.searched.table (plainly_noted _ q s.sought _ c.in-Ok.ensures.noted)
 
-pub write_none-in-Told-requires : goal.write_none-in-Told-requires
-write_none-in-Told-requires g c =
+pub write_none-requires-in-Told : goal.write_none-requires-in-Told
+write_none-requires-in-Told g c =
     let q = c.args.request.now in
     let s = c.args.asked.search.now in
     cut_within q s.sought c.in-Ok.searched.table (plainly_noted _ q s.sought _ c.in-Ok.ensures.noted)
@@ -44,13 +44,13 @@ returns-in-Found-clause-finds g c =
     let s = c.args.asked.search.now in
     let f = c.in_ok-kept-in-Found.kept in
     let out = changed g.W.Write.contents c.args.out.now c.write_racy.new.out in
-    let save = changed g.S.Write.contents c.args.save.now c.keep.new.save in
+    let save = changed g.S.Write.contents c.args.save.now c.keep_racy.new.save in
     let table = c.in-Ok.searched.table in
     let written = subst (λ (p : Parts). WritesRacy p s.sought table f out) c.module-valid.ensures c.in_ok-write_racy-in-Found.ensures.written in
     inr (inr (
       omega arith,
       race_is_kept q s c.requires.asked f.made c.in_ok-kept-in-Found.ensures.has.find.0 (racy_pair q.parts s.sought table f out written) save
-          (λ wanted. c.in_ok-keep-in-Found.ensures.kept (c.is_some.ensures ∙ wanted)) c.requires.races,
+          c.in_ok-keep_racy-in-Found.ensures.kept c.requires.races,
     ))
 
 pub returns-in-Found-clause-writes : goal.returns-in-Found-clause-writes
@@ -82,7 +82,7 @@ returns-in-Found-clause-writes g c =
         };
         written = subst (λ (p : Parts). WritesRacy p s.sought table f out) c.module-valid.ensures c.in_ok-write_racy-in-Found.ensures.written;
         status_is = refl;
-        kept = λ wanted. c.in_ok-keep-in-Found.ensures.kept (c.is_some.ensures ∙ wanted);
+        kept = c.in_ok-keep_racy-in-Found.ensures.kept;
       });
     }
 
@@ -135,3 +135,9 @@ returns-clause-writes g c =
       });
     })
     c.write_none-in-Told.ensures.written
+
+pub returns-in_err-keep_racy-in-Found-clause-trouble : goal.returns-in_err-keep_racy-in-Found-clause-trouble
+returns-in_err-keep_racy-in-Found-clause-trouble g c =
+    let r = c.from_residual-in_err-keep_racy-in-Found in
+    let p = err_from_is_err_and r.result r.ensures.1 in
+    rw (p.1, p.2) c.in_err-keep_racy-in-Found.ensures.trouble
