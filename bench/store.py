@@ -188,6 +188,7 @@ def checked_once(crate, kind, check):
             restore(crate, kind, kept)
             return 0
         with Slot():
+            os.makedirs(f"{crate.folder}/out", exist_ok=True)
             began, own, out = time.time(), own_sum(crate), crate.out
             with tempfile.TemporaryFile("w+", errors="replace") as crate.out:
                 try:
