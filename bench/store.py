@@ -158,7 +158,7 @@ def restore(crate, kind, kept):
 
 def keep(crate, kind, kept, key, said):
     out = f"{crate.folder}/out"
-    if kind == "proof" and not crate.is_program:
+    if kind == "proof" and os.path.isdir(f"{out}/rlib"):
         sum = sum_of(crate.rlib)
         with open(f"{out}/rlib/sum", "w") as it:
             it.write(f"{key} {sum}")
