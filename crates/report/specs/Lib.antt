@@ -1,3 +1,12 @@
 pub mod Jobs
 pub mod Searched
 pub mod Silent
+pub mod Complete
+pub mod Drawn
+pub mod Endless
+pub mod Searches
+pub mod Racing
+pub mod Prints
+pub mod DrawnRaces
+pub mod SearchObjects
+pub mod Written

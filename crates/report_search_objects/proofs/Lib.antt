@@ -1,3 +1,0 @@
-mod RacePairs
-mod Kept
-mod Objected

@@ -1,2 +1,0 @@
-pub mod SearchObjects
-pub mod Written
