@@ -21,12 +21,7 @@ fn is_atomic_write(log: &[Entry], kinds: &[Kind], thread: u32, at: usize) -> boo
 }
 
 /// The place of a thread's next atomic write behind a place, if it makes one.
-pub fn next_atomic_write(
-    log: &[Entry],
-    kinds: &[Kind],
-    thread: u32,
-    first: usize,
-) -> Option<usize>
+pub fn next_atomic_write(log: &[Entry], kinds: &[Kind], thread: u32, first: usize) -> Option<usize>
     requires { first < length log.now }
     ensures { IsNextWrite log.now kinds.now thread first result }
 {
