@@ -68,7 +68,7 @@ impl Follows for Wishes {
         self.wish
     }
 
-    fn states(&mut self, _met: usize) -> Wish {
+    fn states(&mut self, _met: usize, _left: usize) -> Wish {
         self.wish
     }
 

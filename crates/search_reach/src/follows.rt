@@ -20,8 +20,8 @@ pub trait Follows {
     fn runs(&mut self, made: u64, endings: usize) -> Wish
         ensures { result ≡ wish self.new };
 
-    /// So many states were met.
-    fn states(&mut self, met: usize) -> Wish
+    /// So many states were met, of which so many are left to be gone through.
+    fn states(&mut self, met: usize, left: usize) -> Wish
         ensures { result ≡ wish self.new };
 
     /// It is at its end, and what it found is told next.
@@ -38,7 +38,7 @@ impl Follows for () {
         Wish::GoOn
     }
 
-    fn states(&mut self, _met: usize) -> Wish {
+    fn states(&mut self, _met: usize, _left: usize) -> Wish {
         Wish::GoOn
     }
 

@@ -97,7 +97,7 @@ fn liveness_of<F: Follows>(
     ensures told { IfOk result (λ o. o ≡ None → F.wish follower.new ≡ wishes.End) }
 {
     let endless = cannot_end(alloc, graph, ended)?;
-    if let Wish::End = follower.states(graph.states) {
+    if let Wish::End = follower.states(graph.states, 0) {
         return Ok(None);
     }
     let ways = ways_in(alloc, graph.states, graph.moves.as_slice())?;
@@ -127,7 +127,7 @@ pub(crate) fn judged<F: Follows>(
     let Verdict::All = verdict else {
         return Ok((verdict, None));
     };
-    if let Wish::End = follower.states(graph.states) {
+    if let Wish::End = follower.states(graph.states, 0) {
         return Ok((Verdict::Told, None));
     }
     match liveness_of(alloc, graph, ended, follower)? {

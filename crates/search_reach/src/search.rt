@@ -71,10 +71,11 @@ fn explore<T: Meets, F: Follows>(
         if !system.next(alloc, table, at, moves)? {
             return Ok(Verdict::CannotTell);
         }
-        if let Wish::End = follower.states(system.count(table)) {
+        at += 1;
+        let known = system.count(table);
+        if let Wish::End = follower.states(known, known.saturating_sub(at as usize)) {
             return Ok(Verdict::Told);
         }
-        at += 1;
     }
 }
 

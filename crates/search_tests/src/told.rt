@@ -28,7 +28,7 @@ impl Follows for Few {
         self.wish
     }
 
-    fn states(&mut self, _met: usize) -> Wish {
+    fn states(&mut self, _met: usize, _left: usize) -> Wish {
         self.wish
     }
 

@@ -78,6 +78,13 @@ fn in_a_second(count: u64, took: Duration) -> u64 {
     count.saturating_mul(1000) / millis
 }
 
+/// How many MiB of memory the program has, where the system says so: Linux does, in pages of 4096 bytes.
+fn resident(rt: &HostRuntime) -> Option<u64> {
+    let said = fs::read_to_string(rt, "/proc/self/statm").ok()?;
+    let pages = said.split_whitespace().nth(1)?.parse::<u64>().ok()?;
+    Some(pages / 256)
+}
+
 impl<'a> Progress<'a> {
     /// No line is written yet, and none ever where standard error is no terminal.
     pub(crate) fn new(rt: &'a HostRuntime, search: Option<&Search<'a>>) -> Progress<'a> {
@@ -159,10 +166,17 @@ impl Follows for Progress<'_> {
         self.wish
     }
 
-    fn states(&mut self, met: usize) -> Wish {
+    fn states(&mut self, met: usize, left: usize) -> Wish {
         if let Some(took) = self.line_due() {
             let rate = in_a_second(met as u64, took);
-            let _ = eprint!(self.rt; "\r\x1b[K{met} states, {rate} a second");
+            let _ = match resident(self.rt) {
+                Some(mib) => eprint!(self.rt;
+                    "\r\x1b[K{met} states, {rate} a second, {left} to go through, {mib} MiB"
+                ),
+                None => eprint!(self.rt;
+                    "\r\x1b[K{met} states, {rate} a second, {left} to go through"
+                ),
+            };
         }
         self.wish
     }

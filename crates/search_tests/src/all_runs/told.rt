@@ -23,7 +23,7 @@ impl Follows for Few {
         self.wish
     }
 
-    fn states(&mut self, met: usize) -> Wish {
+    fn states(&mut self, met: usize, _left: usize) -> Wish {
         if met >= self.most {
             self.wish = Wish::End;
         }
