@@ -91,7 +91,8 @@ module _ {S W E : Type 0} (k : StepSystem S W E) (eq : S → S → Bool) where
         whole = λ v. absurd (cc v);
       }
 
-      pub reached-stuck : (new : List S → Type 0) (after : List Move) → at < met → OfStateAt k has at (λ ks s. new ks) → OfStateAt k has at (λ ks s. AllGetStuck k s)
+      pub reached-stuck : (new : List S → Type 0) (after : List Move) → at < met → OfStateAt k has at (λ ks s. new ks)
+          → OfStateAt k has at (λ ks s. AllGetStuck k s)
           → IsReached k new eq most wish after verdicts.CannotTell
       reached-stuck new after low none gives_up =
           let s = at-some so.states at (omega (arith, low, len)) in

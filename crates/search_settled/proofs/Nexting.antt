@@ -1,5 +1,6 @@
 -- The rows of the next states, of one thread after the other.
-use Rattle.std.proofs.Common.{◌≡◌, inl, inr, ℕ, zero, suc, ◌+◌, ◌^◌, ◌<◌, ◌&&◌, Bool, true, List, [], ◌∷◌, ◌++◌, length, Some, None, refl, sym, ◌∙◌, ap, subst, arith, length-append, append_assoc}
+use Rattle.std.proofs.Common.{◌≡◌, inl, inr, ℕ, zero, suc, ◌+◌, ◌^◌, ◌<◌, ◌&&◌, Bool, true, List, [], ◌∷◌, ◌++◌, length, Some, None, refl}
+use Rattle.std.proofs.Common.{sym, ◌∙◌, ap, subst, arith, length-append, append_assoc}
 use Rattle.std.specs.Prelude.{slice_set}
 use Rattle.std.specs.List.{slice_get}
 use Rattle.std.specs.Cmp.Lexicographic.{pointwise}
@@ -137,7 +138,8 @@ module _ {X T E V A G H M : Type 0} (k : ThreadSystem X T E V A G H M) where
   heard-of t u shared thread n m after made is so g h a b = subst (λ (x : Made G M). IsMade k u g h n x) is (so g h a b)
 
   -- what put_next adds
-  module _ (tame : AreTame k.system k.first k.most) (bounded : AreBounded k.system k.first k.count k.most) (t u v : Table G H) (first : Grows t u) (second : Grows u v)
+  module _ (tame : AreTame k.system k.first k.most) (bounded : AreBounded k.system k.first k.count k.most) (t u v : Table G H)
+      (first : Grows t u) (second : Grows u v)
       (row : Row) (thread n : ℕ) (c : Flat G H) (at : IsThreadAt k t row thread n c) (rs : List NextRow) (so : AreNextBelow k t c n rs) where
     both : Grows t v
     both = grows-then t u v first second

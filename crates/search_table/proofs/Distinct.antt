@@ -60,7 +60,8 @@ module _ {H : Type 0} (ts : List H) (ls : List Link) where
       let others = chain-same (is.1).rest xs ys is.5 (subst (λ l. IsChain ts ls l.rest ys) (sym link) there.5) in
       λ i. first i ∷ others i
 
-  module _ (eq : H → H → Bool) (symm : (x y : H) → eq x y ≡ true → eq y x ≡ true) (threads : IsDistinct eq ts) (distinct : IsDistinct links.eq-value.it ls) where
+  module _ (eq : H → H → Bool) (symm : (x y : H) → eq x y ≡ true → eq y x ≡ true) (threads : IsDistinct eq ts)
+      (distinct : IsDistinct links.eq-value.it ls) where
     -- those of equal threads are the same
     pub chain-equal : (c d : ℕ) (xs ys : List H) → IsChain ts ls c xs → IsChain ts ls d ys → pointwise eq xs ys ≡ true → c ≡ d
     unfolding IsChain

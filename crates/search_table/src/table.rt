@@ -5,21 +5,61 @@ ghost use Rattle.indexmap.specs.IndexSet.{index_set_len};
 
 use indexmap::IndexSet;
 use std::alloc::{AllocError, Global};
-use std::hash::Hash;
+use std::hash::{Hash, Hasher};
 
 /// Threads in a row: the number of the first one, and the chain of the others. The empty chain is 0, and the link at a
 /// place is the chain of the number behind it.
-#[derive(Clone, Copy, PartialEq, Eq, Hash)]
+#[derive(Clone, Copy, PartialEq, Eq)]
 pub struct Link {
     pub thread: u32,
     pub rest: u32,
 }
 
+impl Hash for Link {
+    ghost use Rattle.std.specs.Prelude.{◌+◌, ◌*◌, nat_eq};
+    ghost use Rattle.std.specs.Cmp.{first_so, second_so};
+    ghost use Rattle.std.specs.Hash as fed;
+    ghost use Rattle.std.proofs.Common.{ap, ◌∙◌};
+    ghost use Rattle.std.proofs.lemmas.Bool.{eqb-true};
+
+    ghost hash_input = { λ x. fed.u64 (x.thread * 4294967296 + x.rest) };
+
+    ghost respects_eq = { λ x y same. ap (λ n. fed.u64 (n * 4294967296 + x.rest))
+        (eqb-true x.thread y.thread (first_so (nat_eq x.thread y.thread) (nat_eq x.rest y.rest) same))
+        ∙ ap (λ n. fed.u64 (y.thread * 4294967296 + n))
+        (eqb-true x.rest y.rest (second_so (nat_eq x.thread y.thread) (nat_eq x.rest y.rest) same)) };
+
+    fn hash<H: Hasher>(&self, state: &mut H) {
+        let both = u64::from(self.thread) * 0x1_0000_0000 + u64::from(self.rest);
+        both.hash(state);
+    }
+}
+
 /// A state: the number of what is shared, and the chain of its threads.
-#[derive(Clone, Copy, PartialEq, Eq, Hash)]
+#[derive(Clone, Copy, PartialEq, Eq)]
 pub struct Row {
     pub shared: u32,
     pub chain: u32,
+}
+
+impl Hash for Row {
+    ghost use Rattle.std.specs.Prelude.{◌+◌, ◌*◌, nat_eq};
+    ghost use Rattle.std.specs.Cmp.{first_so, second_so};
+    ghost use Rattle.std.specs.Hash as fed;
+    ghost use Rattle.std.proofs.Common.{ap, ◌∙◌};
+    ghost use Rattle.std.proofs.lemmas.Bool.{eqb-true};
+
+    ghost hash_input = { λ x. fed.u64 (x.shared * 4294967296 + x.chain) };
+
+    ghost respects_eq = { λ x y same. ap (λ n. fed.u64 (n * 4294967296 + x.chain))
+        (eqb-true x.shared y.shared (first_so (nat_eq x.shared y.shared) (nat_eq x.chain y.chain) same))
+        ∙ ap (λ n. fed.u64 (y.shared * 4294967296 + n))
+        (eqb-true x.chain y.chain (second_so (nat_eq x.shared y.shared) (nat_eq x.chain y.chain) same)) };
+
+    fn hash<H: Hasher>(&self, state: &mut H) {
+        let both = u64::from(self.shared) * 0x1_0000_0000 + u64::from(self.chain);
+        both.hash(state);
+    }
 }
 
 /// States by their parts.

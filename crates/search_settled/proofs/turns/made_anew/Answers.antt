@@ -9,8 +9,8 @@ use Rattle.search_settled.proofs.turns.made_anew.Goals as goal
 
 pub event-requires : goal.event-requires
 event-requires g c =
-    of-read (g.M.Moves.threads c.args.system.now) c.args.met.now.table c.args.shared c.args.thread c.args.n c.requires.of c.in-Some.old.now c.in-Some-get_index.own.now
-    (sym c.in-Some.ensures.key) (sym c.in-Some-get_index.ensures.key)
+    of-read (g.M.Moves.threads c.args.system.now) c.args.met.now.table c.args.shared c.args.thread c.args.n c.requires.of
+    c.in-Some.old.now c.in-Some-get_index.own.now (sym c.in-Some.ensures.key) (sym c.in-Some-get_index.ensures.key)
 
 pub returns-in_default-2-clause-made : goal.returns-in_default-2-clause-made
 returns-in_default-2-clause-made g c =
@@ -22,9 +22,10 @@ returns-in_default-2-clause-made g c =
 pub is_quiet-requires : goal.is_quiet-requires
 is_quiet-requires g c =
     let k = g.M.Moves.threads c.args.system.now in
-    let of = of-read k c.args.met.now.table c.args.shared c.args.thread c.args.n c.requires.of c.in-Some.old.now c.in-Some-get_index.own.now
-    (sym c.in-Some.ensures.key) (sym c.in-Some-get_index.ensures.key) in
-    count-low k (g.met.M.Moves.bounded c.args.system.now) c.in-Some.old.now c.in-Some-get_index.own.now c.args.n of.0 of.1 c.started-count.result c.started-count.ensures
+    let of = of-read k c.args.met.now.table c.args.shared c.args.thread c.args.n c.requires.of
+    c.in-Some.old.now c.in-Some-get_index.own.now (sym c.in-Some.ensures.key) (sym c.in-Some-get_index.ensures.key) in
+    count-low k (g.met.M.Moves.bounded c.args.system.now) c.in-Some.old.now c.in-Some-get_index.own.now c.args.n of.0 of.1
+    c.started-count.result c.started-count.ensures
 
 pub returns-then-not-is_quiet-clause-made : goal.returns-then-not-is_quiet-clause-made
 returns-then-not-is_quiet-clause-made g c =
@@ -36,8 +37,8 @@ returns-then-not-is_quiet-clause-made g c =
 pub after-requires : goal.after-requires
 after-requires g c =
     let k = g.M.Moves.threads c.args.system.now in
-    let of = of-read k c.args.met.now.table c.args.shared c.args.thread c.args.n c.requires.of c.in-Some.old.now c.in-Some-get_index.own.now
-    (sym c.in-Some.ensures.key) (sym c.in-Some-get_index.ensures.key) in
+    let of = of-read k c.args.met.now.table c.args.shared c.args.thread c.args.n c.requires.of
+    c.in-Some.old.now c.in-Some-get_index.own.now (sym c.in-Some.ensures.key) (sym c.in-Some-get_index.ensures.key) in
     record {
       somewhere = own-before k c.in-Some.old.now c.in-Some-get_index.own.now c.args.n (c.in-Some-2.new, c.in-Some-2.made) of.0 of.1
           (event-some k c.in-Some.old.now c.in-Some-get_index.own.now c.args.n _ (c.in-Some-2.new, c.in-Some-2.made) c.in-Some-2.is c.in_ok-new.ensures);
