@@ -7,9 +7,11 @@
 //! that some do, 2 and 4 that there is no such module or record, 3 of a show that there is one which has not what is asked
 //! for, and then nothing is written but what is wrong; the races that are told are races of the run, none twice, and each
 //! one, where it isn't said that they are cut. A last write that is shown is the last entry before the moment that is asked
-//! for which writes one of the bytes, and where none is said to write there, none does (`specs/Looked.antt`); of the rest
-//! that a show prints nothing is said. The object of races has what its lines say: of each the two entries, and the next
-//! atomic write of the first one's thread.
+//! for which writes one of the bytes, and where none is said to write there, none does. The rows that are shown are those
+//! of the entries that are asked for, with what each thread waits for below, where all are shown and one was stopped; a
+//! page and a trace have the lines of these entries, and are written to their file (`specs/Looked.antt`); of a moment and
+//! of an object nothing is said. The object of races has what its lines say: of each the two entries, and the next atomic
+//! write of the first one's thread.
 #![tactic(auto)]
 
 mod ends;
