@@ -62,4 +62,5 @@ complete -c wathread -n '__fish_seen_subcommand_from search' -l time -x -d 'End 
 complete -c wathread -n '__fish_seen_subcommand_from search' -l fuel -x -d 'How many units each thread may spend, 0 to 1000000000000 [default: 10000000]'
 complete -c wathread -n '__fish_seen_subcommand_from search' -l limit -x -d 'How many entries the log takes, 1 to 1000000 [default: 10000]'
 complete -c wathread -n '__fish_seen_subcommand_from search' -l dump -x -d 'Print the first N bytes of the memory, 0 to 4096 [default: 0]'
+complete -c wathread -n '__fish_seen_subcommand_from search' -l json -d 'Print one JSON object in place of lines, also of a refusal'
 complete -c wathread -n '__fish_seen_subcommand_from search' -l help -s h -d 'Print help'
