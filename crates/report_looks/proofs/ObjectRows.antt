@@ -1,5 +1,5 @@
 -- The rows of an object, one behind the other.
-use Rattle.std.proofs.Common.{◌≡◌, ◌∙◌, ℕ, ◌+◌, ◌<◌, ◌≤◌, List, [], ◌∷◌, ◌++◌, Bool, false, length, take, get_or, Option, Some, refl, sym, ap, subst, arith}
+use Rattle.std.proofs.Common.{◌≡◌, ◌∙◌, ℕ, ◌+◌, ◌<◌, ◌≤◌, List, [], ◌∷◌, ◌++◌, Bool, false, length, take, get_or, true, Option, None, Some, append-nil, refl, sym, ap, subst, arith}
 use Rattle.std.specs.List.{AllZip, slice_get}
 use Rattle.std.specs.Io.KnownBytes.{Appends}
 use Rattle.std.proofs.Math.Seq.{take-append_seam, get_or-append_seam}
@@ -18,7 +18,7 @@ use Rattle.report_looks.proofs.Zipped.{zipped_more}
 
 length_more : {A : Type 0} (xs : List A) (x : A) → length (xs ++ x ∷ []) ≡ length xs + 1
 length_more [] x = refl
-length_more (y ∷ xs) x = omega (length_more xs x) arith
+length_more (y ∷ xs) x = omega (arith, length_more xs x)
 
 -- One more row is written behind these.
 row_behind : (rows : List Row) (row : Row) (is_first : Bool) (a b c : Option (List ℕ)) → is_first ≡ is_nil rows
@@ -29,8 +29,8 @@ row_behind rows row is_first a b c first before one =
     let here : take (length rows) all ≡ rows = take-append_seam rows (row ∷ []) in
     let it : get_or all (length rows) row ≡ row = get_or-append_seam rows row [] row in
     let long : length all ≡ length rows + 1 = length_more rows row in
-    subst (λ (rs : List Row). (false ≡ is_nil rs) × Appends a c (rows_text rs)) (take_all (length rows + 1) all (omega long arith))
-    (rows_go_on all (length rows) row is_first a b c (omega long arith)
+    subst (λ (rs : List Row). (false ≡ is_nil rs) × Appends a c (rows_text rs)) (take_all (length rows + 1) all (omega (arith, long)))
+    (rows_go_on all (length rows) row is_first a b c (omega (arith, long))
     (first ∙ sym (ap is_nil here))
     (subst (λ (rs : List Row). Appends a b (rows_text rs)) (sym here) before)
     (subst (λ (r : Row). Appends b c (row_text is_first r)) (sym it) one))
@@ -47,6 +47,10 @@ row_at shown story at log d row same within is = record {
 abbrev pub HasRows : Shown → Story → List ℕ → Bool → Option (List ℕ) → Option (List ℕ) → Type 0
 HasRows shown story places is_first old new = (rows : List Row) × (is_first ≡ is_nil rows) × AllZip (IsRowAt shown story) places rows
     × Appends old new (rows_text rows)
+
+pub no_rows : (shown : Shown) (story : Story) (a : Option (List ℕ)) → HasRows shown story [] true a a
+no_rows shown story None = ([], refl, tt, tt)
+no_rows shown story (Some xs) = ([], refl, tt, sym (append-nil xs))
 
 pub row_more : (shown : Shown) (story : Story) (places : List ℕ) (k z : ℕ) (is_first : Bool) (a b c : Option (List ℕ)) → k < length places
     → HasRows shown story (take k places) is_first a b → AddsRow shown story (get_or places k z) is_first b c

@@ -15,6 +15,6 @@ returns g c =
       is_story = subst (λ (l : List Entry). IsStoryOf l story) c.as_slice.ensures c.in_ok-story.ensures;
       rows = rows.0;
       each = subst (λ (ps : List ℕ). AllZip (IsRowAt c.args.shown story) ps rows.0)
-          (c.as_slice-2.ensures.value ∙ c.in_ok-places.ensures.which) rows.1.0;
-      object = object_of_rows rows.0 _ _ _ _ c.in_ok-begin_rows.ensures rows.1.1 c.in_ok-end_rows.ensures;
+          (c.as_slice-2.ensures.value ∙ c.in_ok-places.ensures.which) rows.1;
+      object = object_of_rows rows.0 _ _ _ _ c.in_ok-begin_rows.ensures rows.2 c.in_ok-end_rows.ensures;
     }

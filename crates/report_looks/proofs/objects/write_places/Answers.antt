@@ -1,5 +1,8 @@
-use Rattle.report_looks.proofs.ObjectRows.{row_more, rows_all}
+use Rattle.report_looks.proofs.ObjectRows.{no_rows, row_more, rows_all}
 use Rattle.report_looks.proofs.objects.write_places.Goals as goal
+
+pub loop-place-init : goal.loop-place-init
+loop-place-init g c = no_rows c.args.shown.now c.args.story.now (g.W.Write.contents c.args.out.now)
 
 pub loop-place-preserved : goal.loop-place-preserved
 loop-place-preserved g c =
