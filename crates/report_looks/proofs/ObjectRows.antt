@@ -8,8 +8,7 @@ use Rattle.types.specs.declared.event.Entry.{Entry}
 use Rattle.report_json.specs.declared.rows.Row.{Row}
 use Rattle.report_json.specs.Json.{json_line}
 use Rattle.report_json.specs.Rows.{row_text, rows_back, rows_front, rows_json, rows_text}
-use Rattle.report_json.proofs.RowTexts.{is_nil, rows_are_whole, rows_go_on}
-use Rattle.replay_forms.proofs.Written.{appends_then}
+use Rattle.report_json.proofs.RowTexts.{is_nil, rows_done, rows_go_on}
 use Rattle.show_rows.specs.declared.listing.Shown.{Shown}
 use Rattle.show_rows.specs.declared.listing.Story.{Story}
 use Rattle.report_looks.specs.RaceObjects.{AddsRow, AddsRows, IsRowAt, IsRowOf}
@@ -68,5 +67,6 @@ rows_all shown story places k is_first a b all (rows, first, each, before) =
 pub object_of_rows : (rows : List Row) (a b c d : Option (List ℕ)) → Appends a b rows_front → Appends b c (rows_text rows)
     → Appends c d rows_back → Appends a d (json_line (rows_json rows))
 object_of_rows rows a b c d front middle back =
-    subst (λ (t : List ℕ). Appends a d t) (rows_are_whole rows)
-    (appends_then a b d _ _ front (appends_then b c d _ _ middle back))
+    let all : take (length rows) rows ≡ rows = take_all (length rows) rows (omega arith) in
+    rows_done rows (length rows) a b c d (omega arith) front
+    (subst (λ (rs : List Row). Appends b c (rows_text rs)) (sym all) middle) back
