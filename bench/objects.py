@@ -37,10 +37,16 @@ def lines_of(folder):
         module = name.removesuffix(".record") + ".wasm"
         yield ["replay", module if module in modules else "counting.wasm", name, "--json", "--units", "--dump", "9"]
         yield ["races", module if module in modules else "counting.wasm", name, "--json", "--most", "2"]
+        show = ["show", module if module in modules else "counting.wasm", name, "--json"]
+        yield show
+        yield [*show, "--thread", "1", "--lines", "12-40"]
+        yield [*show, "--addr", "0-7", "--names", "cc_broken_lock.wasm"]
+        yield [*show, "--addr", "no such data"]
     yield ["check", "no\"such\nfile\u00e9", "--json"]
     yield ["run", "no such file", "--invoke", "f", "--json"]
     yield ["replay", "fac.wasm", "no such record", "--json"]
     yield ["races", "fac.wasm", "no such record", "--json"]
+    yield ["show", "fac.wasm", "no such record", "--json"]
     yield ["search", "no such file", "--invoke", "f", "--json"]
     for number, text in enumerate([b"", b"\0", b"\0asm\1\0\0\0\xff", b"wathread-record 2\n"]):
         path = os.path.join(folder, str(number))
@@ -49,6 +55,7 @@ def lines_of(folder):
         yield ["check", path, "--json"]
         yield ["replay", "fac.wasm", path, "--json"]
         yield ["races", "fac.wasm", path, "--json"]
+        yield ["show", "fac.wasm", path, "--json"]
         yield ["search", path, "--invoke", "f", "--all", "--json"]
 
 

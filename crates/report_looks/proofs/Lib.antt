@@ -2,3 +2,4 @@ mod Silent
 mod RacePairs
 pub mod Zipped
 mod Printed
+mod ObjectRows

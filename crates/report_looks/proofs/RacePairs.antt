@@ -15,7 +15,7 @@ use Rattle.show_rows.specs.declared.listing.Shown.{Shown}
 use Rattle.show_rows.specs.declared.listing.Story.{Story}
 use Rattle.report_looks.specs.RaceObjects.{IsEntryOf, IsNextOf, IsPairOf, IsRowOf, IsWriteOf, bytes_of, first_byte, is_atomic_kind}
 
-stands : (log whole : List Entry) (at : ℕ) (d : Entry) → log ≡ whole → at < length whole → slice_get whole at ≡ Some (get_or log at d)
+pub stands : (log whole : List Entry) (at : ℕ) (d : Entry) → log ≡ whole → at < length whole → slice_get whole at ≡ Some (get_or log at d)
 stands log whole at d same within = subst (λ (l : List Entry). slice_get l at ≡ Some (get_or log at d)) same
     (slice_get-get_or log at d (subst (λ (l : List Entry). at < length l) (sym same) within))
 

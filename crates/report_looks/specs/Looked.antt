@@ -41,6 +41,7 @@ use Rattle.report_looks.specs.declared.wanted.Asked.{Asked}
 use Rattle.report_looks.specs.declared.wanted.Here.{Here}
 use Rattle.report_looks.specs.declared.wanted.Wanted.{Wanted}
 use Rattle.report_looks.specs.declared.wanted.Wanted.TheVariants as wanted
+use Rattle.report_looks.specs.RaceObjects.{WritesObject}
 use Rattle.report_looks.specs.Raced.{IsSeen}
 
 abbrev pub is_trap : Outcome → Bool
@@ -129,11 +130,11 @@ abbrev pub WritesRowsOf : Shown → DataMap → Look → Option (List ℕ) → O
 WritesRowsOf shown map look old new = (between : Option (List ℕ)) × WritesRows shown map look old between
     × WritesBelow (has_waits shown look) shown map between new
 
--- Entries as rows, as a page or as a trace; of an object nothing is said here.
+-- Entries as rows, as an object, as a page or as a trace.
 abbrev pub WritesEntries : View → Shown → DataMap → Look → Option (List ℕ) → Option (List ℕ) → Type 0
 WritesEntries (views.Page path) shown map look old new = (races : List Race) × WritesPage shown races look old new
 WritesEntries (views.Trace path) shown map look old new = (races : List Race) × WritesTrace shown races look old new
-WritesEntries views.Object shown map look old new = Unit {0}
+WritesEntries views.Object shown map look old new = WritesObject shown look old new
 WritesEntries view shown map look old new = WritesRowsOf shown map look old new
 
 -- What is wanted of a record is written; of a moment nothing is said here.

@@ -1,4 +1,4 @@
--- What the object of races has of two entries that race.
+-- What an object has of an entry, that of a show of the entries that are chosen, and that of races of two that race.
 use Rattle.std.specs.Prelude.{ℕ, ◌≡◌, Bool, false, true, List, nat_lt, Option, Some, None}
 use Rattle.std.specs.Borrow.{Bor}
 use Rattle.std.specs.List.{AllZip, slice_get}
@@ -9,8 +9,9 @@ use Rattle.race_history.specs.declared.access.Kind.{Kind}
 use Rattle.race_history.specs.declared.access.Kind.TheVariants.{Plain, Atomic}
 use Rattle.race_history.specs.declared.race.Race.{Race}
 use Rattle.interp.specs.declared.place.CodePlace.{CodePlace}
+use Rattle.report_choice.specs.declared.choice.Look.{Look}
 use Rattle.report_json.specs.Json.{json_line}
-use Rattle.report_json.specs.Rows.{races_json}
+use Rattle.report_json.specs.Rows.{races_json, row_text, rows_json, rows_text}
 use Rattle.report_json.specs.declared.places.Offset.{Offset}
 use Rattle.report_json.specs.declared.places.Place.{Place}
 use Rattle.report_json.specs.declared.places.Source.{Source}
@@ -21,7 +22,7 @@ use Rattle.report_json.specs.declared.races.RacePair.{RacePair}
 use Rattle.report_json.specs.declared.races.RacePairs.{RacePairs}
 use Rattle.show_races.specs.Written.{IsNextWrite, access_at}
 use Rattle.show_races.specs.declared.found.Races.{Races}
-use Rattle.show_rows.specs.Listing.{AreWordsOf, line_at, place_of}
+use Rattle.show_rows.specs.Listing.{AreWordsOf, IsStoryOf, chosen, line_at, place_of}
 use Rattle.show_rows.specs.Spots.{IsSpotOf}
 use Rattle.show_rows.specs.declared.code.CodeMap.{CodeMap}
 use Rattle.show_rows.specs.declared.listing.Shown.{Shown}
@@ -56,6 +57,28 @@ pub record IsRowOf (shown : Shown) (story : Story) (at : ℕ) (made : Entry) (ro
   pub line : row.line ≡ line_at shown at
   pub words : AreWordsOf shown story at made row.words
   pub place : IsPlaceAt shown.code.now (place_of shown story at) row.place
+
+-- The row of the entry that stands at a place of the log.
+pub record IsRowAt (shown : Shown) (story : Story) (at : ℕ) (row : Row) : Type 0 where
+  pub made : Entry
+  pub stands : slice_get shown.record.now.log at ≡ Some made
+  pub row_of : IsRowOf shown story at made row
+
+-- What was written is the row of the entry at a place; and those of the entries at these places, in order.
+abbrev pub AddsRow : Shown → Story → ℕ → Bool → Option (List ℕ) → Option (List ℕ) → Type 0
+AddsRow shown story at is_first old new = (row : Row) × IsRowAt shown story at row × Appends old new (row_text is_first row)
+
+abbrev pub AddsRows : Shown → Story → List ℕ → Option (List ℕ) → Option (List ℕ) → Type 0
+AddsRows shown story places old new = (rows : List Row) × AllZip (IsRowAt shown story) places rows
+    × Appends old new (rows_text rows)
+
+-- What was written is one object: of the entries that are chosen, in order.
+pub record WritesObject (shown : Shown) (look : Look) (old new : Option (List ℕ)) : Type 0 where
+  pub story : Story
+  pub is_story : IsStoryOf shown.record.now.log story
+  pub rows : List Row
+  pub each : AllZip (IsRowAt shown story) (chosen shown look) rows
+  pub object : Appends old new (json_line (rows_json rows))
 
 -- By an atomic instruction.
 abbrev pub is_atomic_kind : Option Kind → Bool

@@ -1,5 +1,6 @@
 //! What is shown of a record as a JSON object.
-ghost use Rattle.report_looks.specs.RaceObjects.{IsOffset, IsPlaceOf, IsRowOf, IsSource};
+ghost use Rattle.std.specs.Prelude.{◌<◌, All, OnOk, length};
+ghost use Rattle.report_looks.specs.RaceObjects.{AddsRow, AddsRows, IsOffset, IsPlaceOf, IsRowOf, IsSource, WritesObject};
 
 use report_choice::Look;
 use report_json::{Offset, Place, Row, Source, begin_rows, end_rows, write_row};
@@ -55,24 +56,55 @@ pub(crate) fn row_of<'a>(shown: &'a Shown, story: &'a Story, at: usize, entry: &
     }
 }
 
+/// Writes the row of the entry at a place.
+fn write_place<W: Write>(
+    alloc: Global,
+    shown: &Shown,
+    story: &Story,
+    at: usize,
+    is_first: bool,
+    out: &mut W,
+) -> Result<(), Unwritten>
+    requires { at < length shown.now.record.now.log }
+    ensures { OnOk result
+        (AddsRow shown.now story.now at is_first (W.contents out.old) (W.contents out.new)) }
+{
+    let entry = &shown.record.log.as_slice()[at];
+    write_row(alloc, out, is_first, &row_of(shown, story, at, entry))
+}
+
+/// Writes the rows of the entries at these places.
+fn write_places<W: Write>(
+    alloc: Global,
+    shown: &Shown,
+    story: &Story,
+    places: &[usize],
+    out: &mut W,
+) -> Result<(), Unwritten>
+    requires { All (λ at. at < length shown.now.record.now.log) places.now }
+    ensures { OnOk result (AddsRows shown.now story.now places.now (W.contents out.old) (W.contents out.new)) }
+{
+    let mut is_first = true;
+    for place in 0..places.len() {
+        write_place(alloc, shown, story, places[place], is_first, out)?;
+        is_first = false;
+    }
+    Ok(())
+}
+
 /// Writes the entries that are chosen as one object, row by row.
 pub(crate) fn write_entries<W: Write>(
     alloc: Global,
     shown: Shown,
     look: &Look,
     out: &mut W,
-) -> Result<(), Unwritten> {
-    let log = shown.record.log.as_slice();
-    let story = Story::new(alloc, log)?;
+) -> Result<(), Unwritten>
+    ensures { OnOk result (WritesObject shown.entry look.now (W.contents out.old) (W.contents out.new)) }
+{
+    let story = Story::new(alloc, shown.record.log.as_slice())?;
     let places = chosen_entries(alloc, shown, look)?;
     begin_rows(out)?;
-    let mut is_first = true;
-    for at in places.iter() {
-        if let Some(entry) = log.get(*at) {
-            write_row(alloc, out, is_first, &row_of(&shown, &story, *at, entry))?;
-            is_first = false;
-        }
-    }
+    write_places(alloc, &shown, &story, places.as_slice(), out)?;
     end_rows(out)?;
     Ok(())
 }

@@ -4,6 +4,7 @@ use crate::beside::Beside;
 use std::fs::{self, File, OpenOptions, Permissions};
 use std::io::{self, Error, ErrorKind, Write};
 use std::os::unix::fs::MetadataExt;
+use std::path::Path;
 
 /// Whether two paths lead to one file.
 pub fn is_one_file(rt: &HostRuntime, one: &str, other: &str) -> bool {
@@ -11,6 +12,25 @@ pub fn is_one_file(rt: &HostRuntime, one: &str, other: &str) -> bool {
         return false;
     };
     one.is_file() && (one.dev(), one.ino()) == (other.dev(), other.ino())
+}
+
+/// The folder in which a file is or would be: its device, and its number there.
+fn folder_of(rt: &HostRuntime, path: &str) -> Option<(u64, u64)> {
+    let folder = Path::new(path).parent()?.as_str();
+    let folder = if folder.is_empty() { "." } else { folder };
+    let found = fs::metadata(rt, folder).ok()?;
+    Some((found.dev(), found.ino()))
+}
+
+/// Whether two paths are of one name in one folder, so that files which are to be made there would be one.
+pub fn is_one_place(rt: &HostRuntime, one: &str, other: &str) -> bool {
+    if Path::new(one).file_name() != Path::new(other).file_name() {
+        return false;
+    }
+    match (folder_of(rt, one), folder_of(rt, other)) {
+        (Some(one), Some(other)) => one == other,
+        _ => false,
+    }
 }
 
 /// Where a record goes.

@@ -5,7 +5,7 @@ use crate::copied::Copied;
 use crate::input::{Input, read};
 use crate::stop::Stop;
 use crate::telling::{reason_if, tell, tell_file_fault, tell_output_fault, tell_unkept};
-use crate::{Noted, SavePlace, SavedFile, is_one_file};
+use crate::{Noted, SavePlace, SavedFile, is_one_file, is_one_place};
 use report_command::{Form, Job, Misuse, RunJob, Search, misused};
 use report_jobs::Streams;
 use std::io::{self, BufWriter, ErrorKind, Write};
@@ -67,13 +67,21 @@ fn is_file_of(rt: &HostRuntime, path: &str, other: Option<&str>) -> bool {
     }
 }
 
+/// Whether two files that a job makes would be one, if there is another: one that is there, or is to be made.
+fn is_made_with(rt: &HostRuntime, path: &str, other: Option<&str>) -> bool {
+    match other {
+        Some(other) => is_one_place(rt, other, path) || is_one_file(rt, other, path),
+        None => false,
+    }
+}
+
 /// Whether the bytes of a run's memory would take the place of a file that it reads, or of its record.
 fn memory_replaces(rt: &HostRuntime, run: &RunJob) -> bool {
     let Some(path) = run.memory_out else {
         return false;
     };
     is_one_file(rt, run.file, path)
-        || is_file_of(rt, path, run.save)
+        || is_made_with(rt, path, run.save)
         || is_file_of(rt, path, run.memory_in.map(|laid| laid.path))
 }
 

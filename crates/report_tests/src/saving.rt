@@ -1,7 +1,7 @@
 //! What is at a record's path before, while and after it is written.
 
 use crate::room::{count_in, make_room, path_in};
-use report_program::{SavePlace, SavedFile, is_one_file};
+use report_program::{SavePlace, SavedFile, is_one_file, is_one_place};
 use std::fs;
 use std::io::{self, Write};
 use std::os::unix::fs::symlink;
@@ -96,6 +96,9 @@ fn follow_link(rt: &HostRuntime, path: &str, link: &str, other: &str) -> Result<
         ("another file", !is_one_file(rt, path, other)),
         ("a folder", !is_one_file(rt, "/", "/")),
         ("no path", !is_one_file(rt, "", "")),
+        ("one place", is_one_place(rt, "new", "./new")),
+        ("another place", !is_one_place(rt, "new", "/new")),
+        ("another name", !is_one_place(rt, "new", "old")),
         (
             "what was there stays",
             save(rt, link, Some("old"), End::Kept)?,
