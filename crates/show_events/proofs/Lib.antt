@@ -1,5 +1,6 @@
 pub mod Among
 pub mod Answered
+pub mod Around
 pub mod Behind
 pub mod Events
 pub mod Firsts

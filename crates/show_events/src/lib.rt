@@ -10,14 +10,18 @@
 //! of its data's element.
 #![tactic(auto)]
 
+mod around;
 mod event;
 mod line;
 mod links;
 mod page;
+mod run;
 mod script;
 mod style;
 mod write;
 
+pub use around::{failure_of, part_around};
 pub use links::{Link, LinkKind, Links};
 pub use page::write_page;
+pub use run::MomentText;
 pub use write::{write_events, write_trace};

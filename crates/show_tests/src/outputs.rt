@@ -84,7 +84,7 @@ fn written_of(
     let mut out = Vec::new(alloc);
     match output {
         Output::Trace => write_trace(alloc, shown, &look, &[], &mut out)?,
-        Output::Page => write_page(alloc, shown, &look, &[], &mut out)?,
+        Output::Page => write_page(alloc, shown, &look, &[], &[], &mut out)?,
     }
     Ok(out)
 }
