@@ -1,5 +1,5 @@
 -- The moments that a page has.
-use Rattle.std.specs.Prelude.{ℕ, ◌≡◌, ◌-◌, ◌/◌, max, min, List, [], length, string_bytes, Some, Unit}
+use Rattle.std.specs.Prelude.{ℕ, ◌≡◌, ◌-◌, ◌/◌, max, min, List, [], length, string_bytes, Some}
 use Rattle.std.specs.List.{AllZip}
 use Rattle.race_history.specs.declared.race.Race.{Race}
 use Rattle.report_choice.specs.declared.choice.Look.{Look}

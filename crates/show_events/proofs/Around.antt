@@ -1,5 +1,5 @@
 -- Some of these places.
-use Rattle.std.proofs.Common.{ℕ, ◌-◌, min, nat_le, if◌then◌else◌, Bool, true, false, List, length, take, drop, All}
+use Rattle.std.specs.Prelude.{ℕ, ◌-◌, min, nat_le, if◌then◌else◌, Bool, true, false, List, length, take, drop, All}
 use Rattle.std.proofs.lemmas.List.Elements.{All-take, All-drop}
 use Rattle.show_events.specs.Around.{around, part_around, count_before}
 use Rattle.show_events.specs.declared.around.TheConstants.{MOST_WHOLE, PART, BEFORE}

@@ -1,7 +1,7 @@
 -- Where a run failed, and which entries around it a page has.
 use Rattle.std.specs.Prelude.{ℕ, ◌-◌, min, nat_le, nat_lt, if◌then◌else◌, Bool, true, false, List, length, filter}
-use Rattle.std.specs.Prelude.{Option, Some, position, unwrap_or}
-use Rattle.std.specs.List.{slice_get, take, drop}
+use Rattle.std.specs.Prelude.{Option, Some, position, unwrap_or, take, drop}
+use Rattle.std.specs.List.{slice_get}
 use Rattle.types.specs.declared.event.Entry.{Entry}
 use Rattle.types.specs.declared.outcome.Outcome.{Outcome}
 use Rattle.types.specs.declared.outcome.Outcome.TheVariants.{Trap, Stop}

@@ -373,7 +373,7 @@ addEventListener('keydown', event => {
 });
 const wanted = /^#L(\d+)$/.exec(location.hash);
 entitle();
-find();
+tell();
 lay();
 choose(wanted ? entries.findIndex(e => e.args.line === Number(wanted[1])) : failure);
 </script>
