@@ -43,20 +43,32 @@ fn is_stop(outcome: Option<Outcome>) -> bool
     matches!(outcome, Some(Outcome::Stop(_)))
 }
 
+/// Whether a thread leaves by this entry that trapped.
+fn leaves_trapped(ends: &[ThreadReport], entry: &Entry) -> bool
+    ensures { result ≡ leaves_as specified.is_trap ends.now entry.now }
+{
+    is_trap(outcome_of(ends, entry))
+}
+
+/// Whether a thread leaves by this entry that was stopped.
+fn leaves_stopped(ends: &[ThreadReport], entry: &Entry) -> bool
+    ensures { result ≡ leaves_as specified.is_stop ends.now entry.now }
+{
+    is_stop(outcome_of(ends, entry))
+}
+
 /// The place of the first entry by which a thread leaves that trapped.
 fn first_trap(log: &[Entry], ends: &[ThreadReport]) -> Option<usize>
     ensures { result ≡ position (leaves_as specified.is_trap ends.now) log.now }
 {
-    log.iter()
-        .position(|entry| is_trap(outcome_of(ends, entry)))
+    log.iter().position(|entry| leaves_trapped(ends, entry))
 }
 
 /// The place of the first entry by which a thread leaves that was stopped.
 fn first_stop(log: &[Entry], ends: &[ThreadReport]) -> Option<usize>
     ensures { result ≡ position (leaves_as specified.is_stop ends.now) log.now }
 {
-    log.iter()
-        .position(|entry| is_stop(outcome_of(ends, entry)))
+    log.iter().position(|entry| leaves_stopped(ends, entry))
 }
 
 /// The place of the log at which a run failed: where a thread leaves that trapped, else one that was stopped; of a run
