@@ -1,10 +1,10 @@
 pub mod Among
 pub mod Answered
-pub mod Around
 pub mod Behind
 pub mod Events
 pub mod Firsts
 pub mod Linked
+pub mod Parted
 pub mod Parts
 pub mod Places
 pub mod Said

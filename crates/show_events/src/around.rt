@@ -74,7 +74,7 @@ fn first_stop(log: &[Entry], ends: &[ThreadReport]) -> Option<usize>
 /// The place of the log at which a run failed: where a thread leaves that trapped, else one that was stopped; of a run
 /// that didn't fail the last one.
 pub fn failure_of(record: &RecordParts) -> usize
-    ensures { result ≡ failure record.now }
+    ensures { result ≡ failure «record».now }
 {
     let log = record.log.as_slice();
     let ends = record.ends.as_slice();

@@ -22,6 +22,7 @@ use std::io::Write;
 /// ends and these moments, and a script that draws them: threads as lanes, a wait as a bar up to its answer, arrows from a
 /// notify to whom it wakes, from a spawn to the first entry of its thread, and between the two entries of each of these
 /// races.
+#[tactic(auto, using(crate::proofs::Parted::all_around))]
 pub fn write_page<W: Write>(
     alloc: Global,
     shown: Shown,

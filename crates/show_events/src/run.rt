@@ -24,7 +24,7 @@ pub struct MomentText {
 
 /// The call, and where the run failed.
 fn head_json(alloc: Global, record: &RecordParts, chosen: usize) -> Result<String, AllocError>
-    ensures { IfOk result (λ s. string_bytes s ≡ head_json record.now chosen) }
+    ensures { IfOk result (λ s. string_bytes s ≡ head_json «record».now chosen) }
 {
     let name = quoted(alloc, record.invoke.as_str())?;
     let call = name.as_str();
@@ -134,7 +134,7 @@ pub(crate) fn write_run<W: Write>(
     out: &mut W,
 ) -> Result<(), Unwritten>
     ensures lines { OnOk result ((n : ℕ) × AddsLines n (W.contents out.old) (W.contents out.new)) }
-    ensures which { OnOk result (AddsRun record.now chosen moments.now (W.contents out.old) (W.contents out.new)) }
+    ensures which { OnOk result (AddsRun «record».now chosen moments.now (W.contents out.old) (W.contents out.new)) }
 {
     let head = head_json(alloc, record, chosen)?;
     write_line(alloc, out, Front::Open, head.as_str())?;

@@ -1,6 +1,6 @@
 use Rattle.std.proofs.Common.{◌≡◌, ◌++◌, ◌∙◌, ◌<◌, ℕ, List, length, All, ap, subst, sym}
 use Rattle.show_events.specs.Around.{around}
-use Rattle.show_events.proofs.Around.{all_around}
+use Rattle.show_events.proofs.Parted.{all_around}
 use Rattle.show_events.proofs.Parts.{events_text, page_text}
 use Rattle.show_events.proofs.Said.{page_of}
 use Rattle.show_events.proofs.page.write_page.Goals as goal

@@ -10,7 +10,7 @@ returns-clause-lines g c =
     (all.0, all.2.1)
 
 pub returns-clause-which : goal.returns-clause-which
-returns-clause-which g c = run_of c.args.record.now c.args.chosen c.args.moments.now c.as_slice.result.now c.as_slice-2.result.now
+returns-clause-which g c = run_of c.args.«record».now c.args.chosen c.args.moments.now c.as_slice.result.now c.as_slice-2.result.now
     c.as_str.result.now _ _ _ _ _ _ c.as_slice.ensures c.as_slice-2.ensures (c.as_str.ensures.value ∙ c.in_ok-head.ensures)
     c.in_ok-write_line.ensures.text c.in_ok-write_arguments.ensures.which c.in_ok-write_ends.ensures.which
     c.in_ok-write_moments.ensures.which c.in_ok-write_line-2.ensures.text
