@@ -7,7 +7,7 @@ pub returns-clause-lines : goal.returns-clause-lines
 returns-clause-lines g c =
     let all = whole _ _ _ _ _ _ _ _ _ c.in_ok-write_line.ensures.line c.in_ok-write_arguments.ensures.lines
     c.in_ok-write_ends.ensures.lines c.in_ok-write_moments.ensures.lines c.in_ok-write_line-2.ensures.line in
-    (all.0, all.2.1)
+    (all.0, all.2)
 
 pub returns-clause-which : goal.returns-clause-which
 returns-clause-which g c = run_of c.args.«record».now c.args.chosen c.args.moments.now c.as_slice.result.now c.as_slice-2.result.now
