@@ -1,3 +1,4 @@
+pub mod PageMoments
 pub mod RaceObjects
 pub mod Raced
 pub mod Silent

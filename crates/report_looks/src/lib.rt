@@ -15,6 +15,7 @@
 #![tactic(auto)]
 
 mod ends;
+mod moments;
 mod objects;
 mod pairing;
 mod printing;

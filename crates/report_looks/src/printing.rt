@@ -2,9 +2,11 @@
 ghost use Rattle.std.specs.Prelude.{◌≡◌, All, IfOk, OnOk};
 ghost use Rattle.show_races.specs.Told.{IsWithin};
 ghost use Rattle.report_looks.specs.Looked as looked;
+ghost use Rattle.report_looks.specs.PageMoments.{AreMarks};
 ghost use Rattle.report_looks.specs.Looked.{PrintsAsked, WritesBelow, WritesEntries, WritesLastOf, WritesRowsOf};
 
 use crate::ends::write_end;
+use crate::moments::{Marks, marks_of};
 use crate::objects::write_entries;
 use crate::showing::SeenRun;
 use crate::wanted::{Asked, Here, Wanted};
@@ -25,17 +27,17 @@ use std::io::Write;
 use types::{Outcome, ThreadReport};
 use validate_module::ValidModule;
 
-/// How many races a page, a trace or a moment marks, at most.
-const MOST_MARKS: usize = 100_000;
+/// How many races a trace or a moment marks, at most.
+pub(crate) const MOST_MARKS: usize = 100_000;
 
-/// The pairs of entries that race. A log of more threads than 64 has none that are known.
-fn races_in(alloc: Global, shown: Shown) -> Result<Vec<Race>, AllocError>
+/// The pairs of entries that race, so many at most. A log of more threads than 64 has none that are known.
+pub(crate) fn races_in(alloc: Global, shown: Shown, most: usize) -> Result<Vec<Race>, AllocError>
     ensures { IfOk result (λ races. All (IsWithin shown.entry.record.now.log) races.items) }
 {
     if !is_history(shown.record.log.as_slice()) {
         return Ok(Vec::new(alloc));
     }
-    racing_pairs(alloc, shown, MOST_MARKS)
+    racing_pairs(alloc, shown, most)
 }
 
 /// Writes of a record what is asked for.
@@ -63,7 +65,10 @@ pub(crate) fn print_asked<W: Write>(
             let moment = moment_of(alloc, module, &seen.record, here)?;
             print_moment(alloc, module, shown, map, &moment, here, out)
         },
-        Wanted::Entries(view) => print_entries(alloc, shown, map, &asked.look, view, out),
+        Wanted::Entries(view) => {
+            let marks = marks_of(alloc, module, &seen.record, shown, &asked.look, view)?;
+            print_entries(alloc, shown, map, &asked.look, view, &marks, out)
+        }
     }
 }
 
@@ -89,19 +94,15 @@ fn print_entries<W: Write>(
     map: &DataMap,
     look: &Look,
     view: View,
+    marks: &Marks,
     out: &mut W,
 ) -> Result<(), Unwritten>
+    requires { AreMarks view.entry shown.entry look.now marks.now }
     ensures { OnOk result (WritesEntries view.entry shown.entry map.now look.now (W.contents out.old) (W.contents out.new)) }
 {
     match view {
-        View::Page(_) => {
-            let races = races_in(alloc, shown)?;
-            write_page(alloc, shown, look, &races, out)
-        }
-        View::Trace(_) => {
-            let races = races_in(alloc, shown)?;
-            write_trace(alloc, shown, look, &races, out)
-        }
+        View::Page(_) => write_page(alloc, shown, look, &marks.races, &marks.moments, out),
+        View::Trace(_) => write_trace(alloc, shown, look, &marks.races, out),
         View::Object => write_entries(alloc, shown, look, out),
         View::Rows | View::Moment(_) | View::Write(_) => print_rows(alloc, shown, map, look, out),
     }
@@ -167,7 +168,7 @@ fn print_rows<W: Write>(
 }
 
 /// A moment of a record, seen by a second replay.
-fn moment_of<'r>(
+pub(crate) fn moment_of<'r>(
     alloc: Global,
     module: &ValidModule,
     record: &'r Record,
@@ -194,6 +195,6 @@ fn print_moment<W: Write>(
     if here.is_end {
         return write_end(alloc, module, shown, map, moment, out);
     }
-    let races = races_in(alloc, shown)?;
+    let races = races_in(alloc, shown, MOST_MARKS)?;
     write_moment(alloc, module, shown, moment, &races, out)
 }

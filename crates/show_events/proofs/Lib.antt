@@ -4,6 +4,7 @@ pub mod Behind
 pub mod Events
 pub mod Firsts
 pub mod Linked
+pub mod Parted
 pub mod Parts
 pub mod Places
 pub mod Said

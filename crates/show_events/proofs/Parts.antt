@@ -26,9 +26,11 @@ keeps_behind (Some a) None c x p q = absurd p
 keeps_behind (Some a) (Some b) None x p q = absurd q
 keeps_behind (Some a) (Some b) (Some c) x p q = q ∙ p
 
-pub page_text : (a b c d e f g h : Option (List ℕ)) (s t o v k r : List ℕ) → Appends a b s → Appends b c t → Appends c d o
-    → Appends d e v → Appends e f k → Appends f g r → Keeps g h → Appends a h ((s ++ t) ++ (o ++ (v ++ (k ++ r))))
-page_text a b c d e f g h s t o v k r ps pt po pv pk pr last =
-    let rest : Appends c g (o ++ (v ++ (k ++ r))) = appends_then c d g o (v ++ (k ++ r)) po
-    (appends_then d e g v (k ++ r) pv (appends_then e f g k r pk pr)) in
-    keeps_behind a g h _ (appends_then a c g (s ++ t) _ (appends_then a b c s t ps pt) rest) last
+pub page_text : (a b c d e f g h i j : Option (List ℕ)) (s t o r n v k w : List ℕ) → Appends a b s → Appends b c t
+    → Appends c d o → Appends d e r → Appends e f n → Appends f g v → Appends g h k → Appends h i w → Keeps i j
+    → Appends a j ((s ++ t) ++ (o ++ (r ++ (n ++ (v ++ (k ++ w))))))
+page_text a b c d e f g h i j s t o r n v k w ps pt po pr pn pv pk pw last =
+    let events : Appends e i (n ++ (v ++ (k ++ w))) =
+    appends_then e f i n _ pn (appends_then f g i v (k ++ w) pv (appends_then g h i k w pk pw)) in
+    let run : Appends c i (o ++ (r ++ (n ++ (v ++ (k ++ w))))) = appends_then c d i o _ po (appends_then d e i r _ pr events) in
+    keeps_behind a i j _ (appends_then a c i (s ++ t) _ (appends_then a b c s t ps pt) run) last

@@ -3,6 +3,9 @@ use Rattle.std.proofs.Common.{◌≡◌, ◌∙◌, ◌<◌, ℕ, List, [], ◌+
 use Rattle.std.specs.List.{enumerate_from}
 use Rattle.std.specs.Io.KnownBytes.{Appends, Keeps}
 use Rattle.types.specs.declared.event.Entry.{Entry}
+use Rattle.types.specs.declared.outcome.ThreadReport.{ThreadReport}
+use Rattle.types.specs.declared.value.Value.{Value}
+use Rattle.replay_text.specs.declared.parts.RecordParts.{RecordParts}
 use Rattle.race_history.specs.declared.race.Race.{Race}
 use Rattle.report_choice.specs.declared.choice.Look.{Look}
 use Rattle.show_text.specs.declared.words.Words.{Words}
@@ -18,7 +21,12 @@ use Rattle.show_events.specs.declared.line.Front.TheVariants.{Open, Next, Close}
 use Rattle.show_events.specs.declared.links.Link.{Link}
 use Rattle.show_events.specs.Links.{AreLinks, Lasts, in_list}
 use Rattle.show_events.specs.Events.{line_text, entry_json, process_json, InTurn, AreThreadsOf, AreAmong, AddsName, AddsEvent}
-use Rattle.show_events.specs.Events.{AddsArrow, AddsEvents, WritesEvents, WritesPage, arrow_text, finish_json, kind_text, start_json}
+use Rattle.show_events.specs.Events.{AddsArrow, AddsEvents, arrow_text, finish_json, kind_text, start_json}
+use Rattle.show_events.specs.Around.{around, failure}
+use Rattle.show_events.specs.Page.{events_tag, run_tag}
+use Rattle.show_events.specs.Run.{AddsArgument, AddsEnded, AddsMoment, AddsRun, head_json}
+use Rattle.show_events.specs.Written.{WritesPage}
+use Rattle.show_events.specs.declared.run.MomentText.{MomentText}
 
 pub event_says : (shown : Shown) (story : Story) (at long line : ℕ) (log : List Entry) (d : Entry) (said : Words)
     (words place json : List ℕ) (old new : Option (List ℕ)) → log ≡ shown.record.now.log → at < length shown.record.now.log
@@ -64,30 +72,43 @@ events_of shown races places story log links linked threads named among known a 
       closes = closes;
     }
 
--- The events of the entries that are chosen, and what stands before and behind them.
-pub around : (shown : Shown) (races : List Race) (look : Look) (places front back : List ℕ) (a b c d e : Option (List ℕ))
-    → places ≡ chosen shown look → Appends a b front → AddsEvents shown races places b c → Appends c d back → Keeps d e
-    → WritesEvents shown races look front back a e
-around shown races look places front back a b c d e are begins events ends last = record {
-  from = b;
-  begins = begins;
-  to = c;
-  events = subst (λ (ps : List ℕ). AddsEvents shown races ps b c) are events;
-  ends = appends_keeps c d e back ends last;
+-- What a page has of its run, by the lists that are gone through.
+pub run_of : (r : RecordParts) (chosen : ℕ) (moments : List MomentText) (args : List Value) (ends : List ThreadReport)
+    (head : List ℕ) (a b c d e f : Option (List ℕ)) → args ≡ r.args → ends ≡ r.ends → head ≡ head_json r chosen
+    → Appends a b (line_text Open head) → InTurn AddsArgument args b c → InTurn AddsEnded ends c d
+    → InTurn AddsMoment moments d e → Appends e f (line_text Close []) → AddsRun r chosen moments a f
+run_of r chosen moments args ends head a b c d e f args_are ends_are head_is opens asks says tells closes = record {
+  opened = b;
+  opens = subst (λ (t : List ℕ). Appends a b (line_text Open t)) head_is opens;
+  asked = c;
+  asks = subst (λ (xs : List Value). InTurn AddsArgument xs b c) args_are asks;
+  ended = d;
+  ends = subst (λ (xs : List ThreadReport). InTurn AddsEnded xs c d) ends_are says;
+  told = e;
+  tells = tells;
+  closes = closes;
 }
 
-pub page_of : (shown : Shown) (races : List Race) (look : Look) (places style body script : List ℕ)
-    (a b c d e f g h : Option (List ℕ)) → places ≡ chosen shown look → Appends a b style → Appends b c body
-    → Appends c d (codes "<script type=\"application/json\" id=\"events\">") → AddsEvents shown races places d e
-    → Appends e f (codes "</script>") → Appends f g script → Keeps g h → WritesPage shown races look a h
-page_of shown races look places style body script a b c d e f g h are styled bodied opens events ends scripted last = (
-  style ++ body,
-  script,
-  around shown races look places ((style ++ body) ++ codes "<script type=\"application/json\" id=\"events\">")
-      (codes "</script>" ++ script) a d e g h are
-      (appends_then a c d (style ++ body) _ (appends_then a b c style body styled bodied) opens) events
-      (appends_then e f g _ script ends scripted) last,
-)
+pub page_of : (shown : Shown) (races : List Race) (moments : List MomentText) (look : Look) (n : ℕ)
+    (places style body script : List ℕ) (a b c d e f g h i j : Option (List ℕ)) → n ≡ length (chosen shown look)
+    → places ≡ around (failure shown.record.now) (chosen shown look) → Appends a b style → Appends b c body
+    → Appends c d run_tag → AddsRun shown.record.now n moments d e → Appends e f events_tag
+    → AddsEvents shown races places f g → Appends g h (codes "</script>") → Appends h i script → Keeps i j
+    → WritesPage shown races moments look a j
+page_of shown races moments look n places style body script a b c d e f g h i j many are styled bodied opens run goes events ends
+    scripted last = record {
+      front = style ++ body;
+      begun = d;
+      begins = appends_then a c d (style ++ body) run_tag (appends_then a b c style body styled bodied) opens;
+      told = e;
+      tells = subst (λ (k : ℕ). AddsRun shown.record.now k moments d e) many run;
+      from = f;
+      goes_on = goes;
+      to = g;
+      events = subst (λ (ps : List ℕ). AddsEvents shown races ps f g) are events;
+      back = script;
+      ends = appends_keeps g i j (codes "</script>" ++ script) (appends_then g h i (codes "</script>") script ends scripted) last;
+    }
 
 -- Both lines of an arrow whose ends are known.
 pub arrow_says : (among : List (Option ℕ)) (number : ℕ) (link : Link) (from to : ℕ) (kind start finish : List ℕ)

@@ -138,22 +138,3 @@ pub record AddsEvents (shown : Shown) (races : List Race) (places : List ℕ) (o
   pub drawn : Option (List ℕ)
   pub draws : InTurn (AddsArrow among) (enumerate_from 0 links) said drawn
   pub closes : Appends drawn new (line_text Close [])
-
--- What is written is these events of the entries that are chosen, with this before and that behind them.
-pub record WritesEvents (shown : Shown) (races : List Race) (look : Look) (front back : List ℕ)
-    (old new : Option (List ℕ)) : Type 0 where
-  pub from : Option (List ℕ)
-  pub begins : Appends old from front
-  pub to : Option (List ℕ)
-  pub events : AddsEvents shown races (chosen shown look) from to
-  pub ends : Appends to new back
-
--- A trace has nothing else.
-abbrev pub WritesTrace : Shown → List Race → Look → Option (List ℕ) → Option (List ℕ) → Type 0
-WritesTrace shown races look =
-    WritesEvents shown races look (codes "{\"displayTimeUnit\":\"ns\",\"traceEvents\":\n") (codes "}\n")
-
--- A page has an element of data that is these events.
-abbrev pub WritesPage : Shown → List Race → Look → Option (List ℕ) → Option (List ℕ) → Type 0
-WritesPage shown races look old new = (front back : List ℕ) × WritesEvents shown races look
-    (front ++ codes "<script type=\"application/json\" id=\"events\">") (codes "</script>" ++ back) old new

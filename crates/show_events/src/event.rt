@@ -10,7 +10,7 @@ use std::alloc::{AllocError, Global};
 use std::fmt::{self, Formatter, Write};
 
 /// A text in quotes, with an escape for what can't stand in them.
-fn quoted(alloc: Global, text: &str) -> Result<String, AllocError>
+pub(crate) fn quoted(alloc: Global, text: &str) -> Result<String, AllocError>
     ensures { IfOk result (λ s. string_bytes s ≡ specified.quoted text.now) }
 {
     Value::String(String::from_str(alloc, text)?).to_string(alloc)

@@ -1,27 +1,37 @@
 //! The fixed parts of a page: what draws it.
 
-/// What stands behind the events: the script, and the end of the page.
+/// What stands behind the data: the script, and the end of the page.
 pub(crate) const SCRIPT: &str = r#"
 <script>
 'use strict';
-const ROW = 20, GUTTER = 66, LEAST = 230;
+const ROW = 20, GUTTER = 66, HEAD = 26, LABEL = 5, PITCH = 26, LEAST = 320;
 const byId = id => document.getElementById(id);
+// Marks that turn the direction of text, or that nobody sees, are shown as control characters are.
+const plain = text => String(text).replace(/[\u061c\u200b-\u200f\u2028-\u202e\u2060-\u206f\ufeff]/g, '?');
+const number = n => n.toLocaleString('en');
+const [run, ...told] = JSON.parse(byId('run').textContent);
+const reports = told.filter(line => 'ended' in line);
+const call = `${run.call}(${told.filter(line => 'argument' in line).map(line => line.argument).join(', ')})`;
+const moments = new Map(told.filter(line => 'moment' in line).map(line => [line.moment, line.text]));
 const events = JSON.parse(byId('events').textContent);
 const entries = events.filter(e => e.ph === 'X').sort((a, b) => a.ts - b.ts);
 const threads = events.filter(e => e.ph === 'M' && e.name === 'thread_name').map(e => e.tid);
-const rowOf = new Map(entries.map((e, row) => [e.ts, row]));
 const lane = new Map(threads.map((t, place) => [t, place]));
-const color = t => `hsl(${(lane.get(t) * 67 + 210) % 360} 65% var(--light))`;
-const arrows = [], begun = new Map();
-for (const e of events) {
-  if (e.ph === 's') begun.set(e.id, e);
-  if (e.ph === 'f' && begun.has(e.id)) {
-    const from = rowOf.get(begun.get(e.id).ts), to = rowOf.get(e.ts);
-    if (from !== undefined && to !== undefined) arrows.push({ kind: e.name, from, to });
+// Neighbours differ in lightness, so that gray tells them apart.
+const color = t => `oklch(var(--l${lane.get(t) % 4}) var(--vivid) ${(lane.get(t) * 67 + 255) % 360})`;
+// Of each thread its rows, and the last of them before a row.
+const own = new Map(threads.map(t => [t, []]));
+entries.forEach((e, row) => own.get(e.tid).push(row));
+const lastOf = (t, row) => {
+  const rows = own.get(t);
+  let low = 0, high = rows.length;
+  while (low < high) {
+    const middle = (low + high) >> 1;
+    if (rows[middle] < row) low = middle + 1; else high = middle;
   }
-}
-const racing = new Set(arrows.filter(a => a.kind === 'races').flatMap(a => [a.from, a.to]));
-// A bar goes down to the row of the answer, or to the last row before it that is there.
+  return low - 1;
+};
+// The first row from a number of the log on.
 const firstRow = ts => {
   let low = 0, high = entries.length;
   while (low < high) {
@@ -30,41 +40,58 @@ const firstRow = ts => {
   }
   return low;
 };
+const arrows = [], begun = new Map();
+for (const e of events) {
+  if (e.ph === 's') begun.set(e.id, firstRow(e.ts));
+  if (e.ph === 'f' && begun.has(e.id)) arrows.push({ kind: e.name, from: begun.get(e.id), to: firstRow(e.ts) });
+}
+const racing = new Set(arrows.filter(a => a.kind === 'races').flatMap(a => [a.from, a.to]));
+// A bar goes down to the row of the answer, or to the last row before it that is there.
 const bars = entries.flatMap((e, from) => e.dur > 1 ? [{ from, to: firstRow(e.ts + e.dur), tid: e.tid }] : []);
+// Where the page opens: at the failure, or at the last row before it that is there.
+const failure = Math.max(0, firstRow(run.failure + 1) - 1);
+const hasFailed = end => /^(trap|stop)/.test(end.ended);
 const view = byId('view'), sheet = byId('sheet'), lanes = byId('lanes'), details = byId('details');
-let width = LEAST, chosen = -1, found = [], foundSet = new Set();
+const over = byId('over'), map = byId('map'), here = byId('here');
+let pitch = PITCH, width = LEAST, chosen = -1, found = [], foundSet = new Set();
+let zoom = { from: 0, to: Math.max(1, entries.length) };
 const make = (tag, name, text) => {
   const node = document.createElement(tag);
   if (name) node.className = name;
-  if (text !== undefined) node.textContent = text;
+  if (text !== undefined) node.textContent = plain(text);
   return node;
 };
-const left = tid => GUTTER + lane.get(tid) * width;
+const left = tid => GUTTER + lane.get(tid) * pitch;
 const middleOf = row => row * ROW + ROW / 2;
+// Of a place the function's name, which may be cut, and the rest, which isn't.
+const parted = place => {
+  const at = /\+0x[0-9a-f]+(?: .*)?$/.exec(place);
+  return at ? [place.slice(0, at.index), at[0]] : [place, ''];
+};
 
 function drawRow(row) {
-  const e = entries[row];
-  const name = 'row' + (racing.has(row) ? ' racing' : '') + (foundSet.has(row) ? ' found' : '')
-    + (row === chosen ? ' chosen' : '');
-  const node = make('div', name);
+  const e = entries[row], [name, spot] = parted(e.args.place);
+  const node = make('div', 'row' + (racing.has(row) ? ' racing' : '') + (foundSet.has(row) ? ' found' : '')
+    + (/^(ends: (trap|stop)|asleep for good)/.test(e.name) ? ' failed' : '') + (row === chosen ? ' chosen' : ''));
   node.style.top = row * ROW + 'px';
   node.dataset.row = row;
-  node.append(make('i', '', e.args.line));
-  const words = make('span', '', e.name + ' ');
-  words.style.left = left(e.tid) + 'px';
-  words.style.width = width + 'px';
-  words.style.color = color(e.tid);
-  words.append(make('small', '', e.args.place));
-  words.title = e.name + '\n' + e.args.place;
-  node.append(words);
+  const cell = make('span', 'cell');
+  cell.style.left = left(e.tid) + 'px';
+  cell.style.color = color(e.tid);
+  cell.title = plain(e.name + '\n' + e.args.place);
+  cell.append(make('b', '', 't' + e.tid), make('span', 'words', e.name), make('span', 'name', name),
+    make('span', 'spot', spot));
+  node.append(make('i', '', e.args.line), cell);
   return node;
 }
-function drawArrow(svg, arrow) {
+function drawArrow(svg, arrow, first, last) {
   const from = entries[arrow.from], to = entries[arrow.to];
-  const x = left(from.tid) + 4, y = middleOf(arrow.from), u = left(to.tid) + 4, v = middleOf(arrow.to);
+  // The end that isn't in sight is cut off: dashes of a line of a million pixels take minutes.
+  const within = row => middleOf(Math.max(first - 20, Math.min(last + 20, row)));
+  const x = left(from.tid) + 4, y = within(arrow.from), u = left(to.tid) + 4, v = within(arrow.to);
   const bend = Math.min(60, Math.abs(v - y) / 2 + 10);
   const path = document.createElementNS('http://www.w3.org/2000/svg', 'path');
-  path.setAttribute('class', arrow.kind);
+  path.setAttribute('class', arrow.kind + (arrow.from === chosen || arrow.to === chosen ? ' near' : ''));
   path.setAttribute('d', `M${x} ${y} C${x - 14} ${y + bend} ${u - 14} ${v - bend} ${u} ${v} m-6 -3 l6 3 l-5 5`);
   svg.append(path);
 }
@@ -89,21 +116,110 @@ function draw() {
   const svg = document.createElementNS('http://www.w3.org/2000/svg', 'svg');
   svg.setAttribute('width', '100%');
   svg.setAttribute('height', entries.length * ROW);
-  for (const arrow of arrows) if (arrow.from < last && arrow.to >= first) drawArrow(svg, arrow);
+  const sees = row => row >= first && row < last;
+  const drawn = arrows.filter(arrow => sees(arrow.from) || sees(arrow.to));
+  const isNear = arrow => arrow.from === chosen || arrow.to === chosen;
+  drawn.sort((a, b) => isNear(b) - isNear(a) || (a.to - a.from) - (b.to - b.from));
+  for (const arrow of drawn.slice(0, 100)) drawArrow(svg, arrow, first, last);
   sheet.replaceChildren(...parts, svg);
+  frame();
 }
+// How many characters the longest row has; and with its function's name cut.
+const longest = { whole: 0, cut: 0 };
+for (const e of entries) {
+  const words = Math.min(80, e.name.length + 1), spot = parted(e.args.place)[1].length;
+  longest.whole = Math.max(longest.whole, words + e.args.place.length + LABEL);
+  longest.cut = Math.max(longest.cut, words + Math.min(3, e.args.place.length - spot) + spot + LABEL);
+}
+// A row has one thread's text, which may run over the lanes to its right: so it is as wide as the longest one wants.
 function lay() {
-  width = Math.max(LEAST, Math.floor((view.clientWidth - GUTTER - 10) / Math.max(1, threads.length)));
-  const all = GUTTER + width * threads.length + 'px';
+  const room = view.clientWidth - GUTTER - 10, others = Math.max(0, threads.length - 1);
+  const wide = characters => Math.ceil(characters * 7.25) + 10;
+  width = Math.max(LEAST, wide(longest.cut), Math.min(wide(longest.whole), room - PITCH * others));
+  pitch = others ? Math.max(PITCH, Math.min(width, Math.floor((room - width) / others))) : width;
   sheet.style.height = entries.length * ROW + 'px';
-  sheet.style.width = lanes.style.width = all;
-  lanes.replaceChildren(...events.filter(e => e.name === 'thread_name').map(e => {
-    const name = make('b', '', e.args.name);
-    name.style.left = left(e.tid) + 8 + 'px';
-    name.style.color = color(e.tid);
+  sheet.style.width = lanes.style.width = GUTTER + pitch * others + width + 'px';
+  lanes.replaceChildren(...threads.map(t => {
+    const name = make('b', '', 't' + t);
+    name.style.left = left(t) + 8 + 'px';
+    name.style.color = color(t);
     return name;
   }));
+  over.style.width = Math.max(56, Math.min(192, threads.length * 16)) + 8 + 'px';
+  survey();
   draw();
+}
+// The overview: of each thread how much of a stretch is its own, and where it sleeps.
+function survey() {
+  const scale = devicePixelRatio || 1, wide = over.clientWidth, high = Math.max(1, over.clientHeight - HEAD);
+  map.style.width = wide + 'px';
+  map.style.height = high + 'px';
+  map.width = wide * scale;
+  map.height = high * scale;
+  const pen = map.getContext('2d'), column = (wide - 8) / Math.max(1, threads.length);
+  const each = high / (zoom.to - zoom.from);
+  pen.scale(scale, scale);
+  const paint = value => {
+    over.style.color = value;
+    pen.fillStyle = getComputedStyle(over).color;
+    over.style.color = '';
+  };
+  const top = row => (row - zoom.from) * each;
+  const counts = threads.map(() => new Float32Array(Math.ceil(high)));
+  const last = Math.min(entries.length, Math.ceil(zoom.to));
+  for (let row = Math.max(0, Math.floor(zoom.from)); row < last; row++)
+    counts[lane.get(entries[row].tid)][Math.max(0, Math.floor(top(row)))] += 1;
+  threads.forEach((t, place) => {
+    const x = 4 + place * column;
+    paint(color(t));
+    pen.globalAlpha = .55;
+    for (const bar of bars)
+      if (bar.tid === t && bar.from < zoom.to && bar.to >= zoom.from)
+        pen.fillRect(x + column / 2 - 1, top(bar.from), 2, Math.max(1, (bar.to - bar.from) * each));
+    counts[place].forEach((count, y) => {
+      if (!count) return;
+      pen.globalAlpha = .3 + .7 * Math.min(1, count * each);
+      pen.fillRect(x, y, Math.max(1, column - 1), Math.max(1, Math.min(each, 12)));
+    });
+  });
+  pen.globalAlpha = 1;
+  paint('var(--race)');
+  for (const row of racing) if (row >= zoom.from && row < zoom.to) pen.fillRect(wide - 4, top(row), 4, 1);
+  pen.fillRect(0, top(failure + .5) - 1, wide, 2);
+  over.querySelectorAll('b').forEach(node => node.remove());
+  threads.forEach((t, place) => {
+    const name = make('b', '', column >= 14 ? 't' + t : column >= 9 ? t : '');
+    name.style.cssText = `left:${4 + place * column}px;width:${column}px;color:${color(t)}`;
+    over.append(name);
+  });
+}
+// The rows that the list shows, in the overview.
+function frame() {
+  const high = Math.max(1, over.clientHeight - HEAD), each = high / (zoom.to - zoom.from);
+  const top = Math.max(-4, Math.min(high, (view.scrollTop / ROW - zoom.from) * each));
+  const end = Math.max(0, Math.min(high, ((view.scrollTop + view.clientHeight) / ROW - zoom.from) * each));
+  here.style.top = HEAD + top + 'px';
+  here.style.height = Math.max(4, end - top) + 'px';
+}
+function zoomBy(factor, row) {
+  const most = Math.max(1, entries.length);
+  const size = Math.max(Math.min(40, most), Math.min(most, (zoom.to - zoom.from) * factor));
+  const part = (row - zoom.from) / (zoom.to - zoom.from);
+  const from = Math.max(0, Math.min(most - size, row - part * size));
+  zoom = { from, to: from + size };
+  survey();
+  frame();
+}
+const middleRow = () => (view.scrollTop + view.clientHeight / 2) / ROW;
+const rowAt = event =>
+  zoom.from + (event.clientY - map.getBoundingClientRect().top) / map.clientHeight * (zoom.to - zoom.from);
+// Where the list shows rows that the overview doesn't, this goes there.
+function follow() {
+  const row = Math.min(entries.length, Math.max(0, middleRow())), size = zoom.to - zoom.from;
+  if (row >= zoom.from && row <= zoom.to) return;
+  const from = Math.max(0, Math.min(entries.length - size, row - size / 2));
+  zoom = { from, to: from + size };
+  survey();
 }
 function jump(text, row) {
   const button = make('button', '', `${text}: line ${entries[row].args.line}`);
@@ -114,18 +230,33 @@ function choose(row, keep) {
   if (row < 0 || row >= entries.length) return;
   chosen = row;
   const e = entries[row], list = make('dl');
-  const facts = [['line', e.args.line], ['thread', 't' + e.tid], ['does', e.name], ['where', e.args.place || 'unknown']];
+  const facts = [['line', e.args.line], ['thread', 't' + e.tid], ['does', e.name],
+    ['where', e.args.place || 'unknown']];
   if (e.dur > 1) facts.push(['waits for', e.dur + ' entries']);
   for (const [name, text] of facts) list.append(make('dt', '', name), make('dd', '', text));
   details.replaceChildren(make('h2', '', 'Entry'), list);
   const does = { wakes: 'wakes', spawns: 'spawns', races: 'races with' };
   const has = { wakes: 'woken by', spawns: 'spawned by', races: 'races with' };
-  for (const arrow of arrows) {
-    if (arrow.from === row) details.append(jump(does[arrow.kind] + ' t' + entries[arrow.to].tid, arrow.to));
-    if (arrow.to === row) details.append(jump(has[arrow.kind] + ' t' + entries[arrow.from].tid, arrow.from));
+  const near = arrows.filter(arrow => arrow.from === row || arrow.to === row);
+  for (const arrow of near.slice(0, 12)) {
+    const [words, other] = arrow.from === row ? [does, arrow.to] : [has, arrow.from];
+    details.append(jump(words[arrow.kind] + ' t' + entries[other].tid, other));
   }
+  if (near.length > 12) details.append(make('p', 'dim', `and ${number(near.length - 12)} more`));
   const bar = bars.find(b => b.from === row);
   if (bar && bar.to < entries.length) details.append(jump('goes on', bar.to));
+  const rows = own.get(e.tid), at = lastOf(e.tid, row);
+  if (at >= 0) details.append(jump(`t${e.tid} before`, rows[at]));
+  if (at + 2 < rows.length) details.append(jump(`t${e.tid} next`, rows[at + 2]));
+  const others = threads.filter(t => t !== e.tid && lastOf(t, row) >= 0);
+  if (others.length) details.append(make('h2', '', 'What the others did last'));
+  for (const t of others) {
+    const last = own.get(t)[lastOf(t, row)], place = entries[last].args.place;
+    details.append(jump(`t${t} ${entries[last].name}`, last), make('pre', 'dim', place));
+  }
+  if (moments.has(e.ts)) details.append(make('h2', '', 'Before it'), make('pre', '', moments.get(e.ts)));
+  else details.append(make('p', 'dim', 'Calls, variables and memory at this moment:'),
+    make('pre', '', `wathread show FILE RECORD --at ${e.args.line}`));
   if (!keep) show(row);
   history.replaceState(null, '', '#L' + e.args.line);
   draw();
@@ -134,7 +265,9 @@ function show(row) {
   const top = row * ROW, side = left(entries[row].tid);
   if (top < view.scrollTop + ROW || top > view.scrollTop + view.clientHeight - 4 * ROW)
     view.scrollTop = Math.max(0, top - view.clientHeight / 2);
-  if (side < view.scrollLeft || side + width > view.scrollLeft + view.clientWidth) view.scrollLeft = side - GUTTER;
+  if (side < view.scrollLeft + GUTTER || side + width > view.scrollLeft + view.clientWidth)
+    view.scrollLeft = side - GUTTER;
+  follow();
 }
 function find() {
   const text = byId('find').value.trim().toLowerCase();
@@ -148,7 +281,7 @@ function find() {
 }
 function tell() {
   const at = found.indexOf(chosen), text = byId('find').value.trim();
-  byId('count').textContent = !text ? `${entries.length} entries`
+  byId('count').textContent = !text ? `${number(entries.length)} entries`
     : at >= 0 ? `${at + 1} of ${found.length}` : `${found.length} found`;
 }
 function step(by) {
@@ -176,14 +309,53 @@ function paper() {
   }
   table.replaceChildren(head, body);
 }
-view.addEventListener('scroll', draw, { passive: true });
+// The title: the call, how the threads ended, who failed first, and the module.
+function entitle() {
+  const ways = new Map();
+  reports.forEach((end, t) => ways.set(end.ended, [...(ways.get(end.ended) || []), t]));
+  const sorted = [...ways].sort(([a], [b]) => hasFailed({ ended: b }) - hasFailed({ ended: a }));
+  const texts = sorted.map(([ended, who]) => `${who.map(t => 't' + t).join(', ')}: ${ended}`);
+  byId('call').textContent = plain(call);
+  document.title = plain(`${call}, ${texts.join('; ')}`
+    + (run.module ? `, module of ${number(run.module)} bytes` : ''));
+  byId('call').title = document.title;
+  byId('ends').replaceChildren(...sorted.map(([ended, who], at) => {
+    const button = make('button', hasFailed({ ended }) ? 'failed' : '', texts[at]);
+    button.title = 'Go to its end';
+    button.addEventListener('click', () => {
+      const row = entries.findIndex(e => e.tid === who[0] && e.name.startsWith('ends: '));
+      choose(row < 0 ? failure : row);
+    });
+    return button;
+  }));
+  if (entries.length < run.chosen) byId('part').textContent = `These are ${number(entries.length)} of `
+    + `${number(run.chosen)} entries, those around the failure. Others: wathread show FILE RECORD --lines A-B --html OUT`;
+}
+view.addEventListener('scroll', () => { follow(); draw(); }, { passive: true });
 addEventListener('resize', lay);
+matchMedia('(prefers-color-scheme: dark)').addEventListener('change', lay);
 addEventListener('beforeprint', paper);
 addEventListener('afterprint', () => byId('paper').replaceChildren());
 sheet.addEventListener('click', event => {
   const row = event.target.closest('.row');
   if (row) choose(Number(row.dataset.row), true);
 });
+let dragged = false;
+const scrollTo_ = event => { view.scrollTop = rowAt(event) * ROW - view.clientHeight / 2; };
+over.addEventListener('pointerdown', event => {
+  if (event.target !== map) return;
+  dragged = true;
+  over.setPointerCapture(event.pointerId);
+  scrollTo_(event);
+});
+over.addEventListener('pointermove', event => { if (dragged) scrollTo_(event); });
+over.addEventListener('pointerup', () => { dragged = false; });
+over.addEventListener('wheel', event => {
+  zoomBy(event.deltaY > 0 ? 1.25 : .8, rowAt(event));
+  event.preventDefault();
+}, { passive: false });
+byId('in').addEventListener('click', () => zoomBy(.5, middleRow()));
+byId('out').addEventListener('click', () => zoomBy(2, middleRow()));
 byId('find').addEventListener('input', find);
 byId('find').addEventListener('keydown', event => {
   if (event.key === 'Enter') step(event.shiftKey ? -1 : 1);
@@ -196,11 +368,14 @@ addEventListener('keydown', event => {
   const by = { ArrowDown: 1, j: 1, ArrowUp: -1, k: -1 }[event.key];
   if (by) { choose(chosen + by); event.preventDefault(); }
   if (event.key === '/') { byId('find').focus(); event.preventDefault(); }
+  if (event.key === '+') zoomBy(.5, middleRow());
+  if (event.key === '-') zoomBy(2, middleRow());
 });
 const wanted = /^#L(\d+)$/.exec(location.hash);
-find();
+entitle();
+tell();
 lay();
-if (wanted) choose(entries.findIndex(e => e.args.line === Number(wanted[1])));
+choose(wanted ? entries.findIndex(e => e.args.line === Number(wanted[1])) : failure);
 </script>
 </body>
 </html>

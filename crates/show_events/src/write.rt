@@ -4,7 +4,8 @@ ghost use Rattle.std.specs.Prelude.{◌≡◌, ◌≤◌, ◌<◌, ℕ, length, 
 ghost use Rattle.std.specs.List.{AllZip, Contains, enumerate_from};
 ghost use Rattle.std.specs.List.Sorted.{IsStrictlyIncreasing};
 ghost use Rattle.show_rows.specs.Listing.{IsStoryOf};
-ghost use Rattle.show_events.specs.Events.{InTurn, AddsName, AddsEvent, AddsArrow, AddsEvents, WritesTrace};
+ghost use Rattle.show_events.specs.Events.{InTurn, AddsName, AddsEvent, AddsArrow, AddsEvents};
+ghost use Rattle.show_events.specs.Written.{WritesTrace};
 ghost use Rattle.show_events.specs.Events.{AreThreadsOf, IsThreadAt, AreAmong, kind_text};
 ghost use Rattle.show_events.specs.Links.{AreAnswers, in_list};
 ghost use Rattle.show_events.specs.Lines.{AddsLine, AddsLines};

@@ -84,7 +84,7 @@ fn written_of(
     let mut out = Vec::new(alloc);
     match output {
         Output::Trace => write_trace(alloc, shown, &look, &[], &mut out)?,
-        Output::Page => write_page(alloc, shown, &look, &[], &mut out)?,
+        Output::Page => write_page(alloc, shown, &look, &[], &[], &mut out)?,
     }
     Ok(out)
 }
@@ -126,12 +126,19 @@ fn traces_have_an_event_for_each_entry(rt: HostRuntime) -> Result<(), Fail> {
     check_traces(&rt, rt.alloc(), &TRACES)
 }
 
-/// The events in a page, and what stands behind them up to the next tag.
-fn events_in(page: &str) -> Option<(&str, &str)> {
-    let (_, data) = page.split_once("<script type=\"application/json\" id=\"events\">")?;
-    let (events, behind) = data.split_once('<')?;
+/// What a page has of the run of `TOLD`.
+const RUN: &str = "[{\"call\":\"f\",\"module\":0,\"chosen\":10,\"failure\":9}\n\
+,{\"argument\":\"i32:4294967295\"}\n\
+,{\"ended\":\"ok i32:1\"}\n\
+,{\"ended\":\"ok\"}\n\
+]\n";
+
+/// The data in a page behind a tag, and what stands behind them up to the next tag.
+fn data_in<'a>(page: &'a str, tag: &str) -> Option<(&'a str, &'a str)> {
+    let (_, data) = page.split_once(tag)?;
+    let (data, behind) = data.split_once('<')?;
     let (tag, _) = behind.split_once('>')?;
-    Some((events, tag))
+    Some((data, tag))
 }
 
 /// The events of a trace, without what stands around them.
@@ -142,14 +149,20 @@ fn events_of(trace: &str) -> Option<&str> {
 
 /// Whether the data of a page are the events of a trace, and end with its script.
 fn has_events(page: &str, trace: &str) -> bool {
-    match (events_in(page), events_of(trace)) {
+    let found = data_in(page, "<script type=\"application/json\" id=\"events\">");
+    match (found, events_of(trace)) {
         (Some((found, tag)), Some(events)) => found == events && tag == "/script",
         _ => false,
     }
 }
 
+/// Whether the data of a page has of its run what is wanted, and ends there.
+fn has_run(page: &str) -> bool {
+    data_in(page, "<script type=\"application/json\" id=\"run\">") == Some((RUN, "/script"))
+}
+
 fn check_page<R: Abort>(rt: &R, page: &[u8], trace: &str) {
-    assert!(rt; str::from_utf8(page).is_ok_and(|page| has_events(page, trace)));
+    assert!(rt; str::from_utf8(page).is_ok_and(|page| has_events(page, trace) && has_run(page)));
 }
 
 #[test]

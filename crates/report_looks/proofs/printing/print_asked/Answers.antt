@@ -9,8 +9,8 @@ returns-in-Write g c =
     (λ writes. (_, record { of_record = c.parts.ensures.parts; of_rows = c.as_slice.ensures.value; of_module = c.requires }, writes))
     c.print_last.ensures)
 
-pub returns-in-Entries : goal.returns-in-Entries
-returns-in-Entries g c =
+pub returns-in_ok-marks-in-Entries : goal.returns-in_ok-marks-in-Entries
+returns-in_ok-marks-in-Entries g c =
     rw c.in-Entries.is (on_ok_weaker c.print_entries.result
     (λ writes. (_, record { of_record = c.parts.ensures.parts; of_rows = c.as_slice.ensures.value; of_module = c.requires }, writes))
     c.print_entries.ensures)

@@ -1,0 +1,12 @@
+use Rattle.std.proofs.Common.{refl}
+use Rattle.show_events.specs.Run.{AddsArgument}
+use Rattle.show_events.proofs.Behind.{lines_more}
+use Rattle.show_events.proofs.Events.{in_turn_next}
+use Rattle.show_events.proofs.run.write_arguments.Goals as goal
+
+pub loop-place-preserved : goal.loop-place-preserved
+loop-place-preserved g c = record {
+  lines = lines_more _ _ _ _ c.loop-place.invariant.lines c.in_ok-write_argument.ensures.line;
+  which = in_turn_next AddsArgument c.args.values.now c.loop-place.place _ _ c.loop-place-test.true refl _ _ _
+      c.loop-place.invariant.which c.in_ok-write_argument.ensures.which;
+}
