@@ -1,8 +1,8 @@
 //! What is at a record's path before, while and after it is written.
 
 use crate::room::{count_in, make_room, path_in};
-use report_program::{SavePlace, SavedFile, is_one_file, is_one_place, keep_early};
 use replay_text::read_record;
+use report_program::{SavePlace, SavedFile, is_one_file, is_one_place, keep_early};
 use std::fs;
 use std::io::{self, Write};
 use std::os::unix::fs::symlink;
