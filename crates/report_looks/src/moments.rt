@@ -1,5 +1,5 @@
 //! The moments that a page has.
-ghost use Rattle.std.specs.Prelude.{◌≡◌, All, IfOk};
+ghost use Rattle.std.specs.Prelude.{◌≡◌, ◌++◌, ◌∷◌, [], All, IfOk, OnOk};
 ghost use Rattle.std.specs.List.{AllZip};
 ghost use Rattle.show_races.specs.Told.{IsWithin};
 ghost use Rattle.report_looks.specs.PageMoments as specified;
@@ -77,6 +77,14 @@ fn moment_text(
     }
 }
 
+/// Puts a moment behind the others.
+fn put(moments: &mut Vec<MomentText>, moment: MomentText) -> Result<(), AllocError>
+    ensures { OnOk result (moments.new.items ≡ moments.old.items ++ moment ∷ []) }
+{
+    moments.push(moment)?;
+    Ok(())
+}
+
 /// The moments before the entries at these places.
 fn moments_at(
     alloc: Global,
@@ -93,9 +101,7 @@ fn moments_at(
     let mut moments = Vec::with_capacity(alloc, places.len())?;
     for k in 0..places.len() {
         let moment = moment_text(alloc, module, record, shown, races, places[k])?;
-        if let Err(failed) = moments.push(moment) {
-            return Err(AllocError::from(failed).into());
-        }
+        put(&mut moments, moment)?;
     }
     Ok(moments)
 }

@@ -97,7 +97,7 @@ fn print_entries<W: Write>(
     marks: &Marks,
     out: &mut W,
 ) -> Result<(), Unwritten>
-    requires { AreMarks view.entry shown.entry look.now marks.now }
+    requires { AreMarks view shown look.now marks.now }
     ensures { OnOk result (WritesEntries view.entry shown.entry map.now look.now (W.contents out.old) (W.contents out.new)) }
 {
     match view {
