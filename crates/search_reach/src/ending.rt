@@ -5,6 +5,7 @@ ghost use Rattle.search_reach.specs.Meeting.{HasSound, OfStates, AreGathered, Is
 ghost use Rattle.search_reach.specs.Explored.{IsWhole};
 ghost use Rattle.search_reach.specs.Found.{AreEndings, IsSearched};
 ghost use Rattle.search_reach.specs.Liveness.{IsCount, IsLiveWhereAll};
+ghost use Rattle.search_reach.specs.Told.{Obeys, OfCount, StillObeys};
 
 use crate::liveness::judged;
 use crate::path::{paths_to, ways_in};
@@ -111,6 +112,9 @@ fn conclude<T: Meets, F: Follows>(
     ensures count { IfOk result (λ r. IsCount (T.system system.now) (T.equal system.now) r.states) }
     ensures live { IfOk result
         (λ r. IsLiveWhereAll (T.system system.now) (T.equal system.now) r.states r.verdict r.liveness) }
+    ensures obeys { IfOk result (λ r. StillObeys (λ before. OfCount (T.holds system.now reached.table)
+        (Obeys before (F.wish follower.old) (F.told_at follower.old) reached.verdict))
+        (F.wish follower.new) (F.told_at follower.new) r.verdict r.states) }
 {
     let Reached {
         table,
@@ -155,6 +159,9 @@ pub fn endings_of<T: Explores, F: Follows>(
     ensures count { IfOk result (λ r. IsCount (T.system system.now) T.State.eq r.states) }
     ensures live { IfOk result
         (λ r. IsLiveWhereAll (T.system system.now) T.State.eq r.states r.verdict r.liveness) }
+    ensures obeys { IfOk result (λ r. StillObeys (λ before.
+        Obeys before (F.wish follower.old) (F.told_at follower.old) found.verdict (index_set_len found.met))
+        (F.wish follower.new) (F.told_at follower.new) r.verdict r.states) }
 {
     let plain = Plain { system };
     let Found {
@@ -183,6 +190,8 @@ pub fn all_endings<T: Meets, F: Follows>(
     ensures count { IfOk result (λ r. IsCount (T.system system.now) (T.equal system.now) r.states) }
     ensures live { IfOk result
         (λ r. IsLiveWhereAll (T.system system.now) (T.equal system.now) r.states r.verdict r.liveness) }
+    ensures obeys { IfOk result (λ r.
+        Obeys (F.wish follower.old) (F.wish follower.new) (F.told_at follower.new) r.verdict r.states) }
 {
     let reached = reach(alloc, system, most, follower)?;
     conclude(alloc, system, most, reached, follower)

@@ -3,6 +3,8 @@ ghost use Rattle.std.specs.Prelude.{[], IfOk};
 ghost use Rattle.search_reach.specs.Explored.{IsWhole};
 ghost use Rattle.search_reach.specs.Found.{IsSearched};
 ghost use Rattle.search_reach.specs.Meeting.{IsBegun, IsReached};
+ghost use Rattle.search_reach.specs.Told.{Obeys, OfCount};
+ghost use Rattle.indexmap.specs.IndexSet.{index_set_len};
 
 use crate::plain::Plain;
 use crate::{Explores, Follows, Meets, Wish};
@@ -56,8 +58,10 @@ fn explore<T: Meets, F: Follows>(
     moves: &mut Vec<Move>,
 ) -> Result<Verdict, AllocError>
     requires { IsBegun (T.system system.now) (T.holds system.now table.old) (T.equal system.now) moves.old.items }
-    ensures { IfOk result (IsReached (T.system system.now) (T.holds system.now table.new) (T.equal system.now)
+    ensures reached { IfOk result (IsReached (T.system system.now) (T.holds system.now table.new) (T.equal system.now)
         most (F.wish follower.new) moves.new.items) }
+    ensures obeys { IfOk result (λ v. OfCount (T.holds system.now table.new)
+        (Obeys (F.wish follower.old) (F.wish follower.new) (F.told_at follower.new) v)) }
 {
     let mut at: u32 = 0;
     loop {
@@ -71,15 +75,16 @@ fn explore<T: Meets, F: Follows>(
         if !system.next(alloc, table, at, moves)? {
             return Ok(Verdict::CannotTell);
         }
-        if let Wish::End = follower.states(system.count(table)) {
+        at += 1;
+        let known = system.count(table);
+        if let Wish::End = follower.states(known, known.saturating_sub(at as usize)) {
             return Ok(Verdict::Told);
         }
-        at += 1;
     }
 }
 
 /// Goes through the states of a system, which it keeps in a table, until there are no more, it has met more than `most`,
-/// or it is told to end. The follower hears of each how many were met.
+/// or it is told to end: then at once. The follower hears behind each how many were met.
 ///
 /// # Errors
 /// Where memory is refused.
@@ -89,8 +94,10 @@ pub fn reach<T: Meets, F: Follows>(
     most: u32,
     follower: &mut F,
 ) -> Result<Reached<T::Table>, AllocError>
-    ensures { IfOk result (λ r. IsReached (T.system system.now) (T.holds system.now r.table) (T.equal system.now)
+    ensures reached { IfOk result (λ r. IsReached (T.system system.now) (T.holds system.now r.table) (T.equal system.now)
         most (F.wish follower.new) r.moves.items r.verdict) }
+    ensures obeys { IfOk result (λ r. OfCount (T.holds system.now r.table)
+        (Obeys (F.wish follower.old) (F.wish follower.new) (F.told_at follower.new) r.verdict)) }
 {
     let mut table = system.table(alloc);
     let mut moves = Vec::new(alloc);
@@ -119,6 +126,8 @@ pub fn reach_all<T: Explores, F: Follows>(
 ) -> Result<Found<T::State>, AllocError>
     ensures found { IfOk result (IsSearched (T.system system.now) most (F.wish follower.new)) }
     ensures whole { IfOk result (λ f. IsWhole (T.system system.now) T.State.eq f.met.keys f.moves.items f.verdict) }
+    ensures obeys { IfOk result (λ f.
+        Obeys (F.wish follower.old) (F.wish follower.new) (F.told_at follower.new) f.verdict (index_set_len f.met)) }
 {
     let plain = Plain { system };
     let reached = reach(alloc, &plain, most, follower)?;

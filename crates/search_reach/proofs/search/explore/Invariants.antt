@@ -1,9 +1,13 @@
-use Rattle.std.proofs.Common.{◌-◌}
+use Rattle.std.proofs.Common.{◌-◌, ◌≡◌}
+use Rattle.search_reach.specs.declared.follows.Wish.TheVariants as wishes
 use Rattle.search_reach.proofs.Meeting.{Standing}
 use Rattle.search_reach.proofs.search.explore.Given as goal
 
 abbrev pub invariant-loop-at : goal.invariant-loop-at
-invariant-loop-at g l = Standing (g.T.Meets.system l.system) (g.T.Meets.equal l.system) (g.T.Meets.holds l.system l.table) l.at l.moves.items
+invariant-loop-at g l = record {
+  standing : Standing (g.T.Meets.system l.system) (g.T.Meets.equal l.system) (g.T.Meets.holds l.system l.table) l.at l.moves.items;
+  wished : (g.F.Follows.wish l.fn.follower ≡ wishes.End → ⊥) → g.F.Follows.wish l.follower ≡ wishes.End → ⊥;
+}
 
 abbrev pub decreases-loop-at : goal.decreases-loop-at
 decreases-loop-at g l = l.most - l.at
