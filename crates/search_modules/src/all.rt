@@ -3,6 +3,7 @@
 ghost use Rattle.std.specs.Prelude.{◌≡◌, IfOk, vec_len};
 ghost use Rattle.indexmap.specs.IndexSet.{index_set_len};
 ghost use Rattle.search_reach.specs.Found.{AreListed};
+ghost use Rattle.search_reach.specs.Told.{Obeys};
 ghost use Rattle.search_modules.specs.Endings.{claims_of};
 ghost use Rattle.search_modules.specs.Liveness.{CountsStates, SaysWhereAll};
 
@@ -24,7 +25,8 @@ use std::alloc::{AllocError, Global};
 /// `search_finds::run_to` judges. It says `Verdict::TooMany` only where it met more than `most_states` states, and
 /// `Verdict::CannotTell` only where threads can come by this call to where one makes a million turns of its own without
 /// coming to rest, or stands where a spawned one begins in a module that can start none (`CanBeLost`), and
-/// `Verdict::Told` only where the follower's last wish is that it ends.
+/// `Verdict::Told` only where the follower's last wish is that it ends; and where it didn't wish that before, it says so,
+/// and met no state behind the wish (`Obeys`).
 ///
 /// `states` is the number of states that it met, of which no two are equal, and to each of which threads can come
 /// (`CountsStates`). At `Verdict::All`, and there alone, it says of which of them no ending can be reached, and whether a
@@ -44,6 +46,8 @@ pub fn all_endings<F: Follows>(
     ensures paths { IfOk result (λ r. vec_len r.paths ≡ index_set_len r.endings) }
     ensures count { IfOk result (λ r. CountsStates request.now r.states) }
     ensures live { IfOk result (λ r. SaysWhereAll request.now dump r.states r.verdict r.liveness) }
+    ensures obeys { IfOk result (λ r.
+        Obeys (F.wish follower.old) (F.wish follower.new) (F.told_at follower.new) r.verdict r.states) }
 {
     let searched = searched(alloc, request, dump)?;
     search_all(alloc, &searched, most_states, follower)

@@ -3,6 +3,7 @@ ghost use Rattle.std.specs.Prelude.{◌≡◌, IfOk, OnOk, vec_len};
 ghost use Rattle.indexmap.specs.IndexSet.{index_set_len};
 ghost use Rattle.search_reach.specs.Found.{AreEndings};
 ghost use Rattle.search_reach.specs.Liveness.{IsCount, IsLiveWhereAll};
+ghost use Rattle.search_reach.specs.Told.{Obeys};
 ghost use Rattle.search_table.specs.Tables.{HasSameParts};
 ghost use Rattle.search_settled.specs.Turns.{turns};
 ghost use Rattle.search_settled.specs.Same.{flat_eq};
@@ -142,6 +143,8 @@ pub fn search_all<M: Moves, F: Follows>(
         (λ r. IsCount (turns M.Moves system.now) (flat_eq M.Shared.eq M.Thread.eq) r.states) }
     ensures live { IfOk result
         (λ r. IsLiveWhereAll (turns M.Moves system.now) (flat_eq M.Shared.eq M.Thread.eq) r.states r.verdict r.liveness) }
+    ensures obeys { IfOk result (λ r.
+        Obeys (F.wish follower.old) (F.wish follower.new) (F.told_at follower.new) r.verdict r.states) }
 {
     let states = Turns { system };
     all_endings(alloc, &states, most, follower)
