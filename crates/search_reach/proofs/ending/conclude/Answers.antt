@@ -4,7 +4,9 @@ use Rattle.std.proofs.lemmas.Slice.Zip.{AllZip-long}
 use Rattle.search_reach.specs.Search.{IsMarkedSo, IsAll, IsSound, HasAllEnds, AreEnds, CanGetStuck}
 use Rattle.search_reach.specs.Found.{IsFound}
 use Rattle.search_reach.proofs.Gathering.{endings-of_all}
-use Rattle.search_reach.proofs.Living.{moves-within, live, found-after, live-after}
+use Rattle.search_reach.proofs.Living.{moves-within, live, found-after, live-after, sought-back, sought-forth}
+use Rattle.search_reach.proofs.Leveling.{gone-within}
+use Rattle.search_reach.proofs.Passing.{seeks-in}
 use Rattle.search_reach.specs.Told.{Obeys}
 use Rattle.search_reach.proofs.ending.conclude.Goals as goal
 
@@ -70,3 +72,19 @@ returns-clause-obeys g c before so =
     c.in_ok-verdict.ensures.obeys before
     (subst (λ (n : ℕ). Obeys before (g.F.Follows.wish f) (g.F.Follows.told_at f) c.args.reached.verdict n)
     (sym (c.count-states.ensures.len r.states r.held)) (so r.states r.held))
+
+pub returns-clause-seeks : goal.returns-clause-seeks
+returns-clause-seeks g c =
+    let k = g.T.Meets.system c.args.system.now in
+    let r = c.requires in
+    let gathered = c.in_ok-endings.ensures.gathered r.states r.held r.found.sound in
+    seeks-in k (g.Q.Seeks.sought c.args._sought.now) g.T.Ending.PartialEq.eq c.args.reached.verdict c.in_ok-verdict.verdict r.states
+    c.in_ok-endings.field-0.endings.keys r.found.sound r.seeks gathered.all gathered.of
+    (sought-back _ _ _ _ _ _ _ c.in_ok-verdict.ensures.judged) (sought-forth _ _ _ _ _ _ _ c.in_ok-verdict.ensures.judged)
+
+pub returns-clause-levels : goal.returns-clause-levels
+returns-clause-levels g c =
+    let k = g.T.Meets.system c.args.system.now in
+    let r = c.requires in
+    let gathered = c.in_ok-endings.ensures.gathered r.states r.held r.found.sound in
+    gone-within k g.T.Ending.PartialEq.eq r.states c.in_ok-endings.field-0.endings.keys c.args.reached.levels r.gone_through gathered.all

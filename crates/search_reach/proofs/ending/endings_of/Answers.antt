@@ -1,5 +1,4 @@
-use Rattle.std.proofs.Common.{◌≡◌, length, subst}
-use Rattle.std.specs.Prelude.{List}
+use Rattle.std.proofs.Common.{length, refl, subst}
 use Rattle.indexmap.specs.IndexSet.{index_set_len}
 use Rattle.search_reach.specs.Told.{Obeys}
 use Rattle.search_reach.proofs.Telling.{still-obeys}
@@ -13,3 +12,13 @@ returns-clause-obeys g c =
     still-obeys c.conclude.result (g.F.Follows.wish c.conclude.new.follower) (g.F.Follows.told_at c.conclude.new.follower) _ c.conclude.ensures.obeys
     (λ before. Obeys before was at c.args.found.verdict (index_set_len c.args.found.met))
     (λ before is ks held. subst (λ l. Obeys before was at c.args.found.verdict (length l)) held is)
+
+pub conclude-requires : goal.conclude-requires
+conclude-requires g c = record {
+  states = c.args.found.met.keys;
+  held = refl;
+  found = c.requires.found;
+  whole = c.requires.whole;
+  seeks = c.requires.seeks;
+  gone_through = c.requires.levels;
+}
