@@ -94,13 +94,13 @@ module _ {S W E : Type 0} (k : StepSystem S W E) (eq : S → S → Bool) where
 
     -- behind one more state
     module _ (new : List S → Type 0) (after : List Move) (low : at < met) (of : OfStateAt k has at (λ ks s. GoesOn k new eq ks at s moves after)) where
-      here-is : (s : S) × (slice_get was.states at ≡ Some s)
+      pub here-is : (s : S) × (slice_get was.states at ≡ Some s)
       here-is = let is = long in at-some was.states at (omega (arith, low, is))
 
-      goes : GoesOn k new eq was.states at here-is.0 moves after
+      pub goes : GoesOn k new eq was.states at here-is.0 moves after
       goes = of was.states here-is.0 was.held here-is.1 (sound-is_met eq k was.states at here-is.0 was.sound here-is.1)
 
-      begins : Begins was.states (goes).states
+      pub begins : Begins was.states (goes).states
       begins = Gains-begins was.states (goes).states (goes).next (goes).gains
 
       abbrev pub standing-more : Standing new (at + 1) after
