@@ -105,6 +105,10 @@ fn explain_call(alloc: Global, job: &Job, done: Done, out: &mut String) -> Resul
         ) if !is_unlaid(alloc, done, *memory_in) => {
             explain_invoke(alloc, call.invoke, call.args.len(), done.module, out)
         }
+        Job::Search(search) => {
+            let call = &search.call;
+            explain_invoke(alloc, call.invoke, call.args.len(), done.module, out)
+        }
         _ => Ok(()),
     }
 }

@@ -9,7 +9,8 @@
 #![tactic(auto)]
 
 mod data_map;
+mod folds;
 mod rows;
 
 pub use data_map::DataMap;
-pub use rows::{named_text, write_rows};
+pub use rows::{named_text, write_folded, write_rows};
