@@ -1,7 +1,7 @@
 -- Entries that are alike, rounds, and what stands for entries, one behind the other.
 use Rattle.std.proofs.Common.{◌≡◌, ℕ, ◌+◌, ◌≤◌, ◌<◌, List, [], ◌∷◌, ◌++◌, length, take, drop, Option, Some, None, All, left, right}
 use Rattle.std.proofs.Common.{refl, sym, ap, subst, ◌∙◌, arith, get_or}
-use Rattle.std.proofs.lemmas.List.{append-nil, append_assoc, take_all, take_more, length-take}
+use Rattle.std.proofs.lemmas.List.{append-nil, append_assoc, take_all, take_more, length-append, length-take}
 use Rattle.std.proofs.lemmas.List.Elements.{All-nil, All-push, AllZip-push}
 use Rattle.std.proofs.lemmas.List.Folds.{concat-append}
 use Rattle.std.proofs.Math.Seq.{take-add}
@@ -64,13 +64,9 @@ module _ (shown : Shown) (map : DataMap) (story : Story) where
     all = ap (λ (xs : List ℕ). xs ++ next) r.all ∙ append_assoc first (concat r.others) next
         ∙ ap (λ (xs : List ℕ). first ++ xs) (ap (λ (ys : List ℕ). concat r.others ++ ys) (sym (append-nil next))
         ∙ sym (concat-append r.others (next ∷ [])));
-    count = ap (λ (n : ℕ). n + 1) r.count ∙ ap (λ (n : ℕ). n + 1) (one_longer r.others next);
+    count = ap (λ (n : ℕ). n + 1) r.count ∙ ap (λ (n : ℕ). n + 1) (sym (length-append r.others (next ∷ [])));
     repeat = All-push (Repeats shown map story first) r.others next r.repeat same;
   }
-    where
-      one_longer : (xs : List (List ℕ)) (x : List ℕ) → length xs + 1 ≡ length (xs ++ x ∷ [])
-      one_longer [] x = refl
-      one_longer (y ∷ ys) x = ap (λ (n : ℕ). n + 1) (one_longer ys x)
 
   noted_behind : (note : List ℕ) (at : ℕ) (a b c : Option (List ℕ)) → Keeps a b → AddsNoted shown map story note at b c
       → AddsNoted shown map story note at a c
