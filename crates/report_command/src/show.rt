@@ -10,7 +10,7 @@ ghost use Rattle.report_command.specs.Addresses.{IsData, IsMoment, IsStretch};
 ghost use Rattle.report_command.specs.Options.{AsksAddresses, AsksBytes, AsksColor, AsksEntries, AsksBefore, AsksLines};
 ghost use Rattle.report_command.specs.Options.{AsksLook, AsksNamed, AsksShown, AsksThreads, AsksView};
 
-use crate::arguments::{Argument, CommandRow, Kind, OPTION};
+use crate::arguments::{Argument, CommandRow, FLAG, Kind, OPTION};
 use crate::command_line::{FILE, Job, Misuse, RECORD};
 use crate::form::{Form, JSON, form_of};
 use crate::limits::{DEFAULT_WIDTH, MOST_DUMP, NARROWEST, WIDEST};
@@ -28,6 +28,8 @@ pub struct At {
     /// The bytes of the memory that are shown: the first one's address, and how many, 0 to 4096.
     pub addr: u64,
     pub count: u32,
+    /// Whether the locals and operands of all functions are shown as they are.
+    pub is_raw: bool,
 }
 
 /// The last write of some bytes before a moment.
@@ -115,6 +117,14 @@ const BYTES: Argument = Argument {
     ..OPTION
 };
 
+/// Whether locals and operands are shown as they are.
+const RAW: Argument = Argument {
+    name: "raw",
+    help: "With --at: locals and operands as the module has them, also where the source's variables are shown",
+    needs: &["at"],
+    ..FLAG
+};
+
 /// The page.
 const HTML: Argument = Argument {
     name: "html",
@@ -194,7 +204,7 @@ const COLOR: Argument = Argument {
 };
 
 /// `show FILE RECORD [--lines A-B] [--thread T,..] [--addr A[-B]] [--names FILE2] [--width N] [--color WHEN] [--html
-/// OUT] [--trace OUT] [--json]`, `show FILE RECORD --at LINE [--dump A:N] [--names FILE2]`, and `show FILE RECORD
+/// OUT] [--trace OUT] [--json]`, `show FILE RECORD --at LINE [--dump A:N] [--raw] [--names FILE2]`, and `show FILE RECORD
 /// --last-write A[:N] [--at LINE] [--names FILE2]`
 pub(crate) static SHOW: CommandRow = CommandRow {
     name: "show",
@@ -202,8 +212,8 @@ pub(crate) static SHOW: CommandRow = CommandRow {
     about: "Shows the entries of a record in words, with the place in the module of each",
     after_help: None,
     arguments: &[
-        FILE, RECORD, LINES, THREADS, ADDRESSES, NAMES, WIDTH, COLOR, AT, BYTES, LAST_WRITE, HTML,
-        TRACE, OBJECT,
+        FILE, RECORD, LINES, THREADS, ADDRESSES, NAMES, WIDTH, COLOR, AT, BYTES, RAW, LAST_WRITE,
+        HTML, TRACE, OBJECT,
     ],
 };
 
@@ -348,7 +358,12 @@ fn at_of(matches: &ArgMatches, text: &str) -> Option<At>
     let (Some(when), Some((addr, count))) = (moment_in(text), moment_bytes_of(matches)) else {
         return None;
     };
-    Some(At { when, addr, count })
+    Some(At {
+        when,
+        addr,
+        count,
+        is_raw: matches.get_flag("raw"),
+    })
 }
 
 /// Before which moment a write is sought; `None` where what is there can't be read.

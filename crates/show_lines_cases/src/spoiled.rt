@@ -11,7 +11,7 @@ use std::fmt::Write;
 fn ask_data(alloc: Global, units: &Units) -> Result<(), AllocError> {
     let data = read_data(alloc, units)?;
     for span in data.items() {
-        if let Some(words) = name_at(alloc, units, &data, span.start)? {
+        if let Some(words) = name_at(alloc, units, &data, span.start, None)? {
             place_of(alloc, units, &data, words.as_str())?;
         }
     }

@@ -11,7 +11,8 @@ mod moment;
 mod scene;
 mod standing;
 mod texts;
+mod values;
 
 pub use moment::{Bytes, Moment};
-pub use scene::write_moment;
+pub use scene::{MomentView, write_moment, write_stack};
 pub use standing::{OpenFunction, ThreadSnapshot};
