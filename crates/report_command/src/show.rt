@@ -3,6 +3,7 @@
 ghost use Rattle.std.specs.Prelude.{◌≡◌, ◌≤◌, IfOk, IfSome, codes};
 ghost use Rattle.clap.specs.Words.{found_of};
 ghost use Rattle.report_command.specs.declared.limits.TheConstants.{MOST_DUMP, NARROWEST, WIDEST};
+ghost use Rattle.report_command.specs.Found.{HasFlag};
 ghost use Rattle.report_command.specs.Jobs.{IsInRange};
 ghost use Rattle.report_command.specs.Views as views;
 ghost use Rattle.report_command.specs.Views.{IsViewInRange, path_of};
@@ -354,6 +355,7 @@ fn entries_of<'a>(matches: &ArgMatches<'a>) -> View<'a>
 fn at_of(matches: &ArgMatches, text: &str) -> Option<At>
     ensures range { IfSome result (λ at. at.count ≤ MOST_DUMP) }
     ensures asks { IfSome result (λ at. IsMoment text.now at.when × AsksBytes (found_of matches.now) at.addr at.count) }
+    ensures raw { IfSome result (λ at. HasFlag (found_of matches.now) (codes "raw") at.is_raw) }
 {
     let (Some(when), Some((addr, count))) = (moment_in(text), moment_bytes_of(matches)) else {
         return None;

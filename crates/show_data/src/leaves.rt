@@ -2,7 +2,7 @@
 
 ghost use Rattle.std.specs.Prelude.{◌+◌, ◌≤◌, All, IfOk};
 
-use crate::members::{Bits, members};
+use crate::members::{Bits, first_members};
 use crate::parts::{Part, Shape};
 use crate::place::Place;
 use show_units::Units;
@@ -13,7 +13,10 @@ use std::fmt::Write;
 const MOST_LEAVES: usize = 32;
 
 /// The most steps from a value to its parts, and to theirs.
-const MOST_STEPS: u32 = 256;
+const MOST_STEPS: u32 = 64;
+
+/// The most bytes of the words of a part that has parts which are told.
+const MOST_WORDS: usize = 256;
 
 /// A part of a value: the words behind the value's name, as `.next` or `[2].item`; its bytes, by their distance from the
 /// value's first one; its type; and its bits, if it is a bit field.
@@ -55,15 +58,16 @@ impl Open {
         units: &Units,
         inner: &mut Vec<Open>,
     ) -> Result<(), AllocError> {
-        for member in members(alloc, units, self.part.its_type)?
-            .iter()
-            .take(MOST_LEAVES + 1)
-        {
+        for member in &first_members(alloc, units, self.part.its_type, MOST_LEAVES + 1)? {
             let Some(part) = self.part.member(units, *member) else {
                 continue;
             };
+            let name = member.name.unwrap_or("");
+            if name.len() > MOST_WORDS {
+                continue;
+            }
             let mut words = self.words.clone()?;
-            if let Some(name) = member.name {
+            if !name.is_empty() {
                 write!(words, ".{name}")?;
             }
             inner.push(Open {
@@ -119,7 +123,7 @@ pub fn leaves(
         let Some(next) = open.pop() else {
             return Ok(leaves);
         };
-        if leaves.len() >= MOST_LEAVES {
+        if leaves.len() >= MOST_LEAVES || next.words.len() > MOST_WORDS {
             leaves.push(next.close(true))?;
             return Ok(leaves);
         }

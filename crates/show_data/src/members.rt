@@ -100,8 +100,18 @@ pub(crate) fn members<'a>(
     units: &Units<'a>,
     structure: usize,
 ) -> Result<Vec<Member<'a>>, AllocError> {
+    first_members(alloc, units, structure, units.len())
+}
+
+/// Those among its first entries, not more than so many.
+pub(crate) fn first_members<'a>(
+    alloc: Global,
+    units: &Units<'a>,
+    structure: usize,
+    most: usize,
+) -> Result<Vec<Member<'a>>, AllocError> {
     let mut members = Vec::new(alloc);
-    for entry in &units.children(alloc, structure, units.len())? {
+    for entry in &units.children(alloc, structure, most)? {
         if let Some(member) = member_of(alloc, units, *entry)? {
             members.push(member)?;
         }

@@ -13,6 +13,9 @@ use std::fmt::Write;
 /// What stands for a name that isn't known.
 const UNKNOWN: &str = "?";
 
+/// The most bytes of calls, behind which further ones are only said to be there.
+const MOST_CALLS: usize = 1024;
+
 /// The functions that were put in the place of their calls: the name of the innermost, and behind its line the calls that
 /// lead to it, as ` < take queue.c:88 < body queue.c:120`.
 #[derive(Drop)]
@@ -66,6 +69,10 @@ fn chain_of(
             Some(next) => next.function.unwrap_or(UNKNOWN),
             None => function,
         };
+        if calls.len() > MOST_CALLS {
+            calls.push_str(" < ..")?;
+            break;
+        }
         write!(calls, " < {caller}")?;
         write_place(call.file, call.line, &mut calls)?;
     }

@@ -12,6 +12,9 @@ use std::fmt::Write;
 /// The most bytes of a number.
 const MOST_BYTES: u64 = 8;
 
+/// The most bytes of a type and a name.
+const MOST_LABEL: usize = 1024;
+
 /// The most values of a frame.
 const MOST_VALUES: usize = 256;
 
@@ -157,7 +160,7 @@ fn part_of(
 /// Adds a value, if there is one and there is room.
 fn add(values: &mut Vec<FrameValue>, value: Option<FrameValue>) -> Result<(), AllocError> {
     if let Some(value) = value {
-        if values.len() < MOST_VALUES {
+        if values.len() < MOST_VALUES && value.label.len() <= MOST_LABEL {
             values.push(value)?;
         }
     }

@@ -99,7 +99,10 @@ fn scopes(
 }
 
 /// The most variables that are looked at.
-const MOST_VARIABLES: usize = 1024;
+const MOST_VARIABLES: usize = 256;
+
+/// The most bytes of a variable's name.
+const MOST_NAME: usize = 256;
 
 /// A name that stands in front of others.
 #[derive(Clone, Copy)]
