@@ -153,18 +153,18 @@ value_says s o v b memory n number signed target text is not_parts same n_is som
           ++ (number_text (record { is_signed = x; bits = v.bits; number = number }) ++ (target ++ codes "\n"))))) signed_is,
     ))
 
-pub moment_of : (view : MomentView) (moment : Moment) (races : List Race) (story : Story) (log : List Entry) (s : Seen)
+pub moment_of : (view : MomentView) (moment : Moment) (races : List Race) (story : Story) (log : List Entry)
     (queue dump : List ℕ) (a b c d e : Option (List ℕ)) → log ≡ view.shown.record.now.log → IsStoryOf log story
-    → s ≡ seen_by view story moment → AddsThreads s MOST_THREADS a b → AddsRaces s races b c → queue ≡ queue_text moment.queue
-    → dump ≡ dump_text moment.wanted.addr moment.bytes.items → Appends c d (queue ++ dump) → Keeps d e
-    → WritesMoment view moment races a e
-moment_of view moment races story log s queue dump a b c d e same of_log seen_is says raced queue_is dump_is wrote last = record {
+    → AddsThreads (seen_by view story moment) MOST_THREADS a b → AddsRaces (seen_by view story moment) races b c
+    → queue ≡ queue_text moment.queue → dump ≡ dump_text moment.wanted.addr moment.bytes.items → Appends c d (queue ++ dump)
+    → Keeps d e → WritesMoment view moment races a e
+moment_of view moment races story log queue dump a b c d e same of_log says raced queue_is dump_is wrote last = record {
   story = story;
   of_log = subst (λ (l : List Entry). IsStoryOf l story) same of_log;
   said = b;
-  says = subst (λ (x : Seen). AddsThreads x MOST_THREADS a b) seen_is says;
+  says = says;
   raced = c;
-  races_with = subst (λ (x : Seen). AddsRaces x races b c) seen_is raced;
+  races_with = raced;
   ends = appends_keeps c d e (queue_text moment.queue ++ dump_text moment.wanted.addr moment.bytes.items)
       (subst (λ (t : List ℕ). Appends c d (queue_text moment.queue ++ t)) dump_is
       (subst (λ (t : List ℕ). Appends c d (t ++ dump)) queue_is wrote)) last;

@@ -57,7 +57,12 @@ pub fn write_moment<W: Write>(
         return Err(Unwritten::NoMemory);
     }
     let story = Story::new(alloc, view.shown.record.log.as_slice())?;
-    let scene = Scene::new(alloc, view, &story, moment);
+    let scene = Scene {
+        alloc,
+        view,
+        story: &story,
+        moment,
+    };
     scene.write_threads(out, MOST_THREADS)?;
     scene.write_races(out, races)?;
     let queue = queue_text(alloc, &moment.queue)?;
@@ -82,7 +87,13 @@ pub fn write_stack<W: Write>(
     ensures { OnOk result (AddsFunctions (specified.seen_by view.entry story.now moment.now) standing.now
         (specified.depth standing.now) (W.contents out.old) (W.contents out.new)) }
 {
-    Scene::new(alloc, view, story, moment).write_functions(out, standing)
+    let scene = Scene {
+        alloc,
+        view,
+        story,
+        moment,
+    };
+    scene.write_functions(out, standing)
 }
 
 /// A moment, and what is known around it.
@@ -124,25 +135,6 @@ fn other_of(race: Race, at: usize) -> Option<usize>
         return Some(race.first);
     }
     None
-}
-
-impl<'v, 's, 'e, 'a, 'd, 'r, 'w, 'c, 'm, 'n, 'b> Scene<'v, 's, 'e, 'a, 'd, 'r, 'w, 'c, 'm, 'n, 'b> {
-    /// A moment of what is shown.
-    fn new(
-        alloc: Global,
-        view: MomentView<'v, 'd, 'r, 'w, 'c, 'm, 'n, 'b>,
-        story: &'s Story,
-        moment: &'e Moment<'a>,
-    ) -> Scene<'v, 's, 'e, 'a, 'd, 'r, 'w, 'c, 'm, 'n, 'b>
-        ensures { specified.seen result.entry ≡ specified.seen_by view.entry story.now moment.now }
-    {
-        Scene {
-            alloc,
-            view,
-            story,
-            moment,
-        }
-    }
 }
 
 impl Scene<'_, '_, '_, '_, '_, '_, '_, '_, '_, '_, '_> {
