@@ -29,7 +29,7 @@ pub struct Chain {
 pub struct Frame {
     /// The offset of which it is said, if it is known.
     pub offset: Option<usize>,
-    /// Whether a function is there.
+    /// Whether functions are known at all.
     pub is_known: bool,
     pub chain: Option<Chain>,
     pub values: Vec<FrameValue>,
@@ -83,12 +83,12 @@ fn chain_of(
 }
 
 /// Of an offset at which no function is known.
-fn unknown(alloc: Global, offset: Option<usize>) -> Frame
+fn unknown(alloc: Global, offset: Option<usize>, is_known: bool) -> Frame
     ensures { result.offset ≡ offset }
 {
     Frame {
         offset,
-        is_known: false,
+        is_known,
         chain: None,
         values: Vec::new(alloc),
     }
@@ -104,19 +104,20 @@ pub fn read_frame(
 ) -> Result<Frame, AllocError>
     ensures { IfOk result (λ frame. frame.offset ≡ offset) }
 {
+    let is_known = !functions.items().is_empty();
     let Some(at) = offset else {
-        return Ok(unknown(alloc, offset));
+        return Ok(unknown(alloc, offset, is_known));
     };
     let at = at as u64;
     let Some(function) = functions.at(at) else {
-        return Ok(unknown(alloc, offset));
+        return Ok(unknown(alloc, offset, is_known));
     };
     let inlined = inlined_at(alloc, units, lines, functions, at)?;
     let name = units.name(function.entry).unwrap_or(UNKNOWN);
     let variables = variables_at(alloc, units, functions, at)?;
     Ok(Frame {
         offset,
-        is_known: true,
+        is_known,
         chain: chain_of(alloc, inlined.as_slice(), name)?,
         values: values_of(alloc, units, inlined.as_slice(), variables.as_slice())?,
     })

@@ -119,7 +119,7 @@ abbrev pub types_of : Option (Vec ValType) → List ValType
 types_of None = []
 types_of (Some types) = types.items
 
--- Words behind a name stand there where they are asked for, or nothing is known of the function.
+-- Words behind a name stand there where they are asked for, or no functions are known.
 abbrev pub listing_text : Seen → Frame → List ℕ → List ℕ → List ValType → List ℕ
 listing_text s frame name words types = cond (s.raw || not frame.is_known) (listed_text name words types) []
 

@@ -33,7 +33,7 @@ pub struct MomentView<'v, 'd, 'r, 'w, 'c, 'm, 'n, 'b> {
     pub valid: &'v ValidModule,
     pub shown: Shown<'r, 'w, 'c, 'm, 'n>,
     pub map: &'d DataMap<'b>,
-    /// Whether all locals and operands stand there as they are, and not only those of functions that aren't known.
+    /// Whether locals and operands stand there as they are, also where functions are known by a debug section.
     pub is_raw: bool,
 }
 
