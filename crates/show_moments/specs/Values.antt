@@ -68,15 +68,15 @@ number_text t = signed_text t.number (sign_of t)
 
 abbrev pub is_signed : Kind → Bool
 is_signed kind.Signed = true
-is_signed other = false
+is_signed _ = false
 
 abbrev pub is_pointer : Kind → Bool
 is_pointer kind.Pointer = true
-is_pointer other = false
+is_pointer _ = false
 
 abbrev pub has_parts : Kind → Bool
 has_parts kind.Parts = true
-has_parts other = false
+has_parts _ = false
 
 -- A place in the code: of the calls whose functions were put in their places, the innermost function has the line, and
 -- behind it stand the calls.

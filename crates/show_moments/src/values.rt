@@ -37,12 +37,12 @@ fn bits_from(number: u64, first: u32) -> u64
 }
 
 /// The word that a place of WebAssembly holds in a frame. A global is no frame's.
-fn word_of(open: OpenFunction, base: Base) -> Option<u64>
-    ensures { result ≡ specified.word_of open.entry base }
+fn word_of(opened: OpenFunction, base: Base) -> Option<u64>
+    ensures { result ≡ specified.word_of opened.entry base }
 {
     match base {
-        Base::Local(index) => open.locals.get(index as usize).copied(),
-        Base::Operand(index) => open.operands.get(index as usize).copied(),
+        Base::Local(index) => opened.locals.get(index as usize).copied(),
+        Base::Operand(index) => opened.operands.get(index as usize).copied(),
         Base::Global(_) => None,
     }
 }
@@ -60,26 +60,26 @@ fn address_from(word: u64, offset: i64) -> Option<u64>
 }
 
 /// The number that a place has in a frame: a word of it, or that in so many bytes of the memory.
-fn number_at(open: OpenFunction, memory: &[u8], location: Location, size: u8) -> Option<u64>
-    ensures { result ≡ specified.number_at open.entry memory.now location size }
+fn number_at(opened: OpenFunction, memory: &[u8], location: Location, size: u8) -> Option<u64>
+    ensures { result ≡ specified.number_at opened.entry memory.now location size }
 {
     match location {
-        Location::Local(index) => word_of(open, Base::Local(index)),
-        Location::Operand(index) => word_of(open, Base::Operand(index)),
+        Location::Local(index) => word_of(opened, Base::Local(index)),
+        Location::Operand(index) => word_of(opened, Base::Operand(index)),
         Location::Global(_) => None,
         Location::Static(address) => number_in(memory, address, size),
         Location::Memory { base, offset } => {
-            let address = address_from(word_of(open, base)?, offset)?;
+            let address = address_from(word_of(opened, base)?, offset)?;
             number_in(memory, address, size)
         }
     }
 }
 
 /// The number that a value is in a frame.
-pub(crate) fn number_of(open: OpenFunction, memory: &[u8], value: &FrameValue) -> Option<u64>
-    ensures { result ≡ specified.number_of open.entry memory.now value.now }
+pub(crate) fn number_of(opened: OpenFunction, memory: &[u8], value: &FrameValue) -> Option<u64>
+    ensures { result ≡ specified.number_of opened.entry memory.now value.now }
 {
-    let number = number_at(open, memory, value.location, value.size)?;
+    let number = number_at(opened, memory, value.location, value.size)?;
     Some(low_bits(bits_from(number, value.first_bit), value.bits))
 }
 
