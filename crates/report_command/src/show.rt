@@ -360,11 +360,12 @@ fn at_of(matches: &ArgMatches, text: &str) -> Option<At>
     let (Some(when), Some((addr, count))) = (moment_in(text), moment_bytes_of(matches)) else {
         return None;
     };
+    let is_raw = matches.get_flag("raw");
     Some(At {
         when,
         addr,
         count,
-        is_raw: matches.get_flag("raw"),
+        is_raw,
     })
 }
 
