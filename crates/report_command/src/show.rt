@@ -104,7 +104,7 @@ const LAST_WRITE: Argument = Argument {
     value: "A[:N]",
     help: "In place of rows, who wrote these N bytes last, or this data by its name; with --at: before that",
     conflicts: &[
-        "lines", "thread", "addr", "width", "color", "dump", "html", "trace",
+        "lines", "thread", "addr", "width", "color", "dump", "raw", "html", "trace",
     ],
     ..OPTION
 };
