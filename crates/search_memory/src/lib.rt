@@ -13,4 +13,4 @@ mod looking;
 mod stepping;
 
 pub use beside::{ChangedByte, Changes, changes_in};
-pub use stepping::{memory, step};
+pub use stepping::{holds, memory, step};

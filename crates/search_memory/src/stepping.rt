@@ -1,8 +1,8 @@
 //! An event on a memory that is given by its changes.
 
-ghost use Rattle.std.specs.Prelude.{◌≡◌, fold, IfOk};
+ghost use Rattle.std.specs.Prelude.{◌≡◌, ◌≤◌, ◌+◌, ◌==◌, ◌&&◌, nat_le, length, fold, IfOk};
 ghost use Rattle.shared_memory.specs.Events.{IsEvent};
-ghost use Rattle.shared_memory.specs.Memory.{reply_of};
+ghost use Rattle.shared_memory.specs.Memory.{loaded, reply_of};
 ghost use Rattle.shared_memory_sequential.specs.Opening.{IsSized};
 ghost use Rattle.search_memory.specs.Memories.{memory_of, with_change, AreAfter};
 
@@ -45,6 +45,16 @@ pub fn memory(alloc: Global, opening: &[u8], changed: &Changes) -> Result<OneMem
         Err(OpenFault::NoMemory) => Err(AllocError),
         Err(OpenFault::PastLimit) => unreachable!(),
     }
+}
+
+/// Whether so many bytes at an address lie within the memory with these changes and hold this number.
+pub fn holds(opening: &[u8], changed: &Changes, addr: u64, width: u8, number: u64) -> bool
+    requires { width ≤ 8 }
+    ensures { result ≡ (nat_le (addr + width) (length (memory_of opening.now changed.now).bytes)
+        && (loaded (memory_of opening.now changed.now) addr width == number)) }
+{
+    let beside = Beside { opening, changed };
+    beside.is_within(addr, width) && beside.number_at(addr, width) == number
 }
 
 /// The changes after `memory.grow`, by the whole memory.

@@ -32,12 +32,14 @@ module _ (s : Searched) where
       (subst (λ l. IfOk r (IsEventIn s.valid.now l shared read.standing n)) same h))
 
   -- of what a thread does with the memory
-  pub access_told : {E : Type 0} (shared : Common) (read thread : HashedThread) → read ≡ thread → (n : ℕ) (r : Result (Option Access) E)
-      → IfOk r (λ o. (opening : List ℕ) → IsAccessIn s.valid.now opening shared read.standing n o) → IfOk r (IsAccessOf (threads s) shared thread n)
-  access_told shared read thread is n r h =
-      if_ok_so r (λ o. (opening : List ℕ) → IsAccessIn s.valid.now opening shared thread.standing n o) (IsAccessOf (threads s) shared thread n)
-      (λ o by z of. by s.opening.items (called s) z (record { of = refl; reached = of.0; shares = of.1; rested = of.2 }))
-      (subst (λ (t : HashedThread). IfOk r (λ o. (opening : List ℕ) → IsAccessIn s.valid.now opening shared t.standing n o)) is h)
+  pub access_told : {E : Type 0} (opening : List ℕ) → opening ≡ s.opening.items → (shared : Common) (read thread : HashedThread) → read ≡ thread
+      → (n : ℕ) (r : Result (Option Access) E) → IfOk r (IsAccessIn s.valid.now opening shared read.standing n)
+      → IfOk r (IsAccessOf (threads s) shared thread n)
+  access_told opening same shared read thread is n r h =
+      if_ok_so r (IsAccessIn s.valid.now s.opening.items shared thread.standing n) (IsAccessOf (threads s) shared thread n)
+      (λ o by z of. by (called s) z (record { of = refl; reached = of.0; shares = of.1; rested = of.2 }))
+      (subst (λ (t : HashedThread). IfOk r (IsAccessIn s.valid.now s.opening.items shared t.standing n)) is
+      (subst (λ l. IfOk r (IsAccessIn s.valid.now l shared read.standing n)) same h))
 
   -- of an ending
   abbrev EndTold : Flat Common HashedThread → Option Ending → Type 0

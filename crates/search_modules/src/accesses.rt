@@ -23,6 +23,13 @@ impl Accesses for Searched<'_, '_> {
         thread: &SharedWalker,
         n: usize,
     ) -> Result<Option<Access>, AllocError> {
-        next_access(alloc, self.valid, shared, thread.walker(), n)
+        next_access(
+            alloc,
+            self.valid,
+            self.opening.as_slice(),
+            shared,
+            thread.walker(),
+            n,
+        )
     }
 }

@@ -1,14 +1,16 @@
 -- What a thread does with the memory next.
-use Rattle.std.proofs.Common.{◌≡◌, ℕ, List, Option, Some, None, refl, sym, ◌∙◌, ap, subst}
+use Rattle.std.proofs.Common.{◌≡◌, ◌==◌, ℕ, ◌+◌, Bool, true, false, length, List, Option, Some, None, refl, sym, ◌∙◌, ap, subst}
+use Rattle.std.specs.Prelude.{◌&&◌, nat_le, if◌then◌else◌}
 use Rattle.types.specs.declared.event.Event.{Event}
 use Rattle.types.specs.declared.event.Reply.{Reply}
 use Rattle.types.specs.declared.event.Answer.{Answer}
+use Rattle.shared_memory.specs.Memory.{Memory, loaded}
 use Rattle.schedule.specs.System.{Want, Want.Turns, Want.Calls, Want.Awaits, Want.Gone}
 use Rattle.schedule_threads.specs.Shared.{Shared}
 use Rattle.schedule_machine.specs.Threads.{called}
 use Rattle.search_settled.specs.declared.access.Access.{Access}
 use Rattle.search_race_free.specs.Wanted.{access_by}
-use Rattle.search_runs.specs.Accesses.{access_of}
+use Rattle.search_runs.specs.Accesses.{in_bounds, no_bytes, access_of}
 use Rattle.search_runs.specs.Called.{Called, Walker, system_of}
 
 -- who wants an event makes its access
@@ -24,3 +26,14 @@ by-none b x t Turns h rests = absurd (rests refl)
 by-none b x t (Calls f) h rests = absurd (cc h)
 by-none b x t Awaits h rests = refl
 by-none b x t Gone h rests = refl
+
+-- out of bounds it doesn't matter what is there
+pub found-there : (m : Memory) (found : Bool) (addr width : ℕ)
+    → in_bounds m false (nat_le (addr + width) (length m.bytes) && found) addr width (addr + width) ≡ in_bounds m false found addr width (addr + width)
+found-there m found addr width = by (nat_le (addr + width) (length m.bytes))
+  where
+    by : (t : Bool)
+        → (if t then record { plain = false && nat_le (addr + width) (addr + width); writes = t && found; addr = addr; width = width } else no_bytes)
+        ≡ (if t then record { plain = false && nat_le (addr + width) (addr + width); writes = found; addr = addr; width = width } else no_bytes)
+    by true = refl
+    by false = refl

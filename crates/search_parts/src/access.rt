@@ -1,11 +1,14 @@
 //! What a thread does with the memory next.
 
-ghost use Rattle.std.specs.Prelude.{◌≡◌, ◌+◌, ℕ, List, length, nat_le, false, IfOk};
-ghost use Rattle.shared_memory.specs.Memory.{Memory};
+ghost use Rattle.std.specs.Prelude.{◌≡◌, ◌≤◌, ◌+◌, ◌==◌, length, nat_le, false, IfOk};
+ghost use Rattle.shared_memory.specs.Events.{IsEvent};
+ghost use Rattle.shared_memory.specs.Memory.{Memory, loaded};
+ghost use Rattle.search_memory.specs.Memories.{memory_of};
 ghost use Rattle.search_runs.specs.Accesses.{no_bytes, in_bounds, access_by};
 ghost use Rattle.search_parts.specs.Threads.{IsInCall, IsAccessIn};
 
 use crate::shared::{Common, HashedThread};
+use search_memory::{Changes, holds};
 use search_settled::Access;
 use search_walkers::{is_plain, wanted};
 use std::alloc::{AllocError, Global};
@@ -63,10 +66,23 @@ fn atomic(len: u64, writes: bool, addr: u64, width: u8) -> Access
     }
 }
 
-/// What an event does with a memory of so many bytes, by an instruction that is a load or a store, or by an atomic one.
-fn access_by(len: u64, plain: bool, event: &Event) -> Access
-    ensures { (m : Memory) → length m.bytes ≡ len → result ≡ access_by m plain event.now }
+/// A compare-exchange: it writes where what it expects is there.
+fn exchange(opening: &[u8], memory: &Changes, addr: u64, width: u8, expected: u64) -> Access
+    requires { width ≤ 8 }
+    ensures { result ≡ in_bounds (memory_of opening.now memory.now) false
+        (loaded (memory_of opening.now memory.now) addr width == expected) addr width (addr + width) }
 {
+    let writes = holds(opening, memory, addr, width, expected);
+    atomic(memory.len as u64, writes, addr, width)
+}
+
+/// What an event does with the memory, by an instruction that is a load or a store, or by an atomic one.
+#[tactic(auto, using(search_memory::proofs::Putting::length_memory))]
+fn access_by(opening: &[u8], memory: &Changes, plain: bool, event: &Event) -> Access
+    requires { IsEvent event.now }
+    ensures { result ≡ access_by (memory_of opening.now memory.now) plain event.now }
+{
+    let len = memory.len as u64;
     match *event {
         Event::Load { addr, width, reach } => load_or_store(len, plain, false, addr, width, reach),
         Event::Store {
@@ -76,7 +92,12 @@ fn access_by(len: u64, plain: bool, event: &Event) -> Access
             ..
         } => load_or_store(len, plain, true, addr, width, reach),
         Event::Rmw { addr, width, .. } => atomic(len, true, addr, width),
-        Event::Cmpxchg { addr, width, .. } => atomic(len, true, addr, width),
+        Event::Cmpxchg {
+            addr,
+            width,
+            expected,
+            ..
+        } => exchange(opening, memory, addr, width, expected),
         Event::Ask(Question::Wait { addr, width, .. }) => atomic(len, false, addr, width),
         Event::Ask(Question::Notify { .. }) => no_bytes(),
         Event::Ask(Question::Spawn { .. }) => no_bytes(),
@@ -94,17 +115,17 @@ fn access_by(len: u64, plain: bool, event: &Event) -> Access
 pub fn next_access(
     alloc: Global,
     valid: &ValidModule,
+    opening: &[u8],
     shared: &Common,
     thread: &HashedThread,
     n: usize,
 ) -> Result<Option<Access>, AllocError>
-    requires { (opening : List ℕ) × IsInCall valid.now opening shared.now thread.now.standing n }
-    ensures { IfOk result (λ o. (opening : List ℕ) → IsAccessIn valid.now opening shared.now thread.now.standing n o) }
+    requires { IsInCall valid.now opening.now shared.now thread.now.standing n }
+    ensures { IfOk result (IsAccessIn valid.now opening.now shared.now thread.now.standing n) }
 {
     let Some(event) = wanted(alloc, valid, &thread.standing)? else {
         return Ok(None);
     };
     let plain = is_plain(valid, &thread.standing);
-    let len = shared.memory.len as u64;
-    Ok(Some(access_by(len, plain, &event)))
+    Ok(Some(access_by(opening, &shared.memory, plain, &event)))
 }

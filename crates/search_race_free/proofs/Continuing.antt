@@ -17,7 +17,7 @@ use Rattle.search_race_free.specs.Reduced.{wanted_in, next_in, Rest, IsResting, 
 use Rattle.search_race_free.specs.Search.{AreWanted, WantsSome, IsAfterEvent, GetsLost, IsOwned, ComesAlone, ComesOnward, IsCame}
 use Rattle.search_race_free.specs.declared.alone.Came.{Came}
 use Rattle.search_race_free.specs.declared.alone.Came.TheVariants as came
-use Rattle.search_race_free.proofs.Moving.{times-append, along-both, same-along}
+use Rattle.search_race_free.proofs.Moving.{times-append, along-both, goes-along}
 use Rattle.search_race_free.proofs.Racing.{race-swap}
 use Rattle.search_race_free.proofs.Turning.{event_access, reaches_next, leaves, plain-laws}
 use Rattle.search_race_free.proofs.Eventing.{calls-at}
@@ -71,11 +71,9 @@ module _ {X T E V A G H M : Type 0} (k : ThreadSystem X T E V A G H M)
       let e = calls-at k c z at u a h in
       let same = leaves k.system k.accesses k.first k.most tame plain z n u a at.reached d h in
       let wants = event_access k.system k.accesses (next_in k z n) u e.0 (ap k.system.wants same ∙ e.1) in
-      let next = reaches_next k.system k.accesses k.first k.most tame plain z n at.reached in (
-        k.accesses (next_in k z n).shared ((next_in k z n).threads u) e.0,
-        same-along (wanted_in k) (next_in k) (IsReached k.system k.first) (plain-laws k.system k.accesses k.first k.most tame plain) (Within x.owned.items) u r.order
-            (next_in k z n) r.settled next r.makes (r.others u d a h) ∙ wants,
-      )
+      let next = reaches_next k.system k.accesses k.first k.most tame plain z n at.reached in
+      goes-along (wanted_in k) (next_in k) (IsReached k.system k.first) (plain-laws k.system k.accesses k.first k.most tame plain) (Within x.owned.items) u
+      (k.accesses (next_in k z n).shared ((next_in k z n).threads u) e.0) r.order (next_in k z n) r.settled next r.makes (r.others u d a h) wants
 
   -- And then plain turns of a thread that may go on.
   pub onward-more : (s x y : Owning (Flat G H)) (n m : ℕ) (before : List (Option Access)) → AreWanted k s.flat before → (m ≢ n → access_at before m ≡ None)

@@ -18,7 +18,7 @@ use Rattle.search_race_free.specs.Owned.{Within}
 use Rattle.search_race_free.specs.Touches.{StrikesNobody, Strikes, IsPut}
 use Rattle.search_race_free.specs.Reduced.{wanted_in, next_in, Rest, IsResting, RestsSomewhere, HasTouched}
 use Rattle.search_race_free.specs.Search.{WantsSome, IsAfterEvent, GetsLost, IsOwned, ComesAlone}
-use Rattle.search_race_free.proofs.Moving.{times-other, times-append, reached-along, along-both, same-along}
+use Rattle.search_race_free.proofs.Moving.{times-other, times-append, reached-along, along-both, goes-along}
 use Rattle.search_race_free.proofs.Racing.{conflict-swap}
 use Rattle.search_race_free.proofs.Turning.{reaches_next, leaves, plain-laws}
 use Rattle.search_race_free.proofs.Striking.{own-within}
@@ -212,9 +212,9 @@ module _ {X T E V A G H M : Type 0} (k : ThreadSystem X T E V A G H M)
 
   -- who can go on can after plain turns of others
   still-wants : (owned : List Touch) (u : ℕ) (ts : List ℕ) (w z : State X T) (a : Access) → IsReached k.system k.first w → Rest k owned ts w z → times u ts ≡ 0
-      → wanted_in k w u ≡ Some a → wanted_in k z u ≡ Some a
+      → wanted_in k w u ≡ Some a → (b : Access) × (wanted_in k z u ≡ Some b)
   still-wants owned u ts w z a r p none h =
-      same-along (wanted_in k) (next_in k) (IsReached k.system k.first) (plain-laws k.system k.accesses k.first k.most tame plain) (Within owned) u ts w z r p none ∙ h
+      goes-along (wanted_in k) (next_in k) (IsReached k.system k.first) (plain-laws k.system k.accesses k.first k.most tame plain) (Within owned) u a ts w z r p none h
 
   -- One way alone after another.
   pub alone-after : (m : ℕ) (s x y : Owning (Flat G H)) → ComesAlone k m s x → ComesAlone k m x y → ComesAlone k m s y
@@ -233,7 +233,8 @@ module _ {X T E V A G H M : Type 0} (k : ThreadSystem X T E V A G H M)
           resting = q.resting;
           others = λ u d a h.
               let none = p.others u d a h in
-              let more = q.others u d a (still-wants x.owned.items u p.order z p.settled a at.reached p.makes none h) in
+              let b = still-wants x.owned.items u p.order z p.settled a at.reached p.makes none h in
+              let more = q.others u d b.0 b.1 in
               times-append u p.order q.order ∙ omega (arith, none, more);
         };
   }

@@ -1,5 +1,5 @@
 -- Plain accesses of threads, each its thread's own, in another order.
-use Rattle.std.specs.Prelude.{◌≡◌, ◌≢◌, ◌⊎◌, ◌+◌, ◌<◌, ◌==◌, cond, ℕ, suc, Option, Some, List, [], ◌∷◌, ◌++◌, refl}
+use Rattle.std.specs.Prelude.{◌≡◌, ◌≢◌, ◌⊎◌, ◌+◌, ◌<◌, ◌==◌, cond, ℕ, suc, Option, Some, None, List, [], ◌∷◌, ◌++◌, refl}
 use Rattle.std.proofs.Common.{ap, subst, sym, ◌∙◌, inl, inr, arith}
 use Rattle.schedule.proofs.Basics.{same_is, other_is, same_or_not}
 use Rattle.search_settled.specs.declared.access.Access.{Access}
@@ -29,7 +29,13 @@ times-append t (u ∷ us) vs = by (times-append t us vs) (same_or_not u t)
 -- Laws of plain turns, of worlds R.
 pub record PlainLaws {W : Type 0} (wants : W → ℕ → Option Access) (next : W → ℕ → W) (R : W → Type 0) : Type 0 where
   pub on : (w : W) (t : ℕ) (e : Access) → R w → wants w t ≡ Some e → R (next w t)
-  pub same : (w : W) (t u : ℕ) (e : Access) → R w → u ≢ t → wants w t ≡ Some e → IsPlain e → wants (next w t) u ≡ wants w u
+  pub same : (w : W) (t u : ℕ) (e f : Access) → R w → u ≢ t → wants w t ≡ Some e → IsPlain e → wants w u ≡ Some f → (Conflict f e → ⊥)
+      → wants (next w t) u ≡ Some f
+  pub back : (w : W) (t u : ℕ) (e f : Access) → R w → u ≢ t → wants w t ≡ Some e → IsPlain e → wants (next w t) u ≡ Some f → (Conflict f e → ⊥)
+      → wants w u ≡ Some f
+  pub goes : (w : W) (t u : ℕ) (e f : Access) → R w → u ≢ t → wants w t ≡ Some e → IsPlain e → wants w u ≡ Some f
+      → (g : Access) × (wants (next w t) u ≡ Some g)
+  pub none : (w : W) (t u : ℕ) (e : Access) → R w → u ≢ t → wants w t ≡ Some e → IsPlain e → wants w u ≡ None → wants (next w t) u ≡ None
   pub stays : (w : W) (t u : ℕ) (e : Access) → R w → u ≢ t → wants w t ≡ Some e → IsPlain e → wants (next w u) t ≡ Some e
   pub swap : (w : W) (t u : ℕ) (e f : Access) → R w → u ≢ t → wants w t ≡ Some e → IsPlain e → wants w u ≡ Some f → (Conflict f e → ⊥)
       → next (next w t) u ≡ next (next w u) t
@@ -51,28 +57,43 @@ module _ {W : Type 0} (wants : W → ℕ → Option Access) (next : W → ℕ �
   along-both own [] us w v z p q = subst (λ x. MakesPlain wants next own us x z) (sym p) q
   along-both own (t ∷ ts) us w v z p q = (p.0, along-both own ts us (next w t) v z p.1 q)
 
-  -- Other threads' turns change nothing of what a thread does next.
-  pub same-along : (own : Own) (n : ℕ) (ts : List ℕ) (w z : W) → R w → MakesPlain wants next own ts w z → times n ts ≡ 0 → wants z n ≡ wants w n
-  same-along own n [] w z r p none = ap (λ x. wants x n) (sym p)
-  same-along own n (t ∷ ts) w z r p none = elim (same_or_not t n) [
+  -- After other threads' turns a thread can go on that could before.
+  pub goes-along : (own : Own) (n : ℕ) (f : Access) (ts : List ℕ) (w z : W) → R w → MakesPlain wants next own ts w z → times n ts ≡ 0 → wants w n ≡ Some f
+      → (g : Access) × (wants z n ≡ Some g)
+  goes-along own n f [] w z r p none wanted = (f, ap (λ x. wants x n) (sym p) ∙ wanted)
+  goes-along own n f (t ∷ ts) w z r p none wanted = elim (same_or_not t n) [
     | inl e ↦ (let h = times-here n t ts e in absurd (omega (arith, h, none)))
     | inr d ↦
-        same-along own n ts (next w t) z (laws.on w t p.0.access r p.0.wanted) p.1 (sym (times-other n t ts d) ∙ none)
-        ∙ laws.same w t n p.0.access r (λ e. d (sym e)) p.0.wanted p.0.plain
+        (let g = laws.goes w t n p.0.access f r (λ e. d (sym e)) p.0.wanted p.0.plain wanted in
+        goes-along own n g.0 ts (next w t) z (laws.on w t p.0.access r p.0.wanted) p.1 (sym (times-other n t ts d) ∙ none) g.1)
+  ]
+
+  -- What it does then it would have done before, where that conflicts with nothing that is theirs.
+  pub back-along : (own : Own) (n : ℕ) (f : Access) (ts : List ℕ) (w z : W) → R w → MakesPlain wants next own ts w z → times n ts ≡ 0 → wants z n ≡ Some f
+      → ((t : ℕ) (e : Access) → n ≢ t → own t e → Conflict f e → ⊥) → wants w n ≡ Some f
+  back-along own n f [] w z r p none wanted clear = ap (λ x. wants x n) p ∙ wanted
+  back-along own n f (t ∷ ts) w z r p none wanted clear = elim (same_or_not t n) [
+    | inl e ↦ (let h = times-here n t ts e in absurd (omega (arith, h, none)))
+    | inr d ↦
+        (let other : n ≢ t = λ e. d (sym e) in
+        laws.back w t n p.0.access f r other p.0.wanted p.0.plain
+        (back-along own n f ts (next w t) z (laws.on w t p.0.access r p.0.wanted) p.1 (sym (times-other n t ts d) ∙ none) wanted clear)
+        (clear t p.0.access other p.0.is_own))
   ]
 
   -- A thread with a turn to come makes it next, whatever the others do before.
-  pub wanted-along : (own : Own) (n : ℕ) (ts : List ℕ) (w z : W) → R w → MakesPlain wants next own ts w z → 0 < times n ts
+  pub wanted-along : (own : Own) → AreApart own → (n : ℕ) (ts : List ℕ) (w z : W) → R w → MakesPlain wants next own ts w z → 0 < times n ts
       → MakesOwn wants next own w n
-  wanted-along own n [] w z r p some = absurd (omega (arith, some))
-  wanted-along own n (t ∷ ts) w z r p some = elim (same_or_not t n) [
+  wanted-along own apart n [] w z r p some = absurd (omega (arith, some))
+  wanted-along own apart n (t ∷ ts) w z r p some = elim (same_or_not t n) [
     | inl e ↦ subst (λ x. MakesOwn wants next own w x) e p.0
     | inr d ↦
         (let h = times-other n t ts d in
-        let m = wanted-along own n ts (next w t) z (laws.on w t p.0.access r p.0.wanted) p.1 (omega (arith, h, some)) in
+        let m = wanted-along own apart n ts (next w t) z (laws.on w t p.0.access r p.0.wanted) p.1 (omega (arith, h, some)) in
+        let other : n ≢ t = λ e. d (sym e) in
         record {
           access = m.access;
-          wanted = sym (laws.same w t n p.0.access r (λ e. d (sym e)) p.0.wanted p.0.plain) ∙ m.wanted;
+          wanted = laws.back w t n p.0.access m.access r other p.0.wanted p.0.plain m.wanted (apart t n p.0.access m.access other p.0.is_own m.is_own);
           plain = m.plain;
           is_own = m.is_own;
         })
@@ -125,7 +146,7 @@ module _ {W : Type 0} (wants : W → ℕ → Option Access) (next : W → ℕ �
         (let h = times-other n t ts d in
         let later = laws.on w t p.0.access r p.0.wanted in
         let q = sooner own apart n ts (next w t) z later p.1 (omega (arith, h, some)) in
-        with_first own apart n t ts w z r p d (wanted-along own n (t ∷ ts) w z r p some) q)
+        with_first own apart n t ts w z r p d (wanted-along own apart n (t ∷ ts) w z r p some) q)
   ]
 
   -- The turns of the others, after a turn of a thread that has none among them.
@@ -136,9 +157,10 @@ module _ {W : Type 0} (wants : W → ℕ → Option Access) (next : W → ℕ �
     | inl e ↦ (let h = times-here n t ts e in absurd (omega (arith, h, none)))
     | inr d ↦
         (let other : n ≢ t = λ e. d (sym e) in
-        let same = laws.same w t n p.0.access r other p.0.wanted p.0.plain in
-        let on = past own n f ts (next w t) z (laws.on w t p.0.access r p.0.wanted) p.1 (sym (times-other n t ts d) ∙ none) (same ∙ wanted) clear in
-        let swapped = laws.swap w t n p.0.access f r other p.0.wanted p.0.plain wanted (clear t p.0.access other p.0.is_own) in (
+        let apart = clear t p.0.access other p.0.is_own in
+        let same = laws.same w t n p.0.access f r other p.0.wanted p.0.plain wanted apart in
+        let on = past own n f ts (next w t) z (laws.on w t p.0.access r p.0.wanted) p.1 (sym (times-other n t ts d) ∙ none) same clear in
+        let swapped = laws.swap w t n p.0.access f r other p.0.wanted p.0.plain wanted apart in (
           record {
             access = p.0.access;
             wanted = laws.stays w t n p.0.access r other p.0.wanted p.0.plain;

@@ -1,6 +1,7 @@
 -- Where threads can race, two next accesses race somewhere.
-use Rattle.std.specs.Prelude.{◌≡◌, ◌≢◌, ◌⊎◌, ℕ, zero, suc, true, Option, Some, List, [], ◌∷◌, ◌++◌, refl}
+use Rattle.std.specs.Prelude.{◌≡◌, ◌≢◌, ◌⊎◌, ℕ, zero, suc, true, Option, Some, None, List, [], ◌∷◌, ◌++◌, refl}
 use Rattle.std.proofs.Common.{ap, subst, sym, ◌∙◌, inl, inr, true≢false}
+use Rattle.std.proofs.lemmas.Option.{none-some}
 use Rattle.schedule.proofs.Basics.{same_or_not}
 use Rattle.search_graph.specs.Paths.{Goes, Reaches}
 use Rattle.search_settled.specs.declared.access.Access.{Access}
@@ -32,10 +33,26 @@ module _ {W : Type 0} (wants : W → ℕ → Option Access) (next : W → ℕ �
   abbrev pub NoneMeetIn : Type 0
   NoneMeetIn = (w : W) → R w → (t u : ℕ) (e f : Access) → u ≢ t → wants w t ≡ Some e → wants w u ≡ Some f → Race e f → ⊥
 
-  lead-same : (one u : ℕ) (es : List Access) (w v : W) → R w → u ≢ one → Lead one es w v → wants v u ≡ wants w u
-  lead-same one u [] w v r d l = ap (λ x. wants x u) (sym l)
-  lead-same one u (e ∷ es) w v r d l =
-      lead-same one u es (next w one) v (laws.on w one e r l.0) d l.2 ∙ laws.same w one u e r d l.0 l.1
+  -- what conflicts with none of them another thread does before as after
+  clear-of : NoneMeetIn → (one u : ℕ) (e g : Access) (w : W) → R w → u ≢ one → wants w one ≡ Some e → IsPlain e → wants w u ≡ Some g → Conflict g e → ⊥
+  clear-of never one u e g w r d wanted p h c = never w r one u e g d wanted h (plain-race e g p (conflict-swap g e c))
+
+  lead-same : NoneMeetIn → (one u : ℕ) (g : Access) (es : List Access) (w v : W) → R w → u ≢ one → Lead one es w v → wants w u ≡ Some g → wants v u ≡ Some g
+  lead-same never one u g [] w v r d l h = ap (λ x. wants x u) (sym l) ∙ h
+  lead-same never one u g (e ∷ es) w v r d l h =
+      lead-same never one u g es (next w one) v (laws.on w one e r l.0) d l.2
+      (laws.same w one u e g r d l.0 l.1 h (clear-of never one u e g w r d l.0 l.1 h))
+
+  lead-none : (one u : ℕ) (es : List Access) (w v : W) → R w → u ≢ one → Lead one es w v → wants w u ≡ None → wants v u ≡ None
+  lead-none one u [] w v r d l h = ap (λ x. wants x u) (sym l) ∙ h
+  lead-none one u (e ∷ es) w v r d l h = lead-none one u es (next w one) v (laws.on w one e r l.0) d l.2 (laws.none w one u e r d l.0 l.1 h)
+
+  lead-back : NoneMeetIn → (one u : ℕ) (f : Access) (es : List Access) (w v : W) → R w → u ≢ one → Lead one es w v → wants v u ≡ Some f → wants w u ≡ Some f
+  lead-back never one u f es w v r d l h = by (wants w u) refl
+    where
+      by : (o : Option Access) → wants w u ≡ o → wants w u ≡ Some f
+      by None is = absurd (none-some f (sym (lead-none one u es w v r d l is) ∙ h))
+      by (Some g) is = is ∙ (sym (lead-same never one u g es w v r d l is) ∙ h)
 
   lead-more : (one : ℕ) (es : List Access) (x : Access) (w v : W) → Lead one es w v → wants v one ≡ Some x → IsPlain x
       → Lead one (es ++ x ∷ []) w (next v one)
@@ -47,15 +64,15 @@ module _ {W : Type 0} (wants : W → ℕ → Option Access) (next : W → ℕ �
       → Lead one es (next w u) (next v u)
   lead-after never one u g [] w v r d l h = ap (λ x. next x u) l
   lead-after never one u g (e ∷ es) w v r d l h =
-      let later = lead-after never one u g es (next w one) v (laws.on w one e r l.0) d l.2 (laws.same w one u e r d l.0 l.1 ∙ h) in
-      let clear : Conflict g e → ⊥ = λ c. never w r one u e g d l.0 h (plain-race e g l.1 (conflict-swap g e c)) in
+      let clear = clear-of never one u e g w r d l.0 l.1 h in
+      let later = lead-after never one u g es (next w one) v (laws.on w one e r l.0) d l.2 (laws.same w one u e g r d l.0 l.1 h clear) in
       let swapped = laws.swap w one u e g r d l.0 l.1 h clear in
       (laws.stays w one u e r d l.0 l.1, l.1, subst (λ x. Lead one es x (next v u)) swapped later)
 
   no-race : NoneMeetIn → (n one other : ℕ) (e f : Access) (es : List Access) (w v z : W) → other ≢ one → R w → Lead one (e ∷ es) w v
       → Goes (StepsPlainly wants next one) n v z → wants z other ≡ Some f → Conflict f e → ⊥
   no-race never zero one other e f es w v z d r l p h c =
-      let here : wants w other ≡ Some f = sym (lead-same one other (e ∷ es) w v r d l) ∙ (ap (λ x. wants x other) p ∙ h) in
+      let here : wants w other ≡ Some f = lead-back never one other f (e ∷ es) w v r d l (ap (λ x. wants x other) p ∙ h) in
       never w r one other e f d l.0 here (plain-race e f l.1 (conflict-swap f e c))
   no-race never (suc n) one other e f es w v z d r l p h c =
       let step = p.1 in
@@ -67,7 +84,7 @@ module _ {W : Type 0} (wants : W → ℕ → Option Access) (next : W → ℕ �
             (lead-more one (e ∷ es) step.access w v l (subst (λ x. wants v x ≡ Some step.access) same step.wanted) (step.plain same))
             (subst (λ x. Goes (StepsPlainly wants next one) n (next v x) z) same on) h c
         | inr apart ↦
-            (let here : wants w t ≡ Some step.access = sym (lead-same one t (e ∷ es) w v r apart l) ∙ step.wanted in
+            (let here : wants w t ≡ Some step.access = lead-back never one t step.access (e ∷ es) w v r apart l step.wanted in
             no-race never n one other e f es (next w t) (next v t) z d (laws.on w t step.access r here)
             (lead-after never one t step.access (e ∷ es) w v r apart l here) on h c)
       ]

@@ -20,7 +20,7 @@ use Rattle.search_race_free.specs.Orders.{times, MakesPlain}
 use Rattle.search_race_free.specs.Wanted.{own_turn, ArePlain}
 use Rattle.search_race_free.specs.Owned.{Within, IsSafe}
 use Rattle.search_race_free.specs.Reduced.{wanted_in, next_in, Rest, IsResting, RestsSomewhere, IsKept, StandsBefore, reduced_steps, IsAfterTurn, ComesOf, HasReduced}
-use Rattle.search_race_free.proofs.Moving.{times-here, times-append, PlainLaws, reached-along, along-both, same-along, wanted-along, sooner, past}
+use Rattle.search_race_free.proofs.Moving.{times-here, times-append, AreApart, PlainLaws, reached-along, along-both, goes-along, back-along, wanted-along, sooner, past}
 use Rattle.search_race_free.proofs.Racing.{conflict-swap}
 use Rattle.search_race_free.proofs.Turning.{going_on, turn_access, event_access, reaches_next, plain-laws}
 use Rattle.search_race_free.proofs.Striking.{struck, within-apart}
@@ -123,16 +123,30 @@ module _ {X T E V A G H M O : Type 0} (k : ThreadSystem X T E V A G H M) (ends :
         let at = resting w (λ (n : ℕ). 0) st in
         subst (IsResting k s.flat) (sym same) at
 
-    -- what a thread that has no turn left before it rests does next is what it does then
-    same-then : (w : State X T) (left : ℕ → ℕ) (n : ℕ) (st : StandsBefore k s w left) → times n st.order ≡ 0 → wanted_in k st.settled n ≡ wanted_in k w n
-    same-then w left n st none =
-        same-along (wanted_in k) (next_in k) (IsReached k.system k.first) laws (Within s.owned.items) n st.order w st.settled st.reached st.makes none
+    -- what one thread owns is apart from what another one does
+    own-apart : (w : State X T) (left : ℕ → ℕ) (st : StandsBefore k s w left) → AreApart (Within s.owned.items)
+    own-apart w left st = within-apart k.system k.accesses s.owned.items st.settled (safe-at w left st)
+
+    -- what a thread that has no turn left before it rests does then it does next, and the other way round
+    then-same : (w : State X T) (left : ℕ → ℕ) (n : ℕ) (st : StandsBefore k s w left) → times n st.order ≡ 0 → (a : Access) → wanted_in k st.settled n ≡ Some a
+        → wanted_in k w n ≡ Some a
+    then-same w left n st none a wants =
+        back-along (wanted_in k) (next_in k) (IsReached k.system k.first) laws (Within s.owned.items) n a st.order w st.settled st.reached st.makes none wants
+        (λ t e d own c. (let x = struck s.owned.items a e t c own in
+        let safe = safe-at w left st in
+        safe.clear n a x.touch wants x.among (λ q. d (sym q ∙ x.is)) x.conflict))
+
+    same-then : (w : State X T) (left : ℕ → ℕ) (n : ℕ) (st : StandsBefore k s w left) → times n st.order ≡ 0 → (a : Access) → wanted_in k w n ≡ Some a
+        → wanted_in k st.settled n ≡ Some a
+    same-then w left n st none a wants =
+        let g = goes-along (wanted_in k) (next_in k) (IsReached k.system k.first) laws (Within s.owned.items) n a st.order w st.settled st.reached st.makes none wants in
+        g.1 ∙ (sym (then-same w left n st none g.0 g.1) ∙ wants)
 
     -- what a thread that has one left does next it owns
     owns-then : (w : State X T) (left : ℕ → ℕ) (n : ℕ) (st : StandsBefore k s w left) (a : Access) → 0 < times n st.order → wanted_in k w n ≡ Some a
         → Within s.owned.items n a
     owns-then w left n st a some wants =
-        let m = wanted-along (wanted_in k) (next_in k) (IsReached k.system k.first) laws (Within s.owned.items) n st.order w st.settled st.reached st.makes some in
+        let m = wanted-along (wanted_in k) (next_in k) (IsReached k.system k.first) laws (Within s.owned.items) (own-apart w left st) n st.order w st.settled st.reached st.makes some in
         subst (λ b. Within s.owned.items n b) (same_Some m.access a (sym m.wanted ∙ wants)) m.is_own
 
     -- an access of a thread that has none left doesn't conflict with one of a thread that has
@@ -141,7 +155,7 @@ module _ {X T E V A G H M O : Type 0} (k : ThreadSystem X T E V A G H M) (ends :
     clear-then w left st n u a b d none wants own c =
         let x = struck s.owned.items a b u c own in
         let safe = safe-at w left st in
-        safe.clear n a x.touch (same-then w left n st none ∙ wants) x.among (λ q. d (sym q ∙ x.is)) x.conflict
+        safe.clear n a x.touch (same-then w left n st none a wants) x.among (λ q. d (sym q ∙ x.is)) x.conflict
 
     -- no two next accesses race
     pub free-at : (w : State X T) (left : ℕ → ℕ) (st : StandsBefore k s w left) (one other : ℕ) (a b : Access) → other ≢ one → wanted_in k w one ≡ Some a
@@ -149,7 +163,7 @@ module _ {X T E V A G H M O : Type 0} (k : ThreadSystem X T E V A G H M) (ends :
     free-at w left st one other a b d h g race = elim (cases_lt 0 (times one st.order)) [
       | inl some ↦ elim (cases_lt 0 (times other st.order)) [
         | inl more ↦
-            within-apart k.system k.accesses s.owned.items st.settled (safe-at w left st) one other a b d
+            own-apart w left st one other a b d
             (owns-then w left one st a some h) (owns-then w left other st b more g) (conflict-swap a b race.conflict)
         | inr few ↦
             clear-then w left st other one b a d (omega (arith, few)) g (owns-then w left one st a some h) (conflict-swap a b race.conflict)
@@ -159,7 +173,7 @@ module _ {X T E V A G H M O : Type 0} (k : ThreadSystem X T E V A G H M) (ends :
             clear-then w left st one other a b (λ e. d (sym e)) (omega (arith, none)) h (owns-then w left other st b more g) race.conflict
         | inr few ↦
             (let safe = safe-at w left st in
-            safe.meet one other a b d (same-then w left one st (omega (arith, none)) ∙ h) (same-then w left other st (omega (arith, few)) ∙ g) race)
+            safe.meet one other a b d (same-then w left one st (omega (arith, none)) a h) (same-then w left other st (omega (arith, few)) b g) race)
       ]
     ]
 
@@ -187,7 +201,7 @@ module _ {X T E V A G H M O : Type 0} (k : ThreadSystem X T E V A G H M) (ends :
       stay : (w y : State X T) (left : ℕ → ℕ) (n : ℕ) (st : StandsBefore k s w left) → 0 < times n st.order → y ≡ next_in k w n → StaysIn Reduced s n y left
       stay w y left n st some made =
           let q = sooner (wanted_in k) (next_in k) (IsReached k.system k.first) laws (Within s.owned.items)
-          (within-apart k.system k.accesses s.owned.items st.settled (safe-at w left st)) n st.order w st.settled st.reached st.makes some in
+          (own-apart w left st) n st.order w st.settled st.reached st.makes some in
           let left_is = st.turns_are n in
           let once = q.once in
           record {
@@ -261,7 +275,7 @@ module _ {X T E V A G H M O : Type 0} (k : ThreadSystem X T E V A G H M) (ends :
         | inr few ↦
             (let a = access-of w n can in
             let none : times n st.order ≡ 0 = omega (arith, few) in
-            let x = next.all st.settled (resting w left st) n a.0 (same-then w left n st none ∙ a.1) in
+            let x = next.all st.settled (resting w left st) n a.0 (same-then w left n st none a.0 a.1) in
             inr (leads w y left n st a.0 none a.1 made x.0 x.1 x.2))
       ]
 
@@ -271,11 +285,11 @@ module _ {X T E V A G H M O : Type 0} (k : ThreadSystem X T E V A G H M) (ends :
           let of = (next.each x among).each st.settled (resting w stands.0 st) in
           elim (cases_lt 0 (times x.thread st.order)) [
             | inl some ↦
-                (let m = wanted-along (wanted_in k) (next_in k) (IsReached k.system k.first) laws (Within s.owned.items) x.thread st.order w st.settled st.reached st.makes some in
+                (let m = wanted-along (wanted_in k) (next_in k) (IsReached k.system k.first) laws (Within s.owned.items) (own-apart w stands.0 st) x.thread st.order w st.settled st.reached st.makes some in
                 can-by w x.thread m.access m.wanted)
             | inr few ↦
                 (let none : times x.thread st.order ≡ 0 = omega (arith, few) in
-                can-by w x.thread of.access (sym (same-then w stands.0 x.thread st none) ∙ of.wants))
+                can-by w x.thread of.access (then-same w stands.0 x.thread st none of.access of.wants))
           ]
 
       all : (w : State X T) → RestsIn Reduced s w → (n : ℕ) → CanGoOn k.system w n → HasOf xs n

@@ -83,29 +83,78 @@ module _ {X T E V A : Type 0} (s : System X T E V A) (accesses : X → T → E �
         → after_event s w t f ≡ record { shared = s.after w.shared t f; threads = put w.threads t (s.takes (w.threads t) (s.reply w.shared t f)) }
     quiet_plain w t f h = quiet_event s w t f (plain.gives w t f h) (plain.starts w t f h)
 
-    -- what others do next is the same after it
-    same_access : (w : State X T) (t : ℕ) (f : E) → WantsPlain s accesses first w t f → (v : T) (want : Want E)
-        → access_by s accesses (s.after w.shared t f) v want ≡ access_by s accesses w.shared v want
-    same_access w t f h v Turns = refl
-    same_access w t f h v (Calls g) = ap (λ b. Some b) (plain.same w t f h v g)
-    same_access w t f h v Awaits = refl
-    same_access w t f h v Gone = refl
+    -- What another thread does after a plain turn: it is as it was, and of what it does with the memory only what
+    -- conflicts with that turn may be another.
+    record SharedAfter (w : State X T) (a : Access) (u : ℕ) (z : State X T) : Type 0 where
+      x : X
+      next : next_access s accesses z u ≡ access_by s accesses x (w.threads u) (s.wants (w.threads u))
+      same : (v : T) (f : E) → (Conflict (accesses w.shared v f) a → ⊥) → accesses x v f ≡ accesses w.shared v f
+      still : (v : T) (f : E) → Conflict (accesses w.shared v f) a → Conflict (accesses x v f) a
 
-    same_next : (w : State X T) (t u : ℕ) (a : Access) → IsReached s first w → u ≢ t → next_access s accesses w t ≡ Some a → IsPlain a
-        → next_access s accesses (after_next s w t) u ≡ next_access s accesses w u
-    same_next w t u a r d h p = by (going_on w t a h)
+    shared_after : (w : State X T) (t u : ℕ) (a : Access) → IsReached s first w → u ≢ t → next_access s accesses w t ≡ Some a → IsPlain a
+        → SharedAfter w a u (after_next s w t)
+    shared_after w t u a r d h p = by (going_on w t a h)
       where
         by : ((s.wants (w.threads t) ≡ Turns) × (own_turn ≡ a)) ⊎ ((f : E) × (s.wants (w.threads t) ≡ Calls f) × (accesses w.shared (w.threads t) f ≡ a))
-            → next_access s accesses (after_next s w t) u ≡ next_access s accesses w u
-        by (inl o) =
-            ap (λ z. next_access s accesses z u) (ap (after_turn s w t) o.0)
-            ∙ access_of w.shared (put w.threads t (s.own_turn (w.threads t)) u) (w.threads u) (put-other w.threads t (s.own_turn (w.threads t)) u d)
+            → SharedAfter w a u (after_next s w t)
+        by (inl o) = record {
+          x = w.shared;
+          next = ap (λ z. next_access s accesses z u) (ap (after_turn s w t) o.0)
+              ∙ access_of w.shared (put w.threads t (s.own_turn (w.threads t)) u) (w.threads u) (put-other w.threads t (s.own_turn (w.threads t)) u d);
+          same = λ v f clear. refl;
+          still = λ v f c. c;
+        }
         by (inr o) =
-            let h = plain_of w t o.0 a r o.1 o.2 p in
+            let is = plain_of w t o.0 a r o.1 o.2 p in
             let v = s.takes (w.threads t) (s.reply w.shared t o.0) in
-            ap (λ z. next_access s accesses z u) (ap (after_turn s w t) o.1 ∙ quiet_plain w t o.0 h)
-            ∙ (access_of (s.after w.shared t o.0) (put w.threads t v u) (w.threads u) (put-other w.threads t v u d)
-            ∙ same_access w t o.0 h (w.threads u) (s.wants (w.threads u)))
+            record {
+              x = s.after w.shared t o.0;
+              next = ap (λ z. next_access s accesses z u) (ap (after_turn s w t) o.1 ∙ quiet_plain w t o.0 is)
+                  ∙ access_of (s.after w.shared t o.0) (put w.threads t v u) (w.threads u) (put-other w.threads t v u d);
+              same = λ q f clear. plain.same w t o.0 is q f (λ c. clear (subst (Conflict (accesses w.shared q f)) o.2 c));
+              still = λ q f c. subst (Conflict (accesses (s.after w.shared t o.0) q f)) o.2
+                  (plain.still w t o.0 is q f (subst (Conflict (accesses w.shared q f)) (sym o.2) c));
+            }
+
+    -- by what a thread wants
+    module _ (w : State X T) (a : Access) (u : ℕ) (z : State X T) (h : SharedAfter w a u z) where
+      before : (want : Want E) → s.wants (w.threads u) ≡ want → next_access s accesses w u ≡ access_by s accesses w.shared (w.threads u) want
+      before want is = ap (access_by s accesses w.shared (w.threads u)) is
+
+      then : (want : Want E) → s.wants (w.threads u) ≡ want → next_access s accesses z u ≡ access_by s accesses h.x (w.threads u) want
+      then want is = h.next ∙ ap (access_by s accesses h.x (w.threads u)) is
+
+      same_by : (f : Access) → (Conflict f a → ⊥) → next_access s accesses w u ≡ Some f → (want : Want E) → s.wants (w.threads u) ≡ want
+          → next_access s accesses z u ≡ Some f
+      same_by f clear wants Turns is = then Turns is ∙ (sym (before Turns is) ∙ wants)
+      same_by f clear wants (Calls g) is =
+          let mine : accesses w.shared (w.threads u) g ≡ f = same_Some (accesses w.shared (w.threads u) g) f (sym (before (Calls g) is) ∙ wants) in
+          then (Calls g) is ∙ ap (λ b. Some b) (h.same (w.threads u) g (λ c. clear (subst (λ b. Conflict b a) mine c)) ∙ mine)
+      same_by f clear wants Awaits is = then Awaits is ∙ (sym (before Awaits is) ∙ wants)
+      same_by f clear wants Gone is = then Gone is ∙ (sym (before Gone is) ∙ wants)
+
+      back_by : (f : Access) → (Conflict f a → ⊥) → next_access s accesses z u ≡ Some f → (want : Want E) → s.wants (w.threads u) ≡ want
+          → next_access s accesses w u ≡ Some f
+      back_by f clear wants Turns is = before Turns is ∙ (sym (then Turns is) ∙ wants)
+      back_by f clear wants (Calls g) is =
+          let mine : accesses h.x (w.threads u) g ≡ f = same_Some (accesses h.x (w.threads u) g) f (sym (then (Calls g) is) ∙ wants) in
+          let same = h.same (w.threads u) g (λ c. clear (subst (λ b. Conflict b a) mine (h.still (w.threads u) g c))) in
+          before (Calls g) is ∙ ap (λ b. Some b) (sym same ∙ mine)
+      back_by f clear wants Awaits is = before Awaits is ∙ (sym (then Awaits is) ∙ wants)
+      back_by f clear wants Gone is = before Gone is ∙ (sym (then Gone is) ∙ wants)
+
+      goes_by : (f : Access) → next_access s accesses w u ≡ Some f → (want : Want E) → s.wants (w.threads u) ≡ want
+          → (g : Access) × (next_access s accesses z u ≡ Some g)
+      goes_by f wants Turns is = (own_turn, then Turns is)
+      goes_by f wants (Calls g) is = (accesses h.x (w.threads u) g, then (Calls g) is)
+      goes_by f wants Awaits is = absurd (none-some f (sym (before Awaits is) ∙ wants))
+      goes_by f wants Gone is = absurd (none-some f (sym (before Gone is) ∙ wants))
+
+      none_by : next_access s accesses w u ≡ None → (want : Want E) → s.wants (w.threads u) ≡ want → next_access s accesses z u ≡ None
+      none_by none Turns is = absurd (none-some own_turn (sym none ∙ before Turns is))
+      none_by none (Calls g) is = absurd (none-some (accesses w.shared (w.threads u) g) (sym none ∙ before (Calls g) is))
+      none_by none Awaits is = then Awaits is
+      none_by none Gone is = then Gone is
 
     -- a plain event stays one whatever another thread does
     stays_by : (w : State X T) (t u : ℕ) (f : E) (want : Want E) → WantsPlain s accesses first w t f → s.wants (w.threads u) ≡ want
@@ -214,15 +263,14 @@ module _ {X T E V A : Type 0} (s : System X T E V A) (accesses : X → T → E �
     pub plain-laws : PlainLaws (next_access s accesses) (after_next s) (IsReached s first)
     plain-laws = record {
       on = λ w t e r h. reaches_next w t r;
-      same = same_next_as;
+      same = λ w t u e f r d h p wants clear. same_by w e u (after_next s w t) (shared_after w t u e r d h p) f clear wants (s.wants (w.threads u)) refl;
+      back = λ w t u e f r d h p wants clear. back_by w e u (after_next s w t) (shared_after w t u e r d h p) f clear wants (s.wants (w.threads u)) refl;
+      goes = λ w t u e f r d h p wants. goes_by w e u (after_next s w t) (shared_after w t u e r d h p) f wants (s.wants (w.threads u)) refl;
+      none = λ w t u e r d h p none. none_by w e u (after_next s w t) (shared_after w t u e r d h p) none (s.wants (w.threads u)) refl;
       stays = stays_next_as;
       swap = swap_next_as;
     }
       where
-        same_next_as : (w : State X T) (t u : ℕ) (e : Access) → IsReached s first w → u ≢ t → next_access s accesses w t ≡ Some e → IsPlain e
-            → next_access s accesses (after_next s w t) u ≡ next_access s accesses w u
-        same_next_as w t u e r d h p = same_next w t u e r d h p
-
         stays_next_as : (w : State X T) (t u : ℕ) (e : Access) → IsReached s first w → u ≢ t → next_access s accesses w t ≡ Some e → IsPlain e
             → next_access s accesses (after_next s w u) t ≡ Some e
         stays_next_as w t u e r d h p = stays_next w t u e r d h p

@@ -43,13 +43,18 @@ module _ {X T E V A : Type 0} (s : System X T E V A) (accesses : X → T → E �
       pub wants : s.wants (w.threads n) ≡ Calls e
       pub plain : IsPlain (accesses w.shared (w.threads n) e)
 
-    -- A plain access tells no thread anything and starts none, changes of no event what it does with the memory, and is
-    -- plain whatever comes first; and it is independent of an event of another thread that it doesn't conflict with.
+    -- A plain access tells no thread anything and starts none, and is plain whatever comes first. Of an event that
+    -- doesn't conflict with it it doesn't change what that does with the memory, and one that does conflict with it
+    -- conflicts with it after it, too; and it is independent of an event of another thread that it doesn't conflict with.
     pub record ArePlain : Type 0 where
       pub gives : (w : State X T) (n : ℕ) (e : E) → WantsPlain w n e → (m : ℕ) → s.gives w.shared n e m ≡ None
       pub starts : (w : State X T) (n : ℕ) (e : E) → WantsPlain w n e → (m : ℕ) → s.starts w.shared n e m ≡ None
-      pub same : (w : State X T) (n : ℕ) (e : E) → WantsPlain w n e
-          → (t : T) (f : E) → accesses (s.after w.shared n e) t f ≡ accesses w.shared t f
+      pub same : (w : State X T) (n : ℕ) (e : E) → WantsPlain w n e → (t : T) (f : E)
+          → (Conflict (accesses w.shared t f) (accesses w.shared (w.threads n) e) → ⊥)
+          → accesses (s.after w.shared n e) t f ≡ accesses w.shared t f
+      pub still : (w : State X T) (n : ℕ) (e : E) → WantsPlain w n e → (t : T) (f : E)
+          → Conflict (accesses w.shared t f) (accesses w.shared (w.threads n) e)
+          → Conflict (accesses (s.after w.shared n e) t f) (accesses w.shared (w.threads n) e)
       pub stays : (w : State X T) (n : ℕ) (e : E) → WantsPlain w n e → (u : ℕ) (f : E) → s.wants (w.threads u) ≡ Calls f
           → accesses (s.after w.shared u f) (w.threads n) e ≡ accesses w.shared (w.threads n) e
       pub independent : (w : State X T) (n : ℕ) (e : E) → WantsPlain w n e → (u : ℕ) (f : E) → s.wants (w.threads u) ≡ Calls f

@@ -33,7 +33,7 @@ use Rattle.search_runs.specs.Accesses.{access_by, access_of, is_plain}
 use Rattle.search_runs.specs.Ends.{HasEndedSo}
 use Rattle.search_runs.specs.Theorems.{CanReach}
 use Rattle.search_runs.proofs.Tame.{orderly, missing}
-use Rattle.search_runs.proofs.Plain.{IsAccess, is-access, longer, reply-still, found-still, leaves-same, as-long, access-same, access-stays}
+use Rattle.search_runs.proofs.Plain.{IsAccess, is-access, longer, reply-still, found-still, leaves-same, access-same, conflict-still, access-stays}
 
 -- an access leaves the queue
 queue-still : (m : Memory) (q : WaitQueue) (n : ℕ) (e : Event) (r : Reply) → IsAccess m e → queue_step q n e r ≡ q
@@ -114,7 +114,8 @@ pub plain : (b : Called) → ArePlain (system_of b) access_of (first_state b)
 plain b = record {
   gives = λ w n e wants m. gives-none b w wants.reached n e (access-at w n e wants) m;
   starts = λ w n e wants m. starts-nobody b w.shared w.shared.memory e m (access-at w n e wants);
-  same = λ w n e wants t f. access-same w.shared.memory (state_after w.shared.memory e) (is_plain t) f (as-long w.shared.memory e (access-at w n e wants));
+  same = λ w n e wants t f spared. access-same w.shared.memory (is_plain t) (is_plain (w.threads n)) f e (access-at w n e wants) spared;
+  still = λ w n e wants t f c. conflict-still w.shared.memory (is_plain t) (is_plain (w.threads n)) f e (access-at w n e wants) c;
   stays = λ w n e wants u f calls.
       access-stays w.shared.memory (state_after w.shared.memory f) (is_plain (w.threads n)) e (access-at w n e wants) (longer w.shared.memory f);
   independent = λ w n e wants u f calls apart spared.

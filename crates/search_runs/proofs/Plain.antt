@@ -65,7 +65,7 @@ is-access m p (Grow more) h = not-plain h
 is-access m p (Load addr width reach) h = in-fits m p false addr width reach h
 is-access m p (Store addr width reach value) h = in-fits m p true addr width reach h
 is-access m p (Rmw op addr width value) h = rmw-plain m true addr width (addr + width) h
-is-access m p (Cmpxchg addr width expected replacement) h = rmw-plain m true addr width (addr + width) h
+is-access m p (Cmpxchg addr width expected replacement) h = rmw-plain m (loaded m addr width == expected) addr width (addr + width) h
 is-access m p (Ask (Wait addr width expected timeout)) h = rmw-plain m false addr width (addr + width) h
 is-access m p (Ask (Notify addr count)) h = not-plain h
 is-access m p (Ask (Spawn arg)) h = not-plain h
@@ -200,13 +200,14 @@ loaded-still m p (Rmw op addr width value) b v within h = by (nat_le (addr + wid
     by false e = refl
 loaded-still m p (Cmpxchg addr width expected replacement) b v within h = by (nat_le (addr + width) (length m.bytes)) refl
   where
-    swapped : nat_le (addr + width) (length m.bytes) ≡ true → (t : Bool) → loaded (if t then written m addr width replacement else m) b v ≡ loaded m b v
-    swapped e true = loaded-apart m addr width replacement b v (spares-apart m false addr width (addr + width) b v e h) (inl within)
-    swapped e false = refl
+    swapped : nat_le (addr + width) (length m.bytes) ≡ true → (t : Bool) → Spares (in_bounds m false t addr width (addr + width)) b v
+        → loaded (if t then written m addr width replacement else m) b v ≡ loaded m b v
+    swapped e true g = loaded-apart m addr width replacement b v (spares-apart m false addr width (addr + width) b v e g) (inl within)
+    swapped e false g = refl
 
     by : (t : Bool) → nat_le (addr + width) (length m.bytes) ≡ t
         → loaded (if t then (if loaded m addr width == expected then written m addr width replacement else m) else m) b v ≡ loaded m b v
-    by true e = swapped e (loaded m addr width == expected)
+    by true e = swapped e (loaded m addr width == expected) h
     by false e = refl
 loaded-still m p (Ask question) b v within h = refl
 loaded-still m p (Told answer) b v within h = refl
@@ -278,7 +279,7 @@ module _ (m : Memory) (p : Bool) (b v k : ℕ) (within : b + v ≤ length m.byte
   other-found (Load a w r) h = other-loads p false a w r r refl h
   other-found (Store a w r n) h = if-same m (written m b v k) r Done OutOfBounds long
   other-found (Rmw op a w value) h = other-loads false true a w (a + w) (a + w) refl h
-  other-found (Cmpxchg a w expected replacement) h = other-loads false true a w (a + w) (a + w) refl h
+  other-found (Cmpxchg a w expected replacement) h = other-loads false (loaded m a w == expected) a w (a + w) (a + w) refl h
   other-found (Ask (Wait a w expected timeout)) h = other-loads false false a w (a + w) (a + w) refl h
   other-found (Ask (Notify a count)) h = if-same m (written m b v k) (a + 4) Done OutOfBounds long
   other-found (Ask (Spawn arg)) h = refl
@@ -317,7 +318,7 @@ module _ (m : Memory) (p : Bool) (b v k : ℕ) (within : b + v ≤ length m.byte
     where
       swapped : nat_le (a + w) (length m.bytes) ≡ true → (s : Bool)
           → written (if s then written m a w replacement else m) b v k ≡ (if s then written (written m b v k) a w replacement else written m b v k)
-      swapped e true = swap-writes m a w replacement b v k (apart-back b v a w (store-apart false true a w (a + w) e h)) within
+      swapped e true = swap-writes m a w replacement b v k (apart-back b v a w (store-apart false (loaded m a w == expected) a w (a + w) e h)) within
       swapped e false = refl
 
       by : (s : Bool) → nat_le (a + w) (length m.bytes) ≡ s
@@ -326,7 +327,7 @@ module _ (m : Memory) (p : Bool) (b v k : ℕ) (within : b + v ≤ length m.byte
       by true e =
           swapped e (loaded m a w == expected)
           ∙ ap (λ o. if o == expected then written (written m b v k) a w replacement else written m b v k)
-          (sym (loaded-apart m b v k a w (store-apart false true a w (a + w) e h) (inr within)))
+          (sym (loaded-apart m b v k a w (store-apart false (loaded m a w == expected) a w (a + w) e h) (inr within)))
       by false e = refl
   other-leaves (Ask question) h = refl
   other-leaves (Told answer) h = refl
@@ -379,23 +380,92 @@ as-long m (Cmpxchg addr width expected replacement) is = absurd is
 as-long m (Ask question) is = absurd is
 as-long m (Told answer) is = absurd is
 
--- what an event does with a memory depends on its length alone
+-- what an event does with a memory depends on its length, and a compare-exchange's on what is there
 in-same : (m z : Memory) (plain writes : Bool) (addr width reach : ℕ) → length z.bytes ≡ length m.bytes
     → in_bounds z plain writes addr width reach ≡ in_bounds m plain writes addr width reach
 in-same m z plain writes addr width reach h = ap (λ l. if nat_le reach l then inside (plain && nat_le (addr + width) reach) writes addr width else no_bytes) h
 
-pub access-same : (m z : Memory) (p : Bool) (f : Event) → length z.bytes ≡ length m.bytes → access_by z p f ≡ access_by m p f
-access-same m z p Size h = refl
-access-same m z p (Grow more) h = refl
-access-same m z p (Load addr width reach) h = in-same m z p false addr width reach h
-access-same m z p (Store addr width reach value) h = in-same m z p true addr width reach h
-access-same m z p (Rmw op addr width value) h = in-same m z false true addr width (addr + width) h
-access-same m z p (Cmpxchg addr width expected replacement) h = in-same m z false true addr width (addr + width) h
-access-same m z p (Ask (Wait addr width expected timeout)) h = in-same m z false false addr width (addr + width) h
-access-same m z p (Ask (Notify addr count)) h = refl
-access-same m z p (Ask (Spawn arg)) h = refl
-access-same m z p (Ask Leave) h = refl
-access-same m z p (Told answer) h = refl
+-- in the memory after a store that it doesn't meet
+module _ (m : Memory) (p : Bool) (b v k : ℕ) (within : b + v ≤ length m.bytes) where
+  found-same : (a w expected : ℕ) → (Meet (in_bounds m false (loaded m a w == expected) a w (a + w)) (inside true true b v) → ⊥)
+      → in_bounds (written m b v k) false (loaded (written m b v k) a w == expected) a w (a + w) ≡ in_bounds m false (loaded m a w == expected) a w (a + w)
+  found-same a w expected never =
+      in-same m (written m b v k) false (loaded (written m b v k) a w == expected) a w (a + w) (long m p b v k within) ∙ by (nat_le (a + w) (length m.bytes)) refl
+    where
+      by : (s : Bool) → nat_le (a + w) (length m.bytes) ≡ s
+          → (if s then inside (false && nat_le (a + w) (a + w)) (loaded (written m b v k) a w == expected) a w else no_bytes)
+          ≡ (if s then inside (false && nat_le (a + w) (a + w)) (loaded m a w == expected) a w else no_bytes)
+      by true e =
+          ap (λ n. inside (false && nat_le (a + w) (a + w)) (n == expected) a w)
+          (loaded-apart m b v k a w (store-apart m p b v k within false (loaded m a w == expected) a w (a + w) e never) (inr within))
+      by false e = refl
+
+  written-same : (f : Event) → (Meet (access_by m p f) (inside true true b v) → ⊥) → access_by (written m b v k) p f ≡ access_by m p f
+  written-same Size h = refl
+  written-same (Grow more) h = refl
+  written-same (Load addr width reach) h = in-same m (written m b v k) p false addr width reach (long m p b v k within)
+  written-same (Store addr width reach value) h = in-same m (written m b v k) p true addr width reach (long m p b v k within)
+  written-same (Rmw op addr width value) h = in-same m (written m b v k) false true addr width (addr + width) (long m p b v k within)
+  written-same (Cmpxchg addr width expected replacement) h = found-same addr width expected h
+  written-same (Ask (Wait addr width expected timeout)) h = in-same m (written m b v k) false false addr width (addr + width) (long m p b v k within)
+  written-same (Ask (Notify addr count)) h = refl
+  written-same (Ask (Spawn arg)) h = refl
+  written-same (Ask Leave) h = refl
+  written-same (Told answer) h = refl
+
+-- the bytes that an event touches are the same in a memory as long
+in-meets : (m z : Memory) (plain one other : Bool) (addr width reach : ℕ) (y : Access) → length z.bytes ≡ length m.bytes
+    → Meet (in_bounds m plain one addr width reach) y → Meet (in_bounds z plain other addr width reach) y
+in-meets m z plain one other addr width reach y h meet = subst (λ x. Meet x y) (sym (in-same m z plain other addr width reach h)) (by (nat_le reach (length m.bytes)) meet)
+  where
+    by : (s : Bool) → Meet (if s then inside (plain && nat_le (addr + width) reach) one addr width else no_bytes) y
+        → Meet (if s then inside (plain && nat_le (addr + width) reach) other addr width else no_bytes) y
+    by true g = g
+    by false g = g
+
+meets-still : (m z : Memory) (p : Bool) (f : Event) (y : Access) → length z.bytes ≡ length m.bytes → Meet (access_by m p f) y → Meet (access_by z p f) y
+meets-still m z p Size y h meet = meet
+meets-still m z p (Grow more) y h meet = meet
+meets-still m z p (Load addr width reach) y h meet = in-meets m z p false false addr width reach y h meet
+meets-still m z p (Store addr width reach value) y h meet = in-meets m z p true true addr width reach y h meet
+meets-still m z p (Rmw op addr width value) y h meet = in-meets m z false true true addr width (addr + width) y h meet
+meets-still m z p (Cmpxchg addr width expected replacement) y h meet =
+    in-meets m z false (loaded m addr width == expected) (loaded z addr width == expected) addr width (addr + width) y h meet
+meets-still m z p (Ask (Wait addr width expected timeout)) y h meet = in-meets m z false false false addr width (addr + width) y h meet
+meets-still m z p (Ask (Notify addr count)) y h meet = meet
+meets-still m z p (Ask (Spawn arg)) y h meet = meet
+meets-still m z p (Ask Leave) y h meet = meet
+meets-still m z p (Told answer) y h meet = meet
+
+module _ (m : Memory) (p q : Bool) (f : Event) where
+  -- what an event does with the memory is the same after an access that it doesn't conflict with
+  pub access-same : (e : Event) → IsAccess m e → Spared m p q f e → access_by (state_after m e) p f ≡ access_by m p f
+  access-same Size is h = absurd is
+  access-same (Grow more) is h = absurd is
+  access-same (Load b v r) fits h = refl
+  access-same (Store b v r k) fits h =
+      let ends = fits.ends in
+      let reaches = fits.reaches in
+      ap (λ z. access_by z p f) (if-in m r (written m b v k) m reaches)
+      ∙ written-same m p b v k (omega (arith, ends, reaches)) f (store-spared m p q f b v r k fits h)
+  access-same (Rmw op addr width value) is h = absurd is
+  access-same (Cmpxchg addr width expected replacement) is h = absurd is
+  access-same (Ask question) is h = absurd is
+  access-same (Told answer) is h = absurd is
+
+  -- and one that conflicts with it does still
+  pub conflict-still : (e : Event) → IsAccess m e → Conflict (access_by m p f) (access_by m q e) → Conflict (access_by (state_after m e) p f) (access_by m q e)
+  conflict-still Size is c = absurd is
+  conflict-still (Grow more) is c = absurd is
+  conflict-still (Load b v r) fits c = c
+  conflict-still (Store b v r k) fits c = record {
+    meet = meets-still m (state_after m (Store b v r k)) p f (access_by m q (Store b v r k)) (as-long m (Store b v r k) fits) c.meet;
+    write = inr (ap (λ (y : Access). y.writes) (in-is m q true b v r (le-leb r (length m.bytes) fits.reaches)));
+  }
+  conflict-still (Rmw op addr width value) is c = absurd is
+  conflict-still (Cmpxchg addr width expected replacement) is c = absurd is
+  conflict-still (Ask question) is c = absurd is
+  conflict-still (Told answer) is c = absurd is
 
 in-more : (m z : Memory) (plain writes : Bool) (addr width reach : ℕ) → FitsIn m addr width reach → length m.bytes ≤ length z.bytes
     → in_bounds z plain writes addr width reach ≡ in_bounds m plain writes addr width reach

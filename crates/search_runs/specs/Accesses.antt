@@ -1,5 +1,5 @@
 -- What a thread of a module does with the memory by its event.
-use Rattle.std.specs.Prelude.{ℕ, ◌+◌, ◌&&◌, Bool, true, false, nat_le, length, if◌then◌else◌}
+use Rattle.std.specs.Prelude.{ℕ, ◌+◌, ◌==◌, ◌&&◌, Bool, true, false, nat_le, length, if◌then◌else◌}
 use Rattle.types.specs.declared.event.Event.{Event}
 use Rattle.types.specs.declared.event.Event.TheVariants.{Size, Grow, Load, Store, Rmw, Cmpxchg, Ask, Told}
 use Rattle.types.specs.declared.event.Question.TheVariants.{Wait, Notify, Spawn, Leave}
@@ -8,7 +8,7 @@ use Rattle.types.specs.declared.instr.Instr.TheVariants as instrs
 use Rattle.types.specs.declared.instr.PlainInstr.{PlainInstr}
 use Rattle.types.specs.declared.instr.PlainInstr.TheVariants as plain
 use Rattle.types.specs.Nesting.{Code, Empty, Then, BlockThen, LoopThen, IfThen, IfElseThen}
-use Rattle.shared_memory.specs.Memory.{Memory}
+use Rattle.shared_memory.specs.Memory.{Memory, loaded}
 use Rattle.schedule_threads.specs.Shared.{Shared}
 use Rattle.interp_machine.specs.Config.{Config}
 use Rattle.interp_machine.specs.State.{State, At, Over}
@@ -56,15 +56,16 @@ in_bounds m plain writes addr width reach =
     then record { plain = plain && nat_le (addr + width) reach; writes = writes; addr = addr; width = width }
     else no_bytes
 
--- A read-modify-write and a compare-exchange write, whether the one finds what it expects or not; a wait reads; all
--- three are atomic.
+-- A read-modify-write writes, a compare-exchange exactly where what it expects is there, and a wait reads; all three are
+-- atomic.
 abbrev pub access_by : Memory → Bool → Event → Access
 access_by m plain Size = no_bytes
 access_by m plain (Grow more) = no_bytes
 access_by m plain (Load addr width reach) = in_bounds m plain false addr width reach
 access_by m plain (Store addr width reach value) = in_bounds m plain true addr width reach
 access_by m plain (Rmw op addr width value) = in_bounds m false true addr width (addr + width)
-access_by m plain (Cmpxchg addr width expected replacement) = in_bounds m false true addr width (addr + width)
+access_by m plain (Cmpxchg addr width expected replacement) =
+    in_bounds m false (loaded m addr width == expected) addr width (addr + width)
 access_by m plain (Ask (Wait addr width expected timeout)) = in_bounds m false false addr width (addr + width)
 access_by m plain (Ask (Notify addr count)) = no_bytes
 access_by m plain (Ask (Spawn arg)) = no_bytes

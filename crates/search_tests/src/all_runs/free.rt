@@ -1,6 +1,6 @@
 //! The same endings where no threads race, over fewer states; and races where some do.
 
-use crate::all_runs::rows::{DUMP, Gone, MODULES, MOST, call_of, gone_through};
+use crate::all_runs::rows::{DUMP, EXCHANGES, Gone, MODULES, MOST, call_of, gone_through};
 use crate::runs::{LIMIT, load};
 use search_endings::Ending;
 use search_finds::run_to;
@@ -30,6 +30,9 @@ static EXPECTED: [Expected; 9] = [
     Expected::States(995),
     Expected::States(387),
 ];
+
+/// A compare-exchange that fails reads, and doesn't race with a plain read.
+static EXPECTED_OF_EXCHANGES: [Expected; 2] = [Expected::Race(0, 1), Expected::States(7)];
 
 fn gone_freely(alloc: Global, valid: &ValidModule, gone: &Gone) -> Result<RaceFree<Ending>, Fail> {
     let request = Request::new(valid, call_of(gone))?;
@@ -93,14 +96,27 @@ fn check_free<R: Abort>(
     Ok(())
 }
 
-#[test]
-fn who_does_not_race_ends_as_by_every_order(rt: HostRuntime) -> Result<(), Fail> {
-    for (place, gone) in MODULES.as_slice().iter().enumerate() {
-        let Some(expected) = EXPECTED.as_slice().get(place) else {
-            continue;
-        };
-        let valid = load(rt.alloc(), gone.module)?;
-        check_free(&rt, rt.alloc(), &valid, gone, expected)?;
+fn check_each<R: Abort>(
+    rt: &R,
+    alloc: Global,
+    modules: &[Gone],
+    expected: &[Expected],
+) -> Result<(), Fail> {
+    assert_eq!(rt; modules.len(), expected.len());
+    for (gone, expected) in modules.iter().zip(expected) {
+        let valid = load(alloc, gone.module)?;
+        check_free(rt, alloc, &valid, gone, expected)?;
     }
     Ok(())
+}
+
+#[test]
+fn who_does_not_race_ends_as_by_every_order(rt: HostRuntime) -> Result<(), Fail> {
+    check_each(&rt, rt.alloc(), MODULES.as_slice(), EXPECTED.as_slice())?;
+    check_each(
+        &rt,
+        rt.alloc(),
+        EXCHANGES.as_slice(),
+        EXPECTED_OF_EXCHANGES.as_slice(),
+    )
 }

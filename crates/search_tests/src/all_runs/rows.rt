@@ -3,7 +3,7 @@
 ghost use Rattle.std.specs.Prelude.{◌≤◌};
 ghost use Rattle.types.specs.declared.limits.TheConstants.{MOST_FUEL};
 
-use crate::all_runs::examples::{BROKEN, MUTEX, PETERSON, SEQLOCK, TICKETS, WAKEUP};
+use crate::all_runs::examples::{BROKEN, EXCHANGE, MUTEX, PETERSON, SEQLOCK, TICKETS, WAKEUP};
 use crate::runs::FUEL;
 use search_endings::Ending;
 use search_modules::all_endings;
@@ -100,6 +100,25 @@ pub(crate) static MODULES: [Gone; 9] = [
         args: &[Value::I32(3), Value::I32(1)],
         endings: &["ok i32:3, ok, ok; pages 1; 03000000030000000300000002000000"],
         states: 620,
+    },
+];
+
+/// The same of a plain read beside a compare-exchange that stores, and beside one that fails.
+pub(crate) static EXCHANGES: [Gone; 2] = [
+    Gone {
+        module: EXCHANGE,
+        args: &[Value::I32(0)],
+        endings: &[
+            "ok i32:0, ok; pages 1; 02000000000000000000000000000000",
+            "ok i32:2, ok; pages 1; 02000000000000000000000000000000",
+        ],
+        states: 14,
+    },
+    Gone {
+        module: EXCHANGE,
+        args: &[Value::I32(1)],
+        endings: &["ok i32:0, ok; pages 1; 00000000000000000000000000000000"],
+        states: 10,
     },
 ];
 
