@@ -1,7 +1,8 @@
 //! What is at a record's path before, while and after it is written.
 
 use crate::room::{count_in, make_room, path_in};
-use report_program::{SavePlace, SavedFile, is_one_file};
+use replay_text::read_record;
+use report_program::{SavePlace, SavedFile, is_one_file, keep_early};
 use std::fs;
 use std::io::{self, Write};
 use std::os::unix::fs::symlink;
@@ -83,6 +84,27 @@ fn what_is_there_stays_until_all_is_written(rt: HostRuntime) -> Result<(), Fail>
     let room = make_room(&rt, "saving")?;
     let path = path_in(&rt, &room, "a.record")?;
     save_all(&rt, &room, &path)?;
+    Ok(fs::remove_dir_all(&rt, room.as_path())?)
+}
+
+/// A record's text.
+const TEXT: &str =
+    "wathread-record 1\ninvoke 66\nargs\nfuel 9\nlimit 9\n0 leave = done\nend 0 ok - 1\npages 0\nfinish\n";
+
+/// Keeps the record while smaller ones would be looked for. Answers whether all of it is at its place then.
+fn is_early(rt: &HostRuntime, path: &str) -> io::Result<bool> {
+    let Ok(found) = read_record(rt.alloc(), TEXT.as_bytes()) else {
+        return Ok(false);
+    };
+    keep_early(rt, path, &found)?;
+    Ok(has(rt, path, Some(TEXT)))
+}
+
+#[test]
+fn all_of_an_early_record_is_there(rt: HostRuntime) -> Result<(), Fail> {
+    let room = make_room(&rt, "early")?;
+    let path = path_in(&rt, &room, "a.record")?;
+    hold(&[("its text", is_early(&rt, &path)?)])?;
     Ok(fs::remove_dir_all(&rt, room.as_path())?)
 }
 
