@@ -152,6 +152,18 @@ impl<'a> SavedFile<'a> {
         kept
     }
 
+    /// The same of a file to which nothing may have been written: it is empty then.
+    ///
+    /// # Errors
+    /// As of `keep`.
+    pub fn keep_even_empty(self) -> io::Result<()> {
+        let mut saved = self;
+        if saved.file.is_none() && saved.target.is_some() {
+            saved.file = Some(saved.open()?);
+        }
+        saved.keep()
+    }
+
     /// Takes away what was written of a record that isn't all there.
     pub fn give_up(self) {
         let SavedFile { rt, target, file } = self;

@@ -116,17 +116,43 @@ fn keep_module<'a>(rt: &HostRuntime, job: &Job<'a>) -> Result<(), Stop<'a>> {
     }
 }
 
+/// The status of a job whose file with this path was kept, or why it wasn't.
+fn status_of_kept(
+    rt: &HostRuntime,
+    path: Option<&str>,
+    status: u8,
+    kept: io::Result<()>,
+    explain: bool,
+) -> u8 {
+    match kept {
+        Ok(()) => status,
+        Err(error) => tell_file_fault(rt, path.unwrap_or(""), reason_if(explain, error.kind())),
+    }
+}
+
 /// Gives a file its path where the job made all of it, and else takes away what there is of it. Answers the job's
 /// status.
-fn finish(rt: &HostRuntime, path: Option<&str>, status: u8, save: SavedFile, explain: bool) -> u8 {
+fn finish(rt: &HostRuntime, job: &Job, status: u8, save: SavedFile, explain: bool) -> u8 {
     if status > 1 {
         save.give_up();
         return status;
     }
-    match save.keep() {
-        Ok(()) => status,
-        Err(error) => tell_file_fault(rt, path.unwrap_or(""), reason_if(explain, error.kind())),
+    status_of_kept(rt, record_of(job), status, save.keep(), explain)
+}
+
+/// The same of the bytes of a memory, which may have none: then the file is empty.
+fn finish_memory(rt: &HostRuntime, job: &Job, status: u8, memory: SavedFile, explain: bool) -> u8 {
+    if status > 1 {
+        memory.give_up();
+        return status;
     }
+    status_of_kept(
+        rt,
+        memory_of(job),
+        status,
+        memory.keep_even_empty(),
+        explain,
+    )
 }
 
 /// The bytes of standard error for which there is memory before a job begins, so that a line about these paths fits.
@@ -246,8 +272,8 @@ impl Ended<'_> {
     /// Gives both their paths, if the status is one with which there are files. Answers the status, or 5.
     fn finish(self, rt: &HostRuntime, job: &Job, status: u8, explain: bool) -> u8 {
         note_unkept(rt, job, status, &self.save);
-        let status = finish(rt, record_of(job), status, self.save, explain);
-        finish(rt, memory_of(job), status, self.memory, explain)
+        let status = finish(rt, job, status, self.save, explain);
+        finish_memory(rt, job, status, self.memory, explain)
     }
 }
 

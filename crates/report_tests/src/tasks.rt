@@ -119,6 +119,35 @@ fn a_record_is_kept_where_the_lines_are_out(rt: HostRuntime) -> Result<(), Fail>
     Ok(fs::remove_dir_all(&rt, room.as_path())?)
 }
 
+/// Ends a run whose memory has no bytes, which go to this path. Answers the status, if it was begun.
+fn end_without_bytes(rt: &HostRuntime, file: &str, path: &str) -> u8 {
+    let Job::Run(run) = running(rt.alloc(), file, path) else {
+        return 3;
+    };
+    let job = Job::Run(RunJob {
+        save: None,
+        memory_out: Some(path),
+        ..run
+    });
+    match open_task(rt, Narrow::new(rt.alloc(), 64, 64), &job, false) {
+        Ok(task) => task.end(rt, &job, 0),
+        Err(status) => status,
+    }
+}
+
+#[test]
+fn a_memory_without_bytes_leaves_an_empty_file(rt: HostRuntime) -> Result<(), Fail> {
+    let room = make_room(&rt, "no-bytes")?;
+    let file = path_in(&rt, &room, "a.wasm")?;
+    let path = path_in(&rt, &room, "a.bytes")?;
+    fs::write(&rt, file.as_str(), ATOMIC_ADD)?;
+    fs::write(&rt, path.as_str(), "old")?;
+    let status = end_without_bytes(&rt, &file, &path);
+    let is_empty = fs::read(&rt, path.as_str())?.is_empty();
+    hold(&[("the status", status == 0), ("no bytes", is_empty)])?;
+    Ok(fs::remove_dir_all(&rt, room.as_path())?)
+}
+
 /// The status of a run whose record would go to a link to its module.
 fn status_of_link(rt: &HostRuntime, file: &str, link: &str) -> Result<u8, Fail> {
     symlink(rt, file, link)?;
