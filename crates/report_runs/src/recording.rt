@@ -231,7 +231,7 @@ fn header_of(alloc: Global, request: &Request, limit: u32) -> Result<Header, All
     ensures of_request { IfOk result (λ h. IsHeaderOf request.now h) }
     ensures limit { IfOk result (λ h. h.limit ≡ limit) }
     ensures ends { IfOk result (λ h. h.ends.items ≡ []) }
-    ensures room { IfOk result (λ h. MOST_THREADS ≤ vec_capacity h.ends) }
+    ensures room { IfOk result (λ h. vec_capacity h.ends ≡ MOST_THREADS) }
 {
     let call = request.call();
     let invoke = String::from_str(alloc, call.name)?;
@@ -285,7 +285,7 @@ where
     requires range { IsLogLimit header.limit }
     requires of_request { IsHeaderOf request.now header }
     requires ends { header.ends.items ≡ [] }
-    requires room { MOST_THREADS ≤ vec_capacity header.ends }
+    requires room { vec_capacity header.ends ≡ MOST_THREADS }
     ensures made { IfOk result (λ r. RecordsRequest request.now header.limit r.0 r.1) }
     ensures fault { IfErr result (IsRecordingFaultOfRequest request.now header.limit) }
     ensures gated { IfOk result (λ r. IsGatedRun G.Gate request.now r.1.threads.items gate.old gate.new) }

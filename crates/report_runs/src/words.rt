@@ -101,7 +101,7 @@ where
     requires opening { prepared.opening ≡ B.opening }
     requires image { B.opening ≡ opening_memory request.now.parts }
     requires none { bytes.items ≡ [] }
-    requires room { PAGE_SIZE * (opening_memory request.now.parts).max ≤ vec_capacity bytes }
+    requires room { vec_capacity bytes ≡ PAGE_SIZE * (opening_memory request.now.parts).max }
     ensures end { IfOk result (EndsRequestOnWords request.now) }
     ensures fault { IfErr result (IsWordsFaultOfRequest request.now) }
     ensures gated { IfOk result (λ end. IsGatedRun G.Gate request.now end.threads.items gate.old gate.new) }
