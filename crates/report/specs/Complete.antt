@@ -1,5 +1,5 @@
 -- What is printed of a search through every order of entries, and what is well of it.
-use Rattle.std.specs.Prelude.{ℕ, ◌≡◌, ◌≢◌, All, Bool, List, [], ◌++◌, codes, length, true, Option, Some, None}
+use Rattle.std.specs.Prelude.{ℕ, ◌==◌, if◌then◌else◌, ◌≡◌, ◌≢◌, All, Bool, List, [], ◌++◌, codes, length, true, Option, Some, None}
 use Rattle.std.specs.List.{list_all}
 use Rattle.search_reach.specs.declared.ending.Ended.{Ended}
 use Rattle.search_reach.specs.declared.search.Verdict.{Verdict}
@@ -12,29 +12,44 @@ use Rattle.search_finds.specs.Finds.{IsLookedFor}
 use Rattle.report_choice.specs.declared.sought.Sought.{Sought}
 use Rattle.report_lines.specs.Ends.{is_done}
 use Rattle.report_lines.specs.Endings.{ending_lines}
+use Rattle.report_lines.specs.Found.{entries_text}
 use Rattle.report_lines.specs.Complete.{endings_text, states_text, too_many_line, cannot_tell_line, told_line, cannot_end_line}
 use Rattle.report_lines.specs.Complete.{fair_runs_end_line, unknown_line, cycle_line}
 use Rattle.report.specs.declared.whole.Racing.{Racing}
 use Rattle.report.specs.declared.whole.Racing.TheVariants.{Unasked, Never, Found}
 use Rattle.report.specs.declared.whole.Racing.TheVariants as racings
 
--- What is said of races behind how many endings and states there are; and where it isn't known, that this is so.
+-- What is said of races behind how many endings and states there are; and where it isn't known, that this is so, unless
+-- the search ended at what is looked for.
 abbrev pub race_words : Racing → List ℕ
 race_words Unasked = []
 race_words Never = codes ", no race"
 race_words (Found r) = codes ", with races"
 race_words racings.Unknown = []
 
-abbrev pub unknown_text : Racing → List ℕ
-unknown_text Unasked = []
-unknown_text Never = []
-unknown_text (Found r) = []
-unknown_text racings.Unknown = codes "whether it races is not known\n"
+abbrev pub races_unknown : Racing → List ℕ
+races_unknown Unasked = []
+races_unknown Never = []
+races_unknown (Found r) = []
+races_unknown racings.Unknown = codes "whether it races is not known\n"
+
+abbrev pub unknown_text : Verdict → Racing → List ℕ
+unknown_text verdicts.All racing = races_unknown racing
+unknown_text verdicts.TooMany racing = races_unknown racing
+unknown_text verdicts.CannotTell racing = races_unknown racing
+unknown_text verdicts.Told racing = races_unknown racing
+unknown_text verdicts.Sought racing = []
 
 -- So many endings of so many states are all.
 abbrev pub all_line : ℕ → ℕ → Racing → List ℕ
 all_line endings states racing =
     codes "all: " ++ endings_text endings ++ codes ", " ++ states_text states ++ race_words racing ++ codes "\n"
+
+-- It ended at one that is looked for.
+abbrev pub sought_line : ℕ → ℕ → List ℕ
+sought_line endings states =
+    codes "not all: found what is looked for; " ++ endings_text endings ++ codes ", " ++ states_text states
+    ++ codes " so far\n"
 
 -- The line that says whether so many endings of so many states are all.
 abbrev pub verdict_line : Racing → Verdict → ℕ → ℕ → ℕ → List ℕ
@@ -42,6 +57,25 @@ verdict_line racing verdicts.All most endings states = all_line endings states r
 verdict_line racing verdicts.TooMany most endings states = too_many_line most endings
 verdict_line racing verdicts.CannotTell most endings states = cannot_tell_line endings
 verdict_line racing verdicts.Told most endings states = told_line endings states
+verdict_line racing verdicts.Sought most endings states = sought_line endings states
+
+-- Of runs with up to so many entries each was gone through, where not all were.
+abbrev pub entries_line : ℕ → List ℕ
+entries_line n = codes "every run of up to " ++ entries_text n ++ codes " was gone through\n"
+
+abbrev pub gone_through_line : ℕ → List ℕ
+gone_through_line n = if n == 0 then [] else entries_line n
+
+abbrev pub gone_through_lines : Option ℕ → List ℕ
+gone_through_lines None = []
+gone_through_lines (Some n) = gone_through_line n
+
+abbrev pub gone_through_text : Verdict → Option ℕ → List ℕ
+gone_through_text verdicts.All levels = []
+gone_through_text verdicts.TooMany levels = gone_through_lines levels
+gone_through_text verdicts.CannotTell levels = gone_through_lines levels
+gone_through_text verdicts.Told levels = gone_through_lines levels
+gone_through_text verdicts.Sought levels = gone_through_lines levels
 
 -- The line that says whether every fair run ends.
 abbrev pub fair_runs_line : FairRuns → List ℕ
@@ -54,12 +88,12 @@ abbrev pub liveness_lines : Option Liveness → List ℕ
 liveness_lines None = []
 liveness_lines (Some l) = cannot_end_line (length l.endless.items) ++ fair_runs_line l.fair_runs
 
--- All lines: a line for each ending, whether these are all, what is known of races, and what never ends.
+-- All lines: a line for each ending, whether these are all, how far it came, what is known of races, and what never ends.
 abbrev pub complete_lines : ℕ → Racing → Ended Ending → List ℕ
 complete_lines most racing all =
     ending_lines all.endings.keys
     ++ (verdict_line racing all.verdict most (length all.endings.keys) all.states
-    ++ (unknown_text racing ++ liveness_lines all.liveness))
+    ++ (gone_through_text all.verdict all.levels ++ (unknown_text all.verdict racing ++ liveness_lines all.liveness)))
 
 -- All threads ended well; and in each of these endings they did.
 abbrev pub threads_end_well : Ending → Bool

@@ -3,7 +3,9 @@ ghost use Rattle.std.specs.Prelude.{◌≡◌, ◌↔◌, true, All, length};
 ghost use Rattle.replay_forms.specs.Texts.{Wrote};
 ghost use Rattle.search_finds.specs.Finds.{IsLookedFor};
 ghost use Rattle.report.specs.Complete.{all_line, fair_runs_line, liveness_lines, unknown_text, verdict_line, complete_lines};
+ghost use Rattle.report.specs.Complete.{entries_line, gone_through_line, gone_through_lines, gone_through_text, races_unknown, sought_line};
 ghost use Rattle.report_lines.specs.Complete.{counted};
+ghost use Rattle.report_lines.specs.Found.{entries_text};
 ghost use Rattle.report.specs.Complete.{threads_end_well, all_end_well, EndsForSure, IsSure, AreAllWell};
 
 use crate::whole::Racing;
@@ -66,6 +68,17 @@ fn write_all<W: Write>(out: &mut W, endings: usize, states: usize, racing: Racin
     write!(out, "{words}\n")
 }
 
+/// The line that says that the search ended at an ending that is looked for.
+fn write_sought<W: Write>(out: &mut W, endings: usize, states: usize) -> io::Result<()>
+    ensures { Wrote W.contents out.old out.new result (sought_line endings states) }
+{
+    write!(out, "not all: found what is looked for; ")?;
+    write_counted(out, endings, "ending", "endings")?;
+    write!(out, ", ")?;
+    write_counted(out, states, "state", "states")?;
+    write!(out, " so far\n")
+}
+
 /// The line that says whether the endings are all.
 fn write_verdict<W: Write>(out: &mut W, all: &Complete, most: u32, racing: Racing) -> io::Result<()>
     ensures { Wrote W.contents out.old out.new result
@@ -77,12 +90,61 @@ fn write_verdict<W: Write>(out: &mut W, all: &Complete, most: u32, racing: Racin
         Verdict::TooMany => write_too_many(out, most, endings),
         Verdict::CannotTell => write_cannot_tell(out, endings),
         Verdict::Told => write_told(out, endings, all.states),
+        Verdict::Sought => write_sought(out, endings, all.states),
+    }
+}
+
+/// So many entries.
+fn write_entry_count<W: Write>(out: &mut W, entries: u32) -> io::Result<()>
+    ensures { Wrote W.contents out.old out.new result (entries_text entries) }
+{
+    write_counted(out, entries as usize, "entry", "entries")
+}
+
+/// The line that says that runs with up to so many entries were all gone through.
+fn write_entries<W: Write>(out: &mut W, entries: u32) -> io::Result<()>
+    ensures { Wrote W.contents out.old out.new result (entries_line entries) }
+{
+    write!(out, "every run of up to ")?;
+    write_entry_count(out, entries)?;
+    write!(out, " was gone through\n")
+}
+
+/// The same, if any run has so few.
+fn write_entries_if_any<W: Write>(out: &mut W, entries: u32) -> io::Result<()>
+    ensures { Wrote W.contents out.old out.new result (gone_through_line entries) }
+{
+    if entries == 0 {
+        return Ok(());
+    }
+    write_entries(out, entries)
+}
+
+/// The same, where that is said.
+fn write_levels<W: Write>(out: &mut W, levels: Option<u32>) -> io::Result<()>
+    ensures { Wrote W.contents out.old out.new result (gone_through_lines levels) }
+{
+    match levels {
+        Some(entries) => write_entries_if_any(out, entries),
+        None => Ok(()),
+    }
+}
+
+/// How long the runs are that were all gone through, where not all were.
+fn write_gone_through<W: Write>(out: &mut W, all: &Complete) -> io::Result<()>
+    ensures { Wrote W.contents out.old out.new result (gone_through_text all.now.verdict all.now.levels) }
+{
+    match all.verdict {
+        Verdict::All => Ok(()),
+        Verdict::TooMany | Verdict::CannotTell | Verdict::Told | Verdict::Sought => {
+            write_levels(out, all.levels)
+        }
     }
 }
 
 /// The line that says that whether threads race isn't known, where that is so.
 fn write_unknown_races<W: Write>(out: &mut W, racing: Racing) -> io::Result<()>
-    ensures { Wrote W.contents out.old out.new result (unknown_text racing) }
+    ensures { Wrote W.contents out.old out.new result (races_unknown racing) }
 {
     match racing {
         Racing::Unknown => write!(out, "whether it races is not known\n"),
@@ -90,7 +152,23 @@ fn write_unknown_races<W: Write>(out: &mut W, racing: Racing) -> io::Result<()>
     }
 }
 
-/// A line for each ending, whether these are all, what is known of races, and what never ends.
+/// The same, unless the search ended at what is looked for.
+fn write_unknown_unless_sought<W: Write>(
+    out: &mut W,
+    verdict: Verdict,
+    racing: Racing,
+) -> io::Result<()>
+    ensures { Wrote W.contents out.old out.new result (unknown_text verdict racing) }
+{
+    match verdict {
+        Verdict::Sought => Ok(()),
+        Verdict::All | Verdict::TooMany | Verdict::CannotTell | Verdict::Told => {
+            write_unknown_races(out, racing)
+        }
+    }
+}
+
+/// A line for each ending, whether these are all, how far it came, what is known of races, and what never ends.
 pub(crate) fn write_complete<W: Write>(
     out: &mut W,
     all: &Complete,
@@ -101,7 +179,8 @@ pub(crate) fn write_complete<W: Write>(
 {
     write_endings(out, all.endings.as_slice())?;
     write_verdict(out, all, most, racing)?;
-    write_unknown_races(out, racing)?;
+    write_gone_through(out, all)?;
+    write_unknown_unless_sought(out, all.verdict, racing)?;
     write_liveness(out, &all.liveness)?;
     out.flush()
 }
