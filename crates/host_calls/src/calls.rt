@@ -108,7 +108,7 @@ pub fn endings_of(
             fuel: 0,
         },
     )?;
-    match all_endings(alloc, &request, most_states, dump as usize, &mut ()) {
+    match all_endings(alloc, &request, most_states, dump as usize, &(), &mut ()) {
         Ok(all) => Ok(all),
         Err(_) => Err(HostFault::NoMemory),
     }

@@ -27,6 +27,7 @@ asked_by s verdicts.All every = asked_never s every
 asked_by s verdicts.TooMany every = asked_unknown s every
 asked_by s verdicts.CannotTell every = asked_unknown s every
 asked_by s verdicts.Told every = asked_unknown s every
+asked_by s verdicts.Sought every = asked_unknown s every
 
 -- what is known by a verdict
 pub known_by : (q : Requested) (v : Verdict) → (v ≡ verdicts.All → NeverRaces q.parts q.name q.args) → IsKnownOf q (racing_by v)
@@ -34,6 +35,7 @@ known_by q verdicts.All none = none refl
 known_by q verdicts.TooMany none = tt
 known_by q verdicts.CannotTell none = tt
 known_by q verdicts.Told none = tt
+known_by q verdicts.Sought none = tt
 
 pub whole_by : (q : Requested) (s : Search) (all : Ended Ending) → IsFreelyComplete q s.sought.dump all
     → IsKnownOf q (racing_by all.verdict) → s.every_order ≡ false
@@ -52,3 +54,4 @@ untold_by q s verdicts.All save same = (refl, same)
 untold_by q s verdicts.TooMany save same = (refl, same)
 untold_by q s verdicts.CannotTell save same = (refl, same)
 untold_by q s verdicts.Told save same = (refl, same)
+untold_by q s verdicts.Sought save same = (refl, same)

@@ -1,5 +1,5 @@
 -- What is printed of a search through every order of entries, and what is well of it.
-use Rattle.std.specs.Prelude.{ℕ, ◌≡◌, ◌≢◌, All, Bool, List, [], ◌++◌, codes, length, true, Option, Some, None}
+use Rattle.std.specs.Prelude.{ℕ, zero, suc, ◌≡◌, ◌≢◌, All, Bool, List, [], ◌++◌, codes, length, true, Option, Some, None}
 use Rattle.std.specs.List.{list_all}
 use Rattle.search_reach.specs.declared.ending.Ended.{Ended}
 use Rattle.search_reach.specs.declared.search.Verdict.{Verdict}
@@ -12,7 +12,7 @@ use Rattle.search_finds.specs.Finds.{IsLookedFor}
 use Rattle.report_choice.specs.declared.sought.Sought.{Sought}
 use Rattle.report_lines.specs.Ends.{is_done}
 use Rattle.report_lines.specs.Endings.{ending_lines}
-use Rattle.report_lines.specs.Complete.{endings_text, states_text, too_many_line, cannot_tell_line, told_line, cannot_end_line}
+use Rattle.report_lines.specs.Complete.{counted, endings_text, states_text, too_many_line, cannot_tell_line, told_line, cannot_end_line}
 use Rattle.report_lines.specs.Complete.{fair_runs_end_line, unknown_line, cycle_line}
 use Rattle.report.specs.declared.whole.Racing.{Racing}
 use Rattle.report.specs.declared.whole.Racing.TheVariants.{Unasked, Never, Found}
@@ -36,12 +36,30 @@ abbrev pub all_line : ℕ → ℕ → Racing → List ℕ
 all_line endings states racing =
     codes "all: " ++ endings_text endings ++ codes ", " ++ states_text states ++ race_words racing ++ codes "\n"
 
+-- It ended at one that is looked for.
+abbrev pub sought_line : ℕ → ℕ → List ℕ
+sought_line endings states =
+    codes "not all: found what is looked for; " ++ endings_text endings ++ codes ", " ++ states_text states
+    ++ codes " so far\n"
+
 -- The line that says whether so many endings of so many states are all.
 abbrev pub verdict_line : Racing → Verdict → ℕ → ℕ → ℕ → List ℕ
 verdict_line racing verdicts.All most endings states = all_line endings states racing
 verdict_line racing verdicts.TooMany most endings states = too_many_line most endings
 verdict_line racing verdicts.CannotTell most endings states = cannot_tell_line endings
 verdict_line racing verdicts.Told most endings states = told_line endings states
+verdict_line racing verdicts.Sought most endings states = sought_line endings states
+
+-- Of runs with up to so many entries each was gone through, where not all were.
+abbrev pub gone_through_line : ℕ → List ℕ
+gone_through_line zero = []
+gone_through_line (suc n) =
+    codes "every run of up to " ++ counted (suc n) (codes "entry") (codes "entries") ++ codes " was gone through\n"
+
+abbrev pub gone_through_text : Verdict → Option ℕ → List ℕ
+gone_through_text verdicts.All levels = []
+gone_through_text verdict None = []
+gone_through_text verdict (Some n) = gone_through_line n
 
 -- The line that says whether every fair run ends.
 abbrev pub fair_runs_line : FairRuns → List ℕ
@@ -54,12 +72,12 @@ abbrev pub liveness_lines : Option Liveness → List ℕ
 liveness_lines None = []
 liveness_lines (Some l) = cannot_end_line (length l.endless.items) ++ fair_runs_line l.fair_runs
 
--- All lines: a line for each ending, whether these are all, what is known of races, and what never ends.
+-- All lines: a line for each ending, whether these are all, how far it came, what is known of races, and what never ends.
 abbrev pub complete_lines : ℕ → Racing → Ended Ending → List ℕ
 complete_lines most racing all =
     ending_lines all.endings.keys
     ++ (verdict_line racing all.verdict most (length all.endings.keys) all.states
-    ++ (unknown_text racing ++ liveness_lines all.liveness))
+    ++ (gone_through_text all.verdict all.levels ++ (unknown_text racing ++ liveness_lines all.liveness)))
 
 -- All threads ended well; and in each of these endings they did.
 abbrev pub threads_end_well : Ending → Bool

@@ -2,6 +2,7 @@ pub mod Jobs
 pub mod Searched
 pub mod Silent
 pub mod Complete
+pub mod Early
 pub mod Drawn
 pub mod Endless
 pub mod Searches

@@ -1,5 +1,5 @@
 -- What is known of the races of all runs of a call, and what is told of one.
-use Rattle.std.specs.Prelude.{ℕ, ◌≡◌, ◌⊎◌, ◌↔◌, ◌&&◌, Bool, true, false, List, [], ◌++◌, codes, is_some}
+use Rattle.std.specs.Prelude.{ℕ, ◌≡◌, ◌⊎◌, ◌↔◌, ◌&&◌, Bool, true, false, Option, None, List, [], ◌++◌, codes, is_some}
 use Rattle.std.specs.Fmt.{decimal}
 use Rattle.spawn_host.specs.Requests.{Requested}
 use Rattle.search_reach.specs.declared.ending.Ended.{Ended}
@@ -39,12 +39,13 @@ allows false Never = true
 allows false (Found r) = false
 allows false Unknown = false
 
--- What is found of all runs of a call by a search that makes plain accesses at once.
+-- What is found of all runs of a call by a search that makes plain accesses at once. It doesn't say how far it came.
 pub record IsFreelyComplete (q : Requested) (dump : ℕ) (all : Ended Ending) : Type 0 where
   pub every : FindsEvery q dump all
   pub can : FindsNoOther q dump all
   pub count : CountsOwned q all.states
   pub live : SaysWhereAllFree q dump all.states all.verdict all.liveness
+  pub unsaid : all.levels ≡ None
 
 -- By that search, or by the one through every order.
 abbrev pub IsCompleteBy : Requested → ℕ → Bool → Ended Ending → Type 0
@@ -64,6 +65,7 @@ racing_by verdicts.All = Never
 racing_by verdicts.TooMany = Unknown
 racing_by verdicts.CannotTell = Unknown
 racing_by verdicts.Told = Unknown
+racing_by verdicts.Sought = Unknown
 
 -- What a first look found, and what it left open.
 abbrev pub IsLooked : Requested → Search → FirstLook → Type 0

@@ -1,5 +1,6 @@
 -- What is kept of a search.
 use Rattle.std.specs.Prelude.{ℕ, ◌≡◌, ◌≢◌, ◌≤◌, ◌⊎◌, All, List, [], true, false, is_some}
+use Rattle.std.specs.Option.{IfSome}
 use Rattle.std.specs.Io.KnownBytes.{Appends}
 use Rattle.types.specs.declared.value.Value.{Value}
 use Rattle.types.specs.declared.parts.Parts.{Parts}
@@ -15,7 +16,7 @@ use Rattle.schedule_threads.specs.Shared.{Shared}
 use Rattle.search_runs.specs.Called.{Called, Walker as Thread}
 use Rattle.search_runs.specs.Theorems.{CanReach}
 use Rattle.search_endings.specs.Endings.{Ending}
-use Rattle.search_modules.specs.Endings.{HasEveryEnding, AllCanEndSo}
+use Rattle.search_modules.specs.Endings.{HasEveryEnding, HasEveryEndingWithin, AllCanEndSo}
 use Rattle.search_modules.specs.Liveness.{CanStillEnd, HasFairRun, CountsStates, SaysWhereAll}
 use Rattle.search_modules.specs.Races.{NeverRaces}
 use Rattle.search_modules.specs.Returned.{IsCall}
@@ -94,12 +95,14 @@ abbrev pub FindsNoOther : Requested → ℕ → Ended Ending → Type 0
 FindsNoOther q dump all = AllCanEndSo q.parts q.name q.args dump all.endings.keys
 
 -- What is found of all runs of a call: where it says so the endings are all; each is one; as many states were met as it
--- says; and what it says of whether all comes to an end.
+-- says; and what it says of whether all comes to an end. Of runs with up to so many entries as it says each has its ending
+-- there.
 pub record IsCompleteOf (q : Requested) (dump : ℕ) (all : Ended Ending) : Type 0 where
   pub every : FindsEvery q dump all
   pub can : FindsNoOther q dump all
   pub count : CountsStates q all.states
   pub live : SaysWhereAll q dump all.states all.verdict all.liveness
+  pub within : IfSome all.levels (HasEveryEndingWithin q.parts q.name q.args dump all.endings.keys)
 
 -- By this call threads without budgets can still end from wherever they come, and no fair run goes on for ever.
 pub record IsSureToEnd (m : Parts) (entry : List ℕ) (args : List Value) (dump : ℕ) : Type 0 where

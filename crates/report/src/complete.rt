@@ -3,6 +3,7 @@ ghost use Rattle.std.specs.Prelude.{◌≡◌, ◌↔◌, true, All, length};
 ghost use Rattle.replay_forms.specs.Texts.{Wrote};
 ghost use Rattle.search_finds.specs.Finds.{IsLookedFor};
 ghost use Rattle.report.specs.Complete.{all_line, fair_runs_line, liveness_lines, unknown_text, verdict_line, complete_lines};
+ghost use Rattle.report.specs.Complete.{gone_through_text, sought_line};
 ghost use Rattle.report_lines.specs.Complete.{counted};
 ghost use Rattle.report.specs.Complete.{threads_end_well, all_end_well, EndsForSure, IsSure, AreAllWell};
 
@@ -66,6 +67,17 @@ fn write_all<W: Write>(out: &mut W, endings: usize, states: usize, racing: Racin
     write!(out, "{words}\n")
 }
 
+/// The line that says that the search ended at an ending that is looked for.
+fn write_sought<W: Write>(out: &mut W, endings: usize, states: usize) -> io::Result<()>
+    ensures { Wrote W.contents out.old out.new result (sought_line endings states) }
+{
+    write!(out, "not all: found what is looked for; ")?;
+    write_counted(out, endings, "ending", "endings")?;
+    write!(out, ", ")?;
+    write_counted(out, states, "state", "states")?;
+    write!(out, " so far\n")
+}
+
 /// The line that says whether the endings are all.
 fn write_verdict<W: Write>(out: &mut W, all: &Complete, most: u32, racing: Racing) -> io::Result<()>
     ensures { Wrote W.contents out.old out.new result
@@ -77,6 +89,24 @@ fn write_verdict<W: Write>(out: &mut W, all: &Complete, most: u32, racing: Racin
         Verdict::TooMany => write_too_many(out, most, endings),
         Verdict::CannotTell => write_cannot_tell(out, endings),
         Verdict::Told => write_told(out, endings, all.states),
+        Verdict::Sought => write_sought(out, endings, all.states),
+    }
+}
+
+/// How long the runs are that were all gone through, where not all were.
+fn write_gone_through<W: Write>(out: &mut W, all: &Complete) -> io::Result<()>
+    ensures { Wrote W.contents out.old out.new result (gone_through_text all.now.verdict all.now.levels) }
+{
+    if let Verdict::All = all.verdict {
+        return Ok(());
+    }
+    match all.levels {
+        Some(entries) if entries > 0 => {
+            write!(out, "every run of up to ")?;
+            write_counted(out, entries as usize, "entry", "entries")?;
+            write!(out, " was gone through\n")
+        }
+        _ => Ok(()),
     }
 }
 
@@ -90,7 +120,7 @@ fn write_unknown_races<W: Write>(out: &mut W, racing: Racing) -> io::Result<()>
     }
 }
 
-/// A line for each ending, whether these are all, what is known of races, and what never ends.
+/// A line for each ending, whether these are all, how far it came, what is known of races, and what never ends.
 pub(crate) fn write_complete<W: Write>(
     out: &mut W,
     all: &Complete,
@@ -101,6 +131,7 @@ pub(crate) fn write_complete<W: Write>(
 {
     write_endings(out, all.endings.as_slice())?;
     write_verdict(out, all, most, racing)?;
+    write_gone_through(out, all)?;
     write_unknown_races(out, racing)?;
     write_liveness(out, &all.liveness)?;
     out.flush()

@@ -25,6 +25,7 @@ mod complete;
 mod drawn;
 mod drawn_object;
 mod drawn_races;
+mod early;
 mod found;
 mod job;
 mod raced;

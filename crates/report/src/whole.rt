@@ -11,6 +11,7 @@ ghost use Rattle.report.specs.Racing as specified;
 ghost use Rattle.report.specs.Racing.{IsFreelyComplete, IsLooked, IsWhole};
 
 use crate::complete::Complete;
+use crate::early::{Early, ends_early};
 use report_command::Search;
 use report_jobs::Trouble;
 use search_endings::Ending;
@@ -82,7 +83,9 @@ fn racing_by(verdict: Verdict) -> Racing
 {
     match verdict {
         Verdict::All => Racing::Never,
-        Verdict::TooMany | Verdict::CannotTell | Verdict::Told => Racing::Unknown,
+        Verdict::TooMany | Verdict::CannotTell | Verdict::Told | Verdict::Sought => {
+            Racing::Unknown
+        }
     }
 }
 
@@ -101,7 +104,9 @@ fn free_of<F: Follows>(
         (λ r. IfSome r.race (CanRaceSo request.now.parts request.now.name request.now.args)) }
     ensures trouble { IfErr result IsOfSystem }
 {
-    Ok(race_free_endings(alloc, request, most, dump as usize, follower)?)
+    let mut free = race_free_endings(alloc, request, most, dump as usize, follower)?;
+    free.ended.levels = None;
+    Ok(free)
 }
 
 /// What they leave open. Where more states were met than may be, or the search was told to end, nothing: every order has
@@ -148,18 +153,24 @@ pub fn first_look<F: Follows>(
     Ok(look_of(free))
 }
 
-/// Goes through every order of the entries of a call.
+/// Goes through every order of the entries of a call, and ends at an ending that is looked for, where it says so.
 fn all_of<F: Follows>(
     alloc: Global,
     request: &Request,
+    search: &Search,
     most: u32,
-    dump: u32,
     follower: &mut F,
 ) -> Result<Complete, Trouble>
-    ensures complete { IfOk result (IsCompleteOf request.now dump) }
+    ensures complete { IfOk result (IsCompleteOf request.now search.now.sought.dump) }
+    ensures sought { IfOk result (λ r. SaysSought search.now r.verdict r.endings.keys) }
     ensures trouble { IfErr result IsOfSystem }
 {
-    Ok(all_endings(alloc, request, most, dump as usize, follower)?)
+    let early = Early {
+        sought: &search.sought,
+        is_wanted: ends_early(search),
+    };
+    let dump = search.sought.dump as usize;
+    Ok(all_endings(alloc, request, most, dump, &early, follower)?)
 }
 
 /// What is found of all runs of a call behind that first look.
@@ -186,7 +197,7 @@ pub fn whole_of<F: Follows>(
             })
         }
         FirstLook::Open { racing, .. } => {
-            let all = all_of(alloc, request, most, search.sought.dump, follower)?;
+            let all = all_of(alloc, request, search, most, follower)?;
             Ok(Whole {
                 all,
                 racing,

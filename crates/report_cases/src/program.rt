@@ -64,11 +64,13 @@ struct Wishes {
 impl Follows for Wishes {
     ghost wish = { λ w. w.wish };
 
+    ghost told_at = { λ _. 0 };
+
     fn runs(&mut self, _made: u64, _endings: usize) -> Wish {
         self.wish
     }
 
-    fn states(&mut self, _met: usize) -> Wish {
+    fn states(&mut self, _met: usize, _left: usize) -> Wish {
         self.wish
     }
 

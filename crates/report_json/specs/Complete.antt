@@ -18,6 +18,7 @@ verdict_words verdicts.All = codes "all"
 verdict_words verdicts.TooMany = codes "too many states"
 verdict_words verdicts.CannotTell = codes "a thread spends its units without an entry"
 verdict_words verdicts.Told = codes "told"
+verdict_words verdicts.Sought = codes "found"
 
 -- A fair run that goes on for ever: the threads that make entries in it, and through how many states it goes.
 abbrev pub cycle_json : FairCycle → Json
@@ -52,6 +53,7 @@ complete_fields complete =
     ∷ is (codes "verdict") (text (verdict_words complete.all.now.verdict))
     ∷ is (codes "states") (number complete.all.now.states)
     ∷ is (codes "most") (number complete.most)
+    ∷ is_given (codes "gone_through") number complete.all.now.levels
     ∷ is (codes "endings") (list_of ending_json complete.all.now.endings.keys)
     ∷ words_field complete.races
     ∷ race_field complete.races

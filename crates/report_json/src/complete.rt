@@ -99,6 +99,7 @@ fn verdict_of(verdict: Verdict) -> &'static str
         Verdict::TooMany => "too many states",
         Verdict::CannotTell => "a thread spends its units without an entry",
         Verdict::Told => "told",
+        Verdict::Sought => "found",
     }
 }
 
@@ -107,12 +108,13 @@ impl ToJson for Complete<'_> {
 
     fn send<S: Serializer>(&self, alloc: Global, out: &mut S) -> Result<(), S::Error> {
         let all = self.all;
-        let more = given(&all.liveness) + given(&self.found);
+        let more = given(&all.levels) + given(&all.liveness) + given(&self.found);
         out.begin_map(Some(5 + count_races(&self.races) + more))?;
         put(alloc, out, "status", &self.status)?;
         put(alloc, out, "verdict", &verdict_of(all.verdict))?;
         put(alloc, out, "states", &all.states)?;
         put(alloc, out, "most", &self.most)?;
+        put_if(alloc, out, "gone_through", &all.levels)?;
         put_list(alloc, out, "endings", all.endings.as_slice())?;
         put_races(alloc, out, &self.races)?;
         put_if(alloc, out, "liveness", &all.liveness)?;

@@ -132,6 +132,7 @@ fn gone_through(
         paths: Vec::new(alloc),
         states: 297,
         verdict,
+        levels: None,
         liveness,
     })
 }

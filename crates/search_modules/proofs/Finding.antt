@@ -1,5 +1,5 @@
 -- What a search through the threads of a call finds, said of the runs of the module.
-use Rattle.std.specs.Prelude.{ℕ, ◌≡◌, ◌⊎◌, List, Contains, Option, Some, None, refl}
+use Rattle.std.specs.Prelude.{ℕ, ◌≡◌, ◌⊎◌, List, length, Contains, Option, Some, None, refl}
 use Rattle.std.proofs.Common.{sym, subst, inl, inr}
 use Rattle.types.specs.declared.value.Value.{Value}
 use Rattle.types.specs.declared.parts.Parts.{Parts}
@@ -18,14 +18,18 @@ use Rattle.search_endings.specs.Equal.{equal_ones}
 use Rattle.search_runs.specs.Ends.{HasEndedSo}
 use Rattle.search_runs.proofs.Tame.{scheduled}
 use Rattle.search_modules.specs.Returned.{IsCall}
-use Rattle.search_modules.proofs.Returning.{what_runs_return_is_reached}
+use Rattle.search_modules.proofs.Returning.{what_runs_return_is_reached, what_runs_return_is_within}
+use Rattle.search_runs.proofs.Within.{comes-more}
+use Rattle.search_settled.specs.Levels.{HasEndsBehind}
+use Rattle.search_reach.specs.Sought.{SeeksIn}
+use Rattle.search_reach.specs.declared.search.Verdict.{Verdict}
 use Rattle.search_parts.specs.Parts.{IsLost}
 use Rattle.search_parts.specs.declared.shared.Common.{Common}
 use Rattle.search_parts.specs.declared.shared.HashedThread.{HashedThread as SharedWalker}
 use Rattle.search_walkers.specs.Rests.{RunsOn}
 use Rattle.search_modules.specs.declared.called.Searched.{Searched}
 use Rattle.search_modules.specs.Moved.{called, threads, IsStuck}
-use Rattle.search_modules.specs.Endings.{HasEveryEnding, AllCanEndSo, IsWorkerOf, BeginsUnknown, CanBeLost}
+use Rattle.search_modules.specs.Endings.{HasEveryEnding, HasEveryEndingWithin, HasSought, AllCanEndSo, IsWorkerOf, BeginsUnknown, CanBeLost}
 
 -- what is gone through
 abbrev pub gone : Searched → StepSystem (Flat Common SharedWalker) (systems.State Shared Thread) Ending
@@ -46,6 +50,20 @@ module _ (m : Parts) (entry : List ℕ) (args : List Value) (s : Searched) (call
   pub every_by : HasDistinctNames m.exports → HasAllEnds (gone s) is_same_ending endings → HasEveryEnding m entry args dump endings
   every_by distinct all = subst (λ (d : ℕ). HasEveryEnding m entry args d endings) looked (every distinct all)
 
+  -- those of short runs
+  every_within : HasDistinctNames m.exports → (most : ℕ) → HasEndsBehind (system_of b) (first_state b) (HasEndedSo s.dump) is_same_ending endings most
+      → HasEveryEndingWithin m entry args s.dump endings most
+  every_within distinct most has fuel loses limit history end ends enough few =
+      let within = what_runs_return_is_within m distinct entry args b call fuel loses limit history end ends enough s.dump in
+      let told = reported_ending s.dump end.threads.items end.pages end.bytes.items in
+      let path = within.1 in
+      let found = has within.0 told (path.0, comes-more (system_of b) path.0 (length history) most (first_state b) within.0 few path.1) within.2 in
+      subst (Contains endings) (sym (equal_ones told found.key found.is)) found.among
+
+  pub every_within_by : HasDistinctNames m.exports → (most : ℕ) → HasEndsBehind (system_of b) (first_state b) (HasEndedSo s.dump) is_same_ending endings most
+      → HasEveryEndingWithin m entry args dump endings most
+  every_within_by distinct most has = subst (λ (d : ℕ). HasEveryEndingWithin m entry args d endings most) looked (every_within distinct most has)
+
   sound : AreEnds (gone s) endings → AllCanEndSo m entry args s.dump endings
   sound are e among =
       let is = are e among in
@@ -62,6 +80,14 @@ module _ (m : Parts) (entry : List ℕ) (args : List Value) (s : Searched) (call
 
   pub sound_by : AreEnds (gone s) endings → AllCanEndSo m entry args dump endings
   sound_by are = subst (λ (d : ℕ). AllCanEndSo m entry args d endings) looked (sound are)
+
+-- what is looked for
+pub sought_by : (Sought : Ending → Type 0) (verdict : Verdict) (endings : List Ending) → SeeksIn Sought is_same_ending verdict endings
+    → HasSought Sought verdict endings
+sought_by Sought verdict endings seeks = record {
+  some = λ v. (let f = seeks.some v in (f.0, subst (Contains endings) (sym (equal_ones f.0 f.2.key f.2.is)) f.2.among, f.1));
+  none = seeks.none;
+}
 
 -- where it cannot tell
 

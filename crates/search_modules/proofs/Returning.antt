@@ -1,5 +1,5 @@
 -- What runs return is reached.
-use Rattle.std.proofs.Common.{◌≡◌, ℕ, Bool, List, [], take, Option, Some, None, refl, sym, ◌∙◌, ap, subst}
+use Rattle.std.proofs.Common.{◌≡◌, ℕ, Bool, List, [], length, take, Option, Some, None, refl, sym, ◌∙◌, ap, subst}
 use Rattle.std.specs.Prelude.{map}
 use Rattle.std.specs.List.{slice_get}
 use Rattle.std.specs.Option.{option_map}
@@ -23,10 +23,11 @@ use Rattle.replay_text.specs.declared.parts.RecordParts.{RecordParts}
 use Rattle.spawn_host.specs.declared.end.EndState.{EndState}
 use Rattle.replay.proofs.Same.{same_start}
 use Rattle.spawn_host.specs.RunEnds.{EndsRun}
-use Rattle.search_runs.specs.Called.{Called, Walker, with_fuel}
+use Rattle.search_runs.specs.Called.{Called, Walker, with_fuel, system_of, first_state}
+use Rattle.search_settled.specs.Levels.{ComesWithin}
 use Rattle.search_runs.specs.Ends.{HasEndedSo}
 use Rattle.search_runs.specs.Theorems.{CanReach, IsEndingAlong}
-use Rattle.search_runs.proofs.Ending.{every_run_ends_so}
+use Rattle.search_runs.proofs.Ending.{every_run_ends_so, every_run_ends_within}
 use Rattle.search_endings.specs.Endings.{Ending, reported_outcome, reported_ending}
 use Rattle.search_modules.specs.Returned.{IsCall, AllHadEnough, WhatRunsReturnIsReached}
 
@@ -92,6 +93,17 @@ module _ (m : Parts) (distinct : HasDistinctNames m.exports) (entry : List ℕ) 
 
   reached : (w : systems.State Shared Walker) × CanReach b w × HasEndedSo dump w ends_so
   reached = every_run_ends_so b fuel loses limit history is_history.outcomes is_history.lefts together dump ends_so ending
+
+  within : (w : systems.State Shared Walker) × ComesWithin (system_of b) (length history) (first_state b) w × HasEndedSo dump w ends_so
+  within = every_run_ends_within b fuel loses limit history is_history.outcomes is_history.lefts together dump ends_so ending
+
+-- And by no more events than the run has entries.
+pub what_runs_return_is_within : (m : Parts) → HasDistinctNames m.exports → (entry : List ℕ) (args : List Value) (b : Called) → IsCall m entry args b → (fuel : ℕ)
+    (loses : Bool) (limit : Option ℕ) (history : List Entry) (end : EndState) → EndsRun m entry args fuel loses limit history end → AllHadEnough end → (dump : ℕ)
+    → (w : systems.State Shared Walker) × ComesWithin (system_of b) (length history) (first_state b) w
+    × HasEndedSo dump w (reported_ending dump end.threads.items end.pages end.bytes.items)
+what_runs_return_is_within m distinct entry args b call fuel loses limit history end ends out dump =
+    within m distinct entry args b call fuel loses limit history end ends out dump
 
 pub what_runs_return_is_reached : WhatRunsReturnIsReached
 what_runs_return_is_reached m distinct entry args b call fuel loses limit history end ends out dump =

@@ -1,5 +1,5 @@
 -- How the runs of a module by a call end, and how its threads can end.
-use Rattle.std.specs.Prelude.{ℕ, ◌≡◌, ◌⊎◌, Bool, List, Contains, Option, Some, None}
+use Rattle.std.specs.Prelude.{ℕ, ◌≡◌, ◌≤◌, ◌⊎◌, Bool, List, length, Contains, Option, Some, None}
 use Rattle.types.specs.declared.value.Value.{Value}
 use Rattle.types.specs.declared.event.Entry.{Entry}
 use Rattle.types.specs.declared.parts.FuncType.{FuncType}
@@ -14,6 +14,8 @@ use Rattle.spawn_host.specs.RunEnds.{EndsRun}
 use Rattle.interp_trait.specs.Turns.{spawned_in}
 use Rattle.search_threads.specs.Unlimited.{Unlimited.Going}
 use Rattle.search_reach.specs.Found.{Claims}
+use Rattle.search_reach.specs.declared.search.Verdict.{Verdict}
+use Rattle.search_reach.specs.declared.search.Verdict.TheVariants as verdicts
 use Rattle.search_walkers.specs.Rests.{RunsOn}
 use Rattle.search_runs.specs.Called.{Called, Walker as Thread}
 use Rattle.search_endings.specs.Endings.{Ending, reported_ending}
@@ -28,6 +30,18 @@ HasEveryEnding m entry args dump endings =
     (fuel : ℕ) (loses : Bool) (limit : Option ℕ) (history : List Entry) (end : EndState)
     → EndsRun m entry args fuel loses limit history end → AllHadEnough end
     → Contains endings (reported_ending dump end.threads.items end.pages end.bytes.items)
+
+-- Of those runs the endings of all that have at most so many entries are there.
+abbrev pub HasEveryEndingWithin : Parts → List ℕ → List Value → ℕ → List Ending → ℕ → Type 0
+HasEveryEndingWithin m entry args dump endings most =
+    (fuel : ℕ) (loses : Bool) (limit : Option ℕ) (history : List Entry) (end : EndState)
+    → EndsRun m entry args fuel loses limit history end → AllHadEnough end
+    → length history ≤ most → Contains endings (reported_ending dump end.threads.items end.pages end.bytes.items)
+
+-- What the verdict says of endings that are looked for: that one of the list is, or none.
+pub record HasSought (Sought : Ending → Type 0) (verdict : Verdict) (endings : List Ending) : Type 0 where
+  pub some : verdict ≡ verdicts.Sought → (e : Ending) × Contains endings e × Sought e
+  pub none : (verdict ≡ verdicts.Sought → ⊥) → (e : Ending) → Contains endings e → Sought e → ⊥
 
 -- Threads of the module without budgets can end so by this call, and the machine of a run comes there too, along some
 -- turns and with some budget.

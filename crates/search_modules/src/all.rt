@@ -1,14 +1,15 @@
 //! All endings of a call.
 
-ghost use Rattle.std.specs.Prelude.{◌≡◌, IfOk, vec_len};
+ghost use Rattle.std.specs.Prelude.{◌≡◌, IfOk, IfSome, vec_len};
 ghost use Rattle.indexmap.specs.IndexSet.{index_set_len};
 ghost use Rattle.search_reach.specs.Found.{AreListed};
-ghost use Rattle.search_modules.specs.Endings.{claims_of};
+ghost use Rattle.search_reach.specs.Told.{Obeys};
+ghost use Rattle.search_modules.specs.Endings.{HasEveryEndingWithin, HasSought, claims_of};
 ghost use Rattle.search_modules.specs.Liveness.{CountsStates, SaysWhereAll};
 
 use crate::calling::searched;
 use search_endings::Ending;
-use search_reach::{Ended, Follows};
+use search_reach::{Ended, Follows, Seeks};
 use search_settled::search_all;
 use spawn_host::Request;
 use std::alloc::{AllocError, Global};
@@ -24,7 +25,12 @@ use std::alloc::{AllocError, Global};
 /// `search_finds::run_to` judges. It says `Verdict::TooMany` only where it met more than `most_states` states, and
 /// `Verdict::CannotTell` only where threads can come by this call to where one makes a million turns of its own without
 /// coming to rest, or stands where a spawned one begins in a module that can start none (`CanBeLost`), and
-/// `Verdict::Told` only where the follower's last wish is that it ends.
+/// `Verdict::Told` only where the follower's last wish is that it ends; and where it didn't wish that before, it says so,
+/// and met no state behind the wish (`Obeys`).
+///
+/// It ends at the first state that has ended as is looked for: `Verdict::Sought` says that the list has such an ending,
+/// and every other verdict that it has none (`HasSought`). Whatever the verdict, the list has the ending of every run,
+/// as above, that has at most as many entries as `levels` says (`HasEveryEndingWithin`).
 ///
 /// `states` is the number of states that it met, of which no two are equal, and to each of which threads can come
 /// (`CountsStates`). At `Verdict::All`, and there alone, it says of which of them no ending can be reached, and whether a
@@ -33,18 +39,24 @@ use std::alloc::{AllocError, Global};
 ///
 /// # Errors
 /// Where memory is refused.
-pub fn all_endings<F: Follows>(
+pub fn all_endings<Q: Seeks<Ending>, F: Follows>(
     alloc: Global,
     request: &Request,
     most_states: u32,
     dump: usize,
+    sought: &Q,
     follower: &mut F,
 ) -> Result<Ended<Ending>, AllocError>
     ensures found { IfOk result (AreListed (claims_of request.now dump) most_states (F.wish follower.new)) }
     ensures paths { IfOk result (λ r. vec_len r.paths ≡ index_set_len r.endings) }
     ensures count { IfOk result (λ r. CountsStates request.now r.states) }
     ensures live { IfOk result (λ r. SaysWhereAll request.now dump r.states r.verdict r.liveness) }
+    ensures seeks { IfOk result (λ r. HasSought (Q.sought sought.now) r.verdict r.endings.keys) }
+    ensures levels { IfOk result (λ r. IfSome r.levels
+        (HasEveryEndingWithin request.now.parts request.now.name request.now.args dump r.endings.keys)) }
+    ensures obeys { IfOk result (λ r.
+        Obeys (F.wish follower.old) (F.wish follower.new) (F.told_at follower.new) r.verdict r.states) }
 {
     let searched = searched(alloc, request, dump)?;
-    search_all(alloc, &searched, most_states, follower)
+    search_all(alloc, &searched, most_states, sought, follower)
 }

@@ -157,6 +157,19 @@ module _ {X T E V A G H M : Type 0} (k : ThreadSystem X T E V A G H M)
             record {
               end = st.settled;
               path = path-steps k ends stuck tame plain beyond (Within s.owned.items) st.order w st.settled st.makes;
+              stands = (
+                λ (n : ℕ). times n [],
+                record {
+                  kept = st.kept;
+                  reached = rest.reached;
+                  order = [];
+                  settled = st.settled;
+                  makes = refl;
+                  rests = st.rests;
+                  settled_is = st.settled_is;
+                  turns_are = λ n. refl;
+                },
+              );
               is = ended.sound st.settled o (record { reached = rest.reached; settled_is = rest.settled_is }) is;
             });
       }

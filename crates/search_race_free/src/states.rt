@@ -221,10 +221,10 @@ pub fn search_race_free<M: Accesses, F: Follows>(
     ensures race { IfOk result (λ r. IfSome r.race (IsRaceOf M.Moves system.now)) }
 {
     let turns = RaceFreeTurns { system, most_plain };
-    let found = reach_all(alloc, &turns, most, follower)?;
+    let found = reach_all(alloc, &turns, most, &(), follower)?;
     let behind = race_in(alloc, system, &found, most_plain)?;
     let way = way_behind(alloc, found.moves.as_slice(), behind)?;
-    let ended = endings_of(alloc, &turns, most, found, follower)?;
+    let ended = endings_of(alloc, &turns, most, &(), found, follower)?;
     Ok(RaceFree {
         ended,
         race: racing(behind),

@@ -58,6 +58,7 @@ module _ {E : Type 0} (eq : E → E → Bool) (self : (e : E) → eq e e ≡ tru
     ended-insert ks i s r e es marks h is d m n q = record {
       all = all-more ks i s es (insert_key eq es e) h is d.all (Begins-insert_key eq es e) (λ w f t x. subst (λ y. HasEqual eq (insert_key eq es e) y) (one f (n.all w f t x)) (has-insert_key es e));
       sound = holds-insert_key eq (IsEnd k) es e d.sound (is-end s r e m n q);
+      of = holds-insert_key eq (λ x. (y : S) × Contains ks y × IsEnding k y (Some x)) es e d.of (s, (i, h, sym is), subst (λ o. IsEnding k s o) q n);
       marks_are = marks-more ks i s r marks h is d.marks_are n;
     }
       where
@@ -76,6 +77,7 @@ module _ {E : Type 0} (eq : E → E → Bool) (self : (e : E) → eq e e ≡ tru
     ended-none ks i s r es fs marks h is d n q f = subst (λ l. Goes-on ks (i + 1) l (marks ++ is_some r ∷ [])) (sym f) (record {
       all = all-more ks i s es es h is d.all (Begins-self es) (λ w e t x. absurd (none-some e (sym q ∙ n.all w e t x)));
       sound = d.sound;
+      of = d.of;
       marks_are = marks-more ks i s r marks h is d.marks_are n;
     })
 

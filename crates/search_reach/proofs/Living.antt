@@ -279,10 +279,19 @@ module _ (g : Graph) (ended : List Bool) (before : Verdict) (old : Wish) (after 
       | inr told ↦ (let t = told.0 in absurd (cc (t, v)))
     ];
     told = λ v. elim judged.verdict [
-      | inl same ↦ (let was = sym same ∙ v in judged.unasked (λ all. cc (was, all)) ∙ found.told was)
+      | inl same ↦ (let was = sym same ∙ v in (judged.unasked (λ all. cc (was, all))).0 ∙ found.told was)
       | inr told ↦ told.1
     ];
   }
+
+  pub sought-back : after ≡ verdicts.Sought → before ≡ verdicts.Sought
+  sought-back v = elim judged.verdict [
+    | inl same ↦ sym same ∙ v
+    | inr told ↦ (let t = told.0 in absurd (cc (t, v)))
+  ]
+
+  pub sought-forth : before ≡ verdicts.Sought → after ≡ verdicts.Sought
+  sought-forth v = (judged.unasked (λ all. cc (v, all))).1 ∙ v
 
 pub live-after : {S W E : Type 0} (k : StepSystem S W E) (eq : S → S → Bool) (states : ℕ) (g : Graph) (ended : List Bool) (before : Verdict) (old : Wish)
     (after : Verdict) (new : Wish) (o : Option Liveness) → IsJudged g ended before old after new o

@@ -95,7 +95,7 @@ pub here : {A : Type 0} (ks : List A) (i : ℕ) (x : A) → slice_get ks i ≡ S
 here ks i x at = (i, slice_get_within ks i x at, get_or_from_slice_get ks i x x at)
 
 -- which of more stand at the first places
-get_shorter : {A : Type 0} (ks ls : List A) (i : ℕ) (x : A) → Begins ks ls → i < length ks → slice_get ls i ≡ Some x → slice_get ks i ≡ Some x
+pub get_shorter : {A : Type 0} (ks ls : List A) (i : ℕ) (x : A) → Begins ks ls → i < length ks → slice_get ls i ≡ Some x → slice_get ks i ≡ Some x
 get_shorter ks ls i x b within h =
     let here : slice_get ks i ≡ Some (get_or ks i x) = slice_get-get_or ks i x within in
     let there : slice_get ls i ≡ Some (get_or ks i x) = get_longer ks ls i (get_or ks i x) b here in

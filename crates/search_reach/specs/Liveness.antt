@@ -93,4 +93,4 @@ module _ (graph : Graph) (ended : List Bool) where
     pub said : IfSome o (λ l. (before ≡ verdicts.All) × (after ≡ verdicts.All) × IsGraphLive l)
     pub unsaid : o ≡ None → after ≡ verdicts.All → ⊥
     pub verdict : (after ≡ before) ⊎ ((after ≡ verdicts.Told) × (new ≡ wishes.End))
-    pub unasked : (before ≡ verdicts.All → ⊥) → new ≡ old
+    pub unasked : (before ≡ verdicts.All → ⊥) → (new ≡ old) × (after ≡ before)

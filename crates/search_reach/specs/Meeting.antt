@@ -1,13 +1,15 @@
 -- States in a table, which has some states: what comes of going on from one, and where a search stands.
-use Rattle.std.specs.Prelude.{◌≡◌, ◌<◌, ◌^◌, ℕ, Bool, Some, List, [], ◌∷◌, length}
+use Rattle.std.specs.Prelude.{◌≡◌, ◌<◌, ◌^◌, ℕ, Bool, Option, Some, List, [], ◌∷◌, length}
 use Rattle.std.specs.List.{slice_get, AllZip}
 use Rattle.search_graph.specs.declared.graph.Move.{Move}
 use Rattle.search_reach.specs.declared.explores.Next.{Next}
 use Rattle.search_reach.specs.declared.follows.Wish.{Wish}
 use Rattle.search_reach.specs.declared.search.Verdict.{Verdict}
-use Rattle.search_reach.specs.Search.{StepSystem, IsAll, IsSound, CanGetStuck, IsFirst, IsMet, AreNext, IsMarkedSo, AllEnds, AreEnds}
+use Rattle.search_reach.specs.Search.{StepSystem, IsAll, IsSound, CanGetStuck, IsFirst, IsMet, AreNext, IsMarkedSo, AllEnds, AreEnds, AreEndsOf}
 use Rattle.search_reach.specs.Explored.{Gains, Notes, Explored, IsWhole}
 use Rattle.search_reach.specs.Found.{IsFound}
+use Rattle.search_reach.specs.Sought.{ArePassed, SeeksAmong}
+use Rattle.search_reach.specs.Levels.{HasGoneThrough}
 
 module _ {S W E : Type 0} (k : StepSystem S W E) (has : List S → Type 0) where
   -- One of the states has this index, and can be met.
@@ -34,19 +36,24 @@ module _ {S W E : Type 0} (k : StepSystem S W E) (has : List S → Type 0) where
       pub gains : Gains ks next states
       pub noted : length states < 2 ^ 32 → Notes eq states at next before after
 
-    -- Where a search begins.
-    pub record IsBegun (moves : List Move) : Type 0 where
+    -- Where a search begins: none of the states has ended as is looked for.
+    pub record IsBegun (sought : E → Type 0) (moves : List Move) : Type 0 where
       pub states : List S
       pub held : has states
       pub explored : Explored k eq states moves 0
+      pub passed : ArePassed k sought states
 
-    -- What a search found that was to meet no more than `most` states and a few.
-    pub record IsReached (most : ℕ) (wish : Wish) (moves : List Move) (verdict : Verdict) : Type 0 where
+    -- What a search found that was to meet no more than `most` states and a few, and to end at an ending that is looked
+    -- for; and how many levels are complete.
+    pub record IsReached (most : ℕ) (wish : Wish) (sought : E → Type 0) (moves : List Move) (verdict : Verdict)
+        (levels : Option ℕ) : Type 0 where
       pub states : List S
       pub held : has states
       pub found : IsFound (record { complete = IsAll k; sound = IsSound k; lost = CanGetStuck k }) most wish verdict
           (length states) states
       pub whole : IsWhole k eq states moves verdict
+      pub seeks : SeeksAmong k sought verdict states
+      pub gone_through : HasGoneThrough k states levels
 
   -- Each of the states can be met.
   abbrev pub HasSound : Type 0
@@ -61,4 +68,5 @@ pub record AreGathered {S W E : Type 0} (k : StepSystem S W E) (eq : E → E →
     : Type 0 where
   pub all : AllEnds k eq ks es
   pub sound : AreEnds k es
+  pub of : AreEndsOf k ks es
   pub marks_are : AllZip (IsMarkedSo k) ks marks

@@ -141,11 +141,18 @@ module _ {S W E : Type 0} (k : StepSystem S W E) where
   abbrev pub IsSound : List S → Type 0
   IsSound ks = (s : S) → Contains ks s → IsMet s
 
-  -- This is how s has ended: whatever it stands for that has ended, has ended so, and whatever it stands for can end
-  -- so.
+  -- Within what s stands for, w comes to where it has ended so.
+  pub record ComesToEnd (s : S) (w : W) (e : E) : Type 0 where
+    pub end : W
+    pub path : Reaches Steps w end
+    pub stands : StandsFor s end
+    pub is : k.ends end e
+
+  -- This is how s has ended: whatever it stands for that has ended, has ended so, and whatever it stands for comes to
+  -- where it has.
   pub record IsEnding (s : S) (r : Option E) : Type 0 where
     pub all : (w : W) (e : E) → StandsFor s w → k.ends w e → r ≡ Some e
-    pub sound : (w : W) (e : E) → StandsFor s w → r ≡ Some e → CanEnd w e
+    pub sound : (w : W) (e : E) → StandsFor s w → r ≡ Some e → ComesToEnd s w e
 
   -- However something has ended that one of ks stands for, the list has it.
   abbrev pub AllEnds : (E → E → Bool) → List S → List E → Type 0
@@ -161,6 +168,10 @@ module _ {S W E : Type 0} (k : StepSystem S W E) where
   abbrev pub AreEnds : List E → Type 0
   AreEnds es = (e : E) → Contains es e → IsEnd e
 
+  -- Each is how one of these states has ended.
+  abbrev pub AreEndsOf : List S → List E → Type 0
+  AreEndsOf ks es = (e : E) → Contains es e → (s : S) × Contains ks s × IsEnding s (Some e)
+
   -- Each ending of what can be reached is there.
   abbrev pub HasAllEnds : (E → E → Bool) → List E → Type 0
   HasAllEnds eq es = (w z : W) (e : E) → k.begins w → Reaches Steps w z → k.ends z e → HasEqual eq es e
@@ -175,4 +186,5 @@ module _ {S W E : Type 0} (k : StepSystem S W E) where
   pub record Ended (eq : E → E → Bool) (ks : List S) (i : ℕ) (es : List E) (marks : List Bool) : Type 0 where
     pub all : AllEnds eq (take i ks) es
     pub sound : AreEnds es
+    pub of : AreEndsOf ks es
     pub marks_are : AllZip IsMarkedSo (take i ks) marks

@@ -1,15 +1,18 @@
 //! How the states that were met have ended.
-ghost use Rattle.std.specs.Prelude.{◌≡◌, IfOk, OnOk, length, vec_len};
+ghost use Rattle.std.specs.Prelude.{◌≡◌, IfOk, IfSome, OnOk, length, vec_len};
 ghost use Rattle.indexmap.specs.IndexSet.{index_set_len, insert_key};
 ghost use Rattle.search_reach.specs.Meeting.{HasSound, OfStates, AreGathered, IsReached};
 ghost use Rattle.search_reach.specs.Explored.{IsWhole};
 ghost use Rattle.search_reach.specs.Found.{AreEndings, IsSearched};
 ghost use Rattle.search_reach.specs.Liveness.{IsCount, IsLiveWhereAll};
+ghost use Rattle.search_reach.specs.Levels.{HasEndsWithin, HasGoneThrough};
+ghost use Rattle.search_reach.specs.Sought.{SeeksAmong, SeeksIn};
+ghost use Rattle.search_reach.specs.Told.{Obeys, OfCount, StillObeys};
 
 use crate::liveness::judged;
 use crate::path::{paths_to, ways_in};
 use crate::plain::Plain;
-use crate::{Explores, Follows, Found, Liveness, Meets, Reached, Verdict, reach};
+use crate::{Explores, Follows, Found, Liveness, Meets, Reached, Seeks, Verdict, reach};
 use indexmap::IndexSet;
 use search_graph::Graph;
 use std::alloc::{AllocError, Global};
@@ -82,6 +85,8 @@ pub struct Ended<E: Eq + Hash> {
     pub states: usize,
     /// Whether these are all.
     pub verdict: Verdict,
+    /// Of all that ends behind no more moves than this the ending is there, if anything was met.
+    pub levels: Option<u32>,
     /// Where they are all, whether all comes to an end.
     pub liveness: Option<Liveness>,
 }
@@ -97,25 +102,33 @@ fn paths_of(alloc: Global, graph: &Graph, states: &[usize]) -> Result<Vec<Vec<us
 
 /// The endings of the states that a search for at most `most` states and a few met. Where it met all, it says of which
 /// states none ends, and whether every fair run ends.
-fn conclude<T: Meets, F: Follows>(
+fn conclude<T: Meets, Q: Seeks<T::Ending>, F: Follows>(
     alloc: Global,
     system: &T,
     most: u32,
+    _sought: &Q,
     reached: Reached<T::Table>,
     follower: &mut F,
 ) -> Result<Ended<T::Ending>, AllocError>
-    requires { IsReached (T.system system.now) (T.holds system.now reached.table) (T.equal system.now)
-        most (F.wish follower.old) reached.moves.items reached.verdict }
+    requires { IsReached (T.system system.now) (T.holds system.now reached.table) (T.equal system.now) most
+        (F.wish follower.old) (Q.sought _sought.now) reached.moves.items reached.verdict reached.levels }
     ensures found { IfOk result (AreEndings (T.system system.now) T.Ending.eq most (F.wish follower.new)) }
     ensures paths { IfOk result (λ r. vec_len r.paths ≡ index_set_len r.endings) }
     ensures count { IfOk result (λ r. IsCount (T.system system.now) (T.equal system.now) r.states) }
     ensures live { IfOk result
         (λ r. IsLiveWhereAll (T.system system.now) (T.equal system.now) r.states r.verdict r.liveness) }
+    ensures seeks { IfOk result (λ r. SeeksIn (Q.sought _sought.now) T.Ending.eq r.verdict r.endings.keys) }
+    ensures levels { IfOk result
+        (λ r. IfSome r.levels (HasEndsWithin (T.system system.now) T.Ending.eq r.endings.keys)) }
+    ensures obeys { IfOk result (λ r. StillObeys (λ before. OfCount (T.holds system.now reached.table)
+        (Obeys before (F.wish follower.old) (F.told_at follower.old) reached.verdict))
+        (F.wish follower.new) (F.told_at follower.new) r.verdict r.states) }
 {
     let Reached {
         table,
         moves,
         verdict,
+        levels,
     } = reached;
     let Listed {
         endings,
@@ -132,6 +145,7 @@ fn conclude<T: Meets, F: Follows>(
         paths,
         states,
         verdict,
+        levels,
         liveness,
     })
 }
@@ -141,41 +155,54 @@ fn conclude<T: Meets, F: Follows>(
 ///
 /// # Errors
 /// Where memory is refused.
-pub fn endings_of<T: Explores, F: Follows>(
+pub fn endings_of<T: Explores, Q: Seeks<T::Ending>, F: Follows>(
     alloc: Global,
     system: &T,
     most: u32,
+    sought: &Q,
     found: Found<T::State>,
     follower: &mut F,
 ) -> Result<Ended<T::Ending>, AllocError>
     requires found { IsSearched (T.system system.now) most (F.wish follower.old) found }
     requires whole { IsWhole (T.system system.now) T.State.eq found.met.keys found.moves.items found.verdict }
+    requires seeks { SeeksAmong (T.system system.now) (Q.sought sought.now) found.verdict found.met.keys }
+    requires levels { HasGoneThrough (T.system system.now) found.met.keys found.levels }
     ensures found { IfOk result (AreEndings (T.system system.now) T.Ending.eq most (F.wish follower.new)) }
     ensures paths { IfOk result (λ r. vec_len r.paths ≡ index_set_len r.endings) }
     ensures count { IfOk result (λ r. IsCount (T.system system.now) T.State.eq r.states) }
     ensures live { IfOk result
         (λ r. IsLiveWhereAll (T.system system.now) T.State.eq r.states r.verdict r.liveness) }
+    ensures seeks { IfOk result (λ r. SeeksIn (Q.sought sought.now) T.Ending.eq r.verdict r.endings.keys) }
+    ensures levels { IfOk result
+        (λ r. IfSome r.levels (HasEndsWithin (T.system system.now) T.Ending.eq r.endings.keys)) }
+    ensures obeys { IfOk result (λ r. StillObeys (λ before.
+        Obeys before (F.wish follower.old) (F.told_at follower.old) found.verdict (index_set_len found.met))
+        (F.wish follower.new) (F.told_at follower.new) r.verdict r.states) }
 {
     let plain = Plain { system };
     let Found {
         met,
         moves,
         verdict,
+        levels,
     } = found;
     let reached = Reached {
         table: met,
         moves,
         verdict,
+        levels,
     };
-    conclude(alloc, &plain, most, reached, follower)
+    conclude(alloc, &plain, most, sought, reached, follower)
 }
 
-/// The endings of a system, of which it meets no more than `most` states and a few, and those before it is told to end.
+/// The endings of a system, of which it meets no more than `most` states and a few, those before one that is looked for,
+/// and those before it is told to end.
 /// Where it met all, it says of which states none ends, and whether every fair run ends.
-pub fn all_endings<T: Meets, F: Follows>(
+pub fn all_endings<T: Meets, Q: Seeks<T::Ending>, F: Follows>(
     alloc: Global,
     system: &T,
     most: u32,
+    sought: &Q,
     follower: &mut F,
 ) -> Result<Ended<T::Ending>, AllocError>
     ensures found { IfOk result (AreEndings (T.system system.now) T.Ending.eq most (F.wish follower.new)) }
@@ -183,7 +210,12 @@ pub fn all_endings<T: Meets, F: Follows>(
     ensures count { IfOk result (λ r. IsCount (T.system system.now) (T.equal system.now) r.states) }
     ensures live { IfOk result
         (λ r. IsLiveWhereAll (T.system system.now) (T.equal system.now) r.states r.verdict r.liveness) }
+    ensures seeks { IfOk result (λ r. SeeksIn (Q.sought sought.now) T.Ending.eq r.verdict r.endings.keys) }
+    ensures levels { IfOk result
+        (λ r. IfSome r.levels (HasEndsWithin (T.system system.now) T.Ending.eq r.endings.keys)) }
+    ensures obeys { IfOk result (λ r.
+        Obeys (F.wish follower.old) (F.wish follower.new) (F.told_at follower.new) r.verdict r.states) }
 {
-    let reached = reach(alloc, system, most, follower)?;
-    conclude(alloc, system, most, reached, follower)
+    let reached = reach(alloc, system, most, sought, follower)?;
+    conclude(alloc, system, most, sought, reached, follower)
 }

@@ -5,6 +5,7 @@ ghost use Rattle.search_fairness.specs.Judged.{Says, IsCycle};
 ghost use Rattle.search_reach.specs.declared.follows.Wish.TheVariants as wishes;
 ghost use Rattle.search_reach.specs.declared.search.Verdict.TheVariants as verdicts;
 ghost use Rattle.search_reach.specs.Liveness.{IsRoundOf, SaysOfGraph, IsGraphLive, IsJudged};
+ghost use Rattle.search_reach.specs.Told.{Obeys, StillObeys};
 
 use crate::path::{choices_of, path_to, ways_in};
 use crate::{Follows, Verdict, Wish};
@@ -95,9 +96,11 @@ fn liveness_of<F: Follows>(
     requires marks { length ended.now ≡ graph.now.states }
     ensures live { IfOk result (λ o. IfSome o (IsGraphLive graph.now ended.now)) }
     ensures told { IfOk result (λ o. o ≡ None → F.wish follower.new ≡ wishes.End) }
+    ensures heard { IfOk result (λ o. (F.wish follower.old ≡ wishes.End → ⊥) → F.wish follower.new ≡ wishes.End
+        → (o ≡ None) × (graph.now.states ≡ F.told_at follower.new)) }
 {
     let endless = cannot_end(alloc, graph, ended)?;
-    if let Wish::End = follower.states(graph.states) {
+    if let Wish::End = follower.states(graph.states, 0) {
         return Ok(None);
     }
     let ways = ways_in(alloc, graph.states, graph.moves.as_slice())?;
@@ -121,13 +124,16 @@ pub(crate) fn judged<F: Follows>(
 ) -> Result<(Verdict, Option<Liveness>), AllocError>
     requires within { verdict ≡ verdicts.All → All (IsWithin graph.now.states) graph.now.moves.items }
     requires marks { length ended.now ≡ graph.now.states }
-    ensures { IfOk result
+    ensures judged { IfOk result
         (λ r. IsJudged graph.now ended.now verdict (F.wish follower.old) r.0 (F.wish follower.new) r.1) }
+    ensures obeys { IfOk result (λ r. StillObeys
+        (λ before. Obeys before (F.wish follower.old) (F.told_at follower.old) verdict graph.now.states)
+        (F.wish follower.new) (F.told_at follower.new) r.0 graph.now.states) }
 {
     let Verdict::All = verdict else {
         return Ok((verdict, None));
     };
-    if let Wish::End = follower.states(graph.states) {
+    if let Wish::End = follower.states(graph.states, 0) {
         return Ok((Verdict::Told, None));
     }
     match liveness_of(alloc, graph, ended, follower)? {

@@ -1,11 +1,16 @@
 //! The search.
-ghost use Rattle.std.specs.Prelude.{[], IfOk};
+ghost use Rattle.std.specs.Prelude.{◌<◌, [], Some, IfOk};
+ghost use Rattle.indexmap.specs.IndexSet.{index_set_len};
 ghost use Rattle.search_reach.specs.Explored.{IsWhole};
 ghost use Rattle.search_reach.specs.Found.{IsSearched};
+ghost use Rattle.search_reach.specs.Levels.{HasGoneThrough, IsBehind};
 ghost use Rattle.search_reach.specs.Meeting.{IsBegun, IsReached};
+ghost use Rattle.search_reach.specs.Sought.{SeeksAmong};
+ghost use Rattle.search_reach.specs.Told.{Obeys, OfCount};
 
 use crate::plain::Plain;
-use crate::{Explores, Follows, Meets, Wish};
+use crate::seeking::has_sought;
+use crate::{Explores, Follows, Meets, Seeks, Wish};
 use indexmap::IndexSet;
 use search_graph::Move;
 use std::alloc::{AllocError, Global};
@@ -22,6 +27,8 @@ pub enum Verdict {
     CannotTell,
     /// It was told to end.
     Told,
+    /// It met an ending that is looked for.
+    Sought,
 }
 
 /// What a search found.
@@ -34,6 +41,8 @@ pub struct Found<S: Eq + Hash> {
     pub moves: Vec<Move>,
     /// Whether these are all.
     pub verdict: Verdict,
+    /// All that comes by no more moves than this was met, if anything was.
+    pub levels: Option<u32>,
 }
 
 /// What a search found, where the states that it met are in a table.
@@ -43,88 +52,147 @@ pub struct Reached<T> {
     /// As in `Found`.
     pub moves: Vec<Move>,
     pub verdict: Verdict,
+    pub levels: Option<u32>,
+}
+
+/// All that comes by no more moves than `complete` is stood for by the states below `end`.
+#[derive(Clone, Copy)]
+struct Levels {
+    complete: u32,
+    end: usize,
+}
+
+impl Levels {
+    /// What is complete where so many states were gone on from, of as many as are known: one level more, where these
+    /// were all of the last one.
+    fn behind(self, gone: u32, known: usize) -> Levels
+        requires { self.complete < gone }
+        ensures { IsBehind self gone known result }
+    {
+        let Levels { complete, end } = self;
+        if gone as usize != end || known > u32::MAX as usize {
+            return self;
+        }
+        Levels {
+            complete: complete + 1,
+            end: known,
+        }
+    }
 }
 
 /// Goes on from each state that was met, until there are no more, it has met more than `most`, one of which the next
-/// states cannot be told, or it is told to end.
-fn explore<T: Meets, F: Follows>(
+/// states cannot be told, or one that has ended as is looked for, or it is told to end. Answers how many levels are
+/// complete.
+fn explore<T: Meets, Q: Seeks<T::Ending>, F: Follows>(
     alloc: Global,
     system: &T,
     most: u32,
+    sought: &Q,
     follower: &mut F,
     table: &mut T::Table,
     moves: &mut Vec<Move>,
-) -> Result<Verdict, AllocError>
-    requires { IsBegun (T.system system.now) (T.holds system.now table.old) (T.equal system.now) moves.old.items }
-    ensures { IfOk result (IsReached (T.system system.now) (T.holds system.now table.new) (T.equal system.now)
-        most (F.wish follower.new) moves.new.items) }
+) -> Result<(Verdict, u32), AllocError>
+    requires { IsBegun (T.system system.now) (T.holds system.now table.old) (T.equal system.now)
+        (Q.sought sought.now) moves.old.items }
+    ensures reached { IfOk result (λ r. IsReached (T.system system.now) (T.holds system.now table.new)
+        (T.equal system.now) most (F.wish follower.new) (Q.sought sought.now) moves.new.items r.0 (Some r.1)) }
+    ensures obeys { IfOk result (λ r. OfCount (T.holds system.now table.new)
+        (Obeys (F.wish follower.old) (F.wish follower.new) (F.told_at follower.new) r.0)) }
 {
     let mut at: u32 = 0;
+    let end = system.count(table);
+    let mut levels = Levels { complete: 0, end };
     loop {
         let met = system.count(table);
         if met <= at as usize {
-            return Ok(Verdict::All);
+            return Ok((Verdict::All, levels.complete));
         }
         if (most as usize) < met {
-            return Ok(Verdict::TooMany);
+            return Ok((Verdict::TooMany, levels.complete));
         }
         if !system.next(alloc, table, at, moves)? {
-            return Ok(Verdict::CannotTell);
-        }
-        if let Wish::End = follower.states(system.count(table)) {
-            return Ok(Verdict::Told);
+            return Ok((Verdict::CannotTell, levels.complete));
         }
         at += 1;
+        let known = system.count(table);
+        levels = levels.behind(at, known);
+        if has_sought(alloc, system, table, met, sought)? {
+            return Ok((Verdict::Sought, levels.complete));
+        }
+        if let Wish::End = follower.states(known, known.saturating_sub(at as usize)) {
+            return Ok((Verdict::Told, levels.complete));
+        }
     }
 }
 
 /// Goes through the states of a system, which it keeps in a table, until there are no more, it has met more than `most`,
-/// or it is told to end. The follower hears of each how many were met.
+/// or one that has ended as is looked for, or it is told to end: then at once. The follower hears behind each how many
+/// were met.
 ///
 /// # Errors
 /// Where memory is refused.
-pub fn reach<T: Meets, F: Follows>(
+pub fn reach<T: Meets, Q: Seeks<T::Ending>, F: Follows>(
     alloc: Global,
     system: &T,
     most: u32,
+    sought: &Q,
     follower: &mut F,
 ) -> Result<Reached<T::Table>, AllocError>
-    ensures { IfOk result (λ r. IsReached (T.system system.now) (T.holds system.now r.table) (T.equal system.now)
-        most (F.wish follower.new) r.moves.items r.verdict) }
+    ensures reached { IfOk result (λ r. IsReached (T.system system.now) (T.holds system.now r.table)
+        (T.equal system.now) most (F.wish follower.new) (Q.sought sought.now) r.moves.items r.verdict r.levels) }
+    ensures obeys { IfOk result (λ r. OfCount (T.holds system.now r.table)
+        (Obeys (F.wish follower.old) (F.wish follower.new) (F.told_at follower.new) r.verdict)) }
 {
     let mut table = system.table(alloc);
     let mut moves = Vec::new(alloc);
     if !system.first(alloc, &mut table)? {
-        let verdict = Verdict::CannotTell;
         return Ok(Reached {
             table,
             moves,
-            verdict,
+            verdict: Verdict::CannotTell,
+            levels: None,
         });
     }
-    let verdict = explore(alloc, system, most, follower, &mut table, &mut moves)?;
+    if has_sought(alloc, system, &table, 0, sought)? {
+        return Ok(Reached {
+            table,
+            moves,
+            verdict: Verdict::Sought,
+            levels: Some(0),
+        });
+    }
+    let (verdict, levels) = explore(
+        alloc, system, most, sought, follower, &mut table, &mut moves,
+    )?;
     Ok(Reached {
         table,
         moves,
         verdict,
+        levels: Some(levels),
     })
 }
 
 /// The same of a system whose states are values.
-pub fn reach_all<T: Explores, F: Follows>(
+pub fn reach_all<T: Explores, Q: Seeks<T::Ending>, F: Follows>(
     alloc: Global,
     system: &T,
     most: u32,
+    sought: &Q,
     follower: &mut F,
 ) -> Result<Found<T::State>, AllocError>
     ensures found { IfOk result (IsSearched (T.system system.now) most (F.wish follower.new)) }
     ensures whole { IfOk result (λ f. IsWhole (T.system system.now) T.State.eq f.met.keys f.moves.items f.verdict) }
+    ensures seeks { IfOk result (λ f. SeeksAmong (T.system system.now) (Q.sought sought.now) f.verdict f.met.keys) }
+    ensures levels { IfOk result (λ f. HasGoneThrough (T.system system.now) f.met.keys f.levels) }
+    ensures obeys { IfOk result (λ f.
+        Obeys (F.wish follower.old) (F.wish follower.new) (F.told_at follower.new) f.verdict (index_set_len f.met)) }
 {
     let plain = Plain { system };
-    let reached = reach(alloc, &plain, most, follower)?;
+    let reached = reach(alloc, &plain, most, sought, follower)?;
     Ok(Found {
         met: reached.table,
         moves: reached.moves,
         verdict: reached.verdict,
+        levels: reached.levels,
     })
 }

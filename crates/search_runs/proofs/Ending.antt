@@ -22,7 +22,7 @@ use Rattle.interp_machine.specs.State.{State}
 use Rattle.schedule_threads.specs.Shared.{Shared, without_dues}
 use Rattle.schedule_threads.specs.Threads.{machine_of}
 use Rattle.schedule_threads.proofs.Asking.{machine_laws}
-use Rattle.schedule_runs.specs.Runs.{RanTogether, begins_in, ends_of, end_if, as_acts, first_places}
+use Rattle.schedule_runs.specs.Runs.{RanTogether, begins_in, ends_of, end_if, acted, as_acts, first_places}
 use Rattle.schedule_runs.specs.Runs as runs
 use Rattle.schedule_runs.specs.Theorem.{IsOneRun}
 use Rattle.schedule_runs.proofs.Places.{started_place}
@@ -39,9 +39,12 @@ use Rattle.search_runs.specs.Called.{Called, Walker, with_fuel, system_of, first
 use Rattle.search_runs.specs.Called.{reply_by, shared_by, answer_by, begun_by}
 use Rattle.search_endings.specs.Endings.{Ending}
 use Rattle.search_runs.specs.Ends.{HasEndedSo}
-use Rattle.search_runs.specs.Theorems.{EveryRunEndsSo, IsEndingAlong, CanReach}
+use Rattle.search_runs.specs.Theorems.{EveryRunEndsSo, EveryRunEndsWithin, IsEndingAlong, CanReach}
 use Rattle.search_runs.proofs.Same.{budgeted, budgeted_first, system_same, first_state_same}
 use Rattle.search_runs.proofs.Tame.{reached_by, missing}
+use Rattle.search_runs.proofs.Within.{within-entries}
+use Rattle.search_settled.specs.Levels.{ComesWithin}
+use Rattle.std.proofs.lemmas.List.{length-map}
 
 module _ (b : Called) (fuel : ℕ) where
   abbrev start : runs.Start
@@ -108,6 +111,9 @@ module _ (b : Called) (fuel : ℕ) where
     reached : CanReach b last
     reached = reached_by (system_of b) free.turns (first_state b)
 
+    within : ComesWithin (system_of b) (length H) (first_state b) last
+    within = within-entries (system_of b) free.turns (first_state b) (as_acts H) (length H) (free.makes).events (length-map H acted)
+
     shared_is : last.shared ≡ record { memory = memory_after b.opening H; queue = without_dues (queue_after H) }
     shared_is =
         free.shared ∙ (sym (shared_same (as_acts H) (first_shared b)) ∙ (Linked.shared (linked start H legal)
@@ -147,5 +153,12 @@ pub every_run_ends_so : EveryRunEndsSo
 every_run_ends_so b fuel loses limit H outcomes_of lefts together dump e ending = (
   last b fuel loses limit H outcomes_of lefts together dump e ending,
   reached b fuel loses limit H outcomes_of lefts together dump e ending,
+  ended b fuel loses limit H outcomes_of lefts together dump e ending,
+)
+
+pub every_run_ends_within : EveryRunEndsWithin
+every_run_ends_within b fuel loses limit H outcomes_of lefts together dump e ending = (
+  last b fuel loses limit H outcomes_of lefts together dump e ending,
+  within b fuel loses limit H outcomes_of lefts together dump e ending,
   ended b fuel loses limit H outcomes_of lefts together dump e ending,
 )

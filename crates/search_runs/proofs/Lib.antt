@@ -5,3 +5,4 @@ pub mod Ending
 pub mod Bytes
 pub mod Plain
 pub mod Accessing
+pub mod Within

@@ -16,6 +16,7 @@ use Rattle.schedule_runs.specs.Runs.{RanTogether}
 use Rattle.schedule_runs.specs.Runs as runs
 use Rattle.search_threads.specs.Budgets.{IsSame, turns_of}
 use Rattle.search_settled.specs.Settled.{AreTame, IsReached}
+use Rattle.search_settled.specs.Levels.{ComesWithin}
 use Rattle.search_race_free.specs.Wanted.{ArePlain}
 use Rattle.search_race_free.specs.Search.{NoneBeyond, NobodyGoesOn}
 use Rattle.search_runs.specs.Accesses.{access_of}
@@ -62,6 +63,15 @@ EveryRunEndsSo =
     → RanTogether (with_fuel b fuel) loses limit H outcomes_of lefts
     → (dump : ℕ) (e : Ending) → IsEndingAlong b dump H outcomes_of e
     → (w : systems.State Shared Walker) × CanReach b w × HasEndedSo dump w e
+
+-- And by no more events than the history has entries.
+abbrev pub EveryRunEndsWithin : Type 0
+EveryRunEndsWithin =
+    (b : Called) (fuel : ℕ) (loses : Bool) (limit : Option ℕ) (H : List entries.Entry) (outcomes_of : ℕ
+    → Outcome) (lefts : ℕ → ℕ)
+    → RanTogether (with_fuel b fuel) loses limit H outcomes_of lefts
+    → (dump : ℕ) (e : Ending) → IsEndingAlong b dump H outcomes_of e
+    → (w : systems.State Shared Walker) × ComesWithin (system_of b) (length H) (first_state b) w × HasEndedSo dump w e
 
 -- What threads without budgets come to, the scheduled machine comes to along some turns, with some budget.
 pub record IsScheduled (b : Called) (w : systems.State Shared Walker) : Type 0 where

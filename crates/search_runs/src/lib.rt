@@ -1,7 +1,8 @@
 //! The runs of a module's threads, as a search goes through them: without budgets.
 //!
-//! Proved: however threads ran together with units and room enough, threads without budgets come to the same end. What
-//! they come to, the scheduled machine comes to along some turns, with some budget.
+//! Proved: however threads ran together with units and room enough, threads without budgets come to the same end, by no
+//! more events than their history has entries. What they come to, the scheduled machine comes to along some turns, with
+//! some budget.
 //!
 //! Each function here does nothing, and its contract is a law.
 //!
@@ -12,7 +13,7 @@
 #![tactic(auto)]
 
 ghost use Rattle.search_runs.specs.Theorems.{ThreadsAreTame, AccessesArePlain, FewGoOn, NobodyGoesOnInTheEnd};
-ghost use Rattle.search_runs.specs.Theorems.{EveryRunEndsSo, EveryEndIsScheduled};
+ghost use Rattle.search_runs.specs.Theorems.{EveryRunEndsSo, EveryRunEndsWithin, EveryEndIsScheduled};
 
 /// Wherever these threads come, an event gives answers to its own thread or to one that awaits it, and threads 0 to 63
 /// alone make turns of their own.
@@ -40,6 +41,11 @@ pub fn nobody_goes_on_in_the_end()
 /// budgets can end as they did.
 pub fn every_run_ends_so()
     ensures { EveryRunEndsSo }
+{}
+
+/// And they do so by no more events than their history has entries.
+pub fn every_run_ends_within()
+    ensures { EveryRunEndsWithin }
 {}
 
 /// What threads without budgets can come to, the scheduled machine comes to along some turns, with some budget.

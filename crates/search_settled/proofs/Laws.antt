@@ -211,6 +211,15 @@ module _ {X T E V A G H M O : Type 0} (k : ThreadSystem X T E V A G H M) (ends :
       sound = λ w o stands h. record {
         end = stands.1.settled;
         path = to_settled c w stands.0 stands.1;
+        stands = (
+          λ (n : ℕ). 0,
+          record {
+            reached = onward (StepsBy k.system) k.first w stands.1.settled stands.1.reached (to_settled c w stands.0 stands.1);
+            settled = stands.1.settled;
+            rest = rest_self k.system stands.1.settled (λ m. stands.1.rest.rests m);
+            settled_is = stands.1.settled_is;
+          },
+        );
         is = ended.sound stands.1.settled o (at_settled c w stands.0 stands.1) h;
       };
     }

@@ -10,3 +10,4 @@ pub mod Knowing
 pub mod Nexting
 pub mod Putting
 pub mod Meeting
+pub mod Leveling

@@ -8,3 +8,4 @@ pub mod Turns
 pub mod Same
 pub mod Alone
 pub mod Known
+pub mod Levels

@@ -1,10 +1,13 @@
 //! All endings of threads that are moved one by one.
-ghost use Rattle.std.specs.Prelude.{◌≡◌, IfOk, OnOk, vec_len};
+ghost use Rattle.std.specs.Prelude.{◌≡◌, IfOk, IfSome, OnOk, vec_len};
 ghost use Rattle.indexmap.specs.IndexSet.{index_set_len};
 ghost use Rattle.search_reach.specs.Found.{AreEndings};
 ghost use Rattle.search_reach.specs.Liveness.{IsCount, IsLiveWhereAll};
+ghost use Rattle.search_reach.specs.Sought.{SeeksIn};
+ghost use Rattle.search_reach.specs.Told.{Obeys};
 ghost use Rattle.search_table.specs.Tables.{HasSameParts};
 ghost use Rattle.search_settled.specs.Turns.{turns};
+ghost use Rattle.search_settled.specs.Levels.{HasEndsBehind};
 ghost use Rattle.search_settled.specs.Same.{flat_eq};
 ghost use Rattle.search_settled.specs.Known.{PutsRows};
 
@@ -12,7 +15,7 @@ use crate::Moves;
 use crate::met::{Met, NextRow};
 use crate::next::{next_rows, row_of, threads_of};
 use search_graph::Move;
-use search_reach::{Ended, Follows, Meets, all_endings};
+use search_reach::{Ended, Follows, Meets, Seeks, all_endings};
 use search_table::Table;
 use std::alloc::{AllocError, Global};
 use std::hash::Hash;
@@ -128,12 +131,14 @@ impl<M: Moves> Meets for Turns<'_, M> {
 }
 
 /// The endings of all runs of threads, whatever the order of their turns; it meets no more than `most` settled states
-/// and a few, and those before it is told to end. Where it met all, it says of which states no run ends, and whether
-/// every fair run ends: one in which each thread that wants a turn of its own or an event makes its next turn.
-pub fn search_all<M: Moves, F: Follows>(
+/// and a few, those before one that is looked for, and those before it is told to end. Where it met all, it says of which
+/// states no run ends, and whether every fair run ends: one in which each thread that wants a turn of its own or an event
+/// makes its next turn. The list has each ending of a run with no more events than levels are complete.
+pub fn search_all<M: Moves, Q: Seeks<M::Ending>, F: Follows>(
     alloc: Global,
     system: &M,
     most: u32,
+    sought: &Q,
     follower: &mut F,
 ) -> Result<Ended<M::Ending>, AllocError>
     ensures found { IfOk result (AreEndings (turns M.Moves system.now) M.Ending.eq most (F.wish follower.new)) }
@@ -142,7 +147,12 @@ pub fn search_all<M: Moves, F: Follows>(
         (λ r. IsCount (turns M.Moves system.now) (flat_eq M.Shared.eq M.Thread.eq) r.states) }
     ensures live { IfOk result
         (λ r. IsLiveWhereAll (turns M.Moves system.now) (flat_eq M.Shared.eq M.Thread.eq) r.states r.verdict r.liveness) }
+    ensures seeks { IfOk result (λ r. SeeksIn (Q.sought sought.now) M.Ending.eq r.verdict r.endings.keys) }
+    ensures levels { IfOk result (λ r. IfSome r.levels (HasEndsBehind (M.threads system.now).system
+        (M.threads system.now).first (M.ends system.now) M.Ending.eq r.endings.keys)) }
+    ensures obeys { IfOk result (λ r.
+        Obeys (F.wish follower.old) (F.wish follower.new) (F.told_at follower.new) r.verdict r.states) }
 {
     let states = Turns { system };
-    all_endings(alloc, &states, most, follower)
+    all_endings(alloc, &states, most, sought, follower)
 }

@@ -21,6 +21,8 @@ struct Few {
 impl Follows for Few {
     ghost wish = { λ f. f.wish };
 
+    ghost told_at = { λ _. 0 };
+
     fn runs(&mut self, made: u64, _endings: usize) -> Wish {
         if made >= self.most {
             self.wish = Wish::End;
@@ -28,7 +30,7 @@ impl Follows for Few {
         self.wish
     }
 
-    fn states(&mut self, _met: usize) -> Wish {
+    fn states(&mut self, _met: usize, _left: usize) -> Wish {
         self.wish
     }
 

@@ -70,12 +70,21 @@ pub(crate) struct Progress<'a> {
     /// Whether one stands there.
     is_written: bool,
     wish: Wish,
+    /// Of how many states it heard last before it wished the end.
+    told_at: usize,
 }
 
 /// How many in a second, where so many took so long.
 fn in_a_second(count: u64, took: Duration) -> u64 {
     let millis = u64::try_from(took.as_millis()).unwrap_or(u64::MAX).max(1);
     count.saturating_mul(1000) / millis
+}
+
+/// How many MiB of memory the program has, where the system says so: Linux does, in pages of 4096 bytes.
+fn resident(rt: &HostRuntime) -> Option<u64> {
+    let said = fs::read_to_string(rt, "/proc/self/statm").ok()?;
+    let pages = said.split_whitespace().nth(1)?.parse::<u64>().ok()?;
+    Some(pages / 256)
 }
 
 impl<'a> Progress<'a> {
@@ -104,6 +113,7 @@ impl<'a> Progress<'a> {
             is_shown,
             is_written: false,
             wish: Wish::GoOn,
+            told_at: 0,
         }
     }
 
@@ -149,6 +159,8 @@ impl<'a> Progress<'a> {
 impl Follows for Progress<'_> {
     ghost wish = { λ p. p.wish };
 
+    ghost told_at = { λ p. p.told_at };
+
     fn runs(&mut self, made: u64, endings: usize) -> Wish {
         if let Some(took) = self.line_due() {
             let rate = in_a_second(made, took);
@@ -159,11 +171,22 @@ impl Follows for Progress<'_> {
         self.wish
     }
 
-    fn states(&mut self, met: usize) -> Wish {
+    fn states(&mut self, met: usize, left: usize) -> Wish {
+        if let Wish::End = self.wish {
+            return Wish::End;
+        }
         if let Some(took) = self.line_due() {
             let rate = in_a_second(met as u64, took);
-            let _ = eprint!(self.rt; "\r\x1b[K{met} states, {rate} a second");
+            let _ = match resident(self.rt) {
+                Some(mib) => eprint!(self.rt;
+                    "\r\x1b[K{met} states, {rate} a second, {left} to go through, {mib} MiB"
+                ),
+                None => eprint!(self.rt;
+                    "\r\x1b[K{met} states, {rate} a second, {left} to go through"
+                ),
+            };
         }
+        self.told_at = met;
         self.wish
     }
 

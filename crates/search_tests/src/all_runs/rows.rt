@@ -140,5 +140,5 @@ pub(crate) fn gone_through(
     most: u32,
 ) -> Result<Ended<Ending>, Fail> {
     let request = Request::new(valid, call_of(gone))?;
-    Ok(all_endings(alloc, &request, most, DUMP as usize, &mut ())?)
+    Ok(all_endings(alloc, &request, most, DUMP as usize, &(), &mut ())?)
 }

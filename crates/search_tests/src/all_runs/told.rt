@@ -14,16 +14,23 @@ use std::test::Fail;
 struct Few {
     most: usize,
     wish: Wish,
+    told_at: usize,
 }
 
 impl Follows for Few {
     ghost wish = { λ f. f.wish };
 
+    ghost told_at = { λ f. f.told_at };
+
     fn runs(&mut self, _made: u64, _endings: usize) -> Wish {
         self.wish
     }
 
-    fn states(&mut self, met: usize) -> Wish {
+    fn states(&mut self, met: usize, _left: usize) -> Wish {
+        if let Wish::End = self.wish {
+            return Wish::End;
+        }
+        self.told_at = met;
         if met >= self.most {
             self.wish = Wish::End;
         }
@@ -39,11 +46,13 @@ fn check_told<R: Abort>(rt: &R, alloc: Global, gone: &Gone) -> Result<(), Fail> 
     let mut few = Few {
         most: 10,
         wish: Wish::GoOn,
+        told_at: 0,
     };
     let request = Request::new(&valid, call_of(gone))?;
-    let all = all_endings(alloc, &request, MOST, DUMP as usize, &mut few)?;
+    let all = all_endings(alloc, &request, MOST, DUMP as usize, &(), &mut few)?;
     assert_eq!(rt; all.verdict, Verdict::Told);
     assert!(rt; 10 <= all.states && all.states < gone.states as usize);
+    assert_eq!(rt; all.states, few.told_at);
     Ok(())
 }
 

@@ -1,8 +1,9 @@
 use Rattle.std.proofs.lemmas.Result.{IfOk-weaker}
+use Rattle.search_settled.proofs.Laws.{if-some}
 use Rattle.search_settled.specs.Next.{StandsForState}
 use Rattle.search_modules.specs.Liveness.{is_same_state}
 use Rattle.search_modules.specs.Moved.{threads, IsStuck}
-use Rattle.search_modules.proofs.Finding.{every_by, sound_by, lost_by}
+use Rattle.search_modules.proofs.Finding.{every_by, every_within_by, sound_by, sought_by, lost_by}
 use Rattle.search_modules.proofs.Living.{counted_by, says_by}
 use Rattle.search_modules.proofs.all.all_endings.Goals as goal
 
@@ -35,3 +36,17 @@ returns-clause-live g c =
     c.in_ok-searched.searched c.args.request.now c.in_ok-searched.ensures.call c.args.dump
     c.in_ok-searched.ensures.dump ended.states ended.verdict ended.liveness live)
     c.search_all.ensures.live
+
+pub returns-clause-seeks : goal.returns-clause-seeks
+returns-clause-seeks g c =
+    IfOk-weaker c.search_all.result _ _ (λ ended seeks. sought_by (g.Q.Seeks.sought c.args.sought.now) ended.verdict ended.endings.keys seeks)
+    c.search_all.ensures.seeks
+
+pub returns-clause-levels : goal.returns-clause-levels
+returns-clause-levels g c =
+    let s = c.in_ok-searched.searched in
+    let is = c.in_ok-searched.ensures in
+    let r = c.args.request.now in
+    IfOk-weaker c.search_all.result _ _ (λ ended levels. if-some _ _
+    (λ n has. every_within_by r.parts r.name r.args s is.call c.args.dump is.dump ended.endings.keys is.names n has) ended.levels levels)
+    c.search_all.ensures.levels

@@ -4,7 +4,10 @@ use Rattle.std.proofs.lemmas.Slice.Zip.{AllZip-long}
 use Rattle.search_reach.specs.Search.{IsMarkedSo, IsAll, IsSound, HasAllEnds, AreEnds, CanGetStuck}
 use Rattle.search_reach.specs.Found.{IsFound}
 use Rattle.search_reach.proofs.Gathering.{endings-of_all}
-use Rattle.search_reach.proofs.Living.{moves-within, live, found-after, live-after}
+use Rattle.search_reach.proofs.Living.{moves-within, live, found-after, live-after, sought-back, sought-forth}
+use Rattle.search_reach.proofs.Leveling.{gone-within}
+use Rattle.search_reach.proofs.Passing.{seeks-in}
+use Rattle.search_reach.specs.Told.{Obeys}
 use Rattle.search_reach.proofs.ending.conclude.Goals as goal
 
 pub endings-requires : goal.endings-requires
@@ -30,7 +33,7 @@ returns-clause-found g c =
     let k = g.T.Meets.system c.args.system.now in
     let r = c.requires in
     let gathered = c.in_ok-endings.ensures.gathered r.states r.held r.found.sound in
-    found-after _ _ _ _ _ _ _ c.in_ok-verdict.ensures
+    found-after _ _ _ _ _ _ _ c.in_ok-verdict.ensures.judged
     (record { complete = IsAll k; sound = IsSound k; lost = CanGetStuck k })
     (record { complete = HasAllEnds k g.T.Ending.PartialEq.eq; sound = AreEnds k; lost = CanGetStuck k })
     c.args.most c.count-states.result r.states c.in_ok-endings.field-0.endings.keys
@@ -56,8 +59,32 @@ returns-clause-live g c =
     let k = g.T.Meets.system m in
     let r = c.requires in
     let gathered = c.in_ok-endings.ensures.gathered r.states r.held r.found.sound in
-    live-after k (g.T.Meets.equal m) c.count-states.result _ _ _ _ _ _ _ c.in_ok-verdict.ensures
+    live-after k (g.T.Meets.equal m) c.count-states.result _ _ _ _ _ _ _ c.in_ok-verdict.ensures.judged
     (λ v l said. live k (g.T.Meets.equal m) r.states (record { states = c.count-states.result; moves = c.args.reached.moves })
     (g.met.T.Meets.alike m) (r.whole v) c.as_slice-2.result.now (c.count-states.ensures.len r.states r.held)
     (c.count-states.ensures.distinct r.states r.held)
     (subst (λ l. AllZip (IsMarkedSo k) r.states l) (sym c.as_slice-2.ensures.value) gathered.marks_are) l said)
+
+pub returns-clause-obeys : goal.returns-clause-obeys
+returns-clause-obeys g c before so =
+    let r = c.requires in
+    let f = c.args.follower.now in
+    c.in_ok-verdict.ensures.obeys before
+    (subst (λ (n : ℕ). Obeys before (g.F.Follows.wish f) (g.F.Follows.told_at f) c.args.reached.verdict n)
+    (sym (c.count-states.ensures.len r.states r.held)) (so r.states r.held))
+
+pub returns-clause-seeks : goal.returns-clause-seeks
+returns-clause-seeks g c =
+    let k = g.T.Meets.system c.args.system.now in
+    let r = c.requires in
+    let gathered = c.in_ok-endings.ensures.gathered r.states r.held r.found.sound in
+    seeks-in k (g.Q.Seeks.sought c.args._sought.now) g.T.Ending.PartialEq.eq c.args.reached.verdict c.in_ok-verdict.verdict r.states
+    c.in_ok-endings.field-0.endings.keys r.found.sound r.seeks gathered.all gathered.of
+    (sought-back _ _ _ _ _ _ _ c.in_ok-verdict.ensures.judged) (sought-forth _ _ _ _ _ _ _ c.in_ok-verdict.ensures.judged)
+
+pub returns-clause-levels : goal.returns-clause-levels
+returns-clause-levels g c =
+    let k = g.T.Meets.system c.args.system.now in
+    let r = c.requires in
+    let gathered = c.in_ok-endings.ensures.gathered r.states r.held r.found.sound in
+    gone-within k g.T.Ending.PartialEq.eq r.states c.in_ok-endings.field-0.endings.keys c.args.reached.levels r.gone_through gathered.all

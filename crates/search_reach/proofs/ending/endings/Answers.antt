@@ -57,5 +57,6 @@ returns-clause-gathered g c ks held sound =
     record {
       all = ended-all g.T.Ending.PartialEq.eq g.met.T.Ending.Eq.laws.refl k ks c.loop-at.at c.loop-at.endings.keys c.loop-at.ended.items so past;
       sound = so.sound;
+      of = so.of;
       marks_are = marks-all g.T.Ending.PartialEq.eq g.met.T.Ending.Eq.laws.refl k ks c.loop-at.at c.loop-at.endings.keys c.loop-at.ended.items so past;
     }
