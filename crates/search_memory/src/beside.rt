@@ -37,7 +37,10 @@ impl Changes {
     ghost use Rattle.std.specs.Prelude.{ℕ, List};
 
     /// A copy.
-    pub(crate) fn copy(&self, alloc: Global) -> Result<Changes, AllocError>
+    ///
+    /// # Errors
+    /// Where memory is refused.
+    pub fn copy(&self, alloc: Global) -> Result<Changes, AllocError>
         ensures { IfOk result (λ c. (opening : List ℕ) → memory_of opening c ≡ memory_of opening self.now) }
     {
         Ok(Changes {

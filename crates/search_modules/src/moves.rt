@@ -97,6 +97,10 @@ impl Moves for Searched<'_, '_> {
         thread.share()
     }
 
+    fn copied(&self, alloc: Global, shared: &Common) -> Result<Common, AllocError> {
+        shared.copy(alloc)
+    }
+
     fn first_after(
         &self,
         alloc: Global,

@@ -1,5 +1,6 @@
 //! A state's parts: what threads share, and a thread at rest.
 
+ghost use Rattle.std.specs.Prelude.{◌≡◌, IfOk};
 ghost use Rattle.std.specs.Hash as fed;
 ghost use Rattle.std.specs.Cmp.Rules.{hashing};
 ghost use Rattle.std.proofs.Common.{rules};
@@ -7,6 +8,7 @@ ghost use Rattle.std.proofs.Common.{rules};
 use crate::digest::{of_shared, of_standing};
 use search_memory::Changes;
 use search_walkers::RestingThread;
+use std::alloc::{AllocError, Global};
 use std::hash::{Hash, Hasher};
 use waiters::KeptQueue;
 
@@ -18,8 +20,18 @@ pub struct Common {
     pub queue: KeptQueue,
 }
 
+/// A copy.
+fn copied<T: Copy>(alloc: Global, all: &[T]) -> Result<Vec<T>, AllocError>
+    ensures { IfOk result (λ v. v.items ≡ all.now) }
+{
+    let mut copy = Vec::with_capacity(alloc, all.len())?;
+    copy.extend_from_slice(all)?;
+    Ok(copy)
+}
+
 impl Common {
-    ghost use Rattle.std.specs.Prelude.{◌≡◌};
+    ghost use Rattle.std.specs.Prelude.{◌≡◌, ℕ, List, IfOk};
+    ghost use Rattle.search_memory.specs.Memories.{memory_of};
     ghost use Rattle.shared_memory.specs.WaitQueue.{next_id};
     ghost use Rattle.waiters.specs.Kept.{queue_of};
 
@@ -32,6 +44,27 @@ impl Common {
             memory,
             queue,
         }
+    }
+
+    /// A copy.
+    ///
+    /// # Errors
+    /// Where memory is refused.
+    pub fn copy(&self, alloc: Global) -> Result<Common, AllocError>
+        ensures memory { IfOk result (λ c. (opening : List ℕ) → memory_of opening c.memory ≡ memory_of opening self.now.memory) }
+        ensures queue { IfOk result (λ c. queue_of c.queue ≡ queue_of self.now.queue) }
+    {
+        let queue = KeptQueue {
+            alive: copied(alloc, self.queue.alive.as_slice())?,
+            sleepers: copied(alloc, self.queue.sleepers.as_slice())?,
+            args: copied(alloc, self.queue.args.as_slice())?,
+            threads: self.queue.threads,
+        };
+        Ok(Common {
+            digest: self.digest,
+            memory: self.memory.copy(alloc)?,
+            queue,
+        })
     }
 
     /// How many threads were started, thread 0 among them.

@@ -102,7 +102,10 @@ fn paths_of(alloc: Global, graph: &Graph, states: &[usize]) -> Result<Vec<Vec<us
 
 /// The endings of the states that a search for at most `most` states and a few met. Where it met all, it says of which
 /// states none ends, and whether every fair run ends.
-fn conclude<T: Meets, Q: Seeks<T::Ending>, F: Follows>(
+///
+/// # Errors
+/// Where memory is refused.
+pub fn conclude<T: Meets, Q: Seeks<T::Ending>, F: Follows>(
     alloc: Global,
     system: &T,
     most: u32,

@@ -31,6 +31,7 @@ mod turns;
 
 pub use access::Access;
 pub use flat::Flat;
+pub use met::NextRow;
 pub use moves::Moves;
-pub use next::threads_after;
-pub use states::search_all;
+pub use next::{row_of, threads_after, threads_of};
+pub use states::{put_rows, search_all};

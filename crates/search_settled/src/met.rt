@@ -26,9 +26,9 @@ pub(crate) struct Known {
 
 /// A next state of a state, and the thread whose event leads there.
 #[derive(Clone, Copy)]
-pub(crate) struct NextRow {
-    pub(crate) thread: u32,
-    pub(crate) row: Row,
+pub struct NextRow {
+    pub thread: u32,
+    pub row: Row,
 }
 
 /// The states that were met, and the turns that are known: those of the last ones to whom a slot fell.

@@ -1,5 +1,5 @@
 //! Threads that are moved one by one.
-ghost use Rattle.std.specs.Prelude.{◌≡◌, ◌<◌, ◌≤◌, true, false, None, IfOk, IfSome};
+ghost use Rattle.std.specs.Prelude.{◌≡◌, ◌<◌, ◌≤◌, ◌↔◌, true, false, None, IfOk, IfSome};
 ghost use Rattle.schedule.specs.System.{State};
 ghost use Rattle.search_settled.specs.Settled.{AreTame};
 ghost use Rattle.search_settled.specs.Next.{IsBeginning, IsSomewhere, HasEnded, NobodyTurns};
@@ -99,6 +99,10 @@ pub trait Moves {
     /// The same thread, for one state more.
     fn share(&self, thread: &Self::Thread) -> Result<Self::Thread, AllocError>
         ensures { IfOk result (λ t. t ≡ thread.now) };
+
+    /// What is shared, once more.
+    fn copied(&self, alloc: Global, shared: &Self::Shared) -> Result<Self::Shared, AllocError>
+        ensures { IfOk result (λ s. (x : X) → (threads self.now).shares shared.now x ↔ (threads self.now).shares s x) };
 
     /// Where thread m first comes to rest, which an event of thread n starts, or nothing where it cannot tell that.
     fn first_after(

@@ -83,10 +83,13 @@ pub fn threads_after<M: Moves>(
 }
 
 /// The threads of a chain.
-pub(crate) fn threads_of<M: Moves>(
+///
+/// # Errors
+/// Where memory is refused, or no more states can have a thread.
+pub fn threads_of<M: Moves, S: Eq + Hash + Drop>(
     alloc: Global,
     system: &M,
-    table: &Table<M::Shared, M::Thread>,
+    table: &Table<S, M::Thread>,
     chain: u32,
 ) -> Result<Vec<M::Thread>, AllocError>
     requires { IsOrdered table.now.links.keys }
@@ -104,7 +107,10 @@ pub(crate) fn threads_of<M: Moves>(
 }
 
 /// The row of a state, whose parts are put into the table.
-pub(crate) fn row_of<S: Eq + Hash + Drop, T: Eq + Hash + Drop>(
+///
+/// # Errors
+/// Where memory is refused, or there are too many parts.
+pub fn row_of<S: Eq + Hash + Drop, T: Eq + Hash + Drop>(
     table: &mut Table<S, T>,
     flat: Flat<S, T>,
 ) -> Result<Row, AllocError>

@@ -27,7 +27,10 @@ struct Turns<'s, M> {
 }
 
 /// Puts the rows of the next states of the one at this place, and notes the move to each.
-fn put_rows<S: Eq + Hash + Drop, T: Eq + Hash + Drop>(
+///
+/// # Errors
+/// Where memory is refused.
+pub fn put_rows<S: Eq + Hash + Drop, T: Eq + Hash + Drop>(
     table: &mut Table<S, T>,
     moves: &mut Vec<Move>,
     at: u32,
