@@ -4,6 +4,7 @@ ghost use Rattle.indexmap.specs.IndexSet.{index_set_len};
 ghost use Rattle.search_reach.specs.Search.{IsSound};
 ghost use Rattle.search_reach.specs.Found.{AreEndings};
 ghost use Rattle.search_reach.specs.Liveness.{IsCount, IsLiveWhereAll};
+ghost use Rattle.search_reach.specs.Sought.{SeeksIn};
 ghost use Rattle.search_reach.specs.declared.search.Verdict.TheVariants as verdicts;
 ghost use Rattle.search_race_free.specs.Turns.{reduced, IsRaceOf, HasNoRace};
 ghost use Rattle.search_race_free.specs.Same.{owning_eq};
@@ -12,7 +13,7 @@ use crate::alone::Came;
 use crate::next::{first_state, next_states};
 use crate::{Accesses, Owning, Race};
 use search_graph::Move;
-use search_reach::{Ended, Explores, Follows, Found, Next, Verdict, endings_of, reach_all};
+use search_reach::{Ended, Explores, Follows, Found, Next, Seeks, Verdict, endings_of, reach_all};
 use search_settled::Flat;
 use std::alloc::{AllocError, Global};
 use std::hash::Hash;
@@ -193,7 +194,8 @@ fn racing(behind: Option<RaceBehind>) -> Option<Race>
 }
 
 /// The endings of all runs of threads, whatever the order of their turns, where no threads race in any run: at
-/// `Verdict::All` none do. It meets no more than `most` states and a few, and those before it is told to end. At
+/// `Verdict::All` none do. It meets no more than `most` states and a few, those before an ending that is looked for, and
+/// those before it is told to end. At
 /// `Verdict::CannotTell` there may be a race, which is then given. A thread makes at most `most_plain` plain turns in a
 /// row before others have theirs, whatever comes of it.
 ///
@@ -202,11 +204,12 @@ fn racing(behind: Option<RaceBehind>) -> Option<Race>
 ///
 /// # Errors
 /// Where memory is refused.
-pub fn search_race_free<M: Accesses, F: Follows>(
+pub fn search_race_free<M: Accesses, Q: Seeks<M::Ending>, F: Follows>(
     alloc: Global,
     system: &M,
     most: u32,
     most_plain: u32,
+    sought: &Q,
     follower: &mut F,
 ) -> Result<RaceFree<M::Ending>, AllocError>
     ensures found { IfOk result
@@ -217,14 +220,15 @@ pub fn search_race_free<M: Accesses, F: Follows>(
     ensures live { IfOk result
         (λ r. IsLiveWhereAll (reduced M.Moves system.now) (owning_eq M.Shared.eq M.Thread.eq)
         r.ended.states r.ended.verdict r.ended.liveness) }
+    ensures seeks { IfOk result (λ r. SeeksIn (Q.sought sought.now) M.Ending.eq r.ended.verdict r.ended.endings.keys) }
     ensures none { IfOk result (λ r. r.ended.verdict ≡ verdicts.All → HasNoRace M.Moves system.now) }
     ensures race { IfOk result (λ r. IfSome r.race (IsRaceOf M.Moves system.now)) }
 {
     let turns = RaceFreeTurns { system, most_plain };
-    let found = reach_all(alloc, &turns, most, &(), follower)?;
+    let found = reach_all(alloc, &turns, most, sought, follower)?;
     let behind = race_in(alloc, system, &found, most_plain)?;
     let way = way_behind(alloc, found.moves.as_slice(), behind)?;
-    let ended = endings_of(alloc, &turns, most, &(), found, follower)?;
+    let ended = endings_of(alloc, &turns, most, sought, found, follower)?;
     Ok(RaceFree {
         ended,
         race: racing(behind),
