@@ -23,6 +23,7 @@
 mod accesses;
 mod alone;
 mod laws;
+mod met;
 mod next;
 mod onward;
 mod owning;
