@@ -4,6 +4,7 @@ ghost use Rattle.indexmap.specs.IndexSet.{index_set_len};
 ghost use Rattle.search_reach.specs.Meeting.{HasSound};
 ghost use Rattle.search_reach.specs.Found.{AreEndings};
 ghost use Rattle.search_reach.specs.Liveness.{IsCount, IsLiveWhereAll};
+ghost use Rattle.search_reach.specs.Sought.{SeeksIn};
 ghost use Rattle.search_reach.specs.declared.search.Verdict.TheVariants as verdicts;
 ghost use Rattle.search_race_free.specs.Turns.{reduced, IsRaceOf, HasNoRace};
 ghost use Rattle.search_race_free.specs.Same.{owning_eq};
@@ -14,7 +15,7 @@ use crate::met::{Held, held_row, held_rows, state_at};
 use crate::next::{first_state, next_states};
 use crate::{Accesses, Race};
 use search_graph::Move;
-use search_reach::{Ended, Follows, Meets, Reached, Verdict, conclude, reach};
+use search_reach::{Ended, Follows, Meets, Reached, Seeks, Verdict, conclude, reach};
 use search_settled::{put_rows, threads_of};
 use search_table::Table;
 use std::alloc::{AllocError, Global};
@@ -233,7 +234,8 @@ fn racing(behind: Option<RaceBehind>) -> Option<Race>
 }
 
 /// The endings of all runs of threads, whatever the order of their turns, where no threads race in any run: at
-/// `Verdict::All` none do. It meets no more than `most` states and a few, and those before it is told to end. At
+/// `Verdict::All` none do. It meets no more than `most` states and a few, those before an ending that is looked for, and
+/// those before it is told to end. At
 /// `Verdict::CannotTell` there may be a race, which is then given. A thread makes at most `most_plain` plain turns in a
 /// row before others have theirs, whatever comes of it.
 ///
@@ -242,11 +244,12 @@ fn racing(behind: Option<RaceBehind>) -> Option<Race>
 ///
 /// # Errors
 /// Where memory is refused.
-pub fn search_race_free<M: Accesses, F: Follows>(
+pub fn search_race_free<M: Accesses, Q: Seeks<M::Ending>, F: Follows>(
     alloc: Global,
     system: &M,
     most: u32,
     most_plain: u32,
+    sought: &Q,
     follower: &mut F,
 ) -> Result<RaceFree<M::Ending>, AllocError>
     ensures found { IfOk result
@@ -257,14 +260,15 @@ pub fn search_race_free<M: Accesses, F: Follows>(
     ensures live { IfOk result
         (λ r. IsLiveWhereAll (reduced M.Moves system.now) (owning_eq M.Shared.eq M.Thread.eq)
         r.ended.states r.ended.verdict r.ended.liveness) }
+    ensures seeks { IfOk result (λ r. SeeksIn (Q.sought sought.now) M.Ending.eq r.ended.verdict r.ended.endings.keys) }
     ensures none { IfOk result (λ r. r.ended.verdict ≡ verdicts.All → HasNoRace M.Moves system.now) }
     ensures race { IfOk result (λ r. IfSome r.race (IsRaceOf M.Moves system.now)) }
 {
     let turns = RaceFreeTurns { system, most_plain };
-    let reached = reach(alloc, &turns, most, &(), follower)?;
+    let reached = reach(alloc, &turns, most, sought, follower)?;
     let behind = race_in(alloc, system, &reached, most_plain)?;
     let way = way_behind(alloc, reached.moves.as_slice(), behind)?;
-    let ended = conclude(alloc, &turns, most, &(), reached, follower)?;
+    let ended = conclude(alloc, &turns, most, sought, reached, follower)?;
     Ok(RaceFree {
         ended,
         race: racing(behind),
