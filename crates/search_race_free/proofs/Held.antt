@@ -1,11 +1,11 @@
 -- States by their parts: what is shared with what is owned, and the threads.
-use Rattle.std.proofs.Common.{◌≡◌, ℕ, zero, suc, ◌&&◌, ◌<◌, ◌^◌, Bool, true, false, List, [], ◌∷◌, ◌++◌, length, map, inl, inr, Some, refl, sym, ◌∙◌, ap, subst, slice_index_or, arith}
+use Rattle.std.proofs.Common.{◌≡◌, ℕ, zero, suc, ◌&&◌, ◌<◌, ◌^◌, Bool, true, false, List, [], ◌∷◌, ◌++◌, length, map, inl, inr, Some, refl, sym, ◌∙◌, ap, subst, arith}
 use Rattle.std.specs.Prelude.{option_map}
 use Rattle.std.specs.List.{slice_get, AllZip, AllByRecursion, IsDistinct, Contains}
 use Rattle.std.specs.Cmp.{first_so, second_so}
 use Rattle.std.specs.Cmp.Lexicographic.{pointwise}
 use Rattle.std.proofs.lemmas.List.{map-append, length-map}
-use Rattle.std.proofs.lemmas.Option.{none-some, slice_get-map}
+use Rattle.std.proofs.lemmas.Option.{none-some, slice_get-map, slice_get-get_or}
 use Rattle.std.proofs.lemmas.Slice.Zip.{all_zipped_more}
 use Rattle.search_graph.specs.declared.graph.Move.{Move}
 use Rattle.search_table.specs.declared.table.Row.{Row}
@@ -31,13 +31,8 @@ use Rattle.search_race_free.specs.Reduced.{StandsBefore}
 use Rattle.search_race_free.specs.Met.{held, parted, held_eq, HasOwning, IsHeldRow, AreHeldRows, IsCopy, IsStateAt}
 
 -- an element is at its place
-get-there : {A : Type 0} (xs : List A) (k : ℕ) (x : A) → k < length xs → slice_index_or xs k x ≡ x → slice_get xs k ≡ Some x
-get-there [] k x lt is = absurd (omega (arith, lt))
-get-there (y ∷ xs) zero x lt is = ap (λ z. Some z) is
-get-there (y ∷ xs) (suc k) x lt is = get-there xs k x (omega (arith, lt)) is
-
 at-of : {A : Type 0} (xs : List A) (x : A) → (c : Contains xs x) → slice_get xs c.0 ≡ Some x
-at-of xs x c = get-there xs c.0 x c.1 c.2
+at-of xs x c = slice_get-get_or xs c.0 x c.1 ∙ ap (λ y. Some y) c.2
 
 module _ {G H : Type 0} where
   abbrev pub next_parted : Next (Flat (Held G) H) → Next (Owning (Flat G H))
@@ -230,12 +225,9 @@ module _ {G H : Type 0} (eq_shared : G → G → Bool) (eq_thread : H → H → 
           ∙ subst (λ l. pointwise touches.eq-value.it l x.owned.items ≡ true) p (subst (λ l. pointwise touches.eq-value.it x.owned.items l ≡ true) (sym p) o)
 
 module _ {G H : Type 0} where
-  nothing-at : {A : Type 0} (xs : List A) (i : ℕ) (x : A) → xs ≡ [] → slice_get xs i ≡ Some x → ⊥
-  nothing-at xs i x none at = none-some x (subst (λ l. slice_get l i ≡ Some x) none at)
-
   pub owning-none : (t : Table (Held G) H) → IsEmptyTable t → HasOwning t []
   owning-none t empty = record {
-    ordered = λ p l at. absurd (nothing-at t.links.keys p l empty.links at);
+    ordered = λ p l at. absurd (none-some l (subst (λ ls. slice_get ls p ≡ Some l) empty.links at));
     are = subst (λ rs. AllZip (IsOf t) rs []) (sym empty.rows) tt;
   }
 

@@ -5,6 +5,7 @@ ghost use Rattle.search_reach.specs.Meeting.{HasSound};
 ghost use Rattle.search_reach.specs.Found.{AreEndings};
 ghost use Rattle.search_reach.specs.Liveness.{IsCount, IsLiveWhereAll};
 ghost use Rattle.search_reach.specs.Sought.{SeeksIn};
+ghost use Rattle.search_reach.specs.Told.{Obeys};
 ghost use Rattle.search_reach.specs.declared.search.Verdict.TheVariants as verdicts;
 ghost use Rattle.search_race_free.specs.Turns.{reduced, IsRaceOf, HasNoRace};
 ghost use Rattle.search_race_free.specs.Same.{owning_eq};
@@ -263,6 +264,8 @@ pub fn search_race_free<M: Accesses, Q: Seeks<M::Ending>, F: Follows>(
     ensures seeks { IfOk result (λ r. SeeksIn (Q.sought sought.now) M.Ending.eq r.ended.verdict r.ended.endings.keys) }
     ensures none { IfOk result (λ r. r.ended.verdict ≡ verdicts.All → HasNoRace M.Moves system.now) }
     ensures race { IfOk result (λ r. IfSome r.race (IsRaceOf M.Moves system.now)) }
+    ensures obeys { IfOk result (λ r. Obeys (F.wish follower.old) (F.wish follower.new) (F.told_at follower.new)
+        r.ended.verdict r.ended.states) }
 {
     let turns = RaceFreeTurns { system, most_plain };
     let reached = reach(alloc, &turns, most, sought, follower)?;
