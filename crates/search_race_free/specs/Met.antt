@@ -1,5 +1,5 @@
 -- The states of a table, each by what is shared with what is owned, and by its threads.
-use Rattle.std.specs.Prelude.{ℕ, ◌≡◌, ◌×◌, ◌↔◌, ◌&&◌, Bool, true, List, map, Option, Some}
+use Rattle.std.specs.Prelude.{ℕ, ◌≡◌, ◌↔◌, ◌&&◌, Bool, true, List, map, Option, Some}
 use Rattle.std.specs.List.{slice_get, AllZip}
 use Rattle.std.specs.Cmp.Lexicographic.{pointwise}
 use Rattle.search_table.specs.declared.table.Row.{Row}
