@@ -9,6 +9,7 @@ use Rattle.search_reach.specs.declared.search.Verdict.{Verdict}
 use Rattle.search_reach.specs.declared.search.Verdict.TheVariants as verdicts
 use Rattle.report_command.specs.declared.search.Search.{Search}
 use Rattle.report_jobs.specs.Prints.{WriterChange}
+use Rattle.report.specs.Early.{SaysSought}
 use Rattle.report.specs.Racing.{IsAsked, IsFreelyComplete, IsKnownOf, IsWhole, TellsOfRacing, racing_by}
 use Rattle.report.specs.declared.whole.Racing.TheVariants.{Never, Found, Unknown}
 
@@ -38,13 +39,14 @@ known_by q verdicts.Told none = tt
 known_by q verdicts.Sought none = tt
 
 pub whole_by : (q : Requested) (s : Search) (all : Ended Ending) → IsFreelyComplete q s.sought.dump all
-    → IsKnownOf q (racing_by all.verdict) → s.every_order ≡ false
+    → IsKnownOf q (racing_by all.verdict) → s.every_order ≡ false → SaysSought s all.verdict all.endings.keys
     → IsWhole q s (record { all = all; racing = racing_by all.verdict; is_free = true })
-whole_by q s all complete known every = record {
+whole_by q s all complete known every sought = record {
   complete = complete;
   known = known;
   asked = asked_by s all.verdict every;
   never = λ _ is_all. ap racing_by is_all;
+  sought = sought;
 }
 
 -- nothing is told where no race is known

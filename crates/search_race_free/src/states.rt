@@ -5,6 +5,7 @@ ghost use Rattle.search_reach.specs.Search.{IsSound};
 ghost use Rattle.search_reach.specs.Found.{AreEndings};
 ghost use Rattle.search_reach.specs.Liveness.{IsCount, IsLiveWhereAll};
 ghost use Rattle.search_reach.specs.Sought.{SeeksIn};
+ghost use Rattle.search_reach.specs.Told.{Obeys};
 ghost use Rattle.search_reach.specs.declared.search.Verdict.TheVariants as verdicts;
 ghost use Rattle.search_race_free.specs.Turns.{reduced, IsRaceOf, HasNoRace};
 ghost use Rattle.search_race_free.specs.Same.{owning_eq};
@@ -195,9 +196,8 @@ fn racing(behind: Option<RaceBehind>) -> Option<Race>
 
 /// The endings of all runs of threads, whatever the order of their turns, where no threads race in any run: at
 /// `Verdict::All` none do. It meets no more than `most` states and a few, those before an ending that is looked for, and
-/// those before it is told to end. At
-/// `Verdict::CannotTell` there may be a race, which is then given. A thread makes at most `most_plain` plain turns in a
-/// row before others have theirs, whatever comes of it.
+/// those before it is told to end. At `Verdict::CannotTell` there may be a race, which is then given. A thread makes at
+/// most `most_plain` plain turns in a row before others have theirs, whatever comes of it.
 ///
 /// Where it met all, it says of which states no run ends, and whether every fair run ends, as
 /// `search_settled::search_all` does of its own.
@@ -221,6 +221,8 @@ pub fn search_race_free<M: Accesses, Q: Seeks<M::Ending>, F: Follows>(
         (λ r. IsLiveWhereAll (reduced M.Moves system.now) (owning_eq M.Shared.eq M.Thread.eq)
         r.ended.states r.ended.verdict r.ended.liveness) }
     ensures seeks { IfOk result (λ r. SeeksIn (Q.sought sought.now) M.Ending.eq r.ended.verdict r.ended.endings.keys) }
+    ensures obeys { IfOk result (λ r.
+        Obeys (F.wish follower.old) (F.wish follower.new) (F.told_at follower.new) r.ended.verdict r.ended.states) }
     ensures none { IfOk result (λ r. r.ended.verdict ≡ verdicts.All → HasNoRace M.Moves system.now) }
     ensures race { IfOk result (λ r. IfSome r.race (IsRaceOf M.Moves system.now)) }
 {
