@@ -18,18 +18,26 @@ use Rattle.report.specs.declared.whole.Racing.{Racing}
 use Rattle.report.specs.declared.whole.Racing.TheVariants.{Unasked, Never, Found}
 use Rattle.report.specs.declared.whole.Racing.TheVariants as racings
 
--- What is said of races behind how many endings and states there are; and where it isn't known, that this is so.
+-- What is said of races behind how many endings and states there are; and where it isn't known, that this is so, unless
+-- the search ended at what is looked for.
 abbrev pub race_words : Racing → List ℕ
 race_words Unasked = []
 race_words Never = codes ", no race"
 race_words (Found r) = codes ", with races"
 race_words racings.Unknown = []
 
-abbrev pub unknown_text : Racing → List ℕ
-unknown_text Unasked = []
-unknown_text Never = []
-unknown_text (Found r) = []
-unknown_text racings.Unknown = codes "whether it races is not known\n"
+abbrev pub races_unknown : Racing → List ℕ
+races_unknown Unasked = []
+races_unknown Never = []
+races_unknown (Found r) = []
+races_unknown racings.Unknown = codes "whether it races is not known\n"
+
+abbrev pub unknown_text : Verdict → Racing → List ℕ
+unknown_text verdicts.All racing = races_unknown racing
+unknown_text verdicts.TooMany racing = races_unknown racing
+unknown_text verdicts.CannotTell racing = races_unknown racing
+unknown_text verdicts.Told racing = races_unknown racing
+unknown_text verdicts.Sought racing = []
 
 -- So many endings of so many states are all.
 abbrev pub all_line : ℕ → ℕ → Racing → List ℕ
@@ -56,10 +64,16 @@ gone_through_line zero = []
 gone_through_line (suc n) =
     codes "every run of up to " ++ counted (suc n) (codes "entry") (codes "entries") ++ codes " was gone through\n"
 
+abbrev pub gone_through_lines : Option ℕ → List ℕ
+gone_through_lines None = []
+gone_through_lines (Some n) = gone_through_line n
+
 abbrev pub gone_through_text : Verdict → Option ℕ → List ℕ
 gone_through_text verdicts.All levels = []
-gone_through_text verdict None = []
-gone_through_text verdict (Some n) = gone_through_line n
+gone_through_text verdicts.TooMany levels = gone_through_lines levels
+gone_through_text verdicts.CannotTell levels = gone_through_lines levels
+gone_through_text verdicts.Told levels = gone_through_lines levels
+gone_through_text verdicts.Sought levels = gone_through_lines levels
 
 -- The line that says whether every fair run ends.
 abbrev pub fair_runs_line : FairRuns → List ℕ
@@ -77,7 +91,7 @@ abbrev pub complete_lines : ℕ → Racing → Ended Ending → List ℕ
 complete_lines most racing all =
     ending_lines all.endings.keys
     ++ (verdict_line racing all.verdict most (length all.endings.keys) all.states
-    ++ (gone_through_text all.verdict all.levels ++ (unknown_text racing ++ liveness_lines all.liveness)))
+    ++ (gone_through_text all.verdict all.levels ++ (unknown_text all.verdict racing ++ liveness_lines all.liveness)))
 
 -- All threads ended well; and in each of these endings they did.
 abbrev pub threads_end_well : Ending → Bool

@@ -1,4 +1,4 @@
--- At which endings a search through every order ends.
+-- At which endings a search through all runs ends.
 use Rattle.std.specs.Prelude.{◌≡◌, ◌&&◌, ◌||◌, not, Bool, true, false, List, is_some}
 use Rattle.report_choice.specs.declared.sought.Find.{Find}
 use Rattle.report_choice.specs.declared.sought.Find.TheVariants.{Nothing, Failure, Words, NoEnd, ForEver}

@@ -13,6 +13,7 @@ use Rattle.search_finds.specs.Finds.{IsFind}
 use Rattle.report_command.specs.declared.search.Search.{Search}
 use Rattle.report_jobs.specs.Prints.{WriterChange, KeepsRecord}
 use Rattle.report_looks.specs.Raced.{SaysPair}
+use Rattle.report.specs.Early.{SaysSought}
 use Rattle.report.specs.Searches.{FindsEvery, FindsNoOther, IsCompleteOf}
 use Rattle.report.specs.declared.whole.Racing.{Racing}
 use Rattle.report.specs.declared.whole.Racing.TheVariants.{Unasked, Never, Found, Unknown}
@@ -52,12 +53,14 @@ abbrev pub IsCompleteBy : Requested → ℕ → Bool → Ended Ending → Type 0
 IsCompleteBy q dump true all = IsFreelyComplete q dump all
 IsCompleteBy q dump false all = IsCompleteOf q dump all
 
--- What is found of all runs, and of their races: where the first search met all, that there are none.
+-- What is found of all runs, and of their races: where the first search met all, that there are none. Where a search ends
+-- at what is looked for, its verdict says whether it did.
 pub record IsWhole (q : Requested) (s : Search) (w : Whole) : Type 0 where
   pub complete : IsCompleteBy q s.sought.dump w.is_free w.all
   pub known : IsKnownOf q w.racing
   pub asked : IsAsked s w.racing
   pub never : w.is_free ≡ true → w.all.verdict ≡ verdicts.All → w.racing ≡ Never
+  pub sought : SaysSought s w.all.verdict w.all.endings.keys
 
 -- Where no race was found none is in any run, if all states were met.
 abbrev pub racing_by : Verdict → Racing
@@ -71,6 +74,7 @@ racing_by verdicts.Sought = Unknown
 abbrev pub IsLooked : Requested → Search → FirstLook → Type 0
 IsLooked q s (looks.Done all) =
     IsFreelyComplete q s.sought.dump all × IsKnownOf q (racing_by all.verdict) × (s.every_order ≡ false)
+    × SaysSought s all.verdict all.endings.keys
 IsLooked q s (looks.Open racing way) = IsKnownOf q racing × IsAsked s racing
 
 abbrev pub racing_in : FirstLook → Racing

@@ -3,7 +3,7 @@ ghost use Rattle.std.specs.Prelude.{◌≡◌, ◌↔◌, true, All, length};
 ghost use Rattle.replay_forms.specs.Texts.{Wrote};
 ghost use Rattle.search_finds.specs.Finds.{IsLookedFor};
 ghost use Rattle.report.specs.Complete.{all_line, fair_runs_line, liveness_lines, unknown_text, verdict_line, complete_lines};
-ghost use Rattle.report.specs.Complete.{gone_through_text, sought_line};
+ghost use Rattle.report.specs.Complete.{gone_through_line, gone_through_lines, gone_through_text, races_unknown, sought_line};
 ghost use Rattle.report_lines.specs.Complete.{counted};
 ghost use Rattle.report.specs.Complete.{threads_end_well, all_end_well, EndsForSure, IsSure, AreAllWell};
 
@@ -93,30 +93,63 @@ fn write_verdict<W: Write>(out: &mut W, all: &Complete, most: u32, racing: Racin
     }
 }
 
+/// Runs with up to so many entries were all gone through, if any has so few.
+fn write_entries<W: Write>(out: &mut W, entries: u32) -> io::Result<()>
+    ensures { Wrote W.contents out.old out.new result (gone_through_line entries) }
+{
+    if entries == 0 {
+        return Ok(());
+    }
+    write!(out, "every run of up to ")?;
+    write_counted(out, entries as usize, "entry", "entries")?;
+    write!(out, " was gone through\n")
+}
+
+/// The same, where that is said.
+fn write_levels<W: Write>(out: &mut W, levels: Option<u32>) -> io::Result<()>
+    ensures { Wrote W.contents out.old out.new result (gone_through_lines levels) }
+{
+    match levels {
+        Some(entries) => write_entries(out, entries),
+        None => Ok(()),
+    }
+}
+
 /// How long the runs are that were all gone through, where not all were.
 fn write_gone_through<W: Write>(out: &mut W, all: &Complete) -> io::Result<()>
     ensures { Wrote W.contents out.old out.new result (gone_through_text all.now.verdict all.now.levels) }
 {
-    if let Verdict::All = all.verdict {
-        return Ok(());
-    }
-    match all.levels {
-        Some(entries) if entries > 0 => {
-            write!(out, "every run of up to ")?;
-            write_counted(out, entries as usize, "entry", "entries")?;
-            write!(out, " was gone through\n")
+    match all.verdict {
+        Verdict::All => Ok(()),
+        Verdict::TooMany | Verdict::CannotTell | Verdict::Told | Verdict::Sought => {
+            write_levels(out, all.levels)
         }
-        _ => Ok(()),
     }
 }
 
 /// The line that says that whether threads race isn't known, where that is so.
 fn write_unknown_races<W: Write>(out: &mut W, racing: Racing) -> io::Result<()>
-    ensures { Wrote W.contents out.old out.new result (unknown_text racing) }
+    ensures { Wrote W.contents out.old out.new result (races_unknown racing) }
 {
     match racing {
         Racing::Unknown => write!(out, "whether it races is not known\n"),
         Racing::Unasked | Racing::Never | Racing::Found(_) => Ok(()),
+    }
+}
+
+/// The same, unless the search ended at what is looked for.
+fn write_unknown_unless_sought<W: Write>(
+    out: &mut W,
+    verdict: Verdict,
+    racing: Racing,
+) -> io::Result<()>
+    ensures { Wrote W.contents out.old out.new result (unknown_text verdict racing) }
+{
+    match verdict {
+        Verdict::Sought => Ok(()),
+        Verdict::All | Verdict::TooMany | Verdict::CannotTell | Verdict::Told => {
+            write_unknown_races(out, racing)
+        }
     }
 }
 
@@ -132,7 +165,7 @@ pub(crate) fn write_complete<W: Write>(
     write_endings(out, all.endings.as_slice())?;
     write_verdict(out, all, most, racing)?;
     write_gone_through(out, all)?;
-    write_unknown_races(out, racing)?;
+    write_unknown_unless_sought(out, all.verdict, racing)?;
     write_liveness(out, &all.liveness)?;
     out.flush()
 }

@@ -1,4 +1,4 @@
-//! At which endings a search through every order ends.
+//! At which endings a search through all runs ends.
 ghost use Rattle.std.specs.Prelude.{◌≡◌};
 ghost use Rattle.report.specs.Early as specified;
 
@@ -33,9 +33,9 @@ impl Seeks<Ending> for Early<'_> {
     }
 }
 
-/// Whether a search through every order ends at the first ending that is looked for: where it is said by words or by a
+/// Whether a search through all runs ends at the first ending that is looked for: where it is said by words or by a
 /// result which that is. Where races are looked for, it doesn't.
-pub(crate) fn ends_early(search: &Search) -> bool
+fn ends_early(search: &Search) -> bool
     ensures { result ≡ specified.ends_early search.now }
 {
     let target = search.sought.target;
@@ -43,4 +43,15 @@ pub(crate) fn ends_early(search: &Search) -> bool
         return false;
     }
     target.expect.is_some() || matches!(target.find, Find::Words(_))
+}
+
+/// Which endings a search ends at.
+pub(crate) fn early_of<'a>(search: &'a Search) -> Early<'a>
+    ensures sought { result.sought.now ≡ search.now.sought }
+    ensures wanted { result.is_wanted ≡ specified.ends_early search.now }
+{
+    Early {
+        sought: &search.sought,
+        is_wanted: ends_early(search),
+    }
 }

@@ -1,17 +1,18 @@
 //! What is found of all runs of a call: first whether any has a race, by fewer orders, and where that leaves something
-//! open by every order of their entries.
+//! open by every order of their entries. Both end at an ending that is looked for, where one is to.
 ghost use Rattle.std.specs.Prelude.{◌≡◌, false, IfOk, IfErr, IfSome};
 ghost use Rattle.spawn_host.specs.Requests.{Requested};
 ghost use Rattle.search_reach.specs.declared.search.Verdict.TheVariants as verdicts;
 ghost use Rattle.search_modules.specs.Races.{CanRaceSo, NeverRaces};
 ghost use Rattle.report_command.specs.declared.search.Search.{Search as SearchWords};
 ghost use Rattle.report.specs.Complete.{race_words};
+ghost use Rattle.report.specs.Early.{SaysSought};
 ghost use Rattle.report.specs.Searches.{IsCompleteOf, IsOfSystem};
 ghost use Rattle.report.specs.Racing as specified;
 ghost use Rattle.report.specs.Racing.{IsFreelyComplete, IsLooked, IsWhole};
 
 use crate::complete::Complete;
-use crate::early::{Early, ends_early};
+use crate::early::early_of;
 use report_command::Search;
 use report_jobs::Trouble;
 use search_endings::Ending;
@@ -89,30 +90,35 @@ fn racing_by(verdict: Verdict) -> Racing
     }
 }
 
-/// The endings of a call by the orders that matter where no threads race.
+/// The endings of a call by the orders that matter where no threads race. It ends at an ending that is looked for, where
+/// it says so.
 fn free_of<F: Follows>(
     alloc: Global,
     request: &Request,
+    search: &Search,
     most: u32,
-    dump: u32,
     follower: &mut F,
 ) -> Result<RaceFree<Ending>, Trouble>
-    ensures complete { IfOk result (λ r. IsFreelyComplete request.now dump r.ended) }
+    ensures complete { IfOk result (λ r. IsFreelyComplete request.now search.now.sought.dump r.ended) }
+    ensures sought { IfOk result (λ r. SaysSought search.now r.ended.verdict r.ended.endings.keys) }
     ensures none { IfOk result (λ r. r.ended.verdict ≡ verdicts.All
         → NeverRaces request.now.parts request.now.name request.now.args) }
     ensures race { IfOk result
         (λ r. IfSome r.race (CanRaceSo request.now.parts request.now.name request.now.args)) }
     ensures trouble { IfErr result IsOfSystem }
 {
-    let mut free = race_free_endings(alloc, request, most, dump as usize, follower)?;
+    let early = early_of(search);
+    let dump = search.sought.dump as usize;
+    let mut free = race_free_endings(alloc, request, most, dump, &early, follower)?;
     free.ended.levels = None;
     Ok(free)
 }
 
 /// What they leave open. Where more states were met than may be, or the search was told to end, nothing: every order has
-/// as many.
+/// as many; nor where it ended at what is looked for.
 fn look_of(free: RaceFree<Ending>) -> FirstLook
     ensures { (q : Requested) (s : SearchWords) → s.every_order ≡ false → IsFreelyComplete q s.sought.dump free.ended
+        → SaysSought s free.ended.verdict free.ended.endings.keys
         → (free.ended.verdict ≡ verdicts.All → NeverRaces q.parts q.name q.args)
         → IfSome free.race (CanRaceSo q.parts q.name q.args) → IsLooked q s result }
 {
@@ -149,7 +155,7 @@ pub fn first_look<F: Follows>(
             way: Vec::new(alloc),
         });
     }
-    let free = free_of(alloc, request, most, search.sought.dump, follower)?;
+    let free = free_of(alloc, request, search, most, follower)?;
     Ok(look_of(free))
 }
 
@@ -165,10 +171,7 @@ fn all_of<F: Follows>(
     ensures sought { IfOk result (λ r. SaysSought search.now r.verdict r.endings.keys) }
     ensures trouble { IfErr result IsOfSystem }
 {
-    let early = Early {
-        sought: &search.sought,
-        is_wanted: ends_early(search),
-    };
+    let early = early_of(search);
     let dump = search.sought.dump as usize;
     Ok(all_endings(alloc, request, most, dump, &early, follower)?)
 }

@@ -1,5 +1,5 @@
 -- A search through every order of entries.
-use Rattle.std.specs.Prelude.{ℕ, List, [], ◌∷◌, codes, length, None}
+use Rattle.std.specs.Prelude.{ℕ, List, [], ◌∷◌, codes, length, Option, None}
 use Rattle.search_reach.specs.declared.search.Verdict.{Verdict}
 use Rattle.search_reach.specs.declared.search.Verdict.TheVariants as verdicts
 use Rattle.search_reach.specs.declared.liveness.FairCycle.{FairCycle}
@@ -19,6 +19,14 @@ verdict_words verdicts.TooMany = codes "too many states"
 verdict_words verdicts.CannotTell = codes "a thread spends its units without an entry"
 verdict_words verdicts.Told = codes "told"
 verdict_words verdicts.Sought = codes "found"
+
+-- Up to how many entries runs were all gone through, where not all states were met.
+abbrev pub levels_told : Verdict → Option ℕ → Option ℕ
+levels_told verdicts.All levels = None
+levels_told verdicts.TooMany levels = levels
+levels_told verdicts.CannotTell levels = levels
+levels_told verdicts.Told levels = levels
+levels_told verdicts.Sought levels = levels
 
 -- A fair run that goes on for ever: the threads that make entries in it, and through how many states it goes.
 abbrev pub cycle_json : FairCycle → Json
@@ -53,7 +61,7 @@ complete_fields complete =
     ∷ is (codes "verdict") (text (verdict_words complete.all.now.verdict))
     ∷ is (codes "states") (number complete.all.now.states)
     ∷ is (codes "most") (number complete.most)
-    ∷ is_given (codes "gone_through") number complete.all.now.levels
+    ∷ is_given (codes "gone_through") number (levels_told complete.all.now.verdict complete.all.now.levels)
     ∷ is (codes "endings") (list_of ending_json complete.all.now.endings.keys)
     ∷ words_field complete.races
     ∷ race_field complete.races

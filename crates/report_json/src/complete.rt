@@ -3,7 +3,7 @@ ghost use Rattle.std.specs.Prelude.{◌≡◌, [], ◌∷◌, OnOk, IfErr};
 ghost use Rattle.replay_forms.specs.Texts.{Wrote};
 ghost use Rattle.report_json.specs.Unwritten.{LeavesAs};
 ghost use Rattle.report_json.specs.Complete.{cycle_json, fair_words, cycle_field, liveness_json, complete_json};
-ghost use Rattle.report_json.specs.Complete.{verdict_words};
+ghost use Rattle.report_json.specs.Complete.{levels_told, verdict_words};
 ghost use Rattle.report_json.specs.Sent as counted;
 ghost use Rattle.report_json.specs.Json.{json_line};
 ghost use Rattle.report_json.specs.Sent.{SendsField};
@@ -103,18 +103,29 @@ fn verdict_of(verdict: Verdict) -> &'static str
     }
 }
 
+/// Up to how many entries runs were all gone through, where not all states were met.
+fn levels_of(all: &Ended<Ending>) -> Option<u32>
+    ensures { result ≡ levels_told all.now.verdict all.now.levels }
+{
+    match all.verdict {
+        Verdict::All => None,
+        Verdict::TooMany | Verdict::CannotTell | Verdict::Told | Verdict::Sought => all.levels,
+    }
+}
+
 impl ToJson for Complete<'_> {
     ghost json = { complete_json };
 
     fn send<S: Serializer>(&self, alloc: Global, out: &mut S) -> Result<(), S::Error> {
         let all = self.all;
-        let more = given(&all.levels) + given(&all.liveness) + given(&self.found);
+        let levels = levels_of(all);
+        let more = given(&levels) + given(&all.liveness) + given(&self.found);
         out.begin_map(Some(5 + count_races(&self.races) + more))?;
         put(alloc, out, "status", &self.status)?;
         put(alloc, out, "verdict", &verdict_of(all.verdict))?;
         put(alloc, out, "states", &all.states)?;
         put(alloc, out, "most", &self.most)?;
-        put_if(alloc, out, "gone_through", &all.levels)?;
+        put_if(alloc, out, "gone_through", &levels)?;
         put_list(alloc, out, "endings", all.endings.as_slice())?;
         put_races(alloc, out, &self.races)?;
         put_if(alloc, out, "liveness", &all.liveness)?;

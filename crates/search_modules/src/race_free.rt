@@ -3,14 +3,16 @@
 ghost use Rattle.std.specs.Prelude.{◌≡◌, IfOk, IfSome, vec_len};
 ghost use Rattle.indexmap.specs.IndexSet.{index_set_len};
 ghost use Rattle.search_reach.specs.Found.{AreListed};
+ghost use Rattle.search_reach.specs.Told.{Obeys};
 ghost use Rattle.search_reach.specs.declared.search.Verdict.TheVariants as verdicts;
+ghost use Rattle.search_modules.specs.Endings.{HasSought};
 ghost use Rattle.search_modules.specs.Liveness.{CountsOwned, SaysWhereAllFree};
 ghost use Rattle.search_modules.specs.Races.{CanRaceSo, NeverRaces, race_free_claims_of};
 
 use crate::calling::searched;
 use search_endings::Ending;
 use search_race_free::{RaceFree, all_choices, race_choices as choices_to_race, search_race_free};
-use search_reach::Follows;
+use search_reach::{Follows, Seeks};
 use spawn_host::Request;
 use std::alloc::{AllocError, Global};
 
@@ -27,16 +29,18 @@ const MOST_PLAIN: u32 = 10_000;
 /// bytes. A race that is given is in some run (`CanRaceSo`); only at
 /// `Verdict::CannotTell` one is, and not always: a thread may make turns of its own without end, or none may be found.
 ///
-/// All else is as of `all_endings`, but `states` counts states with what each thread owns: what it has read and written
-/// since it last made anything but loads and stores that aren't atomic.
+/// All else is as of `all_endings`, which ends at an ending that is looked for too, but `states` counts states with what
+/// each thread owns: what it has read and written since it last made anything but loads and stores that aren't atomic.
+/// Of `levels` nothing is said.
 ///
 /// # Errors
 /// Where memory is refused.
-pub fn race_free_endings<F: Follows>(
+pub fn race_free_endings<Q: Seeks<Ending>, F: Follows>(
     alloc: Global,
     request: &Request,
     most_states: u32,
     dump: usize,
+    sought: &Q,
     follower: &mut F,
 ) -> Result<RaceFree<Ending>, AllocError>
     ensures found { IfOk result
@@ -49,9 +53,12 @@ pub fn race_free_endings<F: Follows>(
         → NeverRaces request.now.parts request.now.name request.now.args) }
     ensures race { IfOk result
         (λ r. IfSome r.race (CanRaceSo request.now.parts request.now.name request.now.args)) }
+    ensures seeks { IfOk result (λ r. HasSought (Q.sought sought.now) r.ended.verdict r.ended.endings.keys) }
+    ensures obeys { IfOk result (λ r.
+        Obeys (F.wish follower.old) (F.wish follower.new) (F.told_at follower.new) r.ended.verdict r.ended.states) }
 {
     let searched = searched(alloc, request, dump)?;
-    search_race_free(alloc, &searched, most_states, MOST_PLAIN, follower)
+    search_race_free(alloc, &searched, most_states, MOST_PLAIN, sought, follower)
 }
 
 /// The choices of each turn along choices that `race_free_endings` gives with an ending, or with what never ends: which

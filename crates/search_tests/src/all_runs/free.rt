@@ -36,7 +36,7 @@ static EXPECTED_OF_EXCHANGES: [Expected; 2] = [Expected::Race(0, 1), Expected::S
 
 fn gone_freely(alloc: Global, valid: &ValidModule, gone: &Gone) -> Result<RaceFree<Ending>, Fail> {
     let request = Request::new(valid, call_of(gone))?;
-    Ok(race_free_endings(alloc, &request, MOST, DUMP as usize, &mut ())?)
+    Ok(race_free_endings(alloc, &request, MOST, DUMP as usize, &(), &mut ())?)
 }
 
 /// They are the endings of every order.

@@ -4,7 +4,7 @@ use Rattle.search_settled.proofs.Laws.{if-some}
 use Rattle.search_race_free.specs.Reduced.{StandsBefore, SomeRace}
 use Rattle.search_modules.specs.Liveness.{is_same_owned}
 use Rattle.search_modules.specs.Moved.{called, threads, IsStuck}
-use Rattle.search_modules.proofs.Finding.{every_by, sound_by}
+use Rattle.search_modules.proofs.Finding.{every_by, sound_by, sought_by}
 use Rattle.search_modules.proofs.Freely.{same_ends, lost_freely, race_by}
 use Rattle.search_modules.proofs.Living.{counted_by, says_by}
 use Rattle.search_modules.proofs.race_free.race_free_endings.Goals as goal
@@ -50,3 +50,9 @@ returns-clause-race g c =
     IfOk-weaker c.search_race_free.result _ _
     (λ free race. if-some _ _ (λ x. race_by r.parts c.in_ok-searched.searched r.name r.args c.in_ok-searched.ensures.call x) free.race race)
     c.search_race_free.ensures.race
+
+pub returns-clause-seeks : goal.returns-clause-seeks
+returns-clause-seeks g c =
+    IfOk-weaker c.search_race_free.result _ _
+    (λ free seeks. sought_by (g.Q.Seeks.sought c.args.sought.now) free.ended.verdict free.ended.endings.keys seeks)
+    c.search_race_free.ensures.seeks
