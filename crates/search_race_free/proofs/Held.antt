@@ -232,7 +232,7 @@ module _ {G H : Type 0} where
   }
 
   pub owning-count : (t : Table (Held G) H) (ks : List (Owning (Flat G H))) → HasOwning t ks → (count : ℕ) → count ≡ length t.rows.keys → count ≡ length ks
-  owning-count t ks has count is = is ∙ (sym (zip-length (IsOf t) t.rows.keys (map held ks) has.are) ∙ length-map held ks)
+  owning-count t ks has count is = is ∙ (sym (zip-length (IsOf t) t.rows.keys (map held ks) has.are) ∙ length-map ks held)
 
   -- the row of a state
   pub row-at : (t : Table (Held G) H) (ks : List (Owning (Flat G H))) → AreOf t (map held ks) → (at : ℕ) (s : Owning (Flat G H)) → slice_get ks at ≡ Some s

@@ -137,5 +137,5 @@ module _ {X T E V A G H M O : Type 0} (k : ThreadSystem X T E V A G H M) (ends :
           are = subst (AreOf new) (sym (held-all p.0)) p.1;
         };
         gains = gains-held eq_shared eq_thread ks rows.next p.0 p.2;
-        noted = λ few. notes-held eq_shared eq_thread p.0 at rows.next before after (p.3 (subst (λ n. n < 2 ^ 32) (length-map parted p.0) few));
+        noted = λ few. notes-held eq_shared eq_thread p.0 at rows.next before after (p.3 (subst (λ n. n < 2 ^ 32) (length-map p.0 parted) few));
       }
