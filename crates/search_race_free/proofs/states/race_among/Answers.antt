@@ -16,8 +16,8 @@ next_states-requires g c =
     let place = c.loop-place.place in
     let copy = c.in-Some.state in
     let r = c.requires in
-    let len = owning-count table r.0 r.1 c.len.result c.len.ensures.len in
+    let len = owning-count table r.0 r.1 c.len-place-end.result c.len-place-end.ensures.len in
     let s = at-some r.0 place (omega (arith, len)) in
     known-copy k (g.M.Moves.ends m) (g.M.Moves.stuck m) (g.met.M.Moves.tame m) (g.met.M.Accesses.plain m) (g.met.M.Accesses.beyond m) s.0 copy
-    (copy-at k (g.M.Moves.ends m) (g.M.Moves.stuck m) table place c.in_ok-state_at.field-0 c.in_ok-state_at.ensures copy c.in-Some.is r.0 s.0 r.1 s.1)
+    (copy-at k (g.M.Moves.ends m) (g.M.Moves.stuck m) table place c.in_ok-state.field-0 c.in_ok-state.ensures copy c.in-Some.is r.0 s.0 r.1 s.1)
     (r.2 s.0 (here r.0 place s.0 s.1))

@@ -36,7 +36,7 @@ returns-in_ok-put_rows-in-To-clause-next g c _ =
     (owning_alike g.M.Shared.PartialEq.eq g.M.Thread.PartialEq.eq g.met.M.Shared.Eq.laws g.met.M.Thread.Eq.laws k (g.met.M.Moves.same_shared m) (g.met.M.Moves.same_thread m))
     c.args.table.now c.held_rows.new.table c.put_rows.new.table c.args.at c.in_ok-state.field-0 c.in_ok-state.ensures copy c.in-Some.is c.in-To.next.items
     (next-are k (g.M.Moves.ends m) (g.M.Moves.stuck m) (g.met.M.Moves.tame m) (g.met.M.Accesses.plain m) (g.met.M.Accesses.beyond m) copy c.in-To.next.items
-    (subst (IsCame k (g.M.Moves.stuck m) copy.flat (λ v. HasReduced k copy v.items)) c.in-To.is c.in_ok-next_states.ensures))
+    (subst (IsCame k (g.M.Moves.stuck m) copy.flat (λ v. HasReduced k copy v.items)) c.in-To.is c.in_ok-next.ensures))
     rows.grows rows.ordered put.parts c.in_ok-rows.rows.items rows.rows c.args.moves.now.items c.put_rows.new.moves.items put.puts
 
 pub returns-in-Races-clause-gives_up : goal.returns-in-Races-clause-gives_up
@@ -47,7 +47,7 @@ returns-in-Races-clause-gives_up g c _ ks s has there met =
     stuck-copy k (g.M.Moves.ends m) (g.M.Moves.stuck m) s copy
     (copy-at k (g.M.Moves.ends m) (g.M.Moves.stuck m) c.args.table.now c.args.at c.in_ok-state.field-0 c.in_ok-state.ensures copy c.in-Some.is ks s has there)
     (race-stuck k (g.met.M.Moves.tame m) (g.met.M.Accesses.plain m) (g.M.Moves.ends m) (g.M.Moves.stuck m) copy c.in-Races.field-0
-    (subst (IsCame k (g.M.Moves.stuck m) copy.flat (λ v. HasReduced k copy v.items)) c.in-Races.is c.in_ok-next_states.ensures))
+    (subst (IsCame k (g.M.Moves.stuck m) copy.flat (λ v. HasReduced k copy v.items)) c.in-Races.is c.in_ok-next.ensures))
 
 pub returns-in-Unknown-clause-gives_up : goal.returns-in-Unknown-clause-gives_up
 returns-in-Unknown-clause-gives_up g c _ ks s has there met =
@@ -57,4 +57,4 @@ returns-in-Unknown-clause-gives_up g c _ ks s has there met =
     stuck-copy k (g.M.Moves.ends m) (g.M.Moves.stuck m) s copy
     (copy-at k (g.M.Moves.ends m) (g.M.Moves.stuck m) c.args.table.now c.args.at c.in_ok-state.field-0 c.in_ok-state.ensures copy c.in-Some.is ks s has there)
     (lost-stuck k (g.met.M.Moves.tame m) (g.met.M.Accesses.plain m) (g.M.Moves.ends m) (g.M.Moves.stuck m) (g.met.M.Accesses.beyond m) copy
-    (subst (IsCame k (g.M.Moves.stuck m) copy.flat (λ v. HasReduced k copy v.items)) c.in-Unknown.is c.in_ok-next_states.ensures))
+    (subst (IsCame k (g.M.Moves.stuck m) copy.flat (λ v. HasReduced k copy v.items)) c.in-Unknown.is c.in_ok-next.ensures))
