@@ -1,6 +1,6 @@
-use Rattle.std.proofs.Common.{ap, sym, ◌∙◌}
+use Rattle.std.proofs.Common.{◌≡◌, ap, sym, ◌∙◌}
 use Rattle.std.proofs.lemmas.Result.{IfOk-weaker}
-use Rattle.search_race_free.specs.Same.{owning_alike}
+use Rattle.search_race_free.specs.Met.{held}
 use Rattle.search_race_free.proofs.Beginning.{ended-somewhere}
 use Rattle.search_race_free.proofs.Keeping.{row-met, met-row, ended-at}
 use Rattle.search_race_free.proofs.states.RaceFreeTurnsMeets.ending.Goals as goal
@@ -24,9 +24,10 @@ ending-requires g c =
     let some = row-met (g.M.Moves.threads m) (g.M.Moves.ends m) (g.M.Moves.stuck m) c.args.table.now c.args.at c.requires c.in-Some.row
     (sym c.row.ensures ∙ c.in-Some.is) in
     let s = some.0 in
-    let of = some.1 in (
+    let of = some.1 in
+    let shared : (held s).shared ≡ c.in-Some-get_index.held.now = cc (of.0, c.in-Some-get_index.ensures.key) in (
       s.flat,
-      (cc (of.0, c.in-Some-get_index.ensures.key), sym (c.as_slice.ensures.value ∙ c.in_ok-threads.ensures s.flat.threads.items of.1)),
+      (ap (λ h. h.shared) shared, sym (c.as_slice.ensures.value ∙ c.in_ok-threads.ensures s.flat.threads.items of.1)),
       ended-somewhere (g.M.Moves.threads m) (g.met.M.Moves.tame m) (g.met.M.Accesses.plain m) (g.M.Moves.ends m) (g.M.Moves.stuck m)
           (g.met.M.Accesses.beyond m) s some.2,
     )

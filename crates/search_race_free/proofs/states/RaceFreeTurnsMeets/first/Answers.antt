@@ -12,11 +12,11 @@ pub returns-in_ok-put_row-in-To-clause-first : goal.returns-in_ok-put_row-in-To-
 returns-in_ok-put_row-in-To-clause-first g c _ =
     let m = c.args.self.now.system.now in
     let k = g.M.Moves.threads m in
-    let row = c.in_ok-row.ensures in
-    let put = c.in_ok-put_row.ensures in
+    let row = c.in_ok-row-in-To.ensures in
+    let put = c.in_ok-put_row-in-To.ensures in
     first-put k (g.M.Moves.ends m) (g.M.Moves.stuck m) g.M.Shared.PartialEq.eq g.M.Thread.PartialEq.eq
     (owning_alike g.M.Shared.PartialEq.eq g.M.Thread.PartialEq.eq g.met.M.Shared.Eq.laws g.met.M.Thread.Eq.laws k (g.met.M.Moves.same_shared m) (g.met.M.Moves.same_thread m))
-    c.args.table.now c.held_row.new.table c.put_row.new.self c.requires row.grows row.ordered put.parts c.in_ok-row.row put.rows c.in-To.state
+    c.args.table.now c.held_row.new.table c.put_row.new.self c.requires row.grows row.ordered put.parts c.in_ok-row-in-To.row put.rows c.in-To.state
     (begun-first k (g.met.M.Moves.tame m) (g.met.M.Accesses.plain m) (g.M.Moves.ends m) (g.M.Moves.stuck m) c.in-To.state
     (subst (IsCameFirst k (g.M.Moves.stuck m)) c.in-To.is c.in_ok-state.ensures)) row.row
 
