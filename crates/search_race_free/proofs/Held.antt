@@ -1,5 +1,5 @@
 -- States by their parts: what is shared with what is owned, and the threads.
-use Rattle.std.proofs.Common.{◌≡◌, ℕ, zero, suc, ◌&&◌, ◌<◌, ◌^◌, Bool, true, false, List, [], ◌∷◌, ◌++◌, length, map, inl, inr, Some, refl, sym, ◌∙◌, ap, subst, arith}
+use Rattle.std.proofs.Common.{◌≡◌, ℕ, zero, suc, ◌&&◌, Bool, true, false, List, [], ◌∷◌, ◌++◌, length, map, inl, inr, Some, refl, sym, ◌∙◌, ap, subst, arith}
 use Rattle.std.specs.Prelude.{option_map}
 use Rattle.std.specs.List.{slice_get, AllZip, AllByRecursion, IsDistinct, Contains}
 use Rattle.std.specs.Cmp.{first_so, second_so}
@@ -13,8 +13,8 @@ use Rattle.search_table.specs.declared.table.Table.{Table}
 use Rattle.search_table.specs.Tables.{Grows, AreDistinct, IsEmptyTable}
 use Rattle.schedule.specs.System.{State}
 use Rattle.search_reach.specs.declared.explores.Next.{Next}
-use Rattle.search_reach.specs.Search.{StepSystem, HasOf, StaysIn, LeadsOn, ComesBy, AreNext}
-use Rattle.search_reach.specs.Explored.{Gains, HasAt, IsNoted, Notes}
+use Rattle.search_reach.specs.Search.{StepSystem, HasOf, LeadsOn, ComesBy, AreNext}
+use Rattle.search_reach.specs.Explored.{Gains, IsNoted, Notes}
 use Rattle.search_settled.specs.declared.flat.Flat.{Flat}
 use Rattle.search_settled.specs.declared.met.NextRow.{NextRow}
 use Rattle.search_settled.specs.Threads.{ThreadSystem, IsFlat}
@@ -28,7 +28,7 @@ use Rattle.search_race_free.specs.declared.met.Held.{Held}
 use Rattle.search_race_free.specs.contracts.owning.TouchPartialEq.TheImpl as touches
 use Rattle.search_race_free.specs.Same.{owning_eq, same_touches, stands-there}
 use Rattle.search_race_free.specs.Reduced.{StandsBefore}
-use Rattle.search_race_free.specs.Met.{held, parted, held_eq, HasOwning, IsHeldRow, AreHeldRows, IsCopy, IsStateAt}
+use Rattle.search_race_free.specs.Met.{held, parted, held_eq, HasOwning, IsHeldRow, AreHeldRows, IsCopy}
 
 -- an element is at its place
 at-of : {A : Type 0} (xs : List A) (x : A) → (c : Contains xs x) → slice_get xs c.0 ≡ Some x
