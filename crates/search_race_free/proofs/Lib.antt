@@ -13,3 +13,5 @@ pub mod Resting
 pub mod Reducing
 pub mod Following
 pub mod Beginning
+mod Held
+mod Keeping

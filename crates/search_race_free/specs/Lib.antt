@@ -8,3 +8,4 @@ pub mod Search
 pub mod Turns
 pub mod Same
 pub mod Laws
+pub mod Met

@@ -37,7 +37,7 @@ same_touch x y e =
     let access = same_access x.access y.access (second_so _ _ e) in
     λ i. record { thread = thread i; access = access i }
 
-same_touches : (xs ys : List Touch) → pointwise touches.eq-value.it xs ys ≡ true → xs ≡ ys
+pub same_touches : (xs ys : List Touch) → pointwise touches.eq-value.it xs ys ≡ true → xs ≡ ys
 same_touches [] [] e = refl
 same_touches [] (y ∷ ys) e = absurd (true≢false (sym e))
 same_touches (x ∷ xs) [] e = absurd (true≢false (sym e))

@@ -18,11 +18,14 @@
 //!   the next states are those that are asked for. `proofs/Going.antt`, `proofs/Continuing.antt`: a thread alone, and
 //!   after its turn. `proofs/Following.antt`: one thread after the other. `proofs/Beginning.antt`: the first state, how a
 //!   state has ended, and that there is no race where all states were met.
+//! - `specs/Met.antt`: the states of a table, by their parts. `proofs/Held.antt`: such a state stands for the same.
+//!   `proofs/Keeping.antt`: a table of them is what a search asks for.
 #![tactic(auto)]
 
 mod accesses;
 mod alone;
 mod laws;
+mod met;
 mod next;
 mod onward;
 mod owning;

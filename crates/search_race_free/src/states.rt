@@ -1,7 +1,7 @@
 //! All endings of threads of which none race, and races of those of which some do.
 ghost use Rattle.std.specs.Prelude.{◌≡◌, IfOk, IfSome, option_map, vec_len};
 ghost use Rattle.indexmap.specs.IndexSet.{index_set_len};
-ghost use Rattle.search_reach.specs.Search.{IsSound};
+ghost use Rattle.search_reach.specs.Meeting.{HasSound};
 ghost use Rattle.search_reach.specs.Found.{AreEndings};
 ghost use Rattle.search_reach.specs.Liveness.{IsCount, IsLiveWhereAll};
 ghost use Rattle.search_reach.specs.Sought.{SeeksIn};
@@ -9,13 +9,16 @@ ghost use Rattle.search_reach.specs.Told.{Obeys};
 ghost use Rattle.search_reach.specs.declared.search.Verdict.TheVariants as verdicts;
 ghost use Rattle.search_race_free.specs.Turns.{reduced, IsRaceOf, HasNoRace};
 ghost use Rattle.search_race_free.specs.Same.{owning_eq};
+ghost use Rattle.search_race_free.specs.Met.{HasOwning};
 
 use crate::alone::Came;
+use crate::met::{Held, held_row, held_rows, state_at};
 use crate::next::{first_state, next_states};
-use crate::{Accesses, Owning, Race};
+use crate::{Accesses, Race};
 use search_graph::Move;
-use search_reach::{Ended, Explores, Follows, Found, Next, Seeks, Verdict, endings_of, reach_all};
-use search_settled::Flat;
+use search_reach::{Ended, Follows, Meets, Reached, Seeks, Verdict, conclude, reach};
+use search_settled::{put_rows, threads_of};
+use search_table::Table;
 use std::alloc::{AllocError, Global};
 use std::hash::Hash;
 
@@ -26,54 +29,91 @@ struct RaceFreeTurns<'s, M> {
     most_plain: u32,
 }
 
-impl<M: Accesses> Explores for RaceFreeTurns<'_, M> {
+impl<M: Accesses> Meets for RaceFreeTurns<'_, M> {
     ghost use Rattle.schedule.specs.System.{State as SystemState};
+    ghost use Rattle.search_settled.specs.declared.flat.Flat.{Flat as FlatState};
     ghost use Rattle.search_settled.specs.Same.{flat_alike};
+    ghost use Rattle.search_race_free.specs.declared.owning.Owning.{Owning as OwningState};
     ghost use Rattle.search_race_free.specs.Turns.{reduced};
-    ghost use Rattle.search_race_free.specs.Same.{owning_alike};
+    ghost use Rattle.search_race_free.specs.Same.{owning_eq, owning_alike};
+    ghost use Rattle.search_race_free.specs.Met.{HasOwning};
 
-    type State = Owning<Flat<M::Shared, M::Thread>>;
+    type Table = Table<Held<M::Shared>, M::Thread>;
 
     type Ending = M::Ending;
+
+    ghost State = { OwningState (FlatState M.Shared M.Thread) };
 
     ghost World = { SystemState M.X M.T };
 
     ghost system = { λ t. reduced M.Moves t.system.now };
 
-    ghost same = { λ t x y e. owning_alike M.Shared.eq M.Thread.eq M.Shared.Eq.laws M.Thread.Eq.laws
+    ghost equal = { λ t. owning_eq M.Shared.eq M.Thread.eq };
+
+    ghost holds = { λ t. HasOwning };
+
+    ghost alike = { λ t x y e. owning_alike M.Shared.eq M.Thread.eq M.Shared.Eq.laws M.Thread.Eq.laws
         (M.threads t.system.now) (M.same_shared t.system.now) (M.same_thread t.system.now) x y e };
+
+    fn table(&self, alloc: Global) -> Table<Held<M::Shared>, M::Thread> {
+        Table::new(alloc)
+    }
+
+    fn count(&self, table: &Table<Held<M::Shared>, M::Thread>) -> usize {
+        table.len()
+    }
 
     fn first(
         &self,
         alloc: Global,
-    ) -> Result<Option<Owning<Flat<M::Shared, M::Thread>>>, AllocError> {
+        table: &mut Table<Held<M::Shared>, M::Thread>,
+    ) -> Result<bool, AllocError> {
         match first_state(alloc, self.system)? {
-            Came::To(state) => Ok(Some(state)),
-            Came::Races(_) => Ok(None),
-            Came::Unknown => Ok(None),
+            Came::To(state) => {
+                let row = held_row(table, state)?;
+                table.put_row(row)?;
+                Ok(true)
+            }
+            Came::Races(_) => Ok(false),
+            Came::Unknown => Ok(false),
         }
     }
 
     fn next(
         &self,
         alloc: Global,
-        state: &Owning<Flat<M::Shared, M::Thread>>,
-    ) -> Result<Option<Vec<Next<Owning<Flat<M::Shared, M::Thread>>>>>, AllocError> {
-        match next_states(alloc, self.system, state, self.most_plain)? {
-            Came::To(next) => Ok(Some(next)),
-            Came::Races(_) => Ok(None),
-            Came::Unknown => Ok(None),
+        table: &mut Table<Held<M::Shared>, M::Thread>,
+        at: u32,
+        moves: &mut Vec<Move>,
+    ) -> Result<bool, AllocError> {
+        let Some(state) = state_at(alloc, self.system, table, at as usize)? else {
+            return Ok(false);
+        };
+        match next_states(alloc, self.system, &state, self.most_plain)? {
+            Came::To(next) => {
+                let rows = held_rows(alloc, table, next)?;
+                put_rows(table, moves, at, rows)?;
+                Ok(true)
+            }
+            Came::Races(_) => Ok(false),
+            Came::Unknown => Ok(false),
         }
     }
 
     fn ending(
         &self,
         alloc: Global,
-        state: &Owning<Flat<M::Shared, M::Thread>>,
+        table: &Table<Held<M::Shared>, M::Thread>,
+        at: usize,
     ) -> Result<Option<M::Ending>, AllocError> {
-        let flat = &state.flat;
-        self.system
-            .ending(alloc, &flat.shared, flat.threads.as_slice())
+        let Some(row) = table.row(at) else {
+            return Ok(None);
+        };
+        let Some(held) = table.shared.get_index(row.shared as usize) else {
+            return Ok(None);
+        };
+        let threads = threads_of(alloc, self.system, table, row.chain)?;
+        self.system.ending(alloc, &held.shared, threads.as_slice())
     }
 }
 
@@ -96,23 +136,23 @@ struct RaceBehind {
     place: usize,
 }
 
-/// A race that is found at one of these states, from this place on.
+/// A race that is found at one of the states of a table, from this place on.
 fn race_among<M: Accesses>(
     alloc: Global,
     system: &M,
-    met: &[Owning<Flat<M::Shared, M::Thread>>],
+    table: &Table<Held<M::Shared>, M::Thread>,
     from: usize,
     most_plain: u32,
 ) -> Result<Option<RaceBehind>, AllocError>
-    requires { IsSound (reduced M.Moves system.now) met.now }
+    requires { HasSound (reduced M.Moves system.now) (HasOwning table.now) }
     ensures { IfOk result (λ o. IfSome o (λ r. IsRaceOf M.Moves system.now r.race)) }
 {
-    let mut at = from;
-    while let Some(state) = met.get(at) {
-        if let Came::Races(race) = next_states(alloc, system, state, most_plain)? {
-            return Ok(Some(RaceBehind { race, place: at }));
+    for place in from..table.len() {
+        if let Some(state) = state_at(alloc, system, table, place)? {
+            if let Came::Races(race) = next_states(alloc, system, &state, most_plain)? {
+                return Ok(Some(RaceBehind { race, place }));
+            }
         }
-        at += 1;
     }
     Ok(None)
 }
@@ -140,20 +180,20 @@ fn behind_last(moves: &[Move]) -> usize {
 fn race_in<M: Accesses>(
     alloc: Global,
     system: &M,
-    found: &Found<Owning<Flat<M::Shared, M::Thread>>>,
+    reached: &Reached<Table<Held<M::Shared>, M::Thread>>,
     most_plain: u32,
 ) -> Result<Option<RaceBehind>, AllocError>
-    requires { IsSound (reduced M.Moves system.now) found.now.met.keys }
+    requires { HasSound (reduced M.Moves system.now) (HasOwning reached.now.table) }
     ensures { IfOk result (λ o. IfSome o (λ r. IsRaceOf M.Moves system.now r.race)) }
 {
-    let Verdict::CannotTell = found.verdict else {
+    let Verdict::CannotTell = reached.verdict else {
         return Ok(None);
     };
-    if found.met.is_empty() {
+    if reached.table.len() == 0 {
         return race_at_first(alloc, system);
     }
-    let from = behind_last(found.moves.as_slice());
-    race_among(alloc, system, found.met.as_slice(), from, most_plain)
+    let from = behind_last(reached.moves.as_slice());
+    race_among(alloc, system, &reached.table, from, most_plain)
 }
 
 /// The threads whose turns lead to the state of this place, by the moves that were noted: those from a state stand
@@ -227,10 +267,10 @@ pub fn search_race_free<M: Accesses, Q: Seeks<M::Ending>, F: Follows>(
     ensures race { IfOk result (λ r. IfSome r.race (IsRaceOf M.Moves system.now)) }
 {
     let turns = RaceFreeTurns { system, most_plain };
-    let found = reach_all(alloc, &turns, most, sought, follower)?;
-    let behind = race_in(alloc, system, &found, most_plain)?;
-    let way = way_behind(alloc, found.moves.as_slice(), behind)?;
-    let ended = endings_of(alloc, &turns, most, sought, found, follower)?;
+    let reached = reach(alloc, &turns, most, sought, follower)?;
+    let behind = race_in(alloc, system, &reached, most_plain)?;
+    let way = way_behind(alloc, reached.moves.as_slice(), behind)?;
+    let ended = conclude(alloc, &turns, most, sought, reached, follower)?;
     Ok(RaceFree {
         ended,
         race: racing(behind),

@@ -1,5 +1,4 @@
-use Rattle.std.proofs.Common.{sym, ◌∙◌, ap, subst}
-use Rattle.search_race_free.specs.Search.{AreWanted}
+use Rattle.std.proofs.Common.{sym, ◌∙◌, ap}
 use Rattle.search_race_free.specs.Touches.{access_at}
 use Rattle.search_race_free.proofs.Following.{wants-at}
 use Rattle.search_race_free.proofs.trace.turns_to_race.Goals as goal

@@ -1,0 +1,42 @@
+use Rattle.std.proofs.Common.{◌≡◌, ap, sym, ◌∙◌}
+use Rattle.std.proofs.lemmas.Result.{IfOk-weaker}
+use Rattle.search_race_free.specs.Met.{held}
+use Rattle.search_race_free.proofs.Beginning.{ended-somewhere}
+use Rattle.search_race_free.proofs.Keeping.{row-met, met-row, ended-at}
+use Rattle.search_race_free.proofs.states.RaceFreeTurnsMeets.ending.Goals as goal
+
+pub returns-in_default : goal.returns-in_default
+returns-in_default g c ks s held there is =
+    let m = c.args.self.now.system.now in
+    absurd (met-row (g.M.Moves.threads m) (g.M.Moves.ends m) (g.M.Moves.stuck m) c.args.table.now c.args.at c.requires (sym c.row.ensures ∙ c.in_default.is))
+
+pub returns-in_default-get_index : goal.returns-in_default-get_index
+returns-in_default-get_index g c ks s held there is =
+    let m = c.args.self.now.system.now in
+    let some = row-met (g.M.Moves.threads m) (g.M.Moves.ends m) (g.M.Moves.stuck m) c.args.table.now c.args.at c.requires c.in-Some.row
+    (sym c.row.ensures ∙ c.in-Some.is) in
+    let of = some.1 in
+    absurd (cc (of.0, c.in_default-get_index.ensures.key))
+
+pub ending-requires : goal.ending-requires
+ending-requires g c =
+    let m = c.args.self.now.system.now in
+    let some = row-met (g.M.Moves.threads m) (g.M.Moves.ends m) (g.M.Moves.stuck m) c.args.table.now c.args.at c.requires c.in-Some.row
+    (sym c.row.ensures ∙ c.in-Some.is) in
+    let s = some.0 in
+    let of = some.1 in
+    let shared : (held s).shared ≡ c.in-Some-get_index.held.now = cc (of.0, c.in-Some-get_index.ensures.key) in (
+      s.flat,
+      (ap (λ h. h.shared) shared, sym (c.as_slice.ensures.value ∙ c.in_ok-threads.ensures s.flat.threads.items of.1)),
+      ended-somewhere (g.M.Moves.threads m) (g.met.M.Moves.tame m) (g.met.M.Accesses.plain m) (g.M.Moves.ends m) (g.M.Moves.stuck m)
+          (g.met.M.Accesses.beyond m) s some.2,
+    )
+
+pub returns : goal.returns
+returns g c =
+    let m = c.args.self.now.system.now in
+    IfOk-weaker _ _ _
+    (ended-at (g.M.Moves.threads m) (g.M.Moves.ends m) (g.M.Moves.stuck m) (g.met.M.Moves.tame m) (g.met.M.Accesses.plain m) (g.met.M.Accesses.beyond m)
+    (g.met.M.Accesses.finished m) c.args.table.now c.args.at c.in-Some.row (sym c.row.ensures ∙ c.in-Some.is)
+    c.in-Some-get_index.held.now (sym c.in-Some-get_index.ensures.key) c.as_slice.result.now
+    (λ xs chained. c.as_slice.ensures.value ∙ c.in_ok-threads.ensures xs chained)) c.ending.ensures

@@ -1,0 +1,93 @@
+//! The states that were met, in a table: each by what is shared with what is owned, and by its threads.
+ghost use Rattle.std.specs.Prelude.{◌≡◌, IfOk, OnOk};
+ghost use Rattle.search_table.specs.Tables.{IsOrdered, Grows};
+ghost use Rattle.search_race_free.specs.Met.{IsHeldRow, AreHeldRows, IsStateAt};
+
+use crate::{Accesses, Owning, Touch};
+use search_reach::Next;
+use search_settled::{Flat, NextRow, row_of, threads_of};
+use search_table::{Row, Table};
+use std::alloc::{AllocError, Global};
+use std::hash::Hash;
+
+/// What is shared, and what the threads own.
+#[derive(Drop, PartialEq, Eq, Hash)]
+pub(crate) struct Held<S> {
+    pub(crate) shared: S,
+    pub(crate) owned: Vec<Touch>,
+}
+
+/// The row of a state, whose parts are put into the table.
+pub(crate) fn held_row<S: Eq + Hash + Drop, T: Eq + Hash + Drop>(
+    table: &mut Table<Held<S>, T>,
+    state: Owning<Flat<S, T>>,
+) -> Result<Row, AllocError>
+    requires { IsOrdered table.old.links.keys }
+    ensures grows { OnOk result (Grows table.old table.new) }
+    ensures ordered { OnOk result (IsOrdered table.new.links.keys) }
+    ensures row { IfOk result (IsHeldRow S.eq T.eq table.new state) }
+{
+    let Owning { flat, owned } = state;
+    let Flat { shared, threads } = flat;
+    row_of(
+        table,
+        Flat {
+            shared: Held { shared, owned },
+            threads,
+        },
+    )
+}
+
+/// The rows of these next states, whose parts are put into the table.
+pub(crate) fn held_rows<S: Eq + Hash + Drop, T: Eq + Hash + Drop>(
+    alloc: Global,
+    table: &mut Table<Held<S>, T>,
+    next: Vec<Next<Owning<Flat<S, T>>>>,
+) -> Result<Vec<NextRow>, AllocError>
+    requires { IsOrdered table.old.links.keys }
+    ensures grows { OnOk result (Grows table.old table.new) }
+    ensures ordered { OnOk result (IsOrdered table.new.links.keys) }
+    ensures rows { IfOk result (λ v. AreHeldRows S.eq T.eq table.new next.items v.items) }
+{
+    let mut rows = Vec::new(alloc);
+    for one in next {
+        let row = held_row(table, one.state)?;
+        rows.push(NextRow {
+            thread: one.thread,
+            row,
+        })?;
+    }
+    Ok(rows)
+}
+
+/// A copy.
+fn copied(alloc: Global, owned: &[Touch]) -> Result<Vec<Touch>, AllocError>
+    ensures { IfOk result (λ v. v.items ≡ owned.now) }
+{
+    let mut all = Vec::with_capacity(alloc, owned.len())?;
+    all.extend_from_slice(owned)?;
+    Ok(all)
+}
+
+/// The state at a place, made of its parts.
+pub(crate) fn state_at<M: Accesses>(
+    alloc: Global,
+    system: &M,
+    table: &Table<Held<M::Shared>, M::Thread>,
+    at: usize,
+) -> Result<Option<Owning<Flat<M::Shared, M::Thread>>>, AllocError>
+    requires { IsOrdered table.now.links.keys }
+    ensures { IfOk result (IsStateAt (M.threads system.now) table.now at) }
+{
+    let Some(row) = table.row(at) else {
+        return Ok(None);
+    };
+    let Some(held) = table.shared.get_index(row.shared as usize) else {
+        return Ok(None);
+    };
+    let shared = system.copied(alloc, &held.shared)?;
+    let threads = threads_of(alloc, system, table, row.chain)?;
+    let owned = copied(alloc, held.owned.as_slice())?;
+    let flat = Flat { shared, threads };
+    Ok(Some(Owning { flat, owned }))
+}
