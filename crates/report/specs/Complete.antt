@@ -1,5 +1,5 @@
 -- What is printed of a search through every order of entries, and what is well of it.
-use Rattle.std.specs.Prelude.{ℕ, zero, suc, ◌≡◌, ◌≢◌, All, Bool, List, [], ◌++◌, codes, length, true, Option, Some, None}
+use Rattle.std.specs.Prelude.{ℕ, ◌==◌, if◌then◌else◌, ◌≡◌, ◌≢◌, All, Bool, List, [], ◌++◌, codes, length, true, Option, Some, None}
 use Rattle.std.specs.List.{list_all}
 use Rattle.search_reach.specs.declared.ending.Ended.{Ended}
 use Rattle.search_reach.specs.declared.search.Verdict.{Verdict}
@@ -60,9 +60,8 @@ verdict_line racing verdicts.Sought most endings states = sought_line endings st
 
 -- Of runs with up to so many entries each was gone through, where not all were.
 abbrev pub gone_through_line : ℕ → List ℕ
-gone_through_line zero = []
-gone_through_line (suc n) =
-    codes "every run of up to " ++ counted (suc n) (codes "entry") (codes "entries") ++ codes " was gone through\n"
+gone_through_line n = if n == 0 then []
+    else codes "every run of up to " ++ counted n (codes "entry") (codes "entries") ++ codes " was gone through\n"
 
 abbrev pub gone_through_lines : Option ℕ → List ℕ
 gone_through_lines None = []

@@ -14,7 +14,8 @@
 //! that race in some run. Of drawn runs the first with a race is told, where one is looked for, and none before it has
 //! one; where none is told no run that was made has one. 0 of a search, exactly: runs of the call were made, or can end;
 //! in each all threads ended well, and it isn't looked for; and of every order, they are sure to end, and no run has a
-//! race, where these aren't allowed and that is asked. The object of a search has what its lines say, of which no clause
+//! race, where these aren't allowed and that is asked. Where words or a result say what is looked for, the verdict on every
+//! order says whether an ending that was met is. The object of a search has what its lines say, of which no clause
 //! pins the hints alone. `load` gives the module that the bytes spell.
 #![tactic(auto)]
 

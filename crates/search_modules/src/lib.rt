@@ -2,9 +2,11 @@
 //!
 //! Proved: at `Verdict::All` the list has the ending of every run by the call that ended without want of units or a
 //! full log; from which states threads can't come to an ending is exact, and a fair run of them goes on for ever only
-//! where that is said, none where the opposite is. Whatever the verdict, threads can end by the call as each of the list
-//! says, and the scheduled machine comes there. `race_free_endings` says the same where no threads race, and there that
-//! none do, and goes through fewer states; a race that it gives is in some run (`specs/Races.antt`).
+//! where that is said, none where the opposite is. At `Verdict::Sought` the list has an ending that is looked for, and at
+//! no other verdict. Whatever the verdict, threads can end by the call as each of the list says, and the scheduled machine
+//! comes there; the list has the ending of each such run with no more entries than `levels` says; and behind a wish that
+//! the search ends no state was met. `race_free_endings` says the same, but for `levels`, where no threads race, and there
+//! that none do, and goes through fewer states; a race that it gives is in some run (`specs/Races.antt`).
 //!
 //! `report_runs::record_run` and `report_runs::run_on_words` say of what they answer that it is the end of a run
 //! (`EndsRun`, `EndsRunOnWords`). `specs/Returned.antt` says that such an end is one of those that the module's threads
