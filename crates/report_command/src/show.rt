@@ -10,8 +10,9 @@ ghost use Rattle.report_command.specs.Addresses.{IsData, IsMoment, IsStretch};
 ghost use Rattle.report_command.specs.Options.{AsksAddresses, AsksBytes, AsksColor, AsksEntries, AsksBefore, AsksLines};
 ghost use Rattle.report_command.specs.Options.{AsksLook, AsksNamed, AsksShown, AsksThreads, AsksView};
 
-use crate::arguments::{Argument, CommandRow, Kind, OPTION};
+use crate::arguments::{Argument, CommandRow, FLAG, Kind, OPTION};
 use crate::command_line::{FILE, Job, Misuse, RECORD};
+use crate::explain::{EXPLAIN, NO_EXPLAIN};
 use crate::form::{Form, JSON, form_of};
 use crate::limits::{DEFAULT_WIDTH, MOST_DUMP, NARROWEST, WIDEST};
 use crate::places::{Data, When, bytes_in, data_in, moment_in, span_in, target_in, threads_in};
@@ -40,8 +41,10 @@ pub struct LastWrite<'a> {
 /// What is made of a record.
 #[derive(Clone, Copy)]
 pub enum View<'a> {
-    /// Rows on standard output.
+    /// Rows on standard output: one for rounds that are made again and again, and one for a question with its answer.
     Rows,
+    /// A row on standard output for each entry.
+    Unfolded,
     /// What threads and memory are like at a moment, on standard output.
     Moment(At),
     /// Who wrote some bytes last, on standard output.
@@ -60,7 +63,7 @@ impl<'a> View<'a> {
         ensures { result ≡ path_of self.now }
     {
         match self {
-            View::Rows | View::Moment(_) | View::Write(_) | View::Object => None,
+            View::Rows | View::Unfolded | View::Moment(_) | View::Write(_) | View::Object => None,
             View::Page(path) | View::Trace(path) => Some(*path),
         }
     }
@@ -71,8 +74,12 @@ impl<'a> View<'a> {
     {
         match self {
             View::Object => Form::Json,
-            View::Rows | View::Moment(_) | View::Write(_) | View::Page(_) | View::Trace(_) =>
-                Form::Lines,
+            View::Rows
+            | View::Unfolded
+            | View::Moment(_)
+            | View::Write(_)
+            | View::Page(_)
+            | View::Trace(_) => Form::Lines,
         }
     }
 }
@@ -158,6 +165,14 @@ const ADDRESSES: Argument = Argument {
     ..OPTION
 };
 
+/// Whether each entry has a row.
+const UNFOLD: Argument = Argument {
+    name: "unfold",
+    help: "A row for each entry, also for rounds that a thread makes again and again, and for answers",
+    conflicts: &["at", "last-write", "html", "trace", "json"],
+    ..FLAG
+};
+
 /// Whether the rows are an object.
 const OBJECT: Argument = Argument {
     help: "Print one JSON object in place of rows, also of a refusal",
@@ -193,8 +208,8 @@ const COLOR: Argument = Argument {
     ..OPTION
 };
 
-/// `show FILE RECORD [--lines A-B] [--thread T,..] [--addr A[-B]] [--names FILE2] [--width N] [--color WHEN] [--html
-/// OUT] [--trace OUT] [--json]`, `show FILE RECORD --at LINE [--dump A:N] [--names FILE2]`, and `show FILE RECORD
+/// `show FILE RECORD [--lines A-B] [--thread T,..] [--addr A[-B]] [--unfold] [--names FILE2] [--width N] [--color WHEN]
+/// [--html OUT] [--trace OUT] [--json] [--explain|--no-explain]`, `show FILE RECORD --at LINE [--dump A:N] [--names FILE2]`, and `show FILE RECORD
 /// --last-write A[:N] [--at LINE] [--names FILE2]`
 pub(crate) static SHOW: CommandRow = CommandRow {
     name: "show",
@@ -202,8 +217,8 @@ pub(crate) static SHOW: CommandRow = CommandRow {
     about: "Shows the entries of a record in words, with the place in the module of each",
     after_help: None,
     arguments: &[
-        FILE, RECORD, LINES, THREADS, ADDRESSES, NAMES, WIDTH, COLOR, AT, BYTES, LAST_WRITE, HTML,
-        TRACE, OBJECT,
+        FILE, RECORD, LINES, THREADS, ADDRESSES, UNFOLD, NAMES, WIDTH, COLOR, AT, BYTES,
+        LAST_WRITE, HTML, TRACE, OBJECT, EXPLAIN, NO_EXPLAIN,
     ],
 };
 
@@ -335,6 +350,7 @@ fn entries_of<'a>(matches: &ArgMatches<'a>) -> View<'a>
     ensures asks { AsksEntries (found_of matches.now) result }
 {
     match form_of(matches) {
+        Form::Lines if matches.get_flag("unfold") => View::Unfolded,
         Form::Lines => View::Rows,
         Form::Json => View::Object,
     }

@@ -187,6 +187,7 @@ fn wanted_of<'a>(
         View::Write(write) => write_of(alloc, parts, map, write),
         View::Moment(at) => moment_of(parts, at),
         View::Rows => Ok(Wanted::Entries(View::Rows)),
+        View::Unfolded => Ok(Wanted::Entries(View::Unfolded)),
         View::Object => Ok(Wanted::Entries(View::Object)),
         View::Page(path) => Ok(Wanted::Entries(View::Page(path))),
         View::Trace(path) => Ok(Wanted::Entries(View::Trace(path))),
