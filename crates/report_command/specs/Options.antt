@@ -127,6 +127,7 @@ abbrev pub AsksShown : Found → View → Type 0
 AsksShown f Rows = HasNo f (codes "last-write") × HasNo f (codes "at") × AsksForm f Lines
 AsksShown f Object = HasNo f (codes "last-write") × HasNo f (codes "at") × AsksForm f Json
 AsksShown f (Moment at) = HasNo f (codes "last-write") × AsksMoment f at.when × AsksBytes f at.addr at.count
+    × HasFlag f (codes "raw") at.is_raw
 AsksShown f (Write write) = AsksLastWrite f write
 AsksShown f (Page path) = ⊥
 AsksShown f (Trace path) = ⊥
