@@ -131,6 +131,7 @@ AsksShown f Rows = HasNo f (codes "last-write") × HasNo f (codes "at") × AsksE
 AsksShown f Unfolded = HasNo f (codes "last-write") × HasNo f (codes "at") × AsksEntries f Unfolded
 AsksShown f Object = HasNo f (codes "last-write") × HasNo f (codes "at") × AsksEntries f Object
 AsksShown f (Moment at) = HasNo f (codes "last-write") × AsksMoment f at.when × AsksBytes f at.addr at.count
+    × HasFlag f (codes "raw") at.is_raw
 AsksShown f (Write write) = AsksLastWrite f write
 AsksShown f (Page path) = ⊥
 AsksShown f (Trace path) = ⊥

@@ -3,6 +3,7 @@
 ghost use Rattle.std.specs.Prelude.{◌≡◌, ◌≤◌, IfOk, IfSome, codes};
 ghost use Rattle.clap.specs.Words.{found_of};
 ghost use Rattle.report_command.specs.declared.limits.TheConstants.{MOST_DUMP, NARROWEST, WIDEST};
+ghost use Rattle.report_command.specs.Found.{HasFlag};
 ghost use Rattle.report_command.specs.Jobs.{IsInRange};
 ghost use Rattle.report_command.specs.Views as views;
 ghost use Rattle.report_command.specs.Views.{IsViewInRange, path_of};
@@ -29,6 +30,8 @@ pub struct At {
     /// The bytes of the memory that are shown: the first one's address, and how many, 0 to 4096.
     pub addr: u64,
     pub count: u32,
+    /// Whether the locals and operands of all functions are shown as they are.
+    pub is_raw: bool,
 }
 
 /// The last write of some bytes before a moment.
@@ -108,7 +111,7 @@ const LAST_WRITE: Argument = Argument {
     value: "A[:N]",
     help: "In place of rows, who wrote these N bytes last, or this data by its name; with --at: before that",
     conflicts: &[
-        "lines", "thread", "addr", "width", "color", "dump", "html", "trace",
+        "lines", "thread", "addr", "width", "color", "dump", "raw", "html", "trace",
     ],
     ..OPTION
 };
@@ -120,6 +123,14 @@ const BYTES: Argument = Argument {
     help: "With --at: print N bytes of the memory from address A on, N up to 4096",
     needs: &["at"],
     ..OPTION
+};
+
+/// Whether locals and operands are shown as they are.
+const RAW: Argument = Argument {
+    name: "raw",
+    help: "With --at: locals and operands as the module has them, also where the source's variables are shown",
+    needs: &["at"],
+    ..FLAG
 };
 
 /// The page.
@@ -209,7 +220,7 @@ const COLOR: Argument = Argument {
 };
 
 /// `show FILE RECORD [--lines A-B] [--thread T,..] [--addr A[-B]] [--unfold] [--names FILE2] [--width N] [--color WHEN]
-/// [--html OUT] [--trace OUT] [--json] [--explain|--no-explain]`, `show FILE RECORD --at LINE [--dump A:N] [--names FILE2]`, and `show FILE RECORD
+/// [--html OUT] [--trace OUT] [--json] [--explain|--no-explain]`, `show FILE RECORD --at LINE [--dump A:N] [--raw] [--names FILE2]`, and `show FILE RECORD
 /// --last-write A[:N] [--at LINE] [--names FILE2]`
 pub(crate) static SHOW: CommandRow = CommandRow {
     name: "show",
@@ -217,7 +228,7 @@ pub(crate) static SHOW: CommandRow = CommandRow {
     about: "Shows the entries of a record in words, with the place in the module of each",
     after_help: None,
     arguments: &[
-        FILE, RECORD, LINES, THREADS, ADDRESSES, UNFOLD, NAMES, WIDTH, COLOR, AT, BYTES,
+        FILE, RECORD, LINES, THREADS, ADDRESSES, UNFOLD, NAMES, WIDTH, COLOR, AT, BYTES, RAW,
         LAST_WRITE, HTML, TRACE, OBJECT, EXPLAIN, NO_EXPLAIN,
     ],
 };
@@ -360,11 +371,18 @@ fn entries_of<'a>(matches: &ArgMatches<'a>) -> View<'a>
 fn at_of(matches: &ArgMatches, text: &str) -> Option<At>
     ensures range { IfSome result (λ at. at.count ≤ MOST_DUMP) }
     ensures asks { IfSome result (λ at. IsMoment text.now at.when × AsksBytes (found_of matches.now) at.addr at.count) }
+    ensures raw { IfSome result (λ at. HasFlag (found_of matches.now) (codes "raw") at.is_raw) }
 {
     let (Some(when), Some((addr, count))) = (moment_in(text), moment_bytes_of(matches)) else {
         return None;
     };
-    Some(At { when, addr, count })
+    let is_raw = matches.get_flag("raw");
+    Some(At {
+        when,
+        addr,
+        count,
+        is_raw,
+    })
 }
 
 /// Before which moment a write is sought; `None` where what is there can't be read.

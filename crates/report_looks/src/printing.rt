@@ -16,7 +16,7 @@ use replay_text::Record;
 use report_choice::{Choice, Look, Span};
 use report_command::View;
 use show_events::{write_page, write_trace};
-use show_moments::{Moment, write_moment};
+use show_moments::{Moment, MomentView, write_moment};
 use show_named::{DataMap, write_folded, write_rows};
 use show_races::racing_pairs;
 use show_rows::{CodeMap, Shown, Story};
@@ -207,9 +207,15 @@ fn print_moment<W: Write>(
     here: Here,
     out: &mut W,
 ) -> Result<(), Unwritten> {
+    let view = MomentView {
+        valid: module,
+        shown,
+        map,
+        is_raw: here.is_raw,
+    };
     if here.is_end {
-        return write_end(alloc, module, shown, map, moment, out);
+        return write_end(alloc, view, moment, out);
     }
     let races = races_in(alloc, shown, MOST_MARKS)?;
-    write_moment(alloc, module, shown, moment, &races, out)
+    write_moment(alloc, view, moment, &races, out)
 }
