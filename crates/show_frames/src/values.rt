@@ -167,7 +167,7 @@ fn add(values: &mut Vec<FrameValue>, value: Option<FrameValue>) -> Result<(), Al
     Ok(())
 }
 
-/// The values of variables, in their order.
+/// The values of variables, in their order, as many as a frame has at most.
 pub(crate) fn values_of(
     alloc: Global,
     units: &Units,
@@ -176,6 +176,9 @@ pub(crate) fn values_of(
 ) -> Result<Vec<FrameValue>, AllocError> {
     let mut values = Vec::new(alloc);
     for variable in variables {
+        if values.len() >= MOST_VALUES {
+            break;
+        }
         if variable.kind != Kind::Parts {
             add(&mut values, value_of(alloc, units, inlined, variable)?)?;
             continue;

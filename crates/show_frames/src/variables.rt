@@ -111,7 +111,8 @@ struct Seen<'a> {
     depth: usize,
 }
 
-/// Adds what an entry of a scope says of a variable, if no variable of its own function that was seen has its name.
+/// Adds what an entry of a scope says of a variable, if no variable of its own function that was seen has its name, and
+/// not more were seen than are looked at.
 fn add_variable<'a>(
     alloc: Global,
     units: &Units<'a>,
@@ -127,13 +128,16 @@ fn add_variable<'a>(
     let (Some(name), depth) = (units.name(entry), scope.depth) else {
         return Ok(());
     };
-    if seen
-        .iter()
-        .any(|other| other.depth == depth && other.name == name)
-    {
+    if name.len() > MOST_NAME {
         return Ok(());
     }
+    let is_hidden = seen
+        .iter()
+        .any(|other| other.depth == depth && other.name == name);
     seen.push(Seen { name, depth })?;
+    if is_hidden {
+        return Ok(());
+    }
     if let Some(variable) = variable_of(alloc, units, scope, entry, offset)? {
         variables.push(variable)?;
     }
@@ -141,7 +145,8 @@ fn add_variable<'a>(
 }
 
 /// The parameters and locals in scope at an offset of the code that have a place while it runs, those of the innermost
-/// scope first. One of a name hides those of the same name behind it in its own function, also where it has no place.
+/// scope first. One of a name hides those of the same name behind it in its own function, also where it has no place. Of
+/// more than are looked at the further ones are left out, and those with longer names.
 pub fn variables_at<'a>(
     alloc: Global,
     units: &Units<'a>,

@@ -56,6 +56,7 @@ pub fn write_moment<W: Write>(
     if moment.is_short {
         return Err(Unwritten::NoMemory);
     }
+    view.map.begin_moment();
     let story = Story::new(alloc, view.shown.record.log.as_slice())?;
     let scene = Scene {
         alloc,

@@ -13,6 +13,21 @@ use show_units::{InfoSections, Spans, Units, read_units};
 use std::alloc::{AllocError, Global};
 use types::Event;
 
+/// How many steps the name of an address takes at most.
+const NAME_STEPS: u64 = 1 << 16;
+
+/// How many steps all frames of a moment take at most, and the names to which their pointers lead.
+const MOMENT_STEPS: u64 = 1 << 22;
+
+/// How many steps an entry takes at most, on average, where all are asked.
+const ENTRY_STEPS: u64 = 32;
+
+/// Lets all entries be asked.
+fn allow_all(units: &Units) {
+    let steps = (units.len() as u64).saturating_mul(ENTRY_STEPS);
+    units.allow(steps.saturating_add(NAME_STEPS));
+}
+
 /// What a debug section says of static data, and where that is; and of functions.
 #[derive(Drop)]
 pub struct DataMap<'n> {
@@ -26,7 +41,9 @@ impl<'n> DataMap<'n> {
     /// What the bytes of a module say. Nothing is asked of them: what can't be read has no name.
     pub fn read(alloc: Global, names: &'n [u8]) -> Result<DataMap<'n>, AllocError> {
         let units = read_units(alloc, InfoSections::of(names))?;
+        allow_all(&units);
         let spans = read_data(alloc, &units)?;
+        allow_all(&units);
         let functions = read_functions(alloc, &units)?;
         Ok(DataMap {
             units,
@@ -34,6 +51,11 @@ impl<'n> DataMap<'n> {
             functions,
             lines: DebugSections::of(names),
         })
+    }
+
+    /// Lets the frames of a moment be asked. What takes more steps than all of them may is left out of the further ones.
+    pub fn begin_moment(&self) {
+        self.units.allow(MOMENT_STEPS);
     }
 
     /// What is said of a frame whose function is at an offset of the code.
@@ -63,6 +85,7 @@ impl<'n> DataMap<'n> {
         let Some(addrs) = touched(event) else {
             return Ok(String::new(alloc));
         };
+        self.units.allow(NAME_STEPS);
         let Some(name) = self.name(alloc, addrs.first, None)? else {
             return Ok(String::new(alloc));
         };
@@ -75,6 +98,7 @@ impl<'n> DataMap<'n> {
     pub fn named(&self, alloc: Global, words: &str) -> Result<Sought, AllocError>
         ensures { IfOk result (NamesWithin self.now.spans.items.items) }
     {
+        allow_all(&self.units);
         place_of(alloc, &self.units, &self.spans, words)
     }
 }
