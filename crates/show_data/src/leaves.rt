@@ -103,7 +103,7 @@ impl Open {
 }
 
 /// The parts of a value of a type and a size that have no parts, in the order of their places, as many as are told.
-pub fn leaves(
+pub fn leaves_of(
     alloc: Global,
     units: &Units,
     its_type: usize,

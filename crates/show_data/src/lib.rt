@@ -14,7 +14,7 @@ mod sizes;
 mod static_data;
 mod words;
 
-pub use leaves::{Leaf, leaves};
+pub use leaves::{Leaf, leaves_of};
 pub use members::Bits;
 pub use naming::name_at;
 pub use place::Place;

@@ -4,7 +4,7 @@ use crate::inlined::Inlined;
 use crate::kinds::{Kind, kind_of};
 use crate::variables::Variable;
 use crate::wording::type_words;
-use show_data::{Bits, Leaf, bare, leaves};
+use show_data::{Bits, Leaf, bare, leaves_of};
 use show_units::{Location, Units};
 use std::alloc::{AllocError, Global};
 use std::fmt::Write;
@@ -183,7 +183,7 @@ pub(crate) fn values_of(
             add(&mut values, value_of(alloc, units, inlined, variable)?)?;
             continue;
         }
-        for leaf in &leaves(alloc, units, variable.its_type, variable.size)? {
+        for leaf in &leaves_of(alloc, units, variable.its_type, variable.size)? {
             add(&mut values, part_of(alloc, units, inlined, variable, leaf)?)?;
         }
     }
