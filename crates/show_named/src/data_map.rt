@@ -14,18 +14,19 @@ use std::alloc::{AllocError, Global};
 use types::Event;
 
 /// How many steps the name of an address takes at most.
-const NAME_STEPS: u64 = 1 << 16;
+const NAME_STEPS: u64 = 1 << 14;
 
 /// How many steps all frames of a moment take at most, and the names to which their pointers lead.
-const MOMENT_STEPS: u64 = 1 << 22;
+const MOMENT_STEPS: u64 = 1 << 23;
 
-/// How many steps an entry takes at most, on average, where all are asked.
-const ENTRY_STEPS: u64 = 32;
+/// How many steps a byte of the entries takes at most, on average, where all entries are asked.
+const BYTE_STEPS: u64 = 4;
 
-/// Lets all entries be asked.
-fn allow_all(units: &Units) {
-    let steps = (units.len() as u64).saturating_mul(ENTRY_STEPS);
-    units.allow(steps.saturating_add(NAME_STEPS));
+/// How many steps all entries take at most.
+fn steps_of(info: &[u8]) -> u64 {
+    (info.len() as u64)
+        .saturating_mul(BYTE_STEPS)
+        .saturating_add(NAME_STEPS)
 }
 
 /// What a debug section says of static data, and where that is; and of functions.
@@ -35,21 +36,27 @@ pub struct DataMap<'n> {
     spans: Spans,
     functions: Spans,
     lines: DebugSections<'n>,
+    /// How many steps all entries take at most.
+    steps: u64,
 }
 
 impl<'n> DataMap<'n> {
-    /// What the bytes of a module say. Nothing is asked of them: what can't be read has no name.
+    /// What the bytes of a module say. Nothing is asked of them: what can't be read has no name, and neither has what is
+    /// behind the steps that so many bytes may take.
     pub fn read(alloc: Global, names: &'n [u8]) -> Result<DataMap<'n>, AllocError> {
-        let units = read_units(alloc, InfoSections::of(names))?;
-        allow_all(&units);
+        let sections = InfoSections::of(names);
+        let steps = steps_of(sections.info);
+        let units = read_units(alloc, sections)?;
+        units.allow(steps);
         let spans = read_data(alloc, &units)?;
-        allow_all(&units);
+        units.allow(steps);
         let functions = read_functions(alloc, &units)?;
         Ok(DataMap {
             units,
             spans,
             functions,
             lines: DebugSections::of(names),
+            steps,
         })
     }
 
@@ -98,7 +105,7 @@ impl<'n> DataMap<'n> {
     pub fn named(&self, alloc: Global, words: &str) -> Result<Sought, AllocError>
         ensures { IfOk result (NamesWithin self.now.spans.items.items) }
     {
-        allow_all(&self.units);
+        self.units.allow(self.steps);
         place_of(alloc, &self.units, &self.spans, words)
     }
 }
