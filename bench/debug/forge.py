@@ -1,6 +1,6 @@
 #!/usr/bin/env python3
 """forge.py MODULE FOLDER [BYTES]: writes copies of a module into a folder whose debug sections are forged, of about so many
-bytes each (1048576), so that what is asked of them costs as much as it can: `show RECORD --names COPY --at LINE` must end
+bytes each (1000000), so that what is asked of them costs as much as it can: `show RECORD --names COPY --at LINE` must end
 soon on each."""
 import os
 import sys
@@ -115,8 +115,8 @@ def inlined_chain(size):
         unit.add((INLINED, True, ((LOW, ADDR), (HIGH, ADDR), (FILE, DATA4), (LINE, DATA1))), four(1), four(MOST),
                  four(7), b"\1")
     unit.close(4098)
-    header = b"\1\1\1\0\1\x01" + b"\1\1\x08" + leb(size // 2 - 100) + b"\0" * (size // 2 - 100)
-    header += b"\1\1\x1f" + leb(size // 8) + four(0) * (size // 8)
+    header = b"\1\1\1\0\1\x01" + b"\1\1\x08" + leb(size // 4) + b"\0" * (size // 4)
+    header += b"\1\1\x1f" + leb(size // 16) + four(0) * (size // 16)
     lines = (5).to_bytes(2, "little") + b"\4\0" + four(len(header)) + header
     return unit.sections(line=four(len(lines)) + lines, line_str=b"x" * (size // 4) + b"\0")
 
@@ -145,7 +145,7 @@ def cycle_of_structures(size):
     function(unit)
     for n in range(256):
         unit.add((VARIABLE, False, ((NAME, TEXT), (TYPE, REF4), (PLACE, EXPRESSION))), b"p%d\0" % n, four(pointer),
-                 b"\5\x03" + four(1024 + 4 * n))
+                 b"\5\x03" + four(4188))
     unit.close(2)
     return unit.sections()
 
@@ -213,7 +213,7 @@ KINDS = [nested_blocks, empty_blocks, inlined_chain, cycle_of_structures, parts_
 
 if __name__ == "__main__":
     plain = without_debug(open(sys.argv[1], "rb").read())
-    size = int(sys.argv[3]) if len(sys.argv) > 3 else 1 << 20
+    size = int(sys.argv[3]) if len(sys.argv) > 3 else 1_000_000
     os.makedirs(sys.argv[2], exist_ok=True)
     for kind in KINDS:
         with open(f"{sys.argv[2]}/{kind.__name__}.wasm", "wb") as it:
