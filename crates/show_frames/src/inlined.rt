@@ -15,7 +15,7 @@ pub struct Inlined<'a> {
 }
 
 /// How many steps a byte of the files of a unit costs.
-const FILE_STEPS: usize = 16;
+const FILE_STEPS: usize = 64;
 
 /// The files of the unit of scopes, if one of these was put in the place of a call.
 fn files_of<'a>(
