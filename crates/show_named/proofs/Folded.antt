@@ -61,10 +61,10 @@ module _ (shown : Shown) (map : DataMap) (story : Story) where
       → Repeats shown map story (take (k + 1) first) (take (k + 1) next)
   repeats_next first next k a b z y lt below a_is b_is before one =
       subst (λ (xs : List ℕ). Repeats shown map story xs (take (k + 1) next))
-          (ap (λ (x : ℕ). take k first ++ x ∷ []) a_is ∙ sym (take_more first k z lt))
-          (subst (λ (ys : List ℕ). Repeats shown map story (take k first ++ a ∷ []) ys)
-          (ap (λ (x : ℕ). take k next ++ x ∷ []) b_is ∙ sym (take_more next k y below))
-          (AllZip-push (AreAlike shown map story) (take k first) (take k next) a b before one))
+      (ap (λ (x : ℕ). take k first ++ x ∷ []) a_is ∙ sym (take_more first k z lt))
+      (subst (λ (ys : List ℕ). Repeats shown map story (take k first ++ a ∷ []) ys)
+      (ap (λ (x : ℕ). take k next ++ x ∷ []) b_is ∙ sym (take_more next k y below))
+      (AllZip-push (AreAlike shown map story) (take k first) (take k next) a b before one))
 
   -- One round more.
   pub more_rounds : (first : List ℕ) (times : ℕ) (part next : List ℕ) → AreRounds shown map story first times part
