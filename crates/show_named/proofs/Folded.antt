@@ -1,5 +1,5 @@
 -- Entries that are alike, rounds, and what stands for entries, one behind the other.
-use Rattle.std.proofs.Common.{◌≡◌, ℕ, ◌+◌, ◌≤◌, ◌<◌, List, [], ◌∷◌, ◌++◌, length, take, drop, Option, Some, None, All, left, right}
+use Rattle.std.proofs.Common.{◌≡◌, ℕ, ◌+◌, ◌≤◌, ◌<◌, List, [], ◌∷◌, ◌++◌, length, take, drop, Option, Some, None, All, inl, inr}
 use Rattle.std.proofs.Common.{refl, sym, ap, subst, ◌∙◌, arith, get_or}
 use Rattle.std.proofs.lemmas.List.{append-nil, append_assoc, take_all, take_more, length-append, length-take}
 use Rattle.std.proofs.lemmas.List.Elements.{All-nil, All-push, AllZip-push}
@@ -29,7 +29,7 @@ module _ (shown : Shown) (map : DataMap) (story : Story) where
   pub alike : (a b : ℕ) → slice_get shown.record.now.log a ≡ slice_get shown.record.now.log b → AreToldAlike shown story a b
       → AreAlike shown map story a b
   alike a b same told row says =
-      let rows : row_at shown a ≡ row_at shown b = ap (option_and_then (λ (r : Option Row). r)) told.row in
+      let rows : row_at shown a ≡ row_at shown b = told.row in
       let w = says.says.words_of in
       record {
         row = record says.row { line = line_at shown b };
@@ -55,6 +55,17 @@ module _ (shown : Shown) (map : DataMap) (story : Story) where
         is = ap (λ (r : RowText). record r { line = line_at shown b }) says.is;
       }
 
+  -- One more entry of a round is alike to that of the first one.
+  pub repeats_next : (first next : List ℕ) (k a b z y : ℕ) → k < length first → k < length next → a ≡ get_or first k z
+      → b ≡ get_or next k y → Repeats shown map story (take k first) (take k next) → AreAlike shown map story a b
+      → Repeats shown map story (take (k + 1) first) (take (k + 1) next)
+  repeats_next first next k a b z y lt below a_is b_is before one =
+      subst (λ (xs : List ℕ). Repeats shown map story xs (take (k + 1) next))
+      (ap (λ (x : ℕ). take k first ++ x ∷ []) a_is ∙ sym (take_more first k z lt))
+      (subst (λ (ys : List ℕ). Repeats shown map story (take k first ++ a ∷ []) ys)
+      (ap (λ (x : ℕ). take k next ++ x ∷ []) b_is ∙ sym (take_more next k y below))
+      (AllZip-push (AreAlike shown map story) (take k first) (take k next) a b before one))
+
   -- One round more.
   pub more_rounds : (first : List ℕ) (times : ℕ) (part next : List ℕ) → AreRounds shown map story first times part
       → Repeats shown map story first next → AreRounds shown map story first (times + 1) (part ++ next)
@@ -79,7 +90,7 @@ module _ (shown : Shown) (map : DataMap) (story : Story) where
 
   part_behind : (part : List ℕ) (a b c : Option (List ℕ)) → Keeps a b → AddsPart shown map story part b c
       → AddsPart shown map story part a c
-  part_behind part a b c k (left r) = left (record {
+  part_behind part a b c k (inl r) = inl (record {
     front = r.front;
     last = r.last;
     times = r.times;
@@ -88,7 +99,7 @@ module _ (shown : Shown) (map : DataMap) (story : Story) where
     before = entries_behind r.front a b r.between k r.before;
     behind = r.behind;
   })
-  part_behind part a b c k (right r) = right (record {
+  part_behind part a b c k (inr r) = inr (record {
     asked = r.asked;
     told = r.told;
     both = r.both;
@@ -180,7 +191,7 @@ module _ (shown : Shown) (map : DataMap) (story : Story) where
       let first : take r.length places ≡ take k places ++ at ∷ [] =
       ap (λ (n : ℕ). take n places) long ∙ take_more places k z lt ∙ ap (λ (y : ℕ). take k places ++ y ∷ []) (sym here) in
       let front : length (take k places) + 1 ≡ r.length = omega (arith, length-take k places, lt, long) in
-      left (record {
+      inl (record {
         front = take k places;
         last = at;
         times = r.times;
@@ -199,13 +210,17 @@ module _ (shown : Shown) (map : DataMap) (story : Story) where
   is_answer (x ∷ (told ∷ rest)) question z y asked two is here =
       (x, told, rest, refl, (question, subst (λ (n : ℕ). context_at story told ≡ Asked question n) here is))
 
+  -- They are two.
+  pub two_of : (places : List ℕ) → IsAnswered story places → 2 ≤ length places
+  two_of places (asked, told, rest, is, answers) = omega (arith, ap (λ (ps : List ℕ). length ps) is)
+
   -- And its words are written with those of the question.
   pub answered_written : (places : List ℕ) (z y : ℕ) (words note : List ℕ) (a c : Option (List ℕ)) → IsAnswered story places
       → note ≡ codes ", " ++ words → AreNamedWords shown map story (get_or places 1 z) words
       → AddsNoted shown map story note (get_or places 0 y) a c → AddsPart shown map story (take 2 places) a c
   answered_written places z y words note a c (asked, told, rest, is, answers) note_is =
       subst (λ (ps : List ℕ). AreNamedWords shown map story (get_or ps 1 z) words → AddsNoted shown map story note (get_or ps 0 y) a c
-      → AddsPart shown map story (take 2 ps) a c) (sym is) (λ w n. right (record {
+      → AddsPart shown map story (take 2 ps) a c) (sym is) (λ w n. inr (record {
         asked = asked;
         told = told;
         both = refl;

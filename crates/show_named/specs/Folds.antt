@@ -14,7 +14,7 @@ use Rattle.show_text.specs.Words.{words_text}
 use Rattle.show_text.specs.Rows.{RowText, AddsRow}
 use Rattle.show_rows.specs.declared.listing.Shown.{Shown}
 use Rattle.show_rows.specs.declared.listing.Story.{Story}
-use Rattle.show_rows.specs.Listing.{AreWordsOf, IsStoryOf, chosen, context_at, line_at, place_of}
+use Rattle.show_rows.specs.Listing.{AreWordsOf, IsStoryOf, chosen, context_at, line_at, place_of, row_at}
 use Rattle.show_named.specs.declared.data_map.DataMap.{DataMap}
 use Rattle.show_named.specs.declared.folds.Piece.{Piece}
 use Rattle.show_named.specs.declared.folds.Piece.TheVariants as pieces
@@ -29,7 +29,7 @@ AreAlike shown map story a b = (row : RowText) → SaysNamed shown map story a r
 -- The log and the rows say the same of both.
 pub record AreToldAlike (shown : Shown) (story : Story) (a b : ℕ) : Type 0 where
   pub context : context_at story a ≡ context_at story b
-  pub row : slice_get shown.rows.now a ≡ slice_get shown.rows.now b
+  pub row : row_at shown a ≡ row_at shown b
   pub place : place_of shown story a ≡ place_of shown story b
   pub woken : woken_in story.wakes a ≡ []
   pub woken_too : woken_in story.wakes b ≡ []

@@ -1,9 +1,11 @@
 //! Which entries have one row, or the rows of one round.
 ghost use Rattle.std.specs.Prelude.{◌≡◌, ◌+◌, ◌≤◌, ◌<◌, true, All, length, take, drop};
+ghost use Rattle.show_rows.specs.Listing.{row_at};
 ghost use Rattle.show_named.specs.Folds.{AreAlike, AreOfOne, AreToldAlike, IsAnswered, IsBy, IsPiece, IsRoundsOf, Repeats};
 
 use crate::data_map::DataMap;
-use show_rows::{Shown, Story};
+use crate::same::{is_same_context, is_same_entry, is_same_place, is_same_row};
+use show_rows::{Row, Shown, Story};
 use show_text::Context;
 use std::alloc::Global;
 use std::fmt::{self, Formatter};
@@ -72,7 +74,17 @@ impl Listing<'_, '_, '_, '_, '_, '_, '_, '_> {
         let (Some(one), Some(other)) = (log.get(a), log.get(b)) else {
             return false;
         };
-        one == other && self.is_told_alike(a, b)
+        is_same_entry(one, other) && self.is_told_alike(a, b)
+    }
+
+    /// The row of the entry at a place.
+    fn row_at(&self, at: usize) -> Option<Row>
+        ensures { result ≡ row_at self.now.shown at }
+    {
+        match self.shown.rows.get(at) {
+            Some(row) => *row,
+            None => None,
+        }
     }
 
     /// Whether the log and the rows say the same of two entries.
@@ -80,11 +92,16 @@ impl Listing<'_, '_, '_, '_, '_, '_, '_, '_> {
         ensures { result ≡ true → AreToldAlike self.now.shown self.now.story.now a b }
     {
         let (shown, story) = (self.shown, self.story);
-        story.context_at(a) == story.context_at(b)
-            && shown.rows.get(a) == shown.rows.get(b)
-            && shown.place_at(story, a) == shown.place_at(story, b)
-            && story.wakes.by(a).is_empty()
-            && story.wakes.by(b).is_empty()
+        if !is_same_context(story.context_at(a), story.context_at(b)) {
+            return false;
+        }
+        if !is_same_row(self.row_at(a), self.row_at(b)) {
+            return false;
+        }
+        if !is_same_place(shown.place_at(story, a), shown.place_at(story, b)) {
+            return false;
+        }
+        story.wakes.by(a).is_empty() && story.wakes.by(b).is_empty()
     }
 
     /// Whether a round is made once more.

@@ -15,6 +15,7 @@
 mod data_map;
 mod folds;
 mod rows;
+mod same;
 
 pub use data_map::DataMap;
 pub use rows::{named_text, write_folded, write_rows};
