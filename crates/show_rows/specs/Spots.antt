@@ -60,11 +60,15 @@ abbrev pub has_as_many : Option BodyPlaces → Option BodyPlaces → Bool
 has_as_many (Some a) (Some b) = length a.instrs == length b.instrs
 has_as_many a b = false
 
--- The lines of an instruction, where both files have as many in its function.
-abbrev pub range_at : CodeMap → CodePlace → Option Range
-range_at code place = if has_as_many (slice_get code.bodies place.function) (slice_get code.named_bodies place.function)
-    then option_and_then (λ offset. find (holds offset) code.lines.ranges.items) (offset_of code.named_bodies place)
+-- Where an instruction is in the file with the names, where both files have as many in its function.
+abbrev pub named_offset : CodeMap → CodePlace → Option ℕ
+named_offset code place = if has_as_many (slice_get code.bodies place.function) (slice_get code.named_bodies place.function)
+    then offset_of code.named_bodies place
     else None
+
+-- Its lines.
+abbrev pub range_at : CodeMap → CodePlace → Option Range
+range_at code place = option_and_then (λ offset. find (holds offset) code.lines.ranges.items) (named_offset code place)
 
 -- The function's name, how far the instruction is behind the start of its body, and the file and the line.
 pub record IsSpotOf (code : CodeMap) (place : CodePlace) (s : Spot) : Type 0 where

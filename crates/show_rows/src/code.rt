@@ -109,16 +109,24 @@ impl<'m, 'n> CodeMap<'m, 'n> {
         Some(offset.saturating_sub(body.start))
     }
 
-    /// The file and line of source, where both files have as many instructions in the function.
-    fn source_of(&self, place: CodePlace) -> Option<(&str, u64)>
-        ensures { result ≡ option_map (λ r. (r.file, r.line)) (range_at self.now place) }
+    /// Where the instruction is in the file with the names, from the start of the code section's contents, where both
+    /// files have as many instructions in the function.
+    pub fn named_offset(&self, place: CodePlace) -> Option<usize>
+        ensures { result ≡ specified.named_offset self.now place }
     {
         let own = self.bodies.as_slice().get(place.function)?;
         let named = self.named_bodies.as_slice().get(place.function)?;
         if own.instrs.len() != named.instrs.len() {
             return None;
         }
-        let offset = offset_of(self.named_bodies.as_slice(), place)?;
+        offset_of(self.named_bodies.as_slice(), place)
+    }
+
+    /// The file and line of source, where both files have as many instructions in the function.
+    fn source_of(&self, place: CodePlace) -> Option<(&str, u64)>
+        ensures { result ≡ option_map (λ r. (r.file, r.line)) (range_at self.now place) }
+    {
+        let offset = self.named_offset(place)?;
         let range = self.lines.at(offset as u64)?;
         Some((range.file, range.line))
     }
