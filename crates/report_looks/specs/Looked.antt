@@ -43,7 +43,7 @@ use Rattle.report_looks.specs.declared.wanted.Asked.{Asked}
 use Rattle.report_looks.specs.declared.wanted.Here.{Here}
 use Rattle.report_looks.specs.declared.wanted.Wanted.{Wanted}
 use Rattle.report_looks.specs.declared.wanted.Wanted.TheVariants as wanted
-use Rattle.report_looks.specs.PageMoments.{AreMomentsOf}
+use Rattle.report_looks.specs.PageMoments.{AreOfPage}
 use Rattle.report_looks.specs.RaceObjects.{WritesObject}
 use Rattle.report_looks.specs.Raced.{IsSeen}
 
@@ -141,7 +141,7 @@ WritesFoldedOf shown map look old new = (between : Option (List ℕ)) × WritesF
 -- Entries as rows, as an object, as a page with these moments, or as a trace.
 abbrev pub WritesEntries : View → Shown → DataMap → Look → Option (List ℕ) → Option (List ℕ) → Type 0
 WritesEntries (views.Page path) shown map look old new = (races : List Race) × (moments : List MomentText)
-    × AreMomentsOf shown look races moments × WritesPage shown races moments look old new
+    × AreOfPage shown map look races moments × WritesPage shown races moments look old new
 WritesEntries (views.Trace path) shown map look old new = (races : List Race) × WritesTrace shown races look old new
 WritesEntries views.Object shown map look old new = WritesObject shown look old new
 WritesEntries views.Unfolded shown map look old new = WritesRowsOf shown map look old new

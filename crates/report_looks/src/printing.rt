@@ -66,7 +66,7 @@ pub(crate) fn print_asked<W: Write>(
             print_moment(alloc, module, shown, map, &moment, here, out)
         },
         Wanted::Entries(view) => {
-            let marks = marks_of(alloc, module, &seen.record, shown, &asked.look, view)?;
+            let marks = marks_of(alloc, module, &seen.record, shown, map, &asked.look, view)?;
             print_entries(alloc, shown, map, &asked.look, view, &marks, out)
         }
     }
@@ -97,7 +97,7 @@ fn print_entries<W: Write>(
     marks: &Marks,
     out: &mut W,
 ) -> Result<(), Unwritten>
-    requires { AreMarks view shown look.now marks.now }
+    requires { AreMarks view shown map.now look.now marks.now }
     ensures { OnOk result (WritesEntries view.entry shown.entry map.now look.now (W.contents out.old) (W.contents out.new)) }
 {
     match view {
