@@ -177,6 +177,7 @@ pub record AsksShow (f : Found) (file saved : Bor (List ℕ)) (names : Option (B
   pub file_is : HasText f (codes "file") file
   pub saved_is : HasText f (codes "record") saved
   pub names_is : HasTextIfAny f (codes "names") names
+  pub source_is : HasTextIfAny f (codes "source") how.source
   pub look_is : AsksLook f how.look
   pub addrs_is : AsksAddresses f how.look.choice.addrs how.named
   pub view_is : AsksView f how.view

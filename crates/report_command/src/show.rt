@@ -93,6 +93,8 @@ pub struct ShowLook<'a> {
     pub look: Look,
     /// The words that name the addresses at which entries are shown, in place of addresses in `look`.
     pub named: Option<&'a str>,
+    /// The path of the folder that has the files of source, if one is given.
+    pub source: Option<&'a str>,
     pub view: View<'a>,
 }
 
@@ -199,6 +201,14 @@ pub(crate) const NAMES: Argument = Argument {
     ..OPTION
 };
 
+/// The folder that has the files of source.
+const SOURCE: Argument = Argument {
+    name: "source",
+    value: "DIR",
+    help: "Show what stands in each line of source, of the files below this folder",
+    ..OPTION
+};
+
 /// The width of a row.
 const WIDTH: Argument = Argument {
     name: "width",
@@ -228,7 +238,7 @@ pub(crate) static SHOW: CommandRow = CommandRow {
     about: "Shows the entries of a record in words, with the place in the module of each",
     after_help: None,
     arguments: &[
-        FILE, RECORD, LINES, THREADS, ADDRESSES, UNFOLD, NAMES, WIDTH, COLOR, AT, BYTES, RAW,
+        FILE, RECORD, LINES, THREADS, ADDRESSES, UNFOLD, NAMES, SOURCE, WIDTH, COLOR, AT, BYTES, RAW,
         LAST_WRITE, HTML, TRACE, OBJECT, EXPLAIN, NO_EXPLAIN,
     ],
 };
@@ -457,6 +467,11 @@ pub(crate) fn show_job<'a>(
         file,
         saved,
         names: matches.get_str("names"),
-        how: ShowLook { look, named, view },
+        how: ShowLook {
+            look,
+            named,
+            source: matches.get_str("source"),
+            view,
+        },
     }))
 }

@@ -17,6 +17,7 @@ mod input;
 mod order;
 mod reading;
 mod saving;
+mod sources;
 mod stop;
 mod streams;
 mod task;

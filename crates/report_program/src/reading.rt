@@ -2,7 +2,7 @@
 //! than a file that can be accepted.
 ghost use Rattle.std.specs.Prelude.{◌≡◌, IfOk, IfSome, take};
 
-use std::alloc::Global;
+use std::alloc::{AllocError, Global};
 use std::fs::File;
 use std::io::{self, Read};
 use types::{
@@ -42,6 +42,12 @@ pub enum Unread {
     NoMemory,
     /// The file isn't there, or can't be read, for this reason.
     File(io::ErrorKind),
+}
+
+impl From<AllocError> for Unread {
+    fn from(_: AllocError) -> Unread {
+        Unread::NoMemory
+    }
 }
 
 impl From<io::Error> for Unread {

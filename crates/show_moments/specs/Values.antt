@@ -82,7 +82,7 @@ has_parts _ = false
 -- behind it stand the calls.
 abbrev pub chained_text : Spot → Option Chain → List ℕ
 chained_text spot None = spot_text spot
-chained_text spot (Some chain) = spot_text (record { name = spot.name; offset = spot.offset; source = None })
+chained_text spot (Some chain) = spot_text (record { name = spot.name; offset = spot.offset; source = None; text = None })
     ++ (codes " " ++ (plain_text (string_bytes chain.innermost) ++ (source_text (λ file. file.now) spot.source
     ++ plain_text (string_bytes chain.calls))))
 

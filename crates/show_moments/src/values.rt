@@ -165,11 +165,13 @@ impl fmt::Display for FrameSpot<'_> {
             name,
             offset,
             source,
+            text: _,
         } = self.spot;
         let front = Spot {
             name,
             offset,
             source: None,
+            text: None,
         };
         let (innermost, calls) = (Plain(chain.innermost.as_str()), Plain(chain.calls.as_str()));
         write!(f, "{front} {innermost}")?;
