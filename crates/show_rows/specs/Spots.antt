@@ -81,7 +81,7 @@ pub record IsSpotOf (code : CodeMap) (place : CodePlace) (s : Spot) : Type 0 whe
   pub name : IsCalled code.names code.parts.now.exports (index_of code.imported place.function) s.name
   pub offset : s.offset ≡ offset_in_body code.bodies place
   pub source : s.source ≡ option_map (λ r. (r.file, r.line)) (range_at code place)
-  pub text : IsTextOf (option_and_then (line_in code.sources.files) (range_at code place)) s.text
+  pub text : IsTextOf (option_and_then (line_in code.sources.files.items) (range_at code place)) s.text
 
 abbrev pub is_atomic_instr : Option Instr → Bool
 is_atomic_instr (Some (Plain (Atomic op arg))) = true

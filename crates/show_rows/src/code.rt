@@ -101,7 +101,7 @@ impl<'m, 'n> CodeMap<'m, 'n> {
 
     /// The same with the text of files of source.
     pub fn with_sources(self, sources: Sources<'n>) -> CodeMap<'m, 'n>
-        ensures { result ≡ record self { sources = sources } }
+        ensures { result ≡ record self.entry { sources = sources.entry } }
     {
         CodeMap { sources, ..self }
     }
