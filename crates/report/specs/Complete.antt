@@ -12,7 +12,8 @@ use Rattle.search_finds.specs.Finds.{IsLookedFor}
 use Rattle.report_choice.specs.declared.sought.Sought.{Sought}
 use Rattle.report_lines.specs.Ends.{is_done}
 use Rattle.report_lines.specs.Endings.{ending_lines}
-use Rattle.report_lines.specs.Complete.{counted, endings_text, states_text, too_many_line, cannot_tell_line, told_line, cannot_end_line}
+use Rattle.report_lines.specs.Found.{entries_text}
+use Rattle.report_lines.specs.Complete.{endings_text, states_text, too_many_line, cannot_tell_line, told_line, cannot_end_line}
 use Rattle.report_lines.specs.Complete.{fair_runs_end_line, unknown_line, cycle_line}
 use Rattle.report.specs.declared.whole.Racing.{Racing}
 use Rattle.report.specs.declared.whole.Racing.TheVariants.{Unasked, Never, Found}
@@ -59,9 +60,11 @@ verdict_line racing verdicts.Told most endings states = told_line endings states
 verdict_line racing verdicts.Sought most endings states = sought_line endings states
 
 -- Of runs with up to so many entries each was gone through, where not all were.
+abbrev pub entries_line : ℕ → List ℕ
+entries_line n = codes "every run of up to " ++ entries_text n ++ codes " was gone through\n"
+
 abbrev pub gone_through_line : ℕ → List ℕ
-gone_through_line n = if n == 0 then []
-    else codes "every run of up to " ++ counted n (codes "entry") (codes "entries") ++ codes " was gone through\n"
+gone_through_line n = if n == 0 then [] else entries_line n
 
 abbrev pub gone_through_lines : Option ℕ → List ℕ
 gone_through_lines None = []

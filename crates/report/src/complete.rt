@@ -3,8 +3,9 @@ ghost use Rattle.std.specs.Prelude.{◌≡◌, ◌↔◌, true, All, length};
 ghost use Rattle.replay_forms.specs.Texts.{Wrote};
 ghost use Rattle.search_finds.specs.Finds.{IsLookedFor};
 ghost use Rattle.report.specs.Complete.{all_line, fair_runs_line, liveness_lines, unknown_text, verdict_line, complete_lines};
-ghost use Rattle.report.specs.Complete.{gone_through_line, gone_through_lines, gone_through_text, races_unknown, sought_line};
+ghost use Rattle.report.specs.Complete.{entries_line, gone_through_line, gone_through_lines, gone_through_text, races_unknown, sought_line};
 ghost use Rattle.report_lines.specs.Complete.{counted};
+ghost use Rattle.report_lines.specs.Found.{entries_text};
 ghost use Rattle.report.specs.Complete.{threads_end_well, all_end_well, EndsForSure, IsSure, AreAllWell};
 
 use crate::whole::Racing;
@@ -93,16 +94,30 @@ fn write_verdict<W: Write>(out: &mut W, all: &Complete, most: u32, racing: Racin
     }
 }
 
-/// Runs with up to so many entries were all gone through, if any has so few.
+/// So many entries.
+fn write_entry_count<W: Write>(out: &mut W, entries: u32) -> io::Result<()>
+    ensures { Wrote W.contents out.old out.new result (entries_text entries) }
+{
+    write_counted(out, entries as usize, "entry", "entries")
+}
+
+/// The line that says that runs with up to so many entries were all gone through.
 fn write_entries<W: Write>(out: &mut W, entries: u32) -> io::Result<()>
+    ensures { Wrote W.contents out.old out.new result (entries_line entries) }
+{
+    write!(out, "every run of up to ")?;
+    write_entry_count(out, entries)?;
+    write!(out, " was gone through\n")
+}
+
+/// The same, if any run has so few.
+fn write_entries_if_any<W: Write>(out: &mut W, entries: u32) -> io::Result<()>
     ensures { Wrote W.contents out.old out.new result (gone_through_line entries) }
 {
     if entries == 0 {
         return Ok(());
     }
-    write!(out, "every run of up to ")?;
-    write_counted(out, entries as usize, "entry", "entries")?;
-    write!(out, " was gone through\n")
+    write_entries(out, entries)
 }
 
 /// The same, where that is said.
@@ -110,7 +125,7 @@ fn write_levels<W: Write>(out: &mut W, levels: Option<u32>) -> io::Result<()>
     ensures { Wrote W.contents out.old out.new result (gone_through_lines levels) }
 {
     match levels {
-        Some(entries) => write_entries(out, entries),
+        Some(entries) => write_entries_if_any(out, entries),
         None => Ok(()),
     }
 }
