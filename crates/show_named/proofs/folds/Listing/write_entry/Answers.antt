@@ -1,5 +1,5 @@
 use Rattle.show_named.proofs.Saying.{plain_entry}
-use Rattle.show_named.proofs.rows.Listing.write_entry.Goals as goal
+use Rattle.show_named.proofs.folds.Listing.write_entry.Goals as goal
 
 pub returns : goal.returns
 returns g c =

@@ -1,6 +1,6 @@
 use Rattle.std.proofs.Common.{◌-◌, ◌∙◌, get_or, refl, arith}
 use Rattle.show_named.proofs.Folded.{rounds_written}
-use Rattle.show_named.proofs.rows.Listing.write_rounds.Goals as goal
+use Rattle.show_named.proofs.folds.Listing.write_rounds.Goals as goal
 
 pub returns : goal.returns
 returns g c =

@@ -1,6 +1,6 @@
 use Rattle.std.proofs.Common.{◌≤◌, length, take}
 use Rattle.show_named.specs.Folds.{AddsFolded}
-use Rattle.show_named.proofs.rows.Listing.write_parts.Given as goal
+use Rattle.show_named.proofs.folds.Listing.write_parts.Given as goal
 
 abbrev pub invariant-loop : goal.invariant-loop
 invariant-loop g l = record {

@@ -1,7 +1,7 @@
 use Rattle.std.proofs.Common.{◌∙◌, subst, sym}
 use Rattle.show_rows.specs.Listing.{place_of, IsPlaceText}
 use Rattle.show_named.proofs.Saying.{noted, says_words}
-use Rattle.show_named.proofs.rows.Listing.write_noted.Goals as goal
+use Rattle.show_named.proofs.folds.Listing.write_noted.Goals as goal
 
 pub returns : goal.returns
 returns g c =

@@ -1,5 +1,5 @@
 use Rattle.show_named.proofs.Saying.{named_of}
-use Rattle.show_named.proofs.rows.Listing.named_words.Goals as goal
+use Rattle.show_named.proofs.folds.Listing.named_words.Goals as goal
 
 pub returns : goal.returns
 returns c =

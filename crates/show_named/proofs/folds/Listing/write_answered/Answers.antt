@@ -1,6 +1,6 @@
 use Rattle.std.proofs.Common.{◌∙◌}
 use Rattle.show_named.proofs.Folded.{answered_written}
-use Rattle.show_named.proofs.rows.Listing.write_answered.Goals as goal
+use Rattle.show_named.proofs.folds.Listing.write_answered.Goals as goal
 
 pub returns : goal.returns
 returns g c =
