@@ -22,6 +22,7 @@ impl<'a> Asked<'a> {
         CodeBytes {
             module: self.bytes,
             names: self.bytes,
+            sources: &[],
         }
     }
 }

@@ -14,7 +14,7 @@ use crate::asked::Asked;
 use crate::searching::search_module;
 use report_command::{Job, Search};
 use report_jobs::{Streams, complain, load, perform_plain, refuse};
-use report_looks::{races_saved, show_saved};
+use report_looks::{CodeBytes, races_saved, show_saved};
 use search_finds::Hears;
 use spawn_host::own_function;
 use std::alloc::Global;
@@ -31,7 +31,7 @@ use validate_module::ValidModule;
 ///
 /// `saved` has the bytes of the record that a replay or a show reads, or those that are laid over the memory of a run,
 /// and else nothing. A show takes names from the
-/// module itself (`show_saved` takes them from another file's bytes). `follower` hears how far a search came.
+/// module itself (`show_saved` takes them from another file's bytes, and lines of source too). `follower` hears how far a search came.
 ///
 /// Answers the program's status: 0 where the module was accepted or all threads ended well, 1 for a trap or stop, or
 /// where a search found a run, has not all endings or none, 2 for a refused module, 3 for a refused run, 4 for a
@@ -63,7 +63,14 @@ where
     ensures unwanted { writes_file job.now ≡ false → Stays streams.old.save streams.new.save }
 {
     match job {
-        Job::Show { how, .. } => show_saved(alloc, module, module, saved, how, streams),
+        Job::Show { how, .. } => {
+            let code = CodeBytes {
+                module,
+                names: module,
+                sources: &[],
+            };
+            show_saved(alloc, code, saved, how, streams)
+        },
         Job::Races(asked) => {
             races_saved(
                 alloc, module, module, saved, asked.most, asked.form, streams,

@@ -40,6 +40,6 @@ pub use asked::Asked;
 pub use job::perform;
 pub use report_command::{Job, Usage, command};
 pub use report_jobs::{Refusal, Streams, check, load, replay_saved};
-pub use report_looks::{races_saved, show_saved};
+pub use report_looks::{CodeBytes, races_saved, show_saved};
 pub use report_runs::{Call, EndState, RecordRunFault, record_run, run_on_words};
 pub use searching::search_module;

@@ -183,7 +183,7 @@ pub(crate) fn program<R: Threads + Wait + Sync>(
             if job.form() == Form::Json {
                 print_no_end(alloc, &job, input, gave);
             }
-            if is_explained {
+            if is_explained.is_on(false) {
                 explain(alloc, &job, input, gave)?;
             }
         }

@@ -23,6 +23,8 @@ use Rattle.report_command.specs.declared.limits.TheConstants.{DEFAULT_STATES, DE
 use Rattle.report_command.specs.declared.call.CallWords.{CallWords}
 use Rattle.report_command.specs.declared.command_line.RunJob.{RunJob}
 use Rattle.report_command.specs.declared.memory.MemoryFile.{MemoryFile}
+use Rattle.report_command.specs.declared.explain.Explain.{Explain}
+use Rattle.report_command.specs.declared.explain.Explain.TheVariants as explains
 use Rattle.report_command.specs.declared.form.Form.{Form}
 use Rattle.report_command.specs.declared.form.Form.TheVariants.{Lines, Json}
 use Rattle.report_command.specs.declared.form.EndLook.{EndLook}
@@ -31,7 +33,7 @@ use Rattle.report_command.specs.declared.command_line.Job.TheVariants as jobs
 use Rattle.report_command.specs.declared.command_line.Order.{Order}
 use Rattle.report_command.specs.declared.races.RacesJob.{RacesJob}
 use Rattle.report_command.specs.declared.show.View.{View}
-use Rattle.report_command.specs.declared.show.View.TheVariants.{Rows, Moment, Write, Page, Trace, Object}
+use Rattle.report_command.specs.declared.show.View.TheVariants.{Rows, Unfolded, Moment, Write, Page, Trace, Object}
 use Rattle.report_command.specs.declared.show.LastWrite.{LastWrite}
 use Rattle.report_command.specs.declared.show.ShowLook.{ShowLook}
 use Rattle.report_command.specs.declared.places.When.{When}
@@ -102,7 +104,8 @@ AsksBytes f addr count =
 
 -- Its entries, as rows or as an object.
 abbrev pub AsksEntries : Found → View → Type 0
-AsksEntries f Rows = AsksForm f Lines
+AsksEntries f Rows = AsksForm f Lines × HasFlag f (codes "unfold") false
+AsksEntries f Unfolded = AsksForm f Lines × HasFlag f (codes "unfold") true
 AsksEntries f Object = AsksForm f Json
 AsksEntries f (Moment at) = ⊥
 AsksEntries f (Write write) = ⊥
@@ -124,9 +127,11 @@ AsksLastWrite f write = ((text : List ℕ) × (first_value f (codes "last-write"
 
 -- What is made of a record, where no file is.
 abbrev pub AsksShown : Found → View → Type 0
-AsksShown f Rows = HasNo f (codes "last-write") × HasNo f (codes "at") × AsksForm f Lines
-AsksShown f Object = HasNo f (codes "last-write") × HasNo f (codes "at") × AsksForm f Json
+AsksShown f Rows = HasNo f (codes "last-write") × HasNo f (codes "at") × AsksEntries f Rows
+AsksShown f Unfolded = HasNo f (codes "last-write") × HasNo f (codes "at") × AsksEntries f Unfolded
+AsksShown f Object = HasNo f (codes "last-write") × HasNo f (codes "at") × AsksEntries f Object
 AsksShown f (Moment at) = HasNo f (codes "last-write") × AsksMoment f at.when × AsksBytes f at.addr at.count
+    × HasFlag f (codes "raw") at.is_raw
 AsksShown f (Write write) = AsksLastWrite f write
 AsksShown f (Page path) = ⊥
 AsksShown f (Trace path) = ⊥
@@ -172,6 +177,7 @@ pub record AsksShow (f : Found) (file saved : Bor (List ℕ)) (names : Option (B
   pub file_is : HasText f (codes "file") file
   pub saved_is : HasText f (codes "record") saved
   pub names_is : HasTextIfAny f (codes "names") names
+  pub source_is : HasTextIfAny f (codes "source") how.source
   pub look_is : AsksLook f how.look
   pub addrs_is : AsksAddresses f how.look.choice.addrs how.named
   pub view_is : AsksView f how.view
@@ -280,10 +286,17 @@ command_name (jobs.Search s) = codes "search"
 abbrev pub AsksNamed : List ℕ → Found → Job → Type 0
 AsksNamed name f job = (command_name job ≡ name) × AsksJob f job
 
--- Whether more is said of a refusal, by commands that have the option.
-abbrev pub AsksReasons : List ℕ → Found → Bool → Type 0
-AsksReasons name f explain =
-    ((name ≡ codes "check") ⊎ (name ≡ codes "run") ⊎ (name ≡ codes "replay")) → HasFlag f (codes "explain") explain
+-- When more is said of what went wrong.
+abbrev pub AsksExplain : Found → Explain → Type 0
+AsksExplain f explains.Always = HasFlag f (codes "explain") true
+AsksExplain f explains.Never = HasFlag f (codes "explain") false × HasFlag f (codes "no-explain") true
+AsksExplain f explains.Auto = HasFlag f (codes "explain") false × HasFlag f (codes "no-explain") false
+
+-- Whether it is, where standard error is a terminal or isn't.
+abbrev pub is_explained : Explain → Bool → Bool
+is_explained explains.Always is_terminal = true
+is_explained explains.Never is_terminal = false
+is_explained explains.Auto is_terminal = is_terminal
 
 -- What the parser found asks for: the command, and its arguments.
 pub record IsOrderOf (m : ArgMatches) (order : Order) : Type 0 where
@@ -291,7 +304,7 @@ pub record IsOrderOf (m : ArgMatches) (order : Order) : Type 0 where
   pub command : subcommand_name_of m ≡ Some (command_name order.job)
   pub arguments : option_map (λ s. s.1) (subcommand_rows_of m) ≡ Some (rows_of found)
   pub job : AsksJob found order.job
-  pub reasons : AsksReasons (command_name order.job) found order.explain
+  pub explain : AsksExplain found order.explain
 
 -- What a command line that `clap` parses finds in the words asks for.
 pub record IsAskedBy (words : List (List ℕ)) (order : Order) : Type 0 where

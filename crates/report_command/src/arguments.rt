@@ -104,7 +104,8 @@ fn argument_of<'a>(alloc: Global, row: &Argument) -> Result<Arg<'a>, AllocError>
         .num_args(row.kind.count())
         .required(row.kind.is_required());
     let argument = match row.kind {
-        Kind::Place | Kind::Rest => argument,
+        Kind::Place => argument,
+        Kind::Rest => argument.allow_negative_numbers(true),
         Kind::Option | Kind::Required | Kind::Flag => argument.long(row.name),
         Kind::List => argument.long(row.name).value_delimiter(','),
     };

@@ -5,11 +5,12 @@ ghost use Rattle.types.specs.declared.limits.TheConstants.{MOST_LIMIT};
 ghost use Rattle.report_command.specs.declared.limits.TheConstants.{MOST_DUMP};
 ghost use Rattle.report_command.specs.Jobs.{IsInRange, KeepsItsModule, KeepsRecordApart, KeepsMemoryApart, form_in};
 ghost use Rattle.report_command.specs.Found.{HasNumber};
-ghost use Rattle.report_command.specs.Options.{AsksNamed, AsksReasons, IsOrderOf, IsAskedBy, IsJobOf, texts_in};
+ghost use Rattle.report_command.specs.Options.{AsksNamed, IsOrderOf, IsAskedBy, IsJobOf, texts_in};
 ghost use Rattle.report_command.specs.FaultNumbers.{usage_number, IsWrong};
 
-use crate::arguments::{Argument, CommandRow, FLAG, Kind, OPTION, command_of};
+use crate::arguments::{Argument, CommandRow, Kind, OPTION, command_of};
 use crate::call::{ARGS, CallWords, FUEL, INVOKE, call_of};
+use crate::explain::{EXPLAIN, Explain, NO_EXPLAIN, explain_of};
 use crate::form::{EndLook, Form, JSON, UNITS, end_look_of, form_of};
 use crate::limits::{DEFAULT_DUMP, DEFAULT_LIMIT, MOST_DUMP};
 use crate::memory::{MEMORY_IN, MEMORY_OUT, MemoryFile, memory_in_of, memory_misread};
@@ -154,13 +155,6 @@ pub(crate) const RECORD: Argument = Argument {
     ..OPTION
 };
 
-/// Whether more is said of a refusal.
-const EXPLAIN: Argument = Argument {
-    name: "explain",
-    help: "Say on standard error, behind a refusal or a trap, where and why it is, and what to do",
-    ..FLAG
-};
-
 /// How many bytes a dump shows.
 pub(crate) const DUMP: Argument = Argument {
     name: "dump",
@@ -199,17 +193,18 @@ const SAVE: Argument = Argument {
     ..OPTION
 };
 
-/// `check FILE [--json] [--explain]`
+/// `check FILE [--json] [--explain|--no-explain]`
 static CHECK: CommandRow = CommandRow {
     name: "check",
     call: "wathread check",
     about: "Reads a module, and says how many functions of its own it has",
     after_help: None,
-    arguments: &[FILE, JSON, EXPLAIN],
+    arguments: &[FILE, JSON, EXPLAIN, NO_EXPLAIN],
 };
 
 /// `run FILE --invoke NAME [--memory locked|words] [--memory-in FILE2[@ADDR]] [--memory-out OUT2] [--record OUT]
-/// [--fuel N] [--limit N] [--dump N] [--units] [--json] [--explain] [ARG..]`
+/// [--fuel N] [--limit N] [--dump N] [--units] [--json] [--explain|--no-explain]
+/// [ARG..]`
 static RUN: CommandRow = CommandRow {
     name: "run",
     call: "wathread run",
@@ -217,17 +212,17 @@ static RUN: CommandRow = CommandRow {
     after_help: None,
     arguments: &[
         FILE, INVOKE, MEMORY, MEMORY_IN, MEMORY_OUT, SAVE, FUEL, LIMIT, DUMP, UNITS, JSON, EXPLAIN,
-        ARGS,
+        NO_EXPLAIN, ARGS,
     ],
 };
 
-/// `replay FILE RECORD [--dump N] [--units] [--json] [--explain]`
+/// `replay FILE RECORD [--dump N] [--units] [--json] [--explain|--no-explain]`
 static REPLAY: CommandRow = CommandRow {
     name: "replay",
     call: "wathread replay",
     about: "Runs a record again by one thread, and prints what the run printed",
     after_help: None,
-    arguments: &[FILE, RECORD, DUMP, UNITS, JSON, EXPLAIN],
+    arguments: &[FILE, RECORD, DUMP, UNITS, JSON, EXPLAIN, NO_EXPLAIN],
 };
 
 /// The commands by their names.
@@ -277,11 +272,12 @@ fn subcommands<'a>(alloc: Global) -> Result<Vec<Command<'a>>, AllocError> {
 /// The whole command line.
 fn commands<'a>(alloc: Global) -> Result<Command<'a>, AllocError> {
     let subcommands = subcommands(alloc)?;
-    Command::new(alloc, "wathread")
+    let command = Command::new(alloc, "wathread")
         .version("0.1.0")
         .about("A proved interpreter of WebAssembly modules whose threads share one linear memory")
         .subcommand_required(true)
-        .subcommands(subcommands)
+        .subcommands(subcommands)?;
+    command.bin_name("wathread")
 }
 
 /// The limit of the log and the length of the dump, where they are there and in range, as the parser sees to.
@@ -668,21 +664,11 @@ fn misuse_of(job: &Job) -> Option<Misuse>
     }
 }
 
-/// What the words ask for: a job, and whether more is said where something is refused.
+/// What the words ask for: a job, and when more is said where something is refused.
 #[derive(Drop)]
 pub struct Order<'a> {
     pub job: Job<'a>,
-    pub explain: bool,
-}
-
-/// Whether more is said of a refusal, by commands that have the option.
-fn explains(name: &str, matches: &ArgMatches) -> bool
-    ensures { AsksReasons name.now (found_of matches.now) result }
-{
-    match name {
-        "check" | "run" | "replay" => matches.get_flag("explain"),
-        _ => false,
-    }
+    pub explain: Explain,
 }
 
 /// Reads the command line, of which the first word is the program's name.
@@ -732,7 +718,7 @@ fn order_of<'a>(alloc: Global, matches: &ArgMatches<'a>) -> Result<Order<'a>, Us
     };
     match misuse_of(&job) {
         None => Ok(Order {
-            explain: explains(name, matches),
+            explain: explain_of(matches),
             job,
         }),
         Some(misuse) => Err(misused(alloc, misuse)),

@@ -6,6 +6,7 @@ ghost use Rattle.report_command.specs.Options.{AsksNamed};
 
 use crate::arguments::{Argument, CommandRow, OPTION};
 use crate::command_line::{FILE, Job, RECORD};
+use crate::explain::{EXPLAIN, NO_EXPLAIN};
 use crate::form::{Form, JSON, form_of};
 use crate::limits::{DEFAULT_RACES, MOST_RACES};
 use crate::show::NAMES;
@@ -38,13 +39,13 @@ const MOST: Argument = Argument {
     ..OPTION
 };
 
-/// `races FILE RECORD [--most N] [--names FILE2] [--json]`
+/// `races FILE RECORD [--most N] [--names FILE2] [--json] [--explain|--no-explain]`
 pub(crate) static RACES: CommandRow = CommandRow {
     name: "races",
     call: "wathread races",
     about: "Tells which accesses of a recorded run race: two threads touch a byte, one writes it, and nothing orders them",
     after_help: None,
-    arguments: &[FILE, RECORD, MOST, NAMES, JSON],
+    arguments: &[FILE, RECORD, MOST, NAMES, JSON, EXPLAIN, NO_EXPLAIN],
 };
 
 /// The job of `races`, where its number is there and in range, as the parser sees to.

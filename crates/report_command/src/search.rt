@@ -11,6 +11,7 @@ ghost use Rattle.report_command.specs.Options.{AsksEffort, IsWay, IsFindOf, stop
 use crate::arguments::{Argument, CommandRow, FLAG, OPTION};
 use crate::call::{ARGS, CallWords, FUEL, INVOKE, call_of};
 use crate::command_line::{DUMP, FILE, Job, LIMIT, Misuse, limit_and_dump_of};
+use crate::explain::{EXPLAIN, NO_EXPLAIN};
 use crate::form::{Form, JSON, form_of};
 use crate::limits::{
     DEFAULT_FROM, DEFAULT_RUNS, DEFAULT_SEARCH_FUEL, DEFAULT_SEARCH_LIMIT, DEFAULT_SEED,
@@ -266,7 +267,8 @@ const UNTIL: Argument = Argument {
 
 /// `search FILE --invoke NAME [--runs N] [--from I] [--seed S] [--strategy mix|random|pct:D|spin] [--jobs N] [--all
 /// [--states N] [--orders needed|all] [--allow-races]] [--find WORDS] [--expect RESULT] [--races] [--record OUT]
-/// [--shrink [--shrink-time SECONDS]] [--time SECONDS] [--until PATH] [--fuel N] [--limit N] [--dump N] [--json] [ARG..]`
+/// [--shrink [--shrink-time SECONDS]] [--time SECONDS] [--until PATH] [--fuel N] [--limit N] [--dump N] [--json]
+/// [--explain|--no-explain] [ARG..]`
 pub(crate) static SEARCH: CommandRow = CommandRow {
     name: "search",
     call: "wathread search",
@@ -296,6 +298,8 @@ pub(crate) static SEARCH: CommandRow = CommandRow {
         SEARCH_LIMIT,
         DUMP,
         JSON,
+        EXPLAIN,
+        NO_EXPLAIN,
         ARGS,
     ],
 };

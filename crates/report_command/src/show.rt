@@ -3,6 +3,7 @@
 ghost use Rattle.std.specs.Prelude.{◌≡◌, ◌≤◌, IfOk, IfSome, codes};
 ghost use Rattle.clap.specs.Words.{found_of};
 ghost use Rattle.report_command.specs.declared.limits.TheConstants.{MOST_DUMP, NARROWEST, WIDEST};
+ghost use Rattle.report_command.specs.Found.{HasFlag};
 ghost use Rattle.report_command.specs.Jobs.{IsInRange};
 ghost use Rattle.report_command.specs.Views as views;
 ghost use Rattle.report_command.specs.Views.{IsViewInRange, path_of};
@@ -10,8 +11,9 @@ ghost use Rattle.report_command.specs.Addresses.{IsData, IsMoment, IsStretch};
 ghost use Rattle.report_command.specs.Options.{AsksAddresses, AsksBytes, AsksColor, AsksEntries, AsksBefore, AsksLines};
 ghost use Rattle.report_command.specs.Options.{AsksLook, AsksNamed, AsksShown, AsksThreads, AsksView};
 
-use crate::arguments::{Argument, CommandRow, Kind, OPTION};
+use crate::arguments::{Argument, CommandRow, FLAG, Kind, OPTION};
 use crate::command_line::{FILE, Job, Misuse, RECORD};
+use crate::explain::{EXPLAIN, NO_EXPLAIN};
 use crate::form::{Form, JSON, form_of};
 use crate::limits::{DEFAULT_WIDTH, MOST_DUMP, NARROWEST, WIDEST};
 use crate::places::{Data, When, bytes_in, data_in, moment_in, span_in, target_in, threads_in};
@@ -28,6 +30,8 @@ pub struct At {
     /// The bytes of the memory that are shown: the first one's address, and how many, 0 to 4096.
     pub addr: u64,
     pub count: u32,
+    /// Whether the locals and operands of all functions are shown as they are.
+    pub is_raw: bool,
 }
 
 /// The last write of some bytes before a moment.
@@ -40,8 +44,10 @@ pub struct LastWrite<'a> {
 /// What is made of a record.
 #[derive(Clone, Copy)]
 pub enum View<'a> {
-    /// Rows on standard output.
+    /// Rows on standard output: one for rounds that are made again and again, and one for a question with its answer.
     Rows,
+    /// A row on standard output for each entry.
+    Unfolded,
     /// What threads and memory are like at a moment, on standard output.
     Moment(At),
     /// Who wrote some bytes last, on standard output.
@@ -60,7 +66,7 @@ impl<'a> View<'a> {
         ensures { result ≡ path_of self.now }
     {
         match self {
-            View::Rows | View::Moment(_) | View::Write(_) | View::Object => None,
+            View::Rows | View::Unfolded | View::Moment(_) | View::Write(_) | View::Object => None,
             View::Page(path) | View::Trace(path) => Some(*path),
         }
     }
@@ -71,8 +77,12 @@ impl<'a> View<'a> {
     {
         match self {
             View::Object => Form::Json,
-            View::Rows | View::Moment(_) | View::Write(_) | View::Page(_) | View::Trace(_) =>
-                Form::Lines,
+            View::Rows
+            | View::Unfolded
+            | View::Moment(_)
+            | View::Write(_)
+            | View::Page(_)
+            | View::Trace(_) => Form::Lines,
         }
     }
 }
@@ -83,6 +93,8 @@ pub struct ShowLook<'a> {
     pub look: Look,
     /// The words that name the addresses at which entries are shown, in place of addresses in `look`.
     pub named: Option<&'a str>,
+    /// The path of the folder that has the files of source, if one is given.
+    pub source: Option<&'a str>,
     pub view: View<'a>,
 }
 
@@ -101,7 +113,7 @@ const LAST_WRITE: Argument = Argument {
     value: "A[:N]",
     help: "In place of rows, who wrote these N bytes last, or this data by its name; with --at: before that",
     conflicts: &[
-        "lines", "thread", "addr", "width", "color", "dump", "html", "trace",
+        "lines", "thread", "addr", "width", "color", "dump", "raw", "html", "trace",
     ],
     ..OPTION
 };
@@ -113,6 +125,14 @@ const BYTES: Argument = Argument {
     help: "With --at: print N bytes of the memory from address A on, N up to 4096",
     needs: &["at"],
     ..OPTION
+};
+
+/// Whether locals and operands are shown as they are.
+const RAW: Argument = Argument {
+    name: "raw",
+    help: "With --at: locals and operands as the module has them, also where the source's variables are shown",
+    needs: &["at"],
+    ..FLAG
 };
 
 /// The page.
@@ -158,6 +178,14 @@ const ADDRESSES: Argument = Argument {
     ..OPTION
 };
 
+/// Whether each entry has a row.
+const UNFOLD: Argument = Argument {
+    name: "unfold",
+    help: "A row for each entry, also for rounds that a thread makes again and again, and for answers",
+    conflicts: &["at", "last-write", "html", "trace", "json"],
+    ..FLAG
+};
+
 /// Whether the rows are an object.
 const OBJECT: Argument = Argument {
     help: "Print one JSON object in place of rows, also of a refusal",
@@ -170,6 +198,14 @@ pub(crate) const NAMES: Argument = Argument {
     name: "names",
     value: "FILE2",
     help: "Names and lines of source from a build of the same code, as one with -g",
+    ..OPTION
+};
+
+/// The folder that has the files of source.
+const SOURCE: Argument = Argument {
+    name: "source",
+    value: "DIR",
+    help: "Show what stands in each line of source, of the files below this folder",
     ..OPTION
 };
 
@@ -193,8 +229,8 @@ const COLOR: Argument = Argument {
     ..OPTION
 };
 
-/// `show FILE RECORD [--lines A-B] [--thread T,..] [--addr A[-B]] [--names FILE2] [--width N] [--color WHEN] [--html
-/// OUT] [--trace OUT] [--json]`, `show FILE RECORD --at LINE [--dump A:N] [--names FILE2]`, and `show FILE RECORD
+/// `show FILE RECORD [--lines A-B] [--thread T,..] [--addr A[-B]] [--unfold] [--names FILE2] [--width N] [--color WHEN]
+/// [--html OUT] [--trace OUT] [--json] [--explain|--no-explain]`, `show FILE RECORD --at LINE [--dump A:N] [--raw] [--names FILE2]`, and `show FILE RECORD
 /// --last-write A[:N] [--at LINE] [--names FILE2]`
 pub(crate) static SHOW: CommandRow = CommandRow {
     name: "show",
@@ -202,8 +238,8 @@ pub(crate) static SHOW: CommandRow = CommandRow {
     about: "Shows the entries of a record in words, with the place in the module of each",
     after_help: None,
     arguments: &[
-        FILE, RECORD, LINES, THREADS, ADDRESSES, NAMES, WIDTH, COLOR, AT, BYTES, LAST_WRITE, HTML,
-        TRACE, OBJECT,
+        FILE, RECORD, LINES, THREADS, ADDRESSES, UNFOLD, NAMES, SOURCE, WIDTH, COLOR, AT, BYTES, RAW,
+        LAST_WRITE, HTML, TRACE, OBJECT, EXPLAIN, NO_EXPLAIN,
     ],
 };
 
@@ -335,6 +371,7 @@ fn entries_of<'a>(matches: &ArgMatches<'a>) -> View<'a>
     ensures asks { AsksEntries (found_of matches.now) result }
 {
     match form_of(matches) {
+        Form::Lines if matches.get_flag("unfold") => View::Unfolded,
         Form::Lines => View::Rows,
         Form::Json => View::Object,
     }
@@ -344,11 +381,18 @@ fn entries_of<'a>(matches: &ArgMatches<'a>) -> View<'a>
 fn at_of(matches: &ArgMatches, text: &str) -> Option<At>
     ensures range { IfSome result (λ at. at.count ≤ MOST_DUMP) }
     ensures asks { IfSome result (λ at. IsMoment text.now at.when × AsksBytes (found_of matches.now) at.addr at.count) }
+    ensures raw { IfSome result (λ at. HasFlag (found_of matches.now) (codes "raw") at.is_raw) }
 {
     let (Some(when), Some((addr, count))) = (moment_in(text), moment_bytes_of(matches)) else {
         return None;
     };
-    Some(At { when, addr, count })
+    let is_raw = matches.get_flag("raw");
+    Some(At {
+        when,
+        addr,
+        count,
+        is_raw,
+    })
 }
 
 /// Before which moment a write is sought; `None` where what is there can't be read.
@@ -423,6 +467,11 @@ pub(crate) fn show_job<'a>(
         file,
         saved,
         names: matches.get_str("names"),
-        how: ShowLook { look, named, view },
+        how: ShowLook {
+            look,
+            named,
+            source: matches.get_str("source"),
+            view,
+        },
     }))
 }

@@ -31,6 +31,7 @@ use Rattle.show_data.specs.Within.{IsWithinOne}
 use Rattle.show_events.specs.Written.{WritesPage, WritesTrace}
 use Rattle.show_events.specs.declared.run.MomentText.{MomentText}
 use Rattle.show_named.specs.declared.data_map.DataMap.{DataMap}
+use Rattle.show_named.specs.Folds.{WritesFolded}
 use Rattle.show_named.specs.Rows.{WritesRows}
 use Rattle.show_rows.specs.declared.rows.Row.{Row}
 use Rattle.show_rows.specs.declared.listing.Shown.{Shown}
@@ -42,7 +43,7 @@ use Rattle.report_looks.specs.declared.wanted.Asked.{Asked}
 use Rattle.report_looks.specs.declared.wanted.Here.{Here}
 use Rattle.report_looks.specs.declared.wanted.Wanted.{Wanted}
 use Rattle.report_looks.specs.declared.wanted.Wanted.TheVariants as wanted
-use Rattle.report_looks.specs.PageMoments.{AreMomentsOf}
+use Rattle.report_looks.specs.PageMoments.{AreOfPage}
 use Rattle.report_looks.specs.RaceObjects.{WritesObject}
 use Rattle.report_looks.specs.Raced.{IsSeen}
 
@@ -132,13 +133,19 @@ abbrev pub WritesRowsOf : Shown → DataMap → Look → Option (List ℕ) → O
 WritesRowsOf shown map look old new = (between : Option (List ℕ)) × WritesRows shown map look old between
     × WritesBelow (has_waits shown look) shown map between new
 
+-- The same, folded.
+abbrev pub WritesFoldedOf : Shown → DataMap → Look → Option (List ℕ) → Option (List ℕ) → Type 0
+WritesFoldedOf shown map look old new = (between : Option (List ℕ)) × WritesFolded shown map look old between
+    × WritesBelow (has_waits shown look) shown map between new
+
 -- Entries as rows, as an object, as a page with these moments, or as a trace.
 abbrev pub WritesEntries : View → Shown → DataMap → Look → Option (List ℕ) → Option (List ℕ) → Type 0
 WritesEntries (views.Page path) shown map look old new = (races : List Race) × (moments : List MomentText)
-    × AreMomentsOf shown look races moments × WritesPage shown races moments look old new
+    × AreOfPage shown map look races moments × WritesPage shown races moments look old new
 WritesEntries (views.Trace path) shown map look old new = (races : List Race) × WritesTrace shown races look old new
 WritesEntries views.Object shown map look old new = WritesObject shown look old new
-WritesEntries view shown map look old new = WritesRowsOf shown map look old new
+WritesEntries views.Unfolded shown map look old new = WritesRowsOf shown map look old new
+WritesEntries view shown map look old new = WritesFoldedOf shown map look old new
 
 -- What is wanted of a record is written; of a moment nothing is said here.
 abbrev pub WritesWanted : Shown → DataMap → Look → Wanted → Option (List ℕ) → Option (List ℕ) → Type 0

@@ -8,10 +8,11 @@
 //! for, and then nothing is written but what is wrong; the races that are told are races of the run, none twice, and each
 //! one, where it isn't said that they are cut. A last write that is shown is the last entry before the moment that is asked
 //! for which writes one of the bytes, and where none is said to write there, none does. The rows that are shown are those
-//! of the entries that are asked for, with what each thread waits for below, where all are shown and one was stopped; the
-//! object is the one of these entries, in order, each with its line, its words and its place; a page and a trace have the
-//! lines of these entries, and are written to their file (`specs/Looked.antt`); of a moment nothing is said. The object of
-//! races has what its lines say: of each the two entries, and the next atomic write of the first one's thread.
+//! of the entries that are asked for, folded or each by itself (`show_named`), with what each thread waits for below,
+//! where all are shown and one was stopped; the object is the one of these entries, in order, each with its line, its
+//! words and its place; a page and a trace have the lines of these entries, and are written to their file
+//! (`specs/Looked.antt`); of a moment nothing is said. The object of races has what its lines say: of each the two
+//! entries, and the next atomic write of the first one's thread.
 #![tactic(auto)]
 
 mod ends;

@@ -12,7 +12,8 @@ use replay_text::Record;
 use report_choice::{Look, touched};
 use report_command::View;
 use show_events::{MomentText, failure_of, part_around};
-use show_moments::{Bytes, write_moment};
+use show_moments::{Bytes, MomentView, write_moment};
+use show_named::DataMap;
 use show_rows::{Shown, chosen_entries};
 use show_text::Unwritten;
 use std::alloc::{AllocError, Global};
@@ -49,17 +50,15 @@ fn bytes_at(event: Event) -> Bytes {
 /// What threads and memory are like before the entry at a place.
 fn moment_text(
     alloc: Global,
-    module: &ValidModule,
+    seen: MomentView,
     record: &Record,
-    shown: Shown,
     races: &[Race],
     at: usize,
 ) -> Result<MomentText, Unwritten>
-    requires races { All (IsWithin shown.record.now.log) races.now }
-    requires code { shown.code.now.parts.now ≡ «module».now.parts }
-    ensures { IfOk result (IsMomentAt shown.entry races.now at) }
+    requires { All (IsWithin seen.shown.record.now.log) races.now }
+    ensures { IfOk result (IsMomentAt seen.entry races.now at) }
 {
-    let bytes = match shown.record.log.as_slice().get(at) {
+    let bytes = match seen.shown.record.log.as_slice().get(at) {
         Some(entry) => bytes_at(entry.event),
         None => Bytes { addr: 0, count: 0 },
     };
@@ -67,10 +66,11 @@ fn moment_text(
         place: at,
         is_end: false,
         bytes,
+        is_raw: seen.is_raw,
     };
-    let moment = moment_of(alloc, module, record, here)?;
+    let moment = moment_of(alloc, seen.valid, record, here)?;
     let mut written = Vec::new(alloc);
-    write_moment(alloc, module, shown, &moment, races, &mut written)?;
+    write_moment(alloc, seen, &moment, races, &mut written)?;
     match String::from_utf8(written) {
         Ok(text) => Ok(MomentText { at, text }),
         Err(_) => Err(Unwritten::Output),
@@ -88,19 +88,17 @@ fn put(moments: &mut Vec<MomentText>, moment: MomentText) -> Result<(), AllocErr
 /// The moments before the entries at these places.
 fn moments_at(
     alloc: Global,
-    module: &ValidModule,
+    seen: MomentView,
     record: &Record,
-    shown: Shown,
     races: &[Race],
     places: &[usize],
 ) -> Result<Vec<MomentText>, Unwritten>
-    requires races { All (IsWithin shown.record.now.log) races.now }
-    requires code { shown.code.now.parts.now ≡ «module».now.parts }
-    ensures { IfOk result (λ ms. AllZip (IsMomentAt shown.entry races.now) places.now ms.items) }
+    requires { All (IsWithin seen.shown.record.now.log) races.now }
+    ensures { IfOk result (λ ms. AllZip (IsMomentAt seen.entry races.now) places.now ms.items) }
 {
     let mut moments = Vec::with_capacity(alloc, places.len())?;
     for k in 0..places.len() {
-        let moment = moment_text(alloc, module, record, shown, races, places[k])?;
+        let moment = moment_text(alloc, seen, record, races, places[k])?;
         put(&mut moments, moment)?;
     }
     Ok(moments)
@@ -109,21 +107,19 @@ fn moments_at(
 /// The moments before the entries around the failure that are chosen, as many as a page has.
 fn moments_of(
     alloc: Global,
-    module: &ValidModule,
+    seen: MomentView,
     record: &Record,
-    shown: Shown,
     look: &Look,
     races: &[Race],
 ) -> Result<Vec<MomentText>, Unwritten>
-    requires races { All (IsWithin shown.record.now.log) races.now }
-    requires code { shown.code.now.parts.now ≡ «module».now.parts }
-    ensures { IfOk result (λ ms. AreMomentsOf shown.entry look.now races.now ms.items) }
+    requires { All (IsWithin seen.shown.record.now.log) races.now }
+    ensures { IfOk result (λ ms. AreMomentsOf seen.entry look.now races.now ms.items) }
 {
-    let chosen = chosen_entries(alloc, shown, look)?;
-    let count = moment_count(shown.record.log.len());
-    let last = failure_of(shown.record);
+    let chosen = chosen_entries(alloc, seen.shown, look)?;
+    let count = moment_count(seen.shown.record.log.len());
+    let last = failure_of(seen.shown.record);
     let places = part_around(&chosen, count, count.saturating_sub(1), last);
-    moments_at(alloc, module, record, shown, races, places)
+    moments_at(alloc, seen, record, races, places)
 }
 
 /// What a page or a trace marks: entries that race, and of a page its moments.
@@ -139,23 +135,30 @@ pub(crate) fn marks_of(
     module: &ValidModule,
     record: &Record,
     shown: Shown,
+    map: &DataMap,
     look: &Look,
     view: View,
 ) -> Result<Marks, Unwritten>
     requires { shown.code.now.parts.now ≡ «module».now.parts }
-    ensures { IfOk result (AreMarks view.entry shown.entry look.now) }
+    ensures { IfOk result (AreMarks view.entry shown.entry map.now look.now) }
 {
     match view {
         View::Page(_) => {
             let races = races_in(alloc, shown, MOST_OF_PAGE)?;
-            let moments = moments_of(alloc, module, record, shown, look, &races)?;
+            let seen = MomentView {
+                valid: module,
+                shown,
+                map,
+                is_raw: false,
+            };
+            let moments = moments_of(alloc, seen, record, look, &races)?;
             Ok(Marks { races, moments })
         }
         View::Trace(_) => Ok(Marks {
             races: races_in(alloc, shown, MOST_MARKS)?,
             moments: Vec::new(alloc),
         }),
-        View::Rows | View::Object | View::Moment(_) | View::Write(_) => Ok(Marks {
+        View::Rows | View::Unfolded | View::Object | View::Moment(_) | View::Write(_) => Ok(Marks {
             races: Vec::new(alloc),
             moments: Vec::new(alloc),
         }),

@@ -3,7 +3,7 @@ ghost use Rattle.std.specs.Prelude.{◌≡◌, All, IfOk, OnOk};
 ghost use Rattle.show_races.specs.Told.{IsWithin};
 ghost use Rattle.report_looks.specs.Looked as looked;
 ghost use Rattle.report_looks.specs.PageMoments.{AreMarks};
-ghost use Rattle.report_looks.specs.Looked.{PrintsAsked, WritesBelow, WritesEntries, WritesLastOf, WritesRowsOf};
+ghost use Rattle.report_looks.specs.Looked.{PrintsAsked, WritesBelow, WritesEntries, WritesFoldedOf, WritesLastOf, WritesRowsOf};
 
 use crate::ends::write_end;
 use crate::moments::{Marks, marks_of};
@@ -16,8 +16,8 @@ use replay_text::Record;
 use report_choice::{Choice, Look, Span};
 use report_command::View;
 use show_events::{write_page, write_trace};
-use show_moments::{Moment, write_moment};
-use show_named::{DataMap, write_rows};
+use show_moments::{Moment, MomentView, write_moment};
+use show_named::{DataMap, write_folded, write_rows};
 use show_races::racing_pairs;
 use show_rows::{CodeMap, Shown, Story};
 use show_text::Unwritten;
@@ -66,7 +66,7 @@ pub(crate) fn print_asked<W: Write>(
             print_moment(alloc, module, shown, map, &moment, here, out)
         },
         Wanted::Entries(view) => {
-            let marks = marks_of(alloc, module, &seen.record, shown, &asked.look, view)?;
+            let marks = marks_of(alloc, module, &seen.record, shown, map, &asked.look, view)?;
             print_entries(alloc, shown, map, &asked.look, view, &marks, out)
         }
     }
@@ -97,14 +97,15 @@ fn print_entries<W: Write>(
     marks: &Marks,
     out: &mut W,
 ) -> Result<(), Unwritten>
-    requires { AreMarks view shown look.now marks.now }
+    requires { AreMarks view shown map.now look.now marks.now }
     ensures { OnOk result (WritesEntries view.entry shown.entry map.now look.now (W.contents out.old) (W.contents out.new)) }
 {
     match view {
         View::Page(_) => write_page(alloc, shown, look, &marks.races, &marks.moments, out),
         View::Trace(_) => write_trace(alloc, shown, look, &marks.races, out),
         View::Object => write_entries(alloc, shown, look, out),
-        View::Rows | View::Moment(_) | View::Write(_) => print_rows(alloc, shown, map, look, out),
+        View::Unfolded => print_rows(alloc, shown, map, look, out),
+        View::Rows | View::Moment(_) | View::Write(_) => print_folded(alloc, shown, map, look, out),
     }
 }
 
@@ -153,7 +154,21 @@ fn print_waits<W: Write>(
     write_waits(alloc, shown, map, &story, out)
 }
 
-/// Writes the rows; and below them, where all are asked for, what each thread waits for that was stopped.
+/// Writes rows, folded; and below them, where all are asked for, what each thread waits for that was stopped.
+fn print_folded<W: Write>(
+    alloc: Global,
+    shown: Shown,
+    map: &DataMap,
+    look: &Look,
+    out: &mut W,
+) -> Result<(), Unwritten>
+    ensures { OnOk result (WritesFoldedOf shown.entry map.now look.now (W.contents out.old) (W.contents out.new)) }
+{
+    write_folded(alloc, shown, map, look, out)?;
+    print_waits(alloc, shown, map, has_waits(shown, look), out)
+}
+
+/// Writes a row for each entry; and below them, where all are asked for, what each thread waits for that was stopped.
 fn print_rows<W: Write>(
     alloc: Global,
     shown: Shown,
@@ -192,9 +207,15 @@ fn print_moment<W: Write>(
     here: Here,
     out: &mut W,
 ) -> Result<(), Unwritten> {
+    let view = MomentView {
+        valid: module,
+        shown,
+        map,
+        is_raw: here.is_raw,
+    };
     if here.is_end {
-        return write_end(alloc, module, shown, map, moment, out);
+        return write_end(alloc, view, moment, out);
     }
     let races = races_in(alloc, shown, MOST_MARKS)?;
-    write_moment(alloc, module, shown, moment, &races, out)
+    write_moment(alloc, view, moment, &races, out)
 }

@@ -56,7 +56,11 @@ pub fn races_saved<W: Write, E: Write, S: Write>(
         Ok(valid) => valid,
         Err(refusal) => return refuse(err, refusal),
     };
-    let code = CodeBytes { module, names };
+    let code = CodeBytes {
+        module,
+        names,
+        sources: &[],
+    };
     match tell_races(alloc, &valid, code, saved, most, form, out) {
         Ok(true) => 1,
         Ok(false) => 0,

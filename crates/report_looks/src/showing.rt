@@ -17,18 +17,17 @@ use report_command::ShowLook;
 use report_jobs::{Streams, Unfit, load, misfit, refuse, reject};
 use search_races::watched;
 use show_named::DataMap;
+use show_lines::{SourceFile, Sources};
 use show_rows::{CodeMap, Row};
 use show_text::Unwritten;
-use std::alloc::Global;
+use std::alloc::{AllocError, Global};
 use std::io::Write;
 use validate_module::ValidModule;
 
 /// The status where a record has not what is asked for.
 const SHOW_REFUSED: u8 = 3;
 
-/// Shows the entries of the record whose text `saved` is: each in words, with its place in the module. `names` are the
-/// bytes that have the names of functions and data and the lines of source: those of the module, or of another build of
-/// its code. `how` may ask for what threads and memory are like at a moment, for the last write of some bytes, for a page
+/// Shows the entries of the record whose text `saved` is: each in words, with its place in the module. `how` may ask for what threads and memory are like at a moment, for the last write of some bytes, for a page
 /// or for a trace, in place of rows. A page and a trace are the file that it makes.
 ///
 /// Answers 0 only where the record is of a run of the module, 3 only where it is one and has not what is asked for, 4 only
@@ -37,28 +36,26 @@ const SHOW_REFUSED: u8 = 3;
 /// is.
 pub fn show_saved<W: Write, E: Write, S: Write>(
     alloc: Global,
-    module: &[u8],
-    names: &[u8],
+    code: CodeBytes,
     saved: &[u8],
     how: &ShowLook,
     streams: &mut Streams<W, E, S>,
 ) -> u8
-    ensures shown { result ≡ 0 → IsRecordOf «module».now saved.now }
+    ensures shown { result ≡ 0 → IsRecordOf code.entry.«module».now saved.now }
     ensures prints { result ≡ 0 → OfModule (PrintsShow how.now (stream_of how.now.view
         (changed W.contents streams.old.out streams.new.out) (changed S.contents streams.old.save streams.new.save)))
-        «module».now saved.now }
-    ensures refused { result ≡ 2 → IsNoValidModule «module».now }
-    ensures absent { result ≡ 3 → IsRecordOf «module».now saved.now }
-    ensures none { result ≡ 4 → IsNoRecordOf «module».now saved.now }
+        code.entry.«module».now saved.now }
+    ensures refused { result ≡ 2 → IsNoValidModule code.entry.«module».now }
+    ensures absent { result ≡ 3 → IsRecordOf code.entry.«module».now saved.now }
+    ensures none { result ≡ 4 → IsNoRecordOf code.entry.«module».now saved.now }
     ensures told { result ≡ 4
-        → TellsWhatIsWrong «module».now saved.now (changed E.contents streams.old.err streams.new.err) }
+        → TellsWhatIsWrong code.entry.«module».now saved.now (changed E.contents streams.old.err streams.new.err) }
     ensures status { (result ≡ 0) ⊎ (result ≡ 2) ⊎ (result ≡ 3) ⊎ (result ≡ 4) ⊎ (result ≡ 5) }
     ensures silent { IsRefusal result → Stays streams.old.out streams.new.out × Stays streams.old.save streams.new.save }
     ensures unwanted { is_some (path_of how.now.view) ≡ false → Stays streams.old.save streams.new.save }
     ensures no_memory { Stays streams.old.memory streams.new.memory }
 {
     let Streams { out, err, save, .. } = streams;
-    let code = CodeBytes { module, names };
     if how.view.path().is_some() {
         return show_to(alloc, code, saved, how, save, err);
     }
@@ -99,11 +96,27 @@ fn show_to<W: Write, E: Write>(
     }
 }
 
-/// The bytes of a module, and those that have the names of its functions and the lines of its source.
+/// The bytes of a module, and what its code is called.
 #[derive(Clone, Copy)]
 pub struct CodeBytes<'a> {
     pub module: &'a [u8],
+    /// Those that have the names of its functions and data and the lines of its source: its own, or those of another build
+    /// of its code.
     pub names: &'a [u8],
+    /// The files of source whose text is shown.
+    pub sources: &'a [SourceFile],
+}
+
+/// The code of a module, with what it is called and the text of its source.
+fn code_of<'a>(
+    alloc: Global,
+    module: &'a ValidModule,
+    code: CodeBytes<'a>,
+) -> Result<CodeMap<'a, 'a>, AllocError>
+    ensures { IfOk result (λ c. c.parts.now ≡ «module».now.parts) }
+{
+    let map = CodeMap::read(alloc, module.parts(), code.module, code.names)?;
+    Ok(map.with_sources(Sources::new(alloc, code.sources)?))
 }
 
 /// Shows of the record whose text `saved` is what is asked for.
@@ -125,7 +138,7 @@ fn show_record<W: Write>(
         Ok(seen) => seen,
         Err(unfit) => return Err(Unshown::Unfit(unfit)),
     };
-    let places = match CodeMap::read(alloc, module.parts(), code.module, code.names) {
+    let places = match code_of(alloc, module, code) {
         Ok(places) => places,
         Err(_) => return Err(Unshown::Unfit(Unfit::NoMemory)),
     };

@@ -52,6 +52,8 @@ pub(crate) struct Here {
     pub place: usize,
     pub is_end: bool,
     pub bytes: Bytes,
+    /// Whether all locals and operands are shown as they are.
+    pub is_raw: bool,
 }
 
 /// What is shown of a record, and how.
@@ -170,6 +172,7 @@ fn moment_of<'a>(parts: &RecordParts, at: At) -> Result<Wanted<'a>, Unshown>
             addr: at.addr,
             count: at.count,
         },
+        is_raw: at.is_raw,
     }))
 }
 
@@ -187,6 +190,7 @@ fn wanted_of<'a>(
         View::Write(write) => write_of(alloc, parts, map, write),
         View::Moment(at) => moment_of(parts, at),
         View::Rows => Ok(Wanted::Entries(View::Rows)),
+        View::Unfolded => Ok(Wanted::Entries(View::Unfolded)),
         View::Object => Ok(Wanted::Entries(View::Object)),
         View::Page(path) => Ok(Wanted::Entries(View::Page(path))),
         View::Trace(path) => Ok(Wanted::Entries(View::Trace(path))),

@@ -1,28 +1,30 @@
--- What a command line asks for, with colors as standard output takes them.
-use Rattle.std.specs.Prelude.{ℕ, ◌≡◌, List}
+-- What a command line asks for, with colors as standard output takes them, and explained as standard error does.
+use Rattle.std.specs.Prelude.{ℕ, ◌≡◌, Bool, List}
 use Rattle.report_choice.specs.declared.choice.Look.{Look}
 use Rattle.report_command.specs.declared.command_line.Job.{Job}
 use Rattle.report_command.specs.declared.command_line.Job.TheVariants.{Check, Run, Replay, Show, Races, Search}
 use Rattle.report_command.specs.declared.command_line.Order.{Order}
-use Rattle.report_command.specs.Options.{IsAskedBy}
+use Rattle.report_command.specs.Options.{IsAskedBy, is_explained}
+use Rattle.report_program.specs.declared.order.Plan.{Plan}
 
 -- A look that differs in nothing but when threads have colors.
 abbrev pub IsRecolored : Look → Look → Type 0
 IsRecolored old new = (new.choice ≡ old.choice) × (new.width ≡ old.width)
 
--- The same job, but for the look of a show.
-abbrev pub IsColored : Job → Job → Type 0
-IsColored (Show file saved names how) new =
+-- The same job, but for the look of a show, and whether the end of a run has the calls of a thread that trapped.
+abbrev pub IsColored : Bool → Job → Job → Type 0
+IsColored explain (Show file saved names how) new =
     (colored : Look) × (new ≡ Show file saved names (record how { look = colored })) × IsRecolored how.look colored
-IsColored (Check file form) new = new ≡ Check file form
-IsColored (Run job) new = new ≡ Run job
-IsColored (Replay file saved look) new = new ≡ Replay file saved look
-IsColored (Races job) new = new ≡ Races job
-IsColored (Search s) new = new ≡ Search s
+IsColored explain (Check file form) new = new ≡ Check file form
+IsColored explain (Run job) new = new ≡ Run (record job { look = record job.look { callers = explain } })
+IsColored explain (Replay file saved look) new = new ≡ Replay file saved (record look { callers = explain })
+IsColored explain (Races job) new = new ≡ Races job
+IsColored explain (Search s) new = new ≡ Search s
 
--- What the words ask for, but for colors.
-pub record IsColoredOrderOf (words : List (List ℕ)) (new : Order) : Type 0 where
+-- What the words ask for, where standard error is a terminal or isn't; but for colors.
+pub record IsPlanOf (words : List (List ℕ)) (new : Plan) : Type 0 where
   pub order : Order
   pub asked : IsAskedBy words order
-  pub explain : new.explain ≡ order.explain
-  pub job : IsColored order.job new.job
+  pub is_terminal : Bool
+  pub explain : new.explain ≡ is_explained order.explain is_terminal
+  pub job : IsColored new.explain order.job new.job

@@ -1,11 +1,11 @@
 //! The command line of a program.
 
-ghost use Rattle.std.specs.Prelude.{IfOk};
+ghost use Rattle.std.specs.Prelude.{◌≡◌, IfOk};
 ghost use Rattle.report_command.specs.Jobs.{IsInRange};
-ghost use Rattle.report_command.specs.Options.{texts_in};
-ghost use Rattle.report_program.specs.Coloring.{IsColored, IsColoredOrderOf};
+ghost use Rattle.report_command.specs.Options.{is_explained, texts_in};
+ghost use Rattle.report_program.specs.Coloring.{IsColored, IsPlanOf};
 
-use report_command::{Color, Job, Look, Misuse, Order, ShowLook, Usage, asked, misused};
+use report_command::{Color, EndLook, Job, Look, Misuse, Order, ShowLook, Usage, asked, misused};
 use std::env;
 use std::io::{ErrorKind, IsTerminal};
 
@@ -30,20 +30,43 @@ fn color_on(color: Color, is_terminal: bool) -> Color {
     }
 }
 
-/// The job, with colors as standard output takes them.
-fn colored<'a>(job: Job<'a>, is_terminal: bool) -> Job<'a>
+/// What is done, and whether more is said of what goes wrong.
+#[derive(Drop)]
+pub struct Plan<'a> {
+    pub job: Job<'a>,
+    pub explain: bool,
+}
+
+/// The end of a run, where the calls of a thread that trapped are told or aren't.
+fn end_told(look: EndLook, callers: bool) -> EndLook
+    ensures { result ≡ record look { callers = callers } }
+{
+    EndLook { callers, ..look }
+}
+
+/// The job, with colors as standard output takes them, and with the calls of a thread that trapped where it is explained.
+fn colored<'a>(job: Job<'a>, is_terminal: bool, explain: bool) -> Job<'a>
     requires { IsInRange job }
     ensures range { IsInRange result }
-    ensures same { IsColored job.entry result }
+    ensures same { IsColored explain job.entry result }
 {
     match job {
+        Job::Run(mut run) => {
+            run.look = end_told(run.look, explain);
+            Job::Run(run)
+        }
+        Job::Replay { file, saved, look } => Job::Replay {
+            file,
+            saved,
+            look: end_told(look, explain),
+        },
         Job::Show {
             file,
             saved,
             names,
             how,
         } => {
-            let ShowLook { look, named, view } = how;
+            let ShowLook { look, named, source, view } = how;
             let Look {
                 choice,
                 width,
@@ -59,26 +82,38 @@ fn colored<'a>(job: Job<'a>, is_terminal: bool) -> Job<'a>
                 file,
                 saved,
                 names,
-                how: ShowLook { look, named, view },
+                how: ShowLook { look, named, source, view },
             }
         }
         other => other,
     }
 }
 
-/// What the words ask for, with colors as standard output takes them.
+/// An order, with colors and explained as these streams are terminals.
+fn plan_of<'a>(order: Order<'a>, out: bool, err: bool) -> Plan<'a>
+    requires { IsInRange order.job }
+    ensures range { IsInRange result.job }
+    ensures explain { result.explain ≡ is_explained order.entry.explain err }
+    ensures same { IsColored result.explain order.entry.job result.job }
+{
+    let Order { job, explain } = order;
+    let explain = explain.is_on(err);
+    Plan {
+        job: colored(job, out, explain),
+        explain,
+    }
+}
+
+/// What the words ask for, with colors as standard output takes them, and explained as standard error does.
 ///
 /// # Errors
 /// As those of `report_command::asked`.
-pub fn order_of<'a>(rt: &HostRuntime, words: &'a [&'a str]) -> Result<Order<'a>, Usage>
-    ensures range { IfOk result (λ order. IsInRange order.job) }
-    ensures asks { IfOk result (IsColoredOrderOf (texts_in words.now)) }
+pub fn order_of<'a>(rt: &HostRuntime, words: &'a [&'a str]) -> Result<Plan<'a>, Usage>
+    ensures range { IfOk result (λ plan. IsInRange plan.job) }
+    ensures asks { IfOk result (IsPlanOf (texts_in words.now)) }
 {
     match asked(rt.alloc(), words) {
-        Ok(Order { job, explain }) => Ok(Order {
-            job: colored(job, rt.stdout().is_terminal()),
-            explain,
-        }),
+        Ok(order) => Ok(plan_of(order, rt.stdout().is_terminal(), rt.stderr().is_terminal())),
         Err(usage) => Err(usage),
     }
 }

@@ -2,7 +2,7 @@
 //! than a file that can be accepted.
 ghost use Rattle.std.specs.Prelude.{◌≡◌, IfOk, IfSome, take};
 
-use std::alloc::Global;
+use std::alloc::{AllocError, Global};
 use std::fs::File;
 use std::io::{self, Read};
 use types::{
@@ -14,6 +14,9 @@ const MODULE_FRONT: u64 = MOST_MODULE_BYTES as u64 + 1;
 
 /// What is read of the bytes that are laid over a memory: one more than any memory has, by which too many are told.
 const MEMORY_FRONT: u64 = MOST_PAGES as u64 * PAGE_SIZE as u64 + 1;
+
+/// How standard input is called among files.
+const STANDARD: &str = "-";
 
 /// How each record begins.
 const RECORD_HEAD: &[u8] = b"wathread-record ";
@@ -41,6 +44,12 @@ pub enum Unread {
     File(io::ErrorKind),
 }
 
+impl From<AllocError> for Unread {
+    fn from(_: AllocError) -> Unread {
+        Unread::NoMemory
+    }
+}
+
 impl From<io::Error> for Unread {
     fn from(error: io::Error) -> Unread {
         match error.kind() {
@@ -62,13 +71,20 @@ pub fn read_front<R: Read + Drop>(alloc: Global, reader: R, most: u64) -> io::Re
     Ok(bytes)
 }
 
+/// The first `most` bytes of the file at a path, or of standard input, which is `-`.
+fn front_of(rt: &HostRuntime, path: &str, most: u64) -> io::Result<Vec<u8>> {
+    if path == STANDARD {
+        return read_front(rt.alloc(), rt.stdin(), most);
+    }
+    read_front(rt.alloc(), File::open(rt, path)?, most)
+}
+
 /// The bytes of a module's file, or of one that is too long for a module the first 1,048,577.
 ///
 /// # Errors
 /// `File` where it can't be read, `NoMemory`.
 pub fn read_module(rt: &HostRuntime, path: &str) -> Result<Vec<u8>, Unread> {
-    let file = File::open(rt, path)?;
-    Ok(read_front(rt.alloc(), file, MODULE_FRONT)?)
+    Ok(front_of(rt, path, MODULE_FRONT)?)
 }
 
 /// The bytes of a file that are laid over a memory, or of one that is too long for any memory the first 16,777,217.
@@ -76,20 +92,26 @@ pub fn read_module(rt: &HostRuntime, path: &str) -> Result<Vec<u8>, Unread> {
 /// # Errors
 /// `File` where it can't be read, `NoMemory`.
 pub fn read_memory(rt: &HostRuntime, path: &str) -> Result<Vec<u8>, Unread> {
-    let file = File::open(rt, path)?;
-    Ok(read_front(rt.alloc(), file, MEMORY_FRONT)?)
+    Ok(front_of(rt, path, MEMORY_FRONT)?)
 }
 
-/// The bytes of a record's file, or of one that is too long for the record of a run as many as the longest can have;
-/// where it doesn't begin as a record does, only those that show it.
+/// The bytes of a record, or of what is too long for the record of a run as many as the longest can have; where they don't
+/// begin as a record does, only those that show it.
+fn saved_front<R: Read + Drop>(alloc: Global, mut reader: R) -> io::Result<Vec<u8>> {
+    let mut bytes = read_front(alloc, &mut reader, RECORD_HEAD.len() as u64)?;
+    if bytes.as_slice() == RECORD_HEAD {
+        reader.take(RECORD_FRONT).read_to_end(&mut bytes)?;
+    }
+    Ok(bytes)
+}
+
+/// The bytes of a record's file, or of standard input, which is `-`.
 ///
 /// # Errors
 /// `File` where it can't be read, `NoMemory`.
 pub fn read_saved(rt: &HostRuntime, path: &str) -> Result<Vec<u8>, Unread> {
-    let mut file = File::open(rt, path)?;
-    let mut bytes = read_front(rt.alloc(), &mut file, RECORD_HEAD.len() as u64)?;
-    if bytes.as_slice() == RECORD_HEAD {
-        file.take(RECORD_FRONT).read_to_end(&mut bytes)?;
+    if path == STANDARD {
+        return Ok(saved_front(rt.alloc(), rt.stdin())?);
     }
-    Ok(bytes)
+    Ok(saved_front(rt.alloc(), File::open(rt, path)?)?)
 }

@@ -40,10 +40,10 @@ pub(crate) fn add_call(
     out: &mut String,
     parts: &Parts,
     name: &str,
-    given: usize,
+    args: &[&str],
 ) -> Result<(), AllocError> {
     match type_of(parts, name) {
-        Some(func_type) => add_arguments(out, name, func_type, given),
+        Some(func_type) => add_arguments(out, name, func_type, args),
         None => add_exports(out, parts.exports.as_slice()),
     }
 }
@@ -67,37 +67,62 @@ fn add_exports(out: &mut String, exports: &[Export]) -> Result<(), AllocError> {
     Ok(())
 }
 
+fn type_name(val_type: ValType) -> &'static str {
+    match val_type {
+        ValType::I32 => "i32",
+        ValType::I64 => "i64",
+    }
+}
+
 fn add_types(out: &mut String, types: &[ValType]) -> Result<(), AllocError> {
     out.push('(')?;
     for (place, val_type) in types.iter().enumerate() {
         if place > 0 {
             out.push_str(" ")?;
         }
-        out.push_str(match val_type {
-            ValType::I32 => "i32",
-            ValType::I64 => "i64",
-        })?;
+        out.push_str(type_name(*val_type))?;
     }
     out.push(')')
 }
 
-/// Adds the type of a function, and how many arguments it was given.
+/// Whether a text is an unsigned decimal that fits the type.
+fn fits(val_type: ValType, text: &str) -> bool {
+    !text.starts_with('+')
+        && match val_type {
+            ValType::I32 => text.parse::<u32>().is_ok(),
+            ValType::I64 => text.parse::<u64>().is_ok(),
+        }
+}
+
+/// Adds which arguments are none of their types.
+fn add_unfit(out: &mut String, types: &[ValType], args: &[&str]) -> Result<(), AllocError> {
+    for (place, (val_type, text)) in types.iter().zip(args.iter()).enumerate() {
+        if !fits(*val_type, text) {
+            let (number, text, name) = (place.saturating_add(1), Plain(text), type_name(*val_type));
+            write!(out, "argument {number} is no {name}: {text}\n")?;
+        }
+    }
+    Ok(())
+}
+
+/// Adds the type of a function, how many arguments it was given where that is wrong, and which don't fit.
 fn add_arguments(
     out: &mut String,
     name: &str,
     func_type: &FuncType,
-    given: usize,
+    args: &[&str],
 ) -> Result<(), AllocError> {
     let name = Plain(name);
     write!(out, "{name} is of type ")?;
     add_types(out, func_type.params.as_slice())?;
     out.push_str(" -> ")?;
     add_types(out, func_type.results.as_slice())?;
-    let wanted = func_type.params.len();
+    let (wanted, given) = (func_type.params.len(), args.len());
     if wanted != given {
         write!(out, "; arguments wanted: {wanted}, given: {given}")?;
     }
     out.push('\n')?;
+    add_unfit(out, func_type.params.as_slice(), args)?;
     out.push_str(
         "an argument is an unsigned decimal that fits its type; -1 of an i32 is 4294967295\n",
     )

@@ -103,7 +103,11 @@ fn explain_call(alloc: Global, job: &Job, done: Done, out: &mut String) -> Resul
                 ..
             },
         ) if !is_unlaid(alloc, done, *memory_in) => {
-            explain_invoke(alloc, call.invoke, call.args.len(), done.module, out)
+            explain_invoke(alloc, call.invoke, call.args.as_slice(), done.module, out)
+        }
+        Job::Search(search) => {
+            let call = &search.call;
+            explain_invoke(alloc, call.invoke, call.args.as_slice(), done.module, out)
         }
         _ => Ok(()),
     }
@@ -120,12 +124,12 @@ fn is_unlaid(alloc: Global, done: Done, file: Option<MemoryFile>) -> bool {
     }
 }
 
-/// Adds the lines on a call, by this name and with so many arguments, that can't be made of the module that the bytes
-/// spell.
+/// Adds the lines on a call, by this name and with arguments as they are written, that can't be made of the module that
+/// the bytes spell.
 fn explain_invoke(
     alloc: Global,
     name: &str,
-    given: usize,
+    args: &[&str],
     bytes: &[u8],
     out: &mut String,
 ) -> Result<(), AllocError>
@@ -135,7 +139,7 @@ fn explain_invoke(
     match read(alloc, bytes) {
         Ok(module) => {
             let parts = module.parts();
-            explain(alloc, out, &Refused::Call { parts, name, given })
+            explain(alloc, out, &Refused::Call { parts, name, args })
         }
         Err(_) => Ok(()),
     }

@@ -27,11 +27,11 @@ pub enum Refused<'a> {
     },
     /// The bytes of a module that isn't valid.
     Module(&'a [u8], ValidFault),
-    /// A call of a module: no function is exported under the name, or it doesn't take the arguments, which are so many.
+    /// A call of a module: no function is exported under the name, or it doesn't take the arguments, as they are written.
     Call {
         parts: &'a Parts,
         name: &'a str,
-        given: usize,
+        args: &'a [&'a str],
     },
     /// Bytes that are no record's text.
     Text(&'a [u8], RecordFault),
@@ -85,7 +85,7 @@ fn write_lines(alloc: Global, out: &mut String, refused: &Refused) -> Result<(),
             Ok(module) => add_validity(alloc, out, bytes, module.parts(), fault),
             Err(_) => Ok(()),
         },
-        Refused::Call { parts, name, given } => add_call(out, parts, name, given),
+        Refused::Call { parts, name, args } => add_call(out, parts, name, args),
         Refused::Text(saved, fault) => add_unread(out, saved, fault),
         Refused::Line {
             saved,

@@ -15,4 +15,4 @@ source_text text (Some source) = line_text (text source.0) source.1
 
 -- The function, how far the instruction is behind the start of its body, and the line of source.
 abbrev pub site_text : Spot → List ℕ
-site_text s = spot_text (record s { source = None }) ++ source_text (λ file. file.now) s.source
+site_text s = spot_text (record s { source = None; text = None }) ++ source_text (λ file. file.now) s.source

@@ -21,11 +21,13 @@ impl fmt::Display for Site<'_> {
             name,
             offset,
             source,
+            text: _,
         } = self.0;
         let front = Spot {
             name,
             offset,
             source: None,
+            text: None,
         };
         write!(f, "{front}")?;
         if let Some((file, line)) = source {

@@ -20,6 +20,7 @@ fn place_of(spot: Spot<'_>) -> Place<'_> {
         name,
         offset,
         source,
+        text: _,
     } = spot;
     Place {
         function: name,

@@ -5,6 +5,7 @@
 //! The entries are those of the crate `show_units`. What they don't say has no name: nothing is guessed.
 #![tactic(auto)]
 
+mod leaves;
 mod members;
 mod naming;
 mod parts;
@@ -13,6 +14,8 @@ mod sizes;
 mod static_data;
 mod words;
 
+pub use leaves::{Leaf, leaves_of};
+pub use members::Bits;
 pub use naming::name_at;
 pub use place::Place;
 pub use sizes::{bare, dimensions, size_of};

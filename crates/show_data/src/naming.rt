@@ -76,13 +76,22 @@ impl Named {
     }
 }
 
-/// What an address is called: by the static variable that has it, and the members and elements on the way to it. One that
-/// isn't the first of what is named has its distance from that behind a `+`.
+impl Named {
+    /// Whether a part of this type begins at an address.
+    fn is_at(&self, address: u64, its_type: Option<usize>) -> bool {
+        self.part.place.start == address && its_type == Some(self.part.its_type)
+    }
+}
+
+/// What an address is called: by the static variable that has it, and the members and elements on the way to it, as far as
+/// the first one of this type that begins there, if there is one. One that isn't the first of what is named has its
+/// distance from that behind a `+`.
 pub fn name_at(
     alloc: Global,
     units: &Units,
     data: &Spans,
     address: u64,
+    its_type: Option<usize>,
 ) -> Result<Option<String>, AllocError>
     ensures { IfOk result (λ words. OnSome words (IsSome (find (holds address) «data».now.items.items))) }
 {
@@ -98,7 +107,7 @@ pub fn name_at(
         start: span.start,
     };
     for _ in 0..MOST_TYPES {
-        if !named.step(alloc, units, address)? {
+        if named.is_at(address, its_type) || !named.step(alloc, units, address)? {
             break;
         }
     }

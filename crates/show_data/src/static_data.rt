@@ -25,11 +25,10 @@ fn address_of(units: &Units, entry: usize) -> Option<u64> {
 /// The bytes of a variable that has a name and an address, and whose type has a size. What was left out of a module is said
 /// to be at the end of memory, where nothing has room.
 fn span_of(alloc: Global, units: &Units, entry: usize) -> Result<Option<Spanned>, AllocError> {
-    let (Some(start), Some(its_type), Some(_)) = (
-        address_of(units, entry),
-        units.type_of(entry),
-        units.name(entry),
-    ) else {
+    let Some(start) = address_of(units, entry) else {
+        return Ok(None);
+    };
+    let (Some(its_type), Some(_)) = (units.type_of(entry), units.name(entry)) else {
         return Ok(None);
     };
     let Some(size) = size_of(alloc, units, its_type)? else {

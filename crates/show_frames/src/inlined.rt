@@ -1,7 +1,7 @@
 //! Functions that were put in the place of their calls.
 
 use crate::scopes::scopes_at;
-use show_lines::{DebugSections, Source, read_files};
+use show_lines::{DebugSections, Files, Source, read_files};
 use show_units::{Attribute, Spans, Tag, Units};
 use std::alloc::{AllocError, Global};
 
@@ -14,20 +14,25 @@ pub struct Inlined<'a> {
     pub line: Option<u64>,
 }
 
-/// The file of an inlined function's call.
-fn file_of<'a>(
+/// How many steps a byte of the files of a unit costs.
+const FILE_STEPS: usize = 64;
+
+/// The files of the unit of scopes, if one of these was put in the place of a call.
+fn files_of<'a>(
     alloc: Global,
     units: &Units<'a>,
     lines: DebugSections<'a>,
-    inlined: usize,
-) -> Result<Option<Source<'a>>, AllocError> {
-    let (Some(offset), Some(number)) = (
-        units.lines_of(inlined),
-        units.number(inlined, Attribute::CallFile),
-    ) else {
+    scopes: &[usize],
+) -> Result<Option<Files<'a>>, AllocError> {
+    let inlined = scopes
+        .iter()
+        .find(|scope| units.tag(**scope) == Tag::Inlined);
+    let Some(offset) = inlined.and_then(|scope| units.lines_of(*scope)) else {
         return Ok(None);
     };
-    Ok(read_files(alloc, lines, offset)?.get(number))
+    let files = read_files(alloc, lines, offset)?;
+    units.pass(files.size().saturating_mul(FILE_STEPS));
+    Ok(Some(files))
 }
 
 /// The functions that were put in the place of their calls at an offset of the code, the innermost first.
@@ -38,12 +43,15 @@ pub fn inlined_at<'a>(
     functions: &Spans,
     offset: u64,
 ) -> Result<Vec<Inlined<'a>>, AllocError> {
+    let scopes = scopes_at(alloc, units, functions, offset)?;
+    let files = files_of(alloc, units, lines, scopes.as_slice())?;
     let mut chain = Vec::new(alloc);
-    for scope in scopes_at(alloc, units, functions, offset)?.iter().rev() {
+    for scope in scopes.iter().rev() {
         if matches!(units.tag(*scope), Tag::Inlined) {
+            let number = units.number(*scope, Attribute::CallFile);
             chain.push(Inlined {
                 function: units.name(*scope),
-                file: file_of(alloc, units, lines, *scope)?,
+                file: number.and_then(|number| files.as_ref()?.get(number)),
                 line: units.number(*scope, Attribute::CallLine),
             })?;
         }

@@ -15,6 +15,7 @@ pub struct Variable<'a> {
     /// How many calls lead from the function whose frame it is to its own, which was put in the place of a call: 0 of
     /// the function itself.
     pub depth: usize,
+    pub its_type: usize,
     /// As C writes it.
     pub type_words: String,
     /// In bytes.
@@ -64,6 +65,7 @@ fn variable_of<'a>(
         name,
         is_parameter,
         depth: scope.depth,
+        its_type,
         type_words,
         size,
         kind: kind_of(units, its_type),
@@ -96,8 +98,55 @@ fn scopes(
     Ok(scopes)
 }
 
+/// The most variables that are looked at.
+const MOST_VARIABLES: usize = 256;
+
+/// The most bytes of a variable's name.
+const MOST_NAME: usize = 256;
+
+/// A name that stands in front of others.
+#[derive(Clone, Copy)]
+struct Seen<'a> {
+    name: &'a str,
+    depth: usize,
+}
+
+/// Adds what an entry of a scope says of a variable, if no variable of its own function that was seen has its name, and
+/// not more were seen than are looked at.
+fn add_variable<'a>(
+    alloc: Global,
+    units: &Units<'a>,
+    scope: Scope,
+    entry: usize,
+    offset: u64,
+    seen: &mut Vec<Seen<'a>>,
+    variables: &mut Vec<Variable<'a>>,
+) -> Result<(), AllocError> {
+    if !matches!(units.tag(entry), Tag::Parameter | Tag::Variable) || seen.len() >= MOST_VARIABLES {
+        return Ok(());
+    }
+    let (Some(name), depth) = (units.name(entry), scope.depth) else {
+        return Ok(());
+    };
+    if name.len() > MOST_NAME {
+        return Ok(());
+    }
+    let is_hidden = seen
+        .iter()
+        .any(|other| other.depth == depth && other.name == name);
+    seen.push(Seen { name, depth })?;
+    if is_hidden {
+        return Ok(());
+    }
+    if let Some(variable) = variable_of(alloc, units, scope, entry, offset)? {
+        variables.push(variable)?;
+    }
+    Ok(())
+}
+
 /// The parameters and locals in scope at an offset of the code that have a place while it runs, those of the innermost
-/// scope first. One of a name hides those of the same name behind it in its own function.
+/// scope first. One of a name hides those of the same name behind it in its own function, also where it has no place. Of
+/// more than are looked at the further ones are left out, and those with longer names.
 pub fn variables_at<'a>(
     alloc: Global,
     units: &Units<'a>,
@@ -105,11 +154,18 @@ pub fn variables_at<'a>(
     offset: u64,
 ) -> Result<Vec<Variable<'a>>, AllocError> {
     let mut variables = Vec::new(alloc);
+    let mut seen = Vec::new(alloc);
     for scope in scopes(alloc, units, functions, offset)?.iter().rev() {
         for entry in &units.children(alloc, scope.entry, units.len())? {
-            if let Some(variable) = variable_of(alloc, units, *scope, *entry, offset)? {
-                variables.push(variable)?;
-            }
+            add_variable(
+                alloc,
+                units,
+                *scope,
+                *entry,
+                offset,
+                &mut seen,
+                &mut variables,
+            )?;
         }
     }
     Ok(variables)

@@ -8,6 +8,9 @@ use std::fmt::Write;
 /// The most types on the way to a name.
 const MOST_TYPES: u32 = 64;
 
+/// The most bytes behind that name.
+const MOST_BEHIND: usize = 1024;
+
 /// The words of a type from the inside out: what stands behind the name of the type that it is made of, and the words in
 /// front of that name.
 #[derive(Drop)]
@@ -91,7 +94,7 @@ fn kind_word(tag: Tag) -> &'static str {
 }
 
 /// A type as C writes it, as `struct node *` or `int (*)[3]`; `void` where there is none. A structure without a name is
-/// `struct`. None where its way to a name is too long.
+/// `struct`. None where its way to a name is too long, or what stands behind that.
 pub fn type_words(
     alloc: Global,
     units: &Units,
@@ -122,6 +125,9 @@ pub fn type_words(
                 let name = units.name(this).unwrap_or("");
                 return Ok(Some(declarator.finish(kind_word(tag), name)?));
             }
+        }
+        if declarator.behind.len() > MOST_BEHIND || declarator.front.len() > MOST_BEHIND {
+            break;
         }
         next = units.type_of(this);
     }

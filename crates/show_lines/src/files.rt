@@ -12,6 +12,8 @@ pub struct Files<'a> {
     sources: Vec<Source<'a>>,
     /// The number of the first.
     first: u64,
+    /// How many bytes they were read from.
+    size: usize,
 }
 
 impl<'a> Files<'a> {
@@ -19,6 +21,11 @@ impl<'a> Files<'a> {
     pub fn get(&self, number: u64) -> Option<Source<'a>> {
         let place = usize::try_from(number.checked_sub(self.first)?).ok()?;
         self.sources.get(place).copied()
+    }
+
+    /// How many bytes they were read from.
+    pub fn size(&self) -> usize {
+        self.size
     }
 }
 
@@ -36,10 +43,12 @@ fn files_at<'a>(
     if version != 4 && version != 5 {
         return Err(Fault::Unreadable);
     }
+    let len = unit.len();
     let header = read_header(alloc, &mut unit, version, sections)?;
     Ok(Files {
         first: header.first_file,
         sources: header.files,
+        size: len.saturating_sub(unit.len()),
     })
 }
 
@@ -55,6 +64,7 @@ pub fn read_files<'a>(
         Err(Fault::Unreadable) => Ok(Files {
             sources: Vec::new(alloc),
             first: 0,
+            size: 0,
         }),
     }
 }

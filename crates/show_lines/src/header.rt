@@ -39,10 +39,14 @@ struct Named<'a> {
     directory: u64,
 }
 
+/// The most bytes of a name that stands in another section.
+const MOST_NAME: usize = 1024;
+
 /// The text at an offset.
 fn text_at(texts: &[u8], offset: u64) -> Result<&str, Fault> {
     let offset = usize::try_from(offset).map_err(|_| Fault::Unreadable)?;
-    Cursor::new(texts.get(offset..).ok_or(Fault::Unreadable)?).read_text()
+    let behind = texts.get(offset..).ok_or(Fault::Unreadable)?;
+    Cursor::new(&behind[..behind.len().min(MOST_NAME)]).read_text()
 }
 
 impl<'a> DebugSections<'a> {

@@ -1,11 +1,12 @@
 //! The table of lines of a module.
 
-ghost use Rattle.std.specs.Prelude.{◌≡◌, [], find, codes, IfOk};
-ghost use Rattle.show_lines.specs.Lines.{holds};
+ghost use Rattle.std.specs.Prelude.{◌≡◌, ◌≤◌, ◌⊎◌, [], All, Contains, find, codes, vec_len, IfOk, OnOk};
+ghost use Rattle.show_lines.specs.Lines.{holds, source_of, IsSourceIn};
 ghost use Rattle.show_lines.specs.Sections.{IsCustomOrEmpty};
 
 use crate::cursor::Cursor;
 use crate::fault::Fault;
+use crate::header::Source;
 use crate::unit::read_unit;
 use show_places::custom_section;
 use std::alloc::{AllocError, Global};
@@ -21,6 +22,18 @@ pub struct Range<'a> {
     pub file: &'a str,
     /// From 1 on.
     pub line: u64,
+}
+
+impl<'a> Range<'a> {
+    /// The file that has the line.
+    pub fn source(&self) -> Source<'a>
+        ensures { result ≡ source_of self.now }
+    {
+        Source {
+            directory: self.directory,
+            name: self.file,
+        }
+    }
 }
 
 /// The lines of a module's code.
@@ -41,6 +54,36 @@ impl<'a> LineTable<'a> {
         }
         None
     }
+
+    /// The files that have a line, each once, in the order of their first ranges, `most` at most.
+    ///
+    /// # Errors
+    /// Where memory is refused.
+    pub fn sources(&self, alloc: Global, most: usize) -> Result<Vec<Source<'a>>, AllocError>
+        ensures few { IfOk result (λ sources. vec_len sources ≤ most) }
+        ensures known { IfOk result (λ sources. All (IsSourceIn self.now.ranges.items) sources.items) }
+    {
+        let mut sources = Vec::new(alloc);
+        for range in &self.ranges {
+            add_source(&mut sources, most, range.source())?;
+        }
+        Ok(sources)
+    }
+}
+
+/// Puts a file behind these, where it isn't among them and there are fewer than `most`.
+fn add_source<'a>(
+    sources: &mut Vec<Source<'a>>,
+    most: usize,
+    source: Source<'a>,
+) -> Result<(), AllocError>
+    ensures few { vec_len sources.old ≤ most → OnOk result (vec_len sources.new ≤ most) }
+    ensures known { OnOk result (All (λ s. Contains sources.old.items s ⊎ (s ≡ source.entry)) sources.new.items) }
+{
+    if sources.len() < most && !sources.contains(&source) {
+        sources.push(source)?;
+    }
+    Ok(())
 }
 
 /// The sections of a module that say where its code comes from; empty where there is none.

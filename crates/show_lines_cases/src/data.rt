@@ -15,7 +15,7 @@ pub(crate) fn write_data(
     let units = read_units(alloc, InfoSections::of(module))?;
     let data = read_data(alloc, &units)?;
     for address in addresses {
-        match name_at(alloc, &units, &data, *address)? {
+        match name_at(alloc, &units, &data, *address, None)? {
             Some(words) => writeln!(given, "{address} {words}")?,
             None => writeln!(given, "{address} -")?,
         }

@@ -1,7 +1,7 @@
 //! Debug information that is cut short, or that has another byte.
 
 use show_data::{name_at, place_of, read_data};
-use show_frames::{inlined_at, read_functions, variables_at};
+use show_frames::{read_frame, read_functions};
 use show_lines::DebugSections;
 use show_units::{InfoSections, Spans, Units, read_units};
 use std::alloc::{AllocError, Global};
@@ -11,7 +11,7 @@ use std::fmt::Write;
 fn ask_data(alloc: Global, units: &Units) -> Result<(), AllocError> {
     let data = read_data(alloc, units)?;
     for span in data.items() {
-        if let Some(words) = name_at(alloc, units, &data, span.start)? {
+        if let Some(words) = name_at(alloc, units, &data, span.start, None)? {
             place_of(alloc, units, &data, words.as_str())?;
         }
     }
@@ -26,8 +26,8 @@ fn ask_code(
     functions: &Spans,
     offset: u64,
 ) -> Result<(), AllocError> {
-    drop(inlined_at(alloc, units, lines, functions, offset)?);
-    drop(variables_at(alloc, units, functions, offset)?);
+    let offset = usize::try_from(offset).ok();
+    drop(read_frame(alloc, units, lines, functions, offset)?);
     Ok(())
 }
 

@@ -10,8 +10,11 @@ use Rattle.show_races.specs.Written.{IsEntryText}
 use Rattle.show_moments.specs.declared.standing.ThreadSnapshot.{ThreadSnapshot}
 use Rattle.show_moments.specs.declared.standing.OpenFunction.{OpenFunction}
 use Rattle.show_moments.specs.Opened.{IsOpenFunction}
-use Rattle.show_moments.specs.Scenes.{Seen, AddsFunction, AddsFunctions, AddsOther, AddsRace, AddsRaces}
-use Rattle.show_moments.specs.Scenes.{AddsThread, AddsThreads, IsFunctionText}
+use Rattle.show_frames.specs.declared.frames.Frame.{Frame}
+use Rattle.show_frames.specs.declared.values.FrameValue.{FrameValue}
+use Rattle.show_rows.specs.Spots.{named_offset}
+use Rattle.show_moments.specs.Scenes.{Seen, AddsFunction, AddsFunctions, AddsOpened, AddsOther, AddsRace, AddsRaces}
+use Rattle.show_moments.specs.Scenes.{AddsThread, AddsThreads, AddsValue, AddsValues, IsFunctionText, IsValueText}
 
 -- Threads, from 0 on.
 pub no_threads : (s : Seen) (a : Option (List ℕ)) → AddsThreads s 0 a a
@@ -34,9 +37,42 @@ pub ends_first : (s : Seen) (standing : ThreadSnapshot) (all number : ℕ) (a : 
     → Ends s standing all number a a
 ends_first s standing all number a is = λ new rest. subst (λ (n : ℕ). AddsFunctions s standing n a new) is rest
 
-pub function_adds : (s : Seen) (standing : ThreadSnapshot) (number : ℕ) (o : OpenFunction) (text : List ℕ) (a b : Option (List ℕ))
-    → IsOpenFunction standing number o → IsFunctionText s o text → Appends a b text → AddsFunction s standing number a b
-function_adds s standing number o text a b opened is wrote = (o, opened, text, is, wrote)
+pub function_adds : (s : Seen) (standing : ThreadSnapshot) (number : ℕ) (o : OpenFunction) (a b : Option (List ℕ))
+    → IsOpenFunction standing number o → AddsOpened s o a b → AddsFunction s standing number a b
+function_adds s standing number o a b opened adds = (o, opened, adds)
+
+pub opened_adds : (s : Seen) (o : OpenFunction) (frame : Frame) (values : List FrameValue) (text : List ℕ) (a b c : Option (List ℕ))
+    → frame.offset ≡ named_offset s.shown.code.now o.place → IsFunctionText s o frame text → Appends a b text
+    → values ≡ frame.values.items → AddsValues s o values b c → AddsOpened s o a c
+opened_adds s o frame values text a b c there says adds same all = record {
+  frame = frame;
+  there = there;
+  text = text;
+  says = says;
+  middle = b;
+  adds = adds;
+  values = subst (λ (vs : List FrameValue). AddsValues s o vs b c) same all;
+}
+
+-- Values, from the first on.
+values_one : (s : Seen) (o : OpenFunction) (values : List FrameValue) (v : FrameValue) (a b c : Option (List ℕ))
+    → AddsValues s o values a b → AddsValue s o v b c → AddsValues s o (values ++ v ∷ []) a c
+values_one s o [] v a b c same step = (c, subst (λ (x : Option (List ℕ)). AddsValue s o v x c) same step, refl)
+values_one s o (x ∷ values) v a b c (middle, first, rest) step =
+    (middle, first, values_one s o values v middle b c rest step)
+
+pub values_next : (s : Seen) (o : OpenFunction) (values : List FrameValue) (k : ℕ) (z v : FrameValue) (text : List ℕ)
+    (a b c : Option (List ℕ)) → k < length values → v ≡ get_or values k z → AddsValues s o (take k values) a b
+    → IsValueText s o v text → Appends b c text → AddsValues s o (take (k + 1) values) a c
+values_next s o values k z v text a b c lt is before says adds =
+    let e : take (k + 1) values ≡ take k values ++ v ∷ [] =
+    take_more values k z lt ∙ ap (λ (x : FrameValue). take k values ++ x ∷ []) (sym is) in
+    subst (λ (vs : List FrameValue). AddsValues s o vs a c) (sym e)
+    (values_one s o (take k values) v a b c before (text, says, adds))
+
+pub values_all : (s : Seen) (o : OpenFunction) (values : List FrameValue) (k : ℕ) (a b : Option (List ℕ)) → length values ≤ k
+    → AddsValues s o (take k values) a b → AddsValues s o values a b
+values_all s o values k a b le all = subst (λ (vs : List FrameValue). AddsValues s o vs a b) (take_all k values le) all
 
 pub ends_next : (s : Seen) (standing : ThreadSnapshot) (all above number : ℕ) (a b c : Option (List ℕ)) → above ≡ number + 1
     → Ends s standing all above a b → AddsFunction s standing number b c → Ends s standing all number a c

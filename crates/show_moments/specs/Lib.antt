@@ -2,3 +2,4 @@ pub mod Moments
 pub mod Opened
 pub mod Scenes
 pub mod Texts
+pub mod Values

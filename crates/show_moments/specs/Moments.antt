@@ -38,12 +38,14 @@ abbrev pub StandsIn : Thread → Option ThreadSnapshot → Type 0
 StandsIn thread None = ⊥
 StandsIn thread (Some s) = StandsAs thread s
 
--- The queue is that of this walk, the bytes are those of its memory, and each of its threads stands where it does there.
+-- The queue is that of this walk, the bytes are those of its memory, that is kept too, and each of its threads stands
+-- where it does there.
 pub record IsRound (m : Moment) (walk : Walk Thread) : Type 0 where
   pub queue : KeptQueue
   pub kept : m.queue ≡ Some queue
   pub same : queue_of queue ≡ without_answers walk.stage.queue
   pub bytes : m.bytes.items ≡ bytes_of walk.memory.bytes m.wanted
+  pub memory : m.memory.items ≡ walk.memory.bytes
   pub here : AllZip StandsIn walk.threads.items m.here.items
 
 -- What the thread with this number comes to first is kept, and nothing is kept where something is already.
@@ -76,6 +78,7 @@ pub record IsOfSame (old new : Moment) : Type 0 where
 pub record KeepsRound (old new : Moment) : Type 0 where
   pub queue : new.queue ≡ old.queue
   pub bytes : new.bytes ≡ old.bytes
+  pub memory : new.memory ≡ old.memory
   pub here : new.here ≡ old.here
 
 -- Behind so many entries, the walk that stands there is looked at where the moment is, and nowhere else; from there on

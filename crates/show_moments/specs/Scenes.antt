@@ -1,6 +1,7 @@
 -- A moment as text.
-use Rattle.std.specs.Prelude.{ℕ, ◌≡◌, ◌+◌, ◌-◌, ◌^◌, ◌<◌, ◌≤◌, ◌==◌, min, zero, suc, nat_le, Bool, true, false, if◌then◌else◌}
-use Rattle.std.specs.Prelude.{List, [], ◌∷◌, ◌++◌, codes, length, Option, Some, None, option_map}
+use Rattle.std.specs.Prelude.{ℕ, ◌≡◌, ◌⊎◌, ◌+◌, ◌-◌, ◌^◌, ◌<◌, ◌≤◌, ◌==◌, ◌||◌, not, min, zero, suc, nat_le, Bool, true, false}
+use Rattle.std.specs.Prelude.{if◌then◌else◌, cond, List, [], ◌∷◌, ◌++◌, codes, find, length, Option, Some, None, IsSome}
+use Rattle.std.specs.Prelude.{option_map, string_bytes}
 use Rattle.std.specs.Global.{Vec}
 use Rattle.std.specs.List.{slice_get, list_any}
 use Rattle.std.specs.Fmt.{decimal}
@@ -24,25 +25,47 @@ use Rattle.show_rows.specs.declared.listing.Shown.{Shown}
 use Rattle.show_rows.specs.declared.listing.Story.{Story}
 use Rattle.show_rows.specs.declared.spot.Spot.{Spot}
 use Rattle.show_rows.specs.Listing.{line_at, AreWordsOf, IsStoryOf}
-use Rattle.show_rows.specs.Spots.{IsSpotOf, spot_text}
+use Rattle.show_rows.specs.Spots.{IsSpotOf, named_offset}
+use Rattle.show_units.specs.Spans.{holds}
+use Rattle.show_frames.specs.declared.frames.Frame.{Frame}
+use Rattle.show_frames.specs.declared.kinds.Kind.{Kind}
+use Rattle.show_frames.specs.declared.values.FrameValue.{FrameValue}
+use Rattle.show_text.specs.Plain.{plain_text}
+use Rattle.show_named.specs.declared.data_map.DataMap.{DataMap}
 use Rattle.show_races.specs.Written.{IsEntryText}
 use Rattle.show_moments.specs.declared.moment.Moment.{Moment}
+use Rattle.show_moments.specs.declared.scene.MomentView.{MomentView}
 use Rattle.show_moments.specs.declared.scene.Scene.{Scene}
 use Rattle.show_moments.specs.declared.standing.ThreadSnapshot.{ThreadSnapshot}
 use Rattle.show_moments.specs.declared.standing.OpenFunction.{OpenFunction}
 use Rattle.show_moments.specs.Moments.{standing_at}
 use Rattle.show_moments.specs.Opened.{IsOpenFunction}
 use Rattle.show_moments.specs.Texts.{listed_text, queue_text, dump_text}
+use Rattle.show_moments.specs.Values.{chained_text, has_parts, is_pointer, is_signed, number_of, number_text}
+use Rattle.show_moments.specs.declared.values.FrameNumber.{FrameNumber}
 
--- A moment of a run of a module, with what is shown of its record and what the log says.
+-- A moment of a run of a module, with what is shown of its record, what the log says, what a debug section says, and
+-- whether all locals and operands are listed.
 pub record Seen : Type 0 where
   pub m : Parts
   pub shown : Shown
+  pub map : DataMap
+  pub raw : Bool
   pub story : Story
   pub moment : Moment
 
+abbrev pub seen_by : MomentView → Story → Moment → Seen
+seen_by v story moment = record {
+  m = v.valid.now.parts;
+  shown = v.shown;
+  map = v.map.now;
+  raw = v.is_raw;
+  story = story;
+  moment = moment;
+}
+
 abbrev pub seen : Scene → Seen
-seen s = record { m = s.valid.now.parts; shown = s.shown; story = s.story.now; moment = s.moment.now }
+seen s = seen_by s.view s.story.now s.moment.now
 
 -- Thread 0 is there from the start, and the others stand in the queue with their arguments.
 abbrev pub is_spawned : Option KeptQueue → ℕ → Bool
@@ -96,21 +119,73 @@ abbrev pub types_of : Option (Vec ValType) → List ValType
 types_of None = []
 types_of (Some types) = types.items
 
+-- Words behind a name stand there where they are asked for, or no functions are known.
+abbrev pub listing_text : Seen → Frame → List ℕ → List ℕ → List ValType → List ℕ
+listing_text s frame name words types = cond (s.raw || not frame.is_known) (listed_text name words types) []
+
 -- An open function: where it is, and its locals and operands, each as a value of its type.
-pub record IsFunctionText (s : Seen) (o : OpenFunction) (text : List ℕ) : Type 0 where
+pub record IsFunctionText (s : Seen) (o : OpenFunction) (frame : Frame) (text : List ℕ) : Type 0 where
   pub spot : Spot
   pub spot_is : IsSpotOf s.shown.code.now o.place spot
   pub locals : Option (Vec ValType)
   pub locals_are : FindsLocals s.m o.place.function locals
   pub operands : Option (Vec ValType)
   pub operands_are : OwnOperandsAt s.m o.place.function o.place.instr operands
-  pub is : text ≡ codes "    " ++ (spot_text spot ++ (listed_text (codes "locals") o.locals.now (types_of locals)
-      ++ (listed_text (codes "operands") o.operands.now (types_of operands) ++ codes "\n")))
+  pub is : text ≡ codes "    " ++ (chained_text spot frame.chain
+      ++ (listing_text s frame (codes "locals") o.locals.now (types_of locals)
+      ++ (listing_text s frame (codes "operands") o.operands.now (types_of operands) ++ codes "\n")))
 
--- What is written is the open function with a number,
+-- The name of the static data to which a pointer points, if it does.
+pub record NamesTarget (map : DataMap) (kind : Kind) (number : ℕ) (text : List ℕ) : Type 0 where
+  pub points : is_pointer kind ≡ true
+  pub within : IsSome (find (holds number) map.spans.items.items)
+  pub name : List ℕ
+  pub words : text ≡ codes " <" ++ (plain_text name ++ codes ">")
+
+abbrev pub IsTargetText : Seen → Kind → ℕ → List ℕ → Type 0
+IsTargetText s kind number text = (text ≡ []) ⊎ NamesTarget s.map kind number text
+
+-- A value, if it is a number in its frame: its type and name, the number, and to what it points.
+abbrev pub shown_number : FrameValue → ℕ → FrameNumber
+shown_number v number = record { is_signed = is_signed v.kind; bits = v.bits; number = number }
+
+abbrev pub IsNumberText : Seen → FrameValue → Option ℕ → List ℕ → Type 0
+IsNumberText s v None text = text ≡ []
+IsNumberText s v (Some number) text = (target : List ℕ) × IsTargetText s v.kind number target
+    × (text ≡ codes "        " ++ (plain_text (string_bytes v.label)
+    ++ (codes " = " ++ (number_text (shown_number v number) ++ (target ++ codes "\n")))))
+
+-- One with parts stands for those that aren't told. The number is that in this frame, and in the memory of the moment.
+abbrev pub IsValueBy : Seen → OpenFunction → FrameValue → Bool → List ℕ → Type 0
+IsValueBy s o v true text = text ≡ codes "        " ++ (plain_text (string_bytes v.label) ++ codes " ..\n")
+IsValueBy s o v false text = IsNumberText s v (number_of o s.moment.memory.items v) text
+
+abbrev pub IsValueText : Seen → OpenFunction → FrameValue → List ℕ → Type 0
+IsValueText s o v = IsValueBy s o v (has_parts v.kind)
+
+abbrev pub AddsValue : Seen → OpenFunction → FrameValue → Option (List ℕ) → Option (List ℕ) → Type 0
+AddsValue s o v old new = (text : List ℕ) × IsValueText s o v text × Appends old new text
+
+-- Each of these values is written, in order.
+abbrev pub AddsValues : Seen → OpenFunction → List FrameValue → Option (List ℕ) → Option (List ℕ) → Type 0
+AddsValues s o [] old new = new ≡ old
+AddsValues s o (v ∷ values) old new =
+    (middle : Option (List ℕ)) × AddsValue s o v old middle × AddsValues s o values middle new
+
+-- What is written is an open function, with the values that the debug section has of the place where it is.
+pub record AddsOpened (s : Seen) (o : OpenFunction) (old new : Option (List ℕ)) : Type 0 where
+  pub frame : Frame
+  pub there : frame.offset ≡ named_offset s.shown.code.now o.place
+  pub text : List ℕ
+  pub says : IsFunctionText s o frame text
+  pub middle : Option (List ℕ)
+  pub adds : Appends old middle text
+  pub values : AddsValues s o frame.values.items middle new
+
+-- That is the one with a number,
 abbrev pub AddsFunction : Seen → ThreadSnapshot → ℕ → Option (List ℕ) → Option (List ℕ) → Type 0
-AddsFunction s standing number old new = (o : OpenFunction) × IsOpenFunction standing number o
-    × (text : List ℕ) × IsFunctionText s o text × Appends old new text
+AddsFunction s standing number old new =
+    (o : OpenFunction) × IsOpenFunction standing number o × AddsOpened s o old new
 
 -- and all below a number, the one with the highest first.
 abbrev pub AddsFunctions : Seen → ThreadSnapshot → ℕ → Option (List ℕ) → Option (List ℕ) → Type 0
@@ -168,11 +243,11 @@ AddsRaces s (race ∷ races) old new =
     (middle : Option (List ℕ)) × AddsRace s race old middle × AddsRaces s races middle new
 
 -- What is written is what each thread comes to, what the entry of the moment races with, who sleeps, and the bytes.
-pub record WritesMoment (m : Parts) (shown : Shown) (moment : Moment) (races : List Race) (old new : Option (List ℕ)) : Type 0 where
+pub record WritesMoment (view : MomentView) (moment : Moment) (races : List Race) (old new : Option (List ℕ)) : Type 0 where
   pub story : Story
-  pub of_log : IsStoryOf shown.record.now.log story
+  pub of_log : IsStoryOf view.shown.record.now.log story
   pub said : Option (List ℕ)
-  pub says : AddsThreads (record { m = m; shown = shown; story = story; moment = moment }) MOST_THREADS old said
+  pub says : AddsThreads (seen_by view story moment) MOST_THREADS old said
   pub raced : Option (List ℕ)
-  pub races_with : AddsRaces (record { m = m; shown = shown; story = story; moment = moment }) races said raced
+  pub races_with : AddsRaces (seen_by view story moment) races said raced
   pub ends : Appends raced new (queue_text moment.queue ++ dump_text moment.wanted.addr moment.bytes.items)

@@ -40,6 +40,8 @@ pub struct Moment<'a> {
     pub queue: Option<KeptQueue>,
     /// Those of the bytes that lie in memory.
     pub bytes: Vec<u8>,
+    /// All bytes of the memory.
+    pub memory: Vec<u8>,
     /// Whether memory was refused for any of this.
     pub is_short: bool,
 }
@@ -169,6 +171,7 @@ impl<'a> Moment<'a> {
             here: empty_seats(alloc)?,
             queue: None,
             bytes: Vec::new(alloc),
+            memory: Vec::new(alloc),
             is_short: false,
         })
     }
@@ -186,6 +189,7 @@ impl Moment<'_> {
         self.here = standings(self.alloc, &walk.threads)?;
         self.queue = Some(walk.stage.queue.keep(self.alloc)?);
         self.bytes = bytes_in(self.alloc, walk.memory.bytes(), self.wanted)?;
+        self.memory = copied(self.alloc, walk.memory.bytes())?;
         Ok(())
     }
 

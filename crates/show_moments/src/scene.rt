@@ -1,53 +1,66 @@
 //! A moment as text.
 
-ghost use Rattle.std.specs.Prelude.{◌≡◌, ◌==◌, ◌<◌, All, IfOk, OnOk, length, string_bytes};
+ghost use Rattle.std.specs.Prelude.{◌≡◌, ◌==◌, ◌<◌, All, IfOk, OnOk, cond, [], length, string_bytes};
 ghost use Rattle.std.specs.List.{slice_get, list_any};
 ghost use Rattle.show_moments.specs.Scenes as specified;
 ghost use Rattle.show_races.specs.Told.{IsWithin};
-ghost use Rattle.show_moments.specs.Scenes.{AddsFunctions, AddsRace, AddsRaces, AddsThread, AddsThreads, IsAskedText};
-ghost use Rattle.show_moments.specs.Scenes.{IsFrontText, IsFunctionText, IsNextOf, IsNextText, IsOwedText, WritesMoment};
+ghost use Rattle.show_moments.specs.Texts as texts;
+ghost use Rattle.show_moments.specs.Scenes.{AddsFunctions, AddsOpened, AddsRace, AddsRaces, AddsThread, AddsThreads};
+ghost use Rattle.show_moments.specs.Scenes.{AddsValues, IsAskedText, IsFrontText, IsFunctionText, IsNextOf, IsNextText};
+ghost use Rattle.show_moments.specs.Scenes.{IsOwedText, IsTargetText, IsValueText, WritesMoment};
 
 use crate::moment::Moment;
 use crate::standing::{OpenFunction, ThreadSnapshot};
 use crate::texts::{dump_text, listed_text, queue_text};
+use crate::values::{FrameNumber, FrameSpot, has_parts, is_pointer, is_signed, number_of};
 use interp::CodePlace;
 use race_history::Race;
 use shared_memory::Sleeper;
+use show_frames::{Frame, FrameValue};
+use show_named::DataMap;
 use show_races::entry_text;
 use show_rows::{Shown, Story};
-use show_text::{Context, Unwritten};
+use show_text::{Context, Plain, Unwritten};
 use std::alloc::{AllocError, Global};
 use std::io::Write;
 use types::{Entry, Event, MOST_THREADS, Question, ValType};
 use validate::operand_types;
 use validate_module::ValidModule;
 
+/// What a moment is shown of: a record of a run of the module, and what a debug section says of its code and data.
+#[derive(Clone, Copy)]
+pub struct MomentView<'v, 'd, 'r, 'w, 'c, 'm, 'n, 'b> {
+    pub valid: &'v ValidModule,
+    pub shown: Shown<'r, 'w, 'c, 'm, 'n>,
+    pub map: &'d DataMap<'b>,
+    /// Whether locals and operands stand there as they are, also where functions are known by a debug section.
+    pub is_raw: bool,
+}
+
 /// Writes a moment of a run of the module: of each thread what it comes to next or on what it sleeps, with its open
-/// functions, the one that runs first; with what the entry of this moment races, of these races; who sleeps, in the
-/// order of the queue; and the bytes.
+/// functions, the one that runs first, and their values; with what the entry of this moment races, of these races; who
+/// sleeps, in the order of the queue; and the bytes.
 ///
 /// # Errors
 /// Where memory is refused, and where the output fails.
 pub fn write_moment<W: Write>(
     alloc: Global,
-    valid: &ValidModule,
-    shown: Shown,
+    view: MomentView,
     moment: &Moment,
     races: &[Race],
     out: &mut W,
 ) -> Result<(), Unwritten>
-    requires { All (IsWithin shown.record.now.log) races.now }
-    ensures { OnOk result (WritesMoment valid.now.parts shown.entry moment.now races.now
-        (W.contents out.old) (W.contents out.new)) }
+    requires { All (IsWithin view.shown.record.now.log) races.now }
+    ensures { OnOk result (WritesMoment view.entry moment.now races.now (W.contents out.old) (W.contents out.new)) }
 {
     if moment.is_short {
         return Err(Unwritten::NoMemory);
     }
-    let story = Story::new(alloc, shown.record.log.as_slice())?;
+    view.map.begin_moment();
+    let story = Story::new(alloc, view.shown.record.log.as_slice())?;
     let scene = Scene {
         alloc,
-        valid,
-        shown,
+        view,
         story: &story,
         moment,
     };
@@ -60,12 +73,35 @@ pub fn write_moment<W: Write>(
     Ok(())
 }
 
+/// Writes the open functions of a thread that stands somewhere at a moment, the one that runs first, and their values.
+///
+/// # Errors
+/// Where memory is refused, and where the output fails.
+pub fn write_stack<W: Write>(
+    alloc: Global,
+    view: MomentView,
+    story: &Story,
+    moment: &Moment,
+    standing: &ThreadSnapshot,
+    out: &mut W,
+) -> Result<(), Unwritten>
+    ensures { OnOk result (AddsFunctions (specified.seen_by view.entry story.now moment.now) standing.now
+        (specified.depth standing.now) (W.contents out.old) (W.contents out.new)) }
+{
+    let scene = Scene {
+        alloc,
+        view,
+        story,
+        moment,
+    };
+    scene.write_functions(out, standing)
+}
+
 /// A moment, and what is known around it.
 #[derive(Clone, Copy)]
-struct Scene<'v, 's, 'e, 'a, 'r, 'w, 'c, 'm, 'n> {
+struct Scene<'v, 's, 'e, 'a, 'd, 'r, 'w, 'c, 'm, 'n, 'b> {
     alloc: Global,
-    valid: &'v ValidModule,
-    shown: Shown<'r, 'w, 'c, 'm, 'n>,
+    view: MomentView<'v, 'd, 'r, 'w, 'c, 'm, 'n, 'b>,
     story: &'s Story,
     moment: &'e Moment<'a>,
 }
@@ -102,7 +138,7 @@ fn other_of(race: Race, at: usize) -> Option<usize>
     None
 }
 
-impl Scene<'_, '_, '_, '_, '_, '_, '_, '_, '_> {
+impl Scene<'_, '_, '_, '_, '_, '_, '_, '_, '_, '_, '_> {
     /// Whether a thread was spawned; thread 0 is there from the start.
     fn is_spawned(&self, thread: usize) -> bool
         ensures { result ≡ specified.is_spawned self.now.moment.now.queue thread }
@@ -139,7 +175,7 @@ impl Scene<'_, '_, '_, '_, '_, '_, '_, '_, '_> {
         if !self.is_spawned(thread) {
             return Ok(());
         }
-        let log = self.shown.record.log.as_slice();
+        let log = self.view.shown.record.log.as_slice();
         let Some(at) = next_of(log, self.moment.at, thread) else {
             write!(out, "t{thread} is gone\n")?;
             return Ok(());
@@ -154,13 +190,13 @@ impl Scene<'_, '_, '_, '_, '_, '_, '_, '_, '_> {
 
     /// What a thread comes to next, or on what it sleeps: its first entry from the moment on stands at this place.
     fn next_text(&self, at: usize) -> Result<String, AllocError>
-        requires { at < length self.now.shown.record.now.log }
+        requires { at < length self.now.view.shown.record.now.log }
         ensures { IfOk result (λ text. IsNextText (specified.seen self.now) at (string_bytes text)) }
     {
-        let entry = &self.shown.record.log.as_slice()[at];
+        let entry = &self.view.shown.record.log.as_slice()[at];
         let front = self.front_text(at, entry)?;
-        let line = self.shown.line_of(at);
-        let words = self.shown.words_at(self.story, at, entry);
+        let line = self.view.shown.line_of(at);
+        let words = self.view.shown.words_at(self.story, at, entry);
         let text = format!(in self.alloc; "{front}on line {line}: {words}\n")?;
         Ok(text)
     }
@@ -192,13 +228,13 @@ impl Scene<'_, '_, '_, '_, '_, '_, '_, '_, '_> {
     /// The question on which a thread sleeps.
     fn asked_text(&self, asked: usize) -> Result<String, AllocError>
         ensures { IfOk result (λ text. IsAskedText (specified.seen self.now) asked
-            (slice_get self.now.shown.record.now.log asked) (string_bytes text)) }
+            (slice_get self.now.view.shown.record.now.log asked) (string_bytes text)) }
     {
-        let Some(entry) = self.shown.record.log.as_slice().get(asked) else {
+        let Some(entry) = self.view.shown.record.log.as_slice().get(asked) else {
             return String::from_str(self.alloc, "sleeps; ");
         };
-        let line = self.shown.line_of(asked);
-        let words = self.shown.words_at(self.story, asked, entry);
+        let line = self.view.shown.line_of(asked);
+        let words = self.view.shown.words_at(self.story, asked, entry);
         let text = format!(in self.alloc; "{words}, since line {line}; ")?;
         Ok(text)
     }
@@ -213,30 +249,121 @@ impl Scene<'_, '_, '_, '_, '_, '_, '_, '_, '_> {
             (W.contents out.old) (W.contents out.new)) }
     {
         for number in (0..standing.depth()).rev() {
-            let text = self.function_text(standing.open_function(number))?;
+            self.write_function(out, standing.open_function(number))?;
+        }
+        Ok(())
+    }
+
+    /// Writes an open function and the values of its frame.
+    fn write_function<W: Write>(&self, out: &mut W, opened: OpenFunction) -> Result<(), Unwritten>
+        ensures { OnOk result (AddsOpened (specified.seen self.now) opened.entry (W.contents out.old) (W.contents out.new)) }
+    {
+        let offset = self.view.shown.code.named_offset(opened.place);
+        let frame = self.view.map.frame(self.alloc, offset)?;
+        let text = self.function_text(opened, &frame)?;
+        write!(out, "{text}")?;
+        self.write_values(out, opened, frame.values.as_slice())
+    }
+
+    /// An open function. What it called has taken operands from the top, so that there may be fewer than before the
+    /// call.
+    fn function_text(&self, opened: OpenFunction, frame: &Frame) -> Result<String, AllocError>
+        ensures { IfOk result
+            (λ text. IsFunctionText (specified.seen self.now) opened.entry frame.now (string_bytes text)) }
+    {
+        let CodePlace { function, instr } = opened.place;
+        let locals = self.view.valid.local_types(self.alloc, function)?;
+        let operands = operand_types(self.alloc, self.view.valid, function, instr)?;
+        let spot = FrameSpot {
+            spot: self.view.shown.code.spot(opened.place),
+            chain: frame.chain.as_ref(),
+        };
+        let is_listed = self.view.is_raw || !frame.is_known;
+        let locals = self.listing_text(is_listed, "locals", opened.locals, types_of(&locals))?;
+        let operands = self.listing_text(
+            is_listed,
+            "operands",
+            opened.operands,
+            types_of(&operands),
+        )?;
+        let text = format!(in self.alloc; "    {spot}{locals}{operands}\n")?;
+        Ok(text)
+    }
+
+    /// Words behind a name, if they are listed.
+    fn listing_text(
+        &self,
+        is_listed: bool,
+        name: &str,
+        words: &[u64],
+        types: &[ValType],
+    ) -> Result<String, AllocError>
+        ensures { IfOk result
+            (λ text. string_bytes text ≡ cond is_listed (texts.listed_text name.now words.now types.now) []) }
+    {
+        if !is_listed {
+            return Ok(String::new(self.alloc));
+        }
+        listed_text(self.alloc, name, words, types)
+    }
+
+    /// Writes the values of a frame.
+    fn write_values<W: Write>(
+        &self,
+        out: &mut W,
+        opened: OpenFunction,
+        values: &[FrameValue],
+    ) -> Result<(), Unwritten>
+        ensures { OnOk result
+            (AddsValues (specified.seen self.now) opened.entry values.now (W.contents out.old) (W.contents out.new)) }
+    {
+        for k in 0..values.len() {
+            let text = self.value_text(opened, &values[k])?;
             write!(out, "{text}")?;
         }
         Ok(())
     }
 
-    /// An open function. What it called has taken operands from the top, so that there may be fewer than before the
-    /// call.
-    fn function_text(&self, opened: OpenFunction) -> Result<String, AllocError>
-        ensures { IfOk result (λ text. IsFunctionText (specified.seen self.now) opened.entry (string_bytes text)) }
+    /// A value of a frame, if it is a number there; one with parts stands for those that aren't told.
+    fn value_text(&self, opened: OpenFunction, value: &FrameValue) -> Result<String, AllocError>
+        ensures { IfOk result (λ text. IsValueText (specified.seen self.now) opened.entry value.now (string_bytes text)) }
     {
-        let CodePlace { function, instr } = opened.place;
-        let locals = self.valid.local_types(self.alloc, function)?;
-        let operands = operand_types(self.alloc, self.valid, function, instr)?;
-        let spot = self.shown.code.spot(opened.place);
-        let locals = listed_text(self.alloc, "locals", opened.locals, types_of(&locals))?;
-        let operands = listed_text(self.alloc, "operands", opened.operands, types_of(&operands))?;
-        let text = format!(in self.alloc; "    {spot}{locals}{operands}\n")?;
+        let label = Plain(value.label.as_str());
+        if has_parts(value.kind) {
+            let text = format!(in self.alloc; "        {label} ..\n")?;
+            return Ok(text);
+        }
+        let Some(number) = number_of(opened, self.moment.memory.as_slice(), value) else {
+            return Ok(String::new(self.alloc));
+        };
+        let target = self.target_text(value, number)?;
+        let told = FrameNumber {
+            is_signed: is_signed(value.kind),
+            bits: value.bits,
+            number,
+        };
+        let text = format!(in self.alloc; "        {label} = {told}{target}\n")?;
+        Ok(text)
+    }
+
+    /// The name of the static data to which a pointer points, if it does.
+    fn target_text(&self, value: &FrameValue, number: u64) -> Result<String, AllocError>
+        ensures { IfOk result (λ text. IsTargetText (specified.seen self.now) value.now.kind number (string_bytes text)) }
+    {
+        if !is_pointer(value.kind) {
+            return Ok(String::new(self.alloc));
+        }
+        let Some(name) = self.view.map.name(self.alloc, number, value.target)? else {
+            return Ok(String::new(self.alloc));
+        };
+        let name = Plain(name.as_str());
+        let text = format!(in self.alloc; " <{name}>")?;
         Ok(text)
     }
 
     /// Writes with what the entry of this moment races.
     fn write_races<W: Write>(&self, out: &mut W, races: &[Race]) -> Result<(), Unwritten>
-        requires { All (IsWithin self.now.shown.record.now.log) races.now }
+        requires { All (IsWithin self.now.view.shown.record.now.log) races.now }
         ensures { OnOk result (AddsRaces (specified.seen self.now) races.now (W.contents out.old) (W.contents out.new)) }
     {
         for k in 0..races.len() {
@@ -247,14 +374,14 @@ impl Scene<'_, '_, '_, '_, '_, '_, '_, '_, '_> {
 
     /// Writes with what the entry of this moment races, if it is one of these two.
     fn write_race<W: Write>(&self, out: &mut W, race: Race) -> Result<(), Unwritten>
-        requires { IsWithin self.now.shown.record.now.log race }
+        requires { IsWithin self.now.view.shown.record.now.log race }
         ensures { OnOk result (AddsRace (specified.seen self.now) race (W.contents out.old) (W.contents out.new)) }
     {
         let Some(other) = other_of(race, self.moment.at) else {
             return Ok(());
         };
-        let line = self.shown.line_of(self.moment.at);
-        let text = entry_text(self.alloc, self.shown, self.story, other)?;
+        let line = self.view.shown.line_of(self.moment.at);
+        let text = entry_text(self.alloc, self.view.shown, self.story, other)?;
         write!(out, "line {line} races with {text}\n")?;
         Ok(())
     }

@@ -1,2 +1,3 @@
+mod Folded
 mod Listed
 mod Saying

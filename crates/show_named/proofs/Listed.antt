@@ -8,20 +8,20 @@ use Rattle.show_rows.proofs.Chosen.{keeps_same}
 use Rattle.show_named.specs.declared.data_map.DataMap.{DataMap}
 use Rattle.show_named.specs.Rows.{AddsEntry, AddsEntries}
 
-keeps_then : (a b c : Option (List ℕ)) (x : List ℕ) → Keeps a b → Appends b c x → Appends a c x
+pub keeps_then : (a b c : Option (List ℕ)) (x : List ℕ) → Keeps a b → Appends b c x → Appends a c x
 keeps_then None b c x p q = tt
 keeps_then (Some a) None c x p q = absurd p
 keeps_then (Some a) (Some b) None x p q = absurd q
 keeps_then (Some a) (Some b) (Some c) x p q = q ∙ ap (λ (z : List ℕ). z ++ x) p
 
-keeps_keeps : (a b c : Option (List ℕ)) → Keeps a b → Keeps b c → Keeps a c
+pub keeps_keeps : (a b c : Option (List ℕ)) → Keeps a b → Keeps b c → Keeps a c
 keeps_keeps None b c p q = tt
 keeps_keeps (Some a) None c p q = absurd p
 keeps_keeps (Some a) (Some b) None p q = absurd q
 keeps_keeps (Some a) (Some b) (Some c) p q = q ∙ p
 
 module _ (shown : Shown) (map : DataMap) (story : Story) where
-  entry_behind : (at : ℕ) (a b c : Option (List ℕ)) → Keeps a b → AddsEntry shown map story at b c
+  pub entry_behind : (at : ℕ) (a b c : Option (List ℕ)) → Keeps a b → AddsEntry shown map story at b c
       → AddsEntry shown map story at a c
   entry_behind at a b c k (colored, row, says, wrote) = (colored, row, says, (wrote.0, keeps_then a b c _ k wrote.1))
 

@@ -1,4 +1,4 @@
-//! The static data of a module, by its debug section.
+//! The static data of a module, and what is known of its frames, by its debug section.
 ghost use Rattle.std.specs.Prelude.{◌≡◌, IfOk, IsSome, OnSome, find, string_bytes};
 ghost use Rattle.show_data.specs.Within.{NamesWithin};
 ghost use Rattle.show_units.specs.Spans.{holds};
@@ -6,31 +6,82 @@ ghost use Rattle.show_named.specs.Names.{IsDataText};
 
 use report_choice::touched;
 use show_data::{Sought, name_at, place_of, read_data};
+use show_frames::{Frame, read_frame, read_functions};
+use show_lines::DebugSections;
 use show_text::Plain;
 use show_units::{InfoSections, Spans, Units, read_units};
 use std::alloc::{AllocError, Global};
 use types::Event;
 
-/// What a debug section says of static data, and where that is.
+/// How many steps the name of an address takes at most.
+const NAME_STEPS: u64 = 1 << 14;
+
+/// How many steps all frames of a moment take at most, and the names to which their pointers lead.
+const MOMENT_STEPS: u64 = 1 << 23;
+
+/// How many steps a byte of the entries takes at most, on average, where all entries are asked.
+const BYTE_STEPS: u64 = 4;
+
+/// How many steps all entries take at most.
+fn steps_of(info: &[u8]) -> u64 {
+    (info.len() as u64)
+        .saturating_mul(BYTE_STEPS)
+        .saturating_add(NAME_STEPS)
+}
+
+/// What a debug section says of static data, and where that is; and of functions.
 #[derive(Drop)]
 pub struct DataMap<'n> {
     units: Units<'n>,
     spans: Spans,
+    functions: Spans,
+    lines: DebugSections<'n>,
+    /// How many steps all entries take at most.
+    steps: u64,
 }
 
 impl<'n> DataMap<'n> {
-    /// What the bytes of a module say. Nothing is asked of them: what can't be read has no name.
+    /// What the bytes of a module say. Nothing is asked of them: what can't be read has no name, and neither has what is
+    /// behind the steps that so many bytes may take.
     pub fn read(alloc: Global, names: &'n [u8]) -> Result<DataMap<'n>, AllocError> {
-        let units = read_units(alloc, InfoSections::of(names))?;
+        let sections = InfoSections::of(names);
+        let steps = steps_of(sections.info);
+        let units = read_units(alloc, sections)?;
+        units.allow(steps);
         let spans = read_data(alloc, &units)?;
-        Ok(DataMap { units, spans })
+        units.allow(steps);
+        let functions = read_functions(alloc, &units)?;
+        Ok(DataMap {
+            units,
+            spans,
+            functions,
+            lines: DebugSections::of(names),
+            steps,
+        })
     }
 
-    /// What the data is called that is at an address.
-    fn name(&self, alloc: Global, address: u64) -> Result<Option<String>, AllocError>
+    /// Lets the frames of a moment be asked. What takes more steps than all of them may is left out of the further ones.
+    pub fn begin_moment(&self) {
+        self.units.allow(MOMENT_STEPS);
+    }
+
+    /// What is said of a frame whose function is at an offset of the code.
+    pub fn frame(&self, alloc: Global, offset: Option<usize>) -> Result<Frame, AllocError>
+        ensures { IfOk result (λ frame. frame.offset ≡ offset) }
+    {
+        read_frame(alloc, &self.units, self.lines, &self.functions, offset)
+    }
+
+    /// What the data is called that is at an address: that of a type, if such data begins there.
+    pub fn name(
+        &self,
+        alloc: Global,
+        address: u64,
+        its_type: Option<usize>,
+    ) -> Result<Option<String>, AllocError>
         ensures { IfOk result (λ name. OnSome name (IsSome (find (holds address) self.now.spans.items.items))) }
     {
-        name_at(alloc, &self.units, &self.spans, address)
+        name_at(alloc, &self.units, &self.spans, address, its_type)
     }
 
     /// What the data is called that an event touches first, or at which it waits or wakes, behind `at`; empty
@@ -41,7 +92,8 @@ impl<'n> DataMap<'n> {
         let Some(addrs) = touched(event) else {
             return Ok(String::new(alloc));
         };
-        let Some(name) = self.name(alloc, addrs.first)? else {
+        self.units.allow(NAME_STEPS);
+        let Some(name) = self.name(alloc, addrs.first, None)? else {
             return Ok(String::new(alloc));
         };
         let name = Plain(name.as_str());
@@ -53,6 +105,7 @@ impl<'n> DataMap<'n> {
     pub fn named(&self, alloc: Global, words: &str) -> Result<Sought, AllocError>
         ensures { IfOk result (NamesWithin self.now.spans.items.items) }
     {
+        self.units.allow(self.steps);
         place_of(alloc, &self.units, &self.spans, words)
     }
 }

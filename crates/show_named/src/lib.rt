@@ -2,14 +2,20 @@
 //! section has them.
 //!
 //! Proved: of each entry stand its line, its thread, its words and its place, as without names; behind the words stands
-//! at most the name of its data, and only where the first address of the entry is one of a static variable.
+//! at most the name of its data, and only where the first address of the entry is one of a static variable. Folded, each
+//! entry that is chosen is in one part of what is shown, in order: a round that is made so many times has the rows of
+//! the first one, of one thread, and those of the others would differ in their lines alone; or a question, with the words
+//! of its own answer behind.
 //!
 //! - `specs/Names.antt`: which entries have names.
 //! - `specs/Rows.antt`: where these stand.
+//! - `specs/Folds.antt`: which entries have one row, or the rows of one round.
 #![tactic(auto)]
 
 mod data_map;
+mod folds;
 mod rows;
+mod same;
 
 pub use data_map::DataMap;
-pub use rows::{named_text, write_rows};
+pub use rows::{named_text, write_folded, write_rows};

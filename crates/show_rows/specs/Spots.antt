@@ -1,6 +1,7 @@
 -- A place in a module's code, as it is printed.
 use Rattle.std.specs.Prelude.{ℕ, ◌≡◌, ◌⊎◌, ◌+◌, ◌-◌, ◌^◌, ◌==◌, min, Bool, true, false, if◌then◌else◌, List, [], ◌++◌, codes}
 use Rattle.std.specs.Prelude.{length, drop, find, Result, Ok, Err, Option, Some, None, option_map, option_and_then}
+use Rattle.std.specs.Borrow.{Bor}
 use Rattle.std.specs.List.{slice_get}
 use Rattle.std.specs.Fmt.{decimal, radix_digits}
 use Rattle.types.specs.declared.parts.Parts.{Parts}
@@ -23,6 +24,7 @@ use Rattle.show_lines.specs.declared.table.Range.{Range}
 use Rattle.show_lines.specs.Lines.{holds}
 use Rattle.show_text.specs.Plain.{plain_text}
 use Rattle.show_rows.specs.declared.spot.Spot.{Spot}
+use Rattle.show_lines.specs.Sources.{IsTextOf, line_in}
 use Rattle.show_rows.specs.declared.code.CodeMap.{CodeMap}
 
 abbrev pub name_text : FunctionName → List ℕ
@@ -41,8 +43,12 @@ abbrev pub source_text : {S : Type 0} → (S → List ℕ) → Option (S × ℕ)
 source_text text None = codes ""
 source_text text (Some source) = line_text (text source.0) source.1
 
+abbrev pub behind_text : Option (Bor (List ℕ)) → List ℕ
+behind_text None = codes ""
+behind_text (Some text) = codes " | " ++ plain_text text.now
+
 abbrev pub spot_text : Spot → List ℕ
-spot_text s = name_text s.name ++ offset_text s.offset ++ source_text (λ file. file.now) s.source
+spot_text s = name_text s.name ++ offset_text s.offset ++ source_text (λ file. file.now) s.source ++ behind_text s.text
 
 -- The index of a function of the module itself, behind those that are imported.
 abbrev pub index_of : ℕ → ℕ → ℕ
@@ -60,17 +66,22 @@ abbrev pub has_as_many : Option BodyPlaces → Option BodyPlaces → Bool
 has_as_many (Some a) (Some b) = length a.instrs == length b.instrs
 has_as_many a b = false
 
--- The lines of an instruction, where both files have as many in its function.
-abbrev pub range_at : CodeMap → CodePlace → Option Range
-range_at code place = if has_as_many (slice_get code.bodies place.function) (slice_get code.named_bodies place.function)
-    then option_and_then (λ offset. find (holds offset) code.lines.ranges.items) (offset_of code.named_bodies place)
+-- Where an instruction is in the file with the names, where both files have as many in its function.
+abbrev pub named_offset : CodeMap → CodePlace → Option ℕ
+named_offset code place = if has_as_many (slice_get code.bodies place.function) (slice_get code.named_bodies place.function)
+    then offset_of code.named_bodies place
     else None
 
--- The function's name, how far the instruction is behind the start of its body, and the file and the line.
+-- Its lines.
+abbrev pub range_at : CodeMap → CodePlace → Option Range
+range_at code place = option_and_then (λ offset. find (holds offset) code.lines.ranges.items) (named_offset code place)
+
+-- The function's name, how far the instruction is behind the start of its body, the file and the line, and what stands there.
 pub record IsSpotOf (code : CodeMap) (place : CodePlace) (s : Spot) : Type 0 where
   pub name : IsCalled code.names code.parts.now.exports (index_of code.imported place.function) s.name
   pub offset : s.offset ≡ offset_in_body code.bodies place
   pub source : s.source ≡ option_map (λ r. (r.file, r.line)) (range_at code place)
+  pub text : IsTextOf (option_and_then (line_in code.sources.files.items) (range_at code place)) s.text
 
 abbrev pub is_atomic_instr : Option Instr → Bool
 is_atomic_instr (Some (Plain (Atomic op arg))) = true

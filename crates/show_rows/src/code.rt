@@ -1,15 +1,16 @@
 //! What is known of a module's code: where its instructions are, what its functions are called, and their lines of
 //! source.
 
-ghost use Rattle.std.specs.Prelude.{◌≡◌, ◌^◌, ◌-◌, min, count_by, option_map, IfOk};
+ghost use Rattle.std.specs.Prelude.{◌≡◌, ◌^◌, ◌-◌, min, count_by, option_and_then, option_map, IfOk};
 ghost use Rattle.show_places.specs.Names.{IsNames};
 ghost use Rattle.show_rows.specs.Spots as specified;
+ghost use Rattle.show_lines.specs.Sources.{IsTextOf, line_in};
 ghost use Rattle.show_rows.specs.Spots.{IsSpotOf, AreBodies, is_function_import, range_at};
 
 use crate::spot::Spot;
 use binary_wire::ReadFault;
 use interp::CodePlace;
-use show_lines::{DebugSections, LineTable, read_lines};
+use show_lines::{DebugSections, LineTable, Range, Sources, read_lines};
 use show_places::{BodyPlaces, Named, code_places, function_name, read_names, section_of};
 use std::alloc::{AllocError, Global};
 use types::{Import, ImportDesc, Instr, Parts, PlainInstr, Sequence};
@@ -24,6 +25,8 @@ pub struct CodeMap<'m, 'n> {
     named_bodies: Sequence<BodyPlaces>,
     names: Sequence<Named>,
     lines: LineTable<'n>,
+    /// The text of its source, as far as it is there.
+    sources: Sources<'n>,
     /// How many functions are imported.
     imported: u32,
 }
@@ -62,6 +65,14 @@ fn offset_of(bodies: &[BodyPlaces], place: CodePlace) -> Option<usize>
     body.instrs.as_slice().get(place.instr).copied()
 }
 
+/// The file and the line.
+fn source_in(range: Option<Range>) -> Option<(&str, u64)>
+    ensures { result ≡ option_map (λ r. (r.file, r.line)) range.entry }
+{
+    let range = range?;
+    Some((range.file, range.line))
+}
+
 impl<'m, 'n> CodeMap<'m, 'n> {
     /// What the bytes of a module say of its parts, with the names and lines of another file's bytes, which may be the
     /// same. Nothing is asked of the bytes: what can't be read isn't known.
@@ -83,8 +94,16 @@ impl<'m, 'n> CodeMap<'m, 'n> {
             named_bodies: bodies_of(alloc, names)?,
             names: read_names(alloc, names)?,
             lines: read_lines(alloc, DebugSections::of(names))?,
+            sources: Sources::none(alloc),
             imported: count_functions(parts.imports.as_slice()),
         })
+    }
+
+    /// The same with the text of files of source.
+    pub fn with_sources(self, sources: Sources<'n>) -> CodeMap<'m, 'n>
+        ensures { result ≡ record self.entry { sources = sources.entry } }
+    {
+        CodeMap { sources, ..self }
     }
 
     /// The place as it is printed.
@@ -93,10 +112,22 @@ impl<'m, 'n> CodeMap<'m, 'n> {
     {
         let own = u32::try_from(place.function).unwrap_or(u32::MAX);
         let index = own.saturating_add(self.imported);
+        let range = self.range_of(place);
         Spot {
             name: function_name(self.names.as_slice(), self.parts.exports.as_slice(), index),
             offset: self.offset_in_body(place),
-            source: self.source_of(place),
+            source: source_in(range),
+            text: self.text_of(range),
+        }
+    }
+
+    /// What stands in this line of source, without the space around it.
+    fn text_of(&self, range: Option<Range>) -> Option<&str>
+        ensures { IsTextOf (option_and_then (line_in self.now.sources.files.items) range.entry) result }
+    {
+        match self.sources.line(range?) {
+            Some(line) => Some(line.trim()),
+            None => None,
         }
     }
 
@@ -109,18 +140,25 @@ impl<'m, 'n> CodeMap<'m, 'n> {
         Some(offset.saturating_sub(body.start))
     }
 
-    /// The file and line of source, where both files have as many instructions in the function.
-    fn source_of(&self, place: CodePlace) -> Option<(&str, u64)>
-        ensures { result ≡ option_map (λ r. (r.file, r.line)) (range_at self.now place) }
+    /// Where the instruction is in the file with the names, from the start of the code section's contents, where both
+    /// files have as many instructions in the function.
+    pub fn named_offset(&self, place: CodePlace) -> Option<usize>
+        ensures { result ≡ specified.named_offset self.now place }
     {
         let own = self.bodies.as_slice().get(place.function)?;
         let named = self.named_bodies.as_slice().get(place.function)?;
         if own.instrs.len() != named.instrs.len() {
             return None;
         }
-        let offset = offset_of(self.named_bodies.as_slice(), place)?;
-        let range = self.lines.at(offset as u64)?;
-        Some((range.file, range.line))
+        offset_of(self.named_bodies.as_slice(), place)
+    }
+
+    /// The code with its line of source, where both files have as many instructions in the function.
+    fn range_of(&self, place: CodePlace) -> Option<Range<'n>>
+        ensures { result ≡ range_at self.now place }
+    {
+        let offset = self.named_offset(place)?;
+        self.lines.at(offset as u64)
     }
 
     /// Whether the instruction at a place is an atomic one.

@@ -12,5 +12,5 @@ mod spot;
 
 pub use code::CodeMap;
 pub use listing::{Shown, Story, chosen_entries, write_rows};
-pub use rows::{Row, Rows};
+pub use rows::{Row, Rows, number_in};
 pub use spot::Spot;

@@ -87,7 +87,7 @@ fn number_at(bytes: &[u8], at: usize, width: usize) -> u64
 }
 
 /// The number in so many bytes, if they lie within the memory.
-fn number_in(bytes: &[u8], addr: u64, width: u8) -> Option<u64>
+pub fn number_in(bytes: &[u8], addr: u64, width: u8) -> Option<u64>
     ensures { result ≡ found.number_in bytes.now (addr, width) }
 {
     if width <= 8 && is_within(bytes, addr, width) {

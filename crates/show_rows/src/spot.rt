@@ -14,6 +14,8 @@ pub struct Spot<'a> {
     pub offset: Option<usize>,
     /// The file and the line in it, where they are known.
     pub source: Option<(&'a str, u64)>,
+    /// What stands there, without the space around it, where the file's text is at hand.
+    pub text: Option<&'a str>,
 }
 
 impl fmt::Display for Spot<'_> {
@@ -22,7 +24,7 @@ impl fmt::Display for Spot<'_> {
 
     ghost output = { λ s. Some (spot_text s) };
 
-    /// As `enqueue+0x2f queue.c:20`.
+    /// As `enqueue+0x2f queue.c:20`, or `enqueue+0x2f queue.c:20 | queue->tail = next;`.
     fn fmt<W: Write>(&self, f: &mut Formatter<W>) -> fmt::Result {
         write_name(f, self.name)?;
         if let Some(offset) = self.offset {
@@ -31,6 +33,10 @@ impl fmt::Display for Spot<'_> {
         if let Some((file, line)) = self.source {
             let file = Plain(file);
             write!(f, " {file}:{line}")?;
+        }
+        if let Some(text) = self.text {
+            let text = Plain(text);
+            write!(f, " | {text}")?;
         }
         Ok(())
     }

@@ -306,26 +306,26 @@ fn ends_are_explained(rt: HostRuntime) -> Result<(), Fail> {
 /// A call of `TELLING`, and the lines that are said of it.
 struct Call {
     name: &'static str,
-    given: usize,
+    args: &'static [&'static str],
     lines: &'static str,
 }
 
 static CALLS: [Call; 3] = [
     Call {
         name: "f",
-        given: 2,
+        args: &["1", "2"],
         lines: "f is of type (i32) -> (i32); arguments wanted: 1, given: 2\n\
             an argument is an unsigned decimal that fits its type; -1 of an i32 is 4294967295\n",
     },
     Call {
         name: "f",
-        given: 1,
-        lines: "f is of type (i32) -> (i32)\n\
+        args: &["-1"],
+        lines: "f is of type (i32) -> (i32)\nargument 1 is no i32: -1\n\
             an argument is an unsigned decimal that fits its type; -1 of an i32 is 4294967295\n",
     },
     Call {
         name: "g",
-        given: 0,
+        args: &[],
         lines: "there is --invoke f\nthere is --invoke wasi_thread_start\n",
     },
 ];
@@ -335,7 +335,7 @@ fn check_calls<R: Abort>(rt: &R, alloc: Global, parts: &Parts, calls: &[Call]) -
         let refused = Refused::Call {
             parts,
             name: call.name,
-            given: call.given,
+            args: call.args,
         };
         same_text(rt, &said_of(alloc, &refused)?, call.lines);
     }

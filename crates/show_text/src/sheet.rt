@@ -1,7 +1,8 @@
 //! How a row is laid out: the line of the record, the words in their thread's column, and the place behind them.
 
-ghost use Rattle.std.specs.Prelude.{OnOk};
+ghost use Rattle.std.specs.Prelude.{◌≡◌, OnOk};
 ghost use Rattle.show_text.specs.Rows.{AddsRow};
+ghost use Rattle.show_text.specs.declared.sheet.Unwritten.TheVariants as unwritten;
 
 use std::alloc::AllocError;
 use std::fmt::{self, Formatter};
@@ -26,12 +27,16 @@ pub enum Unwritten {
 }
 
 impl From<AllocError> for Unwritten {
+    ghost from_gives = { λ _ e. e ≡ unwritten.NoMemory };
+
     fn from(_: AllocError) -> Unwritten {
         Unwritten::NoMemory
     }
 }
 
 impl From<io::Error> for Unwritten {
+    ghost from_gives = { λ _ e. e ≡ unwritten.Output };
+
     fn from(_: io::Error) -> Unwritten {
         Unwritten::Output
     }

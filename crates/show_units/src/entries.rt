@@ -11,6 +11,7 @@ use crate::tags::Tag;
 use crate::units::Unit;
 use crate::values::Value;
 use std::alloc::{AllocError, Global};
+use std::cell::Cell;
 
 /// The most steps from an entry to that of which it is an instance.
 const MOST_ORIGINS: u32 = 8;
@@ -41,6 +42,9 @@ impl Entry {
     }
 }
 
+/// How many bytes are passed over in one step.
+const STEP_BYTES: u64 = 64;
+
 /// The entries of a module. An entry goes by its index, and stands in front of those that it holds.
 #[derive(Drop)]
 pub struct Units<'a> {
@@ -48,6 +52,34 @@ pub struct Units<'a> {
     pub(crate) abbreviations: Abbreviations,
     pub(crate) units: Vec<Unit>,
     pub(crate) entries: Vec<Entry>,
+    /// How many steps are left.
+    pub(crate) steps: Cell<u64>,
+}
+
+impl Units<'_> {
+    /// Lets what is asked from now on take so many steps in all: one for each attribute, each entry right below another one
+    /// and each item of a list that is passed over, and one for each 64 bytes. Behind the last one nothing is said of an
+    /// entry but its kind, so that what others wrote costs no more.
+    pub fn allow(&self, steps: u64) {
+        self.steps.set(steps);
+    }
+
+    /// Takes a step. Answers whether one was left.
+    pub(crate) fn step(&self) -> bool {
+        match self.steps.get().checked_sub(1) {
+            Some(left) => {
+                self.steps.set(left);
+                true
+            }
+            None => false,
+        }
+    }
+
+    /// Takes the steps for so many bytes that were passed over.
+    pub fn pass(&self, bytes: usize) {
+        self.steps
+            .set(self.steps.get().saturating_sub(bytes as u64 / STEP_BYTES));
+    }
 }
 
 impl<'a> Units<'a> {
@@ -112,7 +144,7 @@ impl<'a> Units<'a> {
         }
     }
 
-    /// The entries right below an entry, not more than so many. They stand behind it.
+    /// The entries right below an entry, not more than so many, as far as steps are left. They stand behind it.
     pub fn children(
         &self,
         alloc: Global,
@@ -127,6 +159,9 @@ impl<'a> Units<'a> {
             let Some(child) = next else {
                 break;
             };
+            if !self.step() {
+                break;
+            }
             children.push(child)?;
             next = self.next_child(child, entry);
         }
@@ -148,7 +183,12 @@ impl<'a> Units<'a> {
         cursor.read_unsigned().ok()?;
         let kind = self.abbreviations.at(entry.kind as usize)?;
         for part in self.abbreviations.parts_of(kind) {
+            if !self.step() {
+                return None;
+            }
+            let len = cursor.len();
             let raw = part.form.width.read(&mut cursor).ok()?;
+            self.pass(len.saturating_sub(cursor.len()));
             if part.attribute == wanted.number() {
                 return Some(Value::of(part.form.meaning, raw, unit.start as u64));
             }

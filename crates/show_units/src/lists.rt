@@ -221,6 +221,9 @@ impl<'a> Units<'a> {
         };
         let mut base = self.base_address(entry);
         for _ in 0..MOST_ITEMS {
+            if !self.step() {
+                break;
+            }
             match self
                 .read_range(&mut cursor, entry, is_version_5, base)
                 .ok()?
@@ -276,6 +279,9 @@ impl<'a> Units<'a> {
         let mut base = self.base_address(entry);
         let mut elsewhere = None;
         for _ in 0..MOST_ITEMS {
+            if !self.step() {
+                break;
+            }
             match self
                 .read_location(&mut cursor, entry, is_version_5, base)
                 .ok()?

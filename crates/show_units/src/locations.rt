@@ -87,16 +87,18 @@ fn behind(place: Location) -> Option<Location> {
     Some(Location::Memory { base, offset: 0 })
 }
 
-/// A place that is farther by some bytes.
-fn farther(place: Location, by: u64) -> Option<Location> {
-    Some(match place {
-        Location::Static(address) => Location::Static(address.checked_add(by)?),
-        Location::Memory { base, offset } => Location::Memory {
-            base,
-            offset: offset.checked_add(i64::try_from(by).ok()?)?,
-        },
-        _ => return None,
-    })
+impl Location {
+    /// The place in memory that is farther by some bytes.
+    pub fn farther(self, by: u64) -> Option<Location> {
+        Some(match self {
+            Location::Static(address) => Location::Static(address.checked_add(by)?),
+            Location::Memory { base, offset } => Location::Memory {
+                base,
+                offset: offset.checked_add(i64::try_from(by).ok()?)?,
+            },
+            _ => return None,
+        })
+    }
 }
 
 impl<'a> Units<'a> {
@@ -138,8 +140,8 @@ impl<'a> Units<'a> {
         }
         let place = match read_operation(&mut cursor).ok()? {
             Operation::IsValue if is_wasm => place,
-            Operation::Plus(by) if is_wasm => farther(behind(place)?, by)?,
-            Operation::Plus(by) => farther(place, by)?,
+            Operation::Plus(by) if is_wasm => behind(place)?.farther(by)?,
+            Operation::Plus(by) => place.farther(by)?,
             _ => return None,
         };
         if cursor.is_empty() { Some(place) } else { None }

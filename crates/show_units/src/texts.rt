@@ -26,6 +26,7 @@ impl<'a> Units<'a> {
             Value::TextNumber(number) => text_at(texts, self.text_of(entry, number)?)?,
             _ => return None,
         };
+        self.pass(bytes.len());
         std::str::from_utf8(bytes).ok()
     }
 }

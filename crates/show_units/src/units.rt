@@ -6,6 +6,7 @@ use crate::entries::{Entry, Units};
 use crate::fault::Fault;
 use crate::sections::InfoSections;
 use std::alloc::{AllocError, Global};
+use std::cell::Cell;
 
 /// A unit: where it stands in its section, what its entries are, and what its root says of the other sections.
 #[derive(Clone, Copy)]
@@ -143,13 +144,14 @@ impl<'a> Units<'a> {
     }
 }
 
-/// The entries of a module, as far as they can be read.
+/// The entries of a module, as far as they can be read. What is asked of them may take any number of steps.
 pub fn read_units<'a>(alloc: Global, sections: InfoSections<'a>) -> Result<Units<'a>, AllocError> {
     let mut units = Units {
         sections,
         abbreviations: Abbreviations::new(alloc),
         units: Vec::new(alloc),
         entries: Vec::new(alloc),
+        steps: Cell::new(u64::MAX),
     };
     let mut cursor = Cursor::new(sections.info);
     // Each unit takes a byte at least.

@@ -1,7 +1,7 @@
 use Rattle.std.proofs.Common.{◌∙◌, sym, ap, subst, IfSome, List, ℕ, Option, Some}
 use Rattle.clap.specs.Words.{found_of}
 use Rattle.report_command.specs.declared.command_line.Job.{Job}
-use Rattle.report_command.specs.Options.{AsksNamed, AsksReasons}
+use Rattle.report_command.specs.Options.{AsksNamed}
 use Rattle.report_command.proofs.command_line.order_of.Goals as goal
 
 pub returns-in-None-clause-asks : goal.returns-in-None-clause-asks
@@ -14,5 +14,5 @@ returns-in-None-clause-asks c =
       command = sym c.in-Some.ensures.name ∙ ap Some (sym asks.0);
       arguments = sym c.in-Some.ensures.rows;
       job = asks.1;
-      reasons = subst (λ (name : List ℕ). AsksReasons name f c.explains.result) (sym asks.0) c.explains.ensures;
+      explain = c.explain_of.ensures;
     }

@@ -1,7 +1,6 @@
 use Rattle.std.proofs.Common.{ℕ, List, [], Some, ap, refl, subst, sym}
 use Rattle.std.specs.Global.{Vec}
 use Rattle.std.specs.Prelude.{string_bytes}
-use Rattle.types.specs.declared.parts.Parts.{Parts}
 use Rattle.show_moments.specs.Scenes.{WritesMoment}
 use Rattle.report_looks.proofs.moments.moment_text.Goals as goal
 
@@ -12,9 +11,8 @@ returns-in-Ok c =
     record {
       at_is = refl;
       moment = moment;
-      text = subst (λ (m : Parts). WritesMoment m c.args.shown moment races (Some []) (Some (string_bytes c.in-Ok.text))) (sym c.requires.code)
-          (subst (λ (old : List ℕ). WritesMoment c.args.module.now.parts c.args.shown moment races (Some old) (Some (string_bytes c.in-Ok.text)))
+      text = subst (λ (old : List ℕ). WritesMoment c.args.seen moment races (Some old) (Some (string_bytes c.in-Ok.text)))
           c.new-written.ensures.items
-          (subst (λ (new : List ℕ). WritesMoment c.args.module.now.parts c.args.shown moment races (Some c.new-written.result.items) (Some new))
-          (ap (λ (v : Vec ℕ). v.items) (sym c.in-Ok.ensures.ok)) c.in_ok-write_moment.ensures));
+          (subst (λ (new : List ℕ). WritesMoment c.args.seen moment races (Some c.new-written.result.items) (Some new))
+          (ap (λ (v : Vec ℕ). v.items) (sym c.in-Ok.ensures.ok)) c.in_ok-write_moment.ensures);
     }

@@ -4,4 +4,4 @@ use Rattle.report_looks.specs.PageMoments.{IsMomentAt}
 use Rattle.report_looks.proofs.moments.moments_at.Given as goal
 
 abbrev pub invariant-loop-k : goal.invariant-loop-k
-invariant-loop-k l = AllZip (IsMomentAt l.shown l.races) (take l.k l.places) l.moments.items
+invariant-loop-k l = AllZip (IsMomentAt l.seen l.races) (take l.k l.places) l.moments.items

@@ -4,7 +4,7 @@ use Rattle.show_moments.proofs.Told.{moment_of}
 use Rattle.show_moments.proofs.scene.write_moment.Goals as goal
 
 pub returns : goal.returns
-returns g c = moment_of c.args.valid.now.parts c.args.shown c.args.moment.now c.args.races.now c.in_ok-story.story c.as_slice.result.now
+returns g c = moment_of c.args.view c.args.moment.now c.args.races.now c.in_ok-story.story c.as_slice.result.now
     _ _ _ _ _ _ _ c.as_slice.ensures c.in_ok-story.ensures c.in_ok-write_threads.ensures c.in_ok-write_races.ensures
     c.in_ok-queue.ensures (c.in_ok-dump.ensures ∙ ap (dump_text c.args.moment.now.wanted.addr) c.deref.ensures.value)
     c.in_ok-write.ensures.bytes c.in_ok-flush.ensures.bytes

@@ -18,7 +18,7 @@ returns c =
       same = record { log = saw.same.log; at = saw.same.at; wanted = saw.same.wanted; short = saw.same.short };
       came = saw.came;
       there = λ e short. absurd (omega (arith, e, c.if-entries-self-2.false));
-      elsewhere = λ ne. record { queue = saw.round.queue; bytes = saw.round.bytes; here = saw.round.here };
+      elsewhere = λ ne. record { queue = saw.round.queue; bytes = saw.round.bytes; memory = saw.round.memory; here = saw.round.here };
       before = λ le. absurd (omega (arith, le, c.if-entries-self.false, c.if-entries-self-2.false));
       left = λ last made is at made_there short. subst (λ (e : Entry). SeesLeave c.args.walk.now.threads.items e.thread e.event
           c.args.self.now.next.items c.see_left.new.self.next.items)

@@ -10,5 +10,4 @@ loop-number-preserved g c =
     let above = c.loop-number.number in
     let number : above ≡ above - 1 + 1 = omega (arith, c.loop-number-test.true) in
     ends_next s standing (depth standing) above (above - 1) _ _ _ number c.loop-number.invariant
-    (function_adds s standing (above - 1) c.open_function.result _ _ _ c.open_function.ensures c.in_ok-text.ensures
-    c.in_ok-write.ensures.bytes)
+    (function_adds s standing (above - 1) c.open_function.result _ _ c.open_function.ensures c.in_ok-write_function.ensures)

@@ -1,6 +1,6 @@
 use Rattle.std.proofs.Common.{get_or, refl}
 use Rattle.show_named.proofs.Listed.{entries_next}
-use Rattle.show_named.proofs.rows.Listing.write_entries.Goals as goal
+use Rattle.show_named.proofs.folds.Listing.write_entries.Goals as goal
 
 pub loop-place-preserved : goal.loop-place-preserved
 loop-place-preserved g c =
