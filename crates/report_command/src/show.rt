@@ -238,8 +238,8 @@ pub(crate) static SHOW: CommandRow = CommandRow {
     about: "Shows the entries of a record in words, with the place in the module of each",
     after_help: None,
     arguments: &[
-        FILE, RECORD, LINES, THREADS, ADDRESSES, UNFOLD, NAMES, SOURCE, WIDTH, COLOR, AT, BYTES, RAW,
-        LAST_WRITE, HTML, TRACE, OBJECT, EXPLAIN, NO_EXPLAIN,
+        FILE, RECORD, LINES, THREADS, ADDRESSES, UNFOLD, NAMES, SOURCE, WIDTH, COLOR, AT, BYTES,
+        RAW, LAST_WRITE, HTML, TRACE, OBJECT, EXPLAIN, NO_EXPLAIN,
     ],
 };
 

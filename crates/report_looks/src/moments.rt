@@ -158,9 +158,11 @@ pub(crate) fn marks_of(
             races: races_in(alloc, shown, MOST_MARKS)?,
             moments: Vec::new(alloc),
         }),
-        View::Rows | View::Unfolded | View::Object | View::Moment(_) | View::Write(_) => Ok(Marks {
-            races: Vec::new(alloc),
-            moments: Vec::new(alloc),
-        }),
+        View::Rows | View::Unfolded | View::Object | View::Moment(_) | View::Write(_) => Ok(
+            Marks {
+                races: Vec::new(alloc),
+                moments: Vec::new(alloc),
+            },
+        ),
     }
 }

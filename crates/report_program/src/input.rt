@@ -1,7 +1,7 @@
 //! What a job reads.
 
-use crate::stop::Stop;
 use crate::sources::read_sources;
+use crate::stop::Stop;
 use crate::{Unread, read_memory, read_module, read_saved};
 use report_command::{Job, RacesJob, RunJob, Search};
 use show_lines::SourceFile;

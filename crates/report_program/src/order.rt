@@ -66,7 +66,12 @@ fn colored<'a>(job: Job<'a>, is_terminal: bool, explain: bool) -> Job<'a>
             names,
             how,
         } => {
-            let ShowLook { look, named, source, view } = how;
+            let ShowLook {
+                look,
+                named,
+                source,
+                view,
+            } = how;
             let Look {
                 choice,
                 width,
@@ -82,7 +87,12 @@ fn colored<'a>(job: Job<'a>, is_terminal: bool, explain: bool) -> Job<'a>
                 file,
                 saved,
                 names,
-                how: ShowLook { look, named, source, view },
+                how: ShowLook {
+                    look,
+                    named,
+                    source,
+                    view,
+                },
             }
         }
         other => other,

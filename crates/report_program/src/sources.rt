@@ -11,6 +11,7 @@ const MOST_FILES: usize = 1_000;
 
 /// What is read of a file at most, and of all.
 const MOST_BYTES: u64 = 4 << 20;
+
 const MOST_IN_ALL: usize = 64 << 20;
 
 /// How many folders of a path are left out at most.

@@ -25,7 +25,11 @@ use Rattle.show_rows.specs.declared.listing.Shown.{Shown}
 use Rattle.show_rows.specs.declared.listing.Story.{Story}
 use Rattle.show_rows.specs.declared.spot.Spot.{Spot}
 use Rattle.show_rows.specs.Listing.{line_at, AreWordsOf, IsStoryOf}
-use Rattle.show_rows.specs.Spots.{IsSpotOf, named_offset}
+use Rattle.show_rows.specs.Spots.{IsSpotOf, named_offset, range_at}
+use Rattle.show_rows.specs.Around.{around_text, lines_around}
+use Rattle.show_rows.specs.declared.around.Around.{Around}
+use Rattle.show_rows.specs.declared.code.CodeMap.{CodeMap}
+use Rattle.interp.specs.declared.place.CodePlace.{CodePlace}
 use Rattle.show_units.specs.Spans.{holds}
 use Rattle.show_frames.specs.declared.frames.Frame.{Frame}
 use Rattle.show_frames.specs.declared.kinds.Kind.{Kind}
@@ -123,7 +127,12 @@ types_of (Some types) = types.items
 abbrev pub listing_text : Seen → Frame → List ℕ → List ℕ → List ValType → List ℕ
 listing_text s frame name words types = cond (s.raw || not frame.is_known) (listed_text name words types) []
 
--- An open function: where it is, and its locals and operands, each as a value of its type.
+-- The lines of source around a place.
+abbrev pub around_of : CodeMap → CodePlace → Around
+around_of code place = lines_around code.sources.files.items (range_at code place)
+
+-- An open function: where it is, and its locals and operands, each as a value of its type; and the lines of source around
+-- it.
 pub record IsFunctionText (s : Seen) (o : OpenFunction) (frame : Frame) (text : List ℕ) : Type 0 where
   pub spot : Spot
   pub spot_is : IsSpotOf s.shown.code.now o.place spot
@@ -133,7 +142,8 @@ pub record IsFunctionText (s : Seen) (o : OpenFunction) (frame : Frame) (text : 
   pub operands_are : OwnOperandsAt s.m o.place.function o.place.instr operands
   pub is : text ≡ codes "    " ++ (chained_text spot frame.chain
       ++ (listing_text s frame (codes "locals") o.locals.now (types_of locals)
-      ++ (listing_text s frame (codes "operands") o.operands.now (types_of operands) ++ codes "\n")))
+      ++ (listing_text s frame (codes "operands") o.operands.now (types_of operands)
+      ++ (codes "\n" ++ around_text (around_of s.shown.code.now o.place)))))
 
 -- The name of the static data to which a pointer points, if it does.
 pub record NamesTarget (map : DataMap) (kind : Kind) (number : ℕ) (text : List ℕ) : Type 0 where

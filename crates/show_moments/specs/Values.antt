@@ -79,9 +79,9 @@ has_parts kind.Parts = true
 has_parts _ = false
 
 -- A place in the code: of the calls whose functions were put in their places, the innermost function has the line, and
--- behind it stand the calls.
+-- behind it stand the calls. The text of the line stands below it, among the lines around it.
 abbrev pub chained_text : Spot → Option Chain → List ℕ
-chained_text spot None = spot_text spot
+chained_text spot None = spot_text (record spot { text = None })
 chained_text spot (Some chain) = spot_text (record { name = spot.name; offset = spot.offset; source = None; text = None })
     ++ (codes " " ++ (plain_text (string_bytes chain.innermost) ++ (source_text (λ file. file.now) spot.source
     ++ plain_text (string_bytes chain.calls))))

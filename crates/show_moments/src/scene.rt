@@ -286,7 +286,8 @@ impl Scene<'_, '_, '_, '_, '_, '_, '_, '_, '_, '_, '_> {
             opened.operands,
             types_of(&operands),
         )?;
-        let text = format!(in self.alloc; "    {spot}{locals}{operands}\n")?;
+        let around = self.view.shown.code.around(opened.place);
+        let text = format!(in self.alloc; "    {spot}{locals}{operands}\n{around}")?;
         Ok(text)
     }
 

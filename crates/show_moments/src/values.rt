@@ -158,15 +158,19 @@ impl fmt::Display for FrameSpot<'_> {
 
     /// As `body+0x38a lock queue.c:31 < take queue.c:88 < body queue.c:120`.
     fn fmt<W: fmt::Write>(&self, f: &mut Formatter<W>) -> fmt::Result {
-        let Some(chain) = self.chain else {
-            return write!(f, "{}", self.spot);
-        };
         let Spot {
             name,
             offset,
             source,
             text: _,
         } = self.spot;
+        let Some(chain) = self.chain else {
+            let whole = Spot {
+                text: None,
+                ..self.spot
+            };
+            return write!(f, "{whole}");
+        };
         let front = Spot {
             name,
             offset,

@@ -5,8 +5,10 @@ ghost use Rattle.std.specs.Prelude.{◌≡◌, ◌^◌, ◌-◌, min, count_by, 
 ghost use Rattle.show_places.specs.Names.{IsNames};
 ghost use Rattle.show_rows.specs.Spots as specified;
 ghost use Rattle.show_lines.specs.Sources.{IsTextOf, line_in};
+ghost use Rattle.show_rows.specs.Around.{lines_around};
 ghost use Rattle.show_rows.specs.Spots.{IsSpotOf, AreBodies, is_function_import, range_at};
 
+use crate::around::Around;
 use crate::spot::Spot;
 use binary_wire::ReadFault;
 use interp::CodePlace;
@@ -129,6 +131,33 @@ impl<'m, 'n> CodeMap<'m, 'n> {
             Some(line) => Some(line.trim()),
             None => None,
         }
+    }
+
+    /// The lines of source around the place.
+    pub fn around(&self, place: CodePlace) -> Around<'_>
+        ensures { result ≡ lines_around self.now.sources.files.items (range_at self.now place) }
+    {
+        let Some(range) = self.range_of(place) else {
+            return Around {
+                line: 0,
+                before: None,
+                here: None,
+                behind: None,
+            };
+        };
+        Around {
+            line: range.line,
+            before: self.line_of(range, range.line.saturating_sub(1)),
+            here: self.sources.line(range),
+            behind: self.line_of(range, range.line.saturating_add(1)),
+        }
+    }
+
+    /// A line of the file of a range of code.
+    fn line_of(&self, range: Range, line: u64) -> Option<&str>
+        ensures { result ≡ line_in self.now.sources.files.items (record range.entry { line = line }) }
+    {
+        self.sources.line(Range { line, ..range })
     }
 
     /// How far behind the start of its body the instruction is.

@@ -5,11 +5,13 @@
 //! the row of an event is where the thread stands that wants it, with the number that it finds in memory.
 #![tactic(auto)]
 
+mod around;
 mod code;
 mod listing;
 mod rows;
 mod spot;
 
+pub use around::Around;
 pub use code::CodeMap;
 pub use listing::{Shown, Story, chosen_entries, write_rows};
 pub use rows::{Row, Rows, number_in};

@@ -8,10 +8,16 @@ use std::fmt::{self, Formatter, Write};
 fn plain_char(c: char) -> char
     ensures { result ≡ specified.plain_char c }
 {
-    if c.is_control() { '?' } else { c }
+    if c == '\t' {
+        ' '
+    } else if c.is_control() {
+        '?'
+    } else {
+        c
+    }
 }
 
-/// A text without its control characters: each is written as `?`.
+/// A text without its control characters: each is written as `?`, and a tab as a space.
 #[derive(Clone, Copy, PartialEq, Eq)]
 pub struct Plain<'a>(pub &'a str);
 

@@ -15,8 +15,11 @@ loop-range-preserved c =
     let at = c.loop-range.range-index in
     let inside = rw c.deref-range-items.ensures.value at c.loop-range-test.true in
     let is = rw c.deref-range-items.ensures.value at c.source.ensures in
-    let here : IsSourceIn ranges c.source.result = (at, subst (λ n. at < n) (sym (length-map ranges source_of)) inside,
-    get_or-map source_of ranges at _ _ inside ∙ sym is) in (
+    let here : IsSourceIn ranges c.source.result = (
+      at,
+      subst (λ n. at < n) (sym (length-map ranges source_of)) inside,
+      get_or-map source_of ranges at _ _ inside ∙ sym is,
+    ) in (
       c.in_ok-add_source.ensures.few c.loop-range.invariant.0,
       λ k d within. one (IsSourceIn ranges) c.loop-range.sources.items c.source.result _ c.loop-range.invariant.1 here (c.in_ok-add_source.ensures.known k d within),
     )

@@ -14,7 +14,7 @@ loop-preserved g c =
     let some = c.in_ok-count.ensures.some in
     let left = length-drop done places in
     let rest : take (length places - done) (drop done places) ≡ drop done places =
-        take_all (length places - done) (drop done places) (omega (arith, left)) in
+    take_all (length places - done) (drop done places) (omega (arith, left)) in
     let within = subst (λ (xs : List ℕ). count ≤ length xs) rest c.in_ok-count.ensures.within in
     let writes = subst (λ (xs : List ℕ). AddsPart l.shown l.map.now l.story.now (take count xs)
     (g.W.Write.contents c.loop.out) (g.W.Write.contents c.write_part.new.out)) rest c.in_ok-count.ensures.writes in
