@@ -22,7 +22,7 @@ fn write_marked<W: Write>(
     line: u64,
     text: Option<&str>,
 ) -> fmt::Result
-    ensures { WritesOnOk W.write_str_gives f.old result (marked_text mark.now line text) f.new }
+    ensures { WritesOnOk W.write_str_gives f.old result (marked_text mark.now line text.entry) f.new }
 {
     let Some(text) = text else {
         return Ok(());
