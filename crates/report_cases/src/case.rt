@@ -1,6 +1,6 @@
 //! One case: each of its command lines, on the record as it is or as its rows change it.
 
-use crate::input::{module_of, names_of, saved_of};
+use crate::input::{module_of, names_of, saved_of, sources_of};
 use crate::program::Input;
 use crate::rows::{try_cuts, try_edits, try_forged};
 use crate::telling::CaseName;
@@ -74,10 +74,12 @@ pub fn try_case<'a, R: Threads + Wait + Sync>(
     let module = module_of(rt, case)?;
     let saved = saved_of(rt, case)?;
     let names = names_of(rt, case)?;
+    let sources = sources_of(rt, case)?;
     let input = Input {
         module: &module,
         saved: &saved,
         names: &names,
+        sources: &sources,
         wish: wish_of(case),
     };
     try_words(rt, threads, place, case, input, texts.wanted(), tally)

@@ -1,5 +1,6 @@
 //! What a case has its command lines read.
 
+use show_lines::SourceFile;
 use std::alloc::{AllocError, Global};
 use test_cases::{Case, Stop, from_hex, read_file};
 use test_modules::{I32, I64, PLAIN, SHARED, Small};
@@ -60,4 +61,19 @@ pub(crate) fn names_of(rt: &HostRuntime, case: &Case) -> Result<Vec<u8>, Stop> {
         Some(file) => read_file(rt, file),
         None => Ok(Vec::new(rt.alloc())),
     }
+}
+
+/// The file of source that a case has shown, as the debug information of its module names it, or none.
+pub(crate) fn sources_of(rt: &HostRuntime, case: &Case) -> Result<Vec<SourceFile>, Stop> {
+    let alloc = rt.alloc();
+    let mut files = Vec::new(alloc);
+    if let Some(name) = case.get("source") {
+        let text = read_file(rt, name)?;
+        files.push(SourceFile {
+            directory: String::new(alloc),
+            name: String::from_str(alloc, name)?,
+            text: String::from_utf8(text).unwrap_or(String::new(alloc)),
+        })?;
+    }
+    Ok(files)
 }

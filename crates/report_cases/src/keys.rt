@@ -1,7 +1,7 @@
 //! The keys of lines.
 
 /// The keys that there are.
-const KEYS: [&str; 27] = [
+const KEYS: [&str; 28] = [
     "module",
     "hex",
     "body",
@@ -12,6 +12,7 @@ const KEYS: [&str; 27] = [
     "saved-rest",
     "saved-file",
     "names",
+    "source",
     "words",
     "word",
     "over",

@@ -17,6 +17,7 @@
 //!                          are laid over its memory
 //! saved-file FILE        or the record is this file
 //! names FILE             `show` takes names and lines of source from this file, and not from the module
+//! source FILE            and shows the text of this file of source, which has that name there
 //!
 //! words run a.wasm ..    the words behind the program's name; several such lines are as many command lines
 //! word out of fuel       one word more behind each of them, which may have spaces

@@ -1,12 +1,13 @@
 //! The program on a command line: what it writes, and its status.
 ghost use Rattle.report_command.specs.Jobs.{IsInRange};
 
-use report::{Job, Streams, perform, show_saved};
+use report::{CodeBytes, Job, Streams, perform, show_saved};
 use report_command::{Form, Order, Usage, asked};
 use report_reasons::{Done, explain_done};
 use report_refusals::write_no_end;
 use search_finds::{Hears, Size};
 use search_reach::{Follows, Wish};
+use show_lines::SourceFile;
 use std::alloc::{AllocError, Global};
 use std::io::Write;
 use std::sync::Wait;
@@ -51,6 +52,8 @@ pub(crate) struct Input<'a> {
     pub(crate) saved: &'a [u8],
     /// The file that has the names, or nothing where the module has them.
     pub(crate) names: &'a [u8],
+    /// The files of source whose text is shown.
+    pub(crate) sources: &'a [SourceFile],
     /// What is wished of a search.
     pub(crate) wish: Wish,
 }
@@ -100,11 +103,18 @@ where
         module,
         saved,
         names,
+        sources,
         wish,
     } = input;
     gave.status = match job {
-        Job::Show { how, .. } if !names.is_empty() => {
-            show_saved(alloc, module, names, saved, how, &mut gave.streams)
+        Job::Show { how, .. } if !names.is_empty() || !sources.is_empty() => {
+            let names = if names.is_empty() { module } else { names };
+            let code = CodeBytes {
+                module,
+                names,
+                sources,
+            };
+            show_saved(alloc, code, saved, how, &mut gave.streams)
         }
         _ => perform(
             rt,

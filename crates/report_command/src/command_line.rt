@@ -141,7 +141,7 @@ impl From<AllocError> for Usage {
 pub(crate) const FILE: Argument = Argument {
     name: "file",
     value: "FILE",
-    help: "The module, in the binary format",
+    help: "The module, in the binary format; - is standard input",
     kind: Kind::Place,
     ..OPTION
 };
@@ -189,7 +189,7 @@ const MEMORY: Argument = Argument {
 const SAVE: Argument = Argument {
     name: "record",
     value: "OUT",
-    help: "Write a record of the run to this file; not with words",
+    help: "Write a record of the run to this file, - is standard output; not with words",
     ..OPTION
 };
 

@@ -243,7 +243,7 @@ const SEARCH_LIMIT: Argument = Argument {
 const SAVE: Argument = Argument {
     name: "record",
     value: "OUT",
-    help: "Write a record of the run that was found to this file",
+    help: "Write a record of the run that was found to this file; - is standard output",
     ..OPTION
 };
 

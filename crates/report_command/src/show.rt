@@ -139,7 +139,7 @@ const RAW: Argument = Argument {
 const HTML: Argument = Argument {
     name: "html",
     value: "OUT",
-    help: "In place of rows, write the entries as a page of HTML to this file",
+    help: "In place of rows, write the entries as a page of HTML to this file; - is standard output",
     conflicts: &["at"],
     ..OPTION
 };
@@ -148,7 +148,7 @@ const HTML: Argument = Argument {
 const TRACE: Argument = Argument {
     name: "trace",
     value: "OUT",
-    help: "In place of rows, write the entries in the Trace Event Format to this file",
+    help: "In place of rows, write the entries in the Trace Event Format to this file; - is standard output",
     conflicts: &["at", "html"],
     ..OPTION
 };

@@ -1,6 +1,6 @@
 //! What a job reads.
 
-use crate::sources::read_sources;
+use crate::sources::{FoundSources, SourcePlace, read_sources};
 use crate::stop::Stop;
 use crate::{Unread, read_memory, read_module, read_saved};
 use report_command::{Job, RacesJob, RunJob, Search};
@@ -18,6 +18,8 @@ pub struct Input {
     pub names: Option<Vec<u8>>,
     /// The files of source whose text is shown.
     pub sources: Vec<SourceFile>,
+    /// What is to be said of them on standard error, in lines.
+    pub notes: String,
 }
 
 /// The bytes that were read of the file at this path, or why that stops the job.
@@ -28,21 +30,34 @@ fn bytes_of(path: &str, read: Result<Vec<u8>, Unread>) -> Result<Vec<u8>, Stop<'
     }
 }
 
-/// The files of source that a job shows, of a module with these bytes.
+/// The files of source that a job shows, of the module at this path with these bytes.
 fn sources_of<'a>(
     rt: &HostRuntime,
     job: &Job<'a>,
+    path: &'a str,
     module: &[u8],
-) -> Result<Vec<SourceFile>, Stop<'a>> {
+) -> Result<FoundSources, Stop<'a>> {
+    let Job::Show { how, .. } = job else {
+        return Ok(FoundSources::none(rt.alloc()));
+    };
+    let Some(folder) = how.source else {
+        return Ok(FoundSources::none(rt.alloc()));
+    };
+    let place = SourcePlace {
+        folder,
+        module: path,
+    };
+    match read_sources(rt, place, module) {
+        Ok(found) => Ok(found),
+        Err(why) => Err(Stop::unread(folder, why)),
+    }
+}
+
+/// The path of the file that a job takes names from, where it is another one than the module.
+fn names_path<'a>(job: &Job<'a>) -> Option<&'a str> {
     match job {
-        Job::Show { how, .. } => match how.source {
-            Some(folder) => match read_sources(rt, folder, module) {
-                Ok(files) => Ok(files),
-                Err(why) => Err(Stop::unread(folder, why)),
-            },
-            None => Ok(Vec::new(rt.alloc())),
-        },
-        _ => Ok(Vec::new(rt.alloc())),
+        Job::Show { names, .. } | Job::Races(RacesJob { names, .. }) => *names,
+        _ => None,
     }
 }
 
@@ -66,24 +81,21 @@ pub(crate) fn read<'a>(rt: &HostRuntime, job: &Job<'a>) -> Result<Input, Stop<'a
         Job::Replay { saved, .. } | Job::Show { saved, .. } | Job::Races(RacesJob { saved, .. }) =>
             { bytes_of(saved, read_saved(rt, saved))? }
     };
-    let names = match job {
-        Job::Show {
-            names: Some(path),
-            ..
-        }
-        | Job::Races(
-            RacesJob {
-                names: Some(path),
-                ..
-            },
-        ) => Some(bytes_of(path, read_module(rt, path))?),
-        _ => None,
+    let names = match names_path(job) {
+        Some(path) => Some(bytes_of(path, read_module(rt, path))?),
+        None => None,
     };
-    let sources = sources_of(rt, job, names.as_ref().unwrap_or(&module))?;
+    let FoundSources { files, notes } = sources_of(
+        rt,
+        job,
+        names_path(job).unwrap_or(file),
+        names.as_ref().unwrap_or(&module),
+    )?;
     Ok(Input {
         module,
         saved,
         names,
-        sources,
+        sources: files,
+        notes,
     })
 }

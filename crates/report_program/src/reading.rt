@@ -15,8 +15,8 @@ const MODULE_FRONT: u64 = MOST_MODULE_BYTES as u64 + 1;
 /// What is read of the bytes that are laid over a memory: one more than any memory has, by which too many are told.
 const MEMORY_FRONT: u64 = MOST_PAGES as u64 * PAGE_SIZE as u64 + 1;
 
-/// How standard input is called among files.
-const STANDARD: &str = "-";
+/// How standard input is called among files that are read, and standard output among those that are written.
+pub(crate) const STANDARD: &str = "-";
 
 /// How each record begins.
 const RECORD_HEAD: &[u8] = b"wathread-record ";

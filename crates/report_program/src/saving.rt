@@ -1,10 +1,14 @@
 //! The file of a record.
 
 use crate::beside::Beside;
+use crate::reading::STANDARD;
 use std::fs::{self, File, OpenOptions, Permissions};
 use std::io::{self, Error, ErrorKind, Write};
 use std::os::unix::fs::MetadataExt;
 use std::path::Path;
+
+/// The path of standard output, where a file is.
+const STANDARD_OUTPUT: &str = "/dev/stdout";
 
 /// Whether two paths lead to one file.
 pub fn is_one_file(rt: &HostRuntime, one: &str, other: &str) -> bool {
@@ -43,7 +47,7 @@ enum Target {
         /// Those of the file that is there, if there is one.
         permissions: Option<Permissions>,
     },
-    /// What has this path and is no file, as a pipe: it takes the record as it is written.
+    /// What has this path and is no file, as a pipe, or standard output: it takes the record as it is written.
     Stream {
         path: String,
     },
@@ -79,12 +83,18 @@ fn is_free(rt: &HostRuntime, path: &str) -> bool {
 }
 
 impl SavePlace {
-    /// Where a record with this path goes: links are followed, and what is there stays as it is.
+    /// Where a record with this path goes: links are followed, and what is there stays as it is. `-` is standard output.
     ///
     /// # Errors
     /// Where that is a folder, or can't be written, or nothing can be made beside it. Of the kind `OutOfMemory` where
     /// the system had too little memory left.
     pub fn new(rt: &HostRuntime, path: &str) -> io::Result<SavePlace> {
+        if path == STANDARD {
+            let path = String::from_str(rt.alloc(), STANDARD_OUTPUT)?;
+            return Ok(SavePlace {
+                target: Target::Stream { path },
+            });
+        }
         let found = match fs::metadata(rt, path) {
             Ok(found) => found,
             Err(error) if error.kind() == ErrorKind::NotFound && is_free(rt, path) => {
@@ -140,7 +150,7 @@ impl<'a> SavedFile<'a> {
         match &mut self.target {
             Some(Target::File { beside, .. }) => beside.create(self.rt),
             Some(Target::Stream { path }) => {
-                OpenOptions::new().write(true).open(self.rt, path.as_str())
+                OpenOptions::new().append(true).open(self.rt, path.as_str())
             }
             None => Err(Error::from(ErrorKind::NotFound)),
         }

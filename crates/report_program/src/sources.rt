@@ -3,7 +3,7 @@
 use crate::{Unread, read_front};
 use show_lines::{DebugSections, Source, SourceFile, read_lines};
 use std::alloc::{AllocError, Global};
-use std::fs::File;
+use std::fs::{self, File};
 use std::io;
 
 /// How many files are read at most.
@@ -17,9 +17,71 @@ const MOST_IN_ALL: usize = 64 << 20;
 /// How many folders of a path are left out at most.
 const MOST_FOLDERS: usize = 32;
 
+/// By how many seconds a file that is no newer than another may be the later one, as a copy of both may leave them.
+const SLACK: u64 = 5;
+
+/// Where files of source are looked for: the folder, and the path of the module that they are of.
+#[derive(Clone, Copy)]
+pub(crate) struct SourcePlace<'a> {
+    pub(crate) folder: &'a str,
+    pub(crate) module: &'a str,
+}
+
+/// Files of source, and what is to be said of them on standard error, in lines.
+#[derive(Drop)]
+pub(crate) struct FoundSources {
+    pub(crate) files: Vec<SourceFile>,
+    pub(crate) notes: String,
+}
+
+impl FoundSources {
+    pub(crate) fn none(alloc: Global) -> FoundSources {
+        FoundSources {
+            files: Vec::new(alloc),
+            notes: String::new(alloc),
+        }
+    }
+
+    /// Says where nothing was found what was looked for: none of these sources.
+    fn note_none(&mut self, place: SourcePlace, sources: &[Source]) -> Result<(), AllocError> {
+        let SourcePlace { folder, module } = place;
+        match sources.first() {
+            Some(Source { name, .. }) => write!(
+                self.notes,
+                "no file of source of {module} is below {folder}: it names {name}\n"
+            ),
+            None => write!(
+                self.notes,
+                "{module} names no files of source: build it with -g\n"
+            ),
+        }
+    }
+}
+
+/// The text of a file, and its path.
+#[derive(Drop)]
+struct FoundText {
+    path: String,
+    text: String,
+}
+
 /// Whether a path leads below the folder where it begins.
 fn leads_below(path: &str) -> bool {
     !path.is_empty() && !path.starts_with('/') && !path.split('/').any(|part| part == "..")
+}
+
+/// Whether the one file was changed after the other one, by more than some seconds.
+fn is_newer(rt: &HostRuntime, path: &str, than: &str) -> bool {
+    let (Ok(one), Ok(other)) = (fs::metadata(rt, path), fs::metadata(rt, than)) else {
+        return false;
+    };
+    let (Ok(one), Ok(other)) = (one.modified(), other.modified()) else {
+        return false;
+    };
+    match one.duration_since(other) {
+        Ok(later) => later.as_secs() > SLACK,
+        Err(_) => false,
+    }
 }
 
 /// The text of a file, where it is there and is text.
@@ -35,13 +97,13 @@ fn text_at(rt: &HostRuntime, path: &str) -> io::Result<Option<String>> {
 }
 
 /// The text of the file below this folder which has the longest end of the path.
-fn text_below(rt: &HostRuntime, folder: &str, path: &str) -> io::Result<Option<String>> {
+fn text_below(rt: &HostRuntime, folder: &str, path: &str) -> io::Result<Option<FoundText>> {
     let mut end = path;
     for _ in 0..MOST_FOLDERS {
         if leads_below(end) {
-            let place = format!(in rt.alloc(); "{folder}/{end}")?;
-            if let Some(text) = text_at(rt, place.as_str())? {
-                return Ok(Some(text));
+            let path = format!(in rt.alloc(); "{folder}/{end}")?;
+            if let Some(text) = text_at(rt, path.as_str())? {
+                return Ok(Some(FoundText { path, text }));
             }
         }
         match end.split_once('/') {
@@ -52,46 +114,62 @@ fn text_below(rt: &HostRuntime, folder: &str, path: &str) -> io::Result<Option<S
     Ok(None)
 }
 
-/// A file of source, where it is below this folder.
-fn file_of(rt: &HostRuntime, folder: &str, source: Source) -> io::Result<Option<SourceFile>> {
+/// Adds a file of source, where it is below the folder; it is said where it is newer than the module.
+fn add_file(
+    rt: &HostRuntime,
+    place: SourcePlace,
+    source: Source,
+    found: &mut FoundSources,
+) -> io::Result<()> {
     let alloc = rt.alloc();
     let Source { directory, name } = source;
     let path = format!(in alloc; "{directory}/{name}")?;
-    let Some(text) = text_below(rt, folder, path.as_str())? else {
-        return Ok(None);
+    let Some(FoundText { path, text }) = text_below(rt, place.folder, path.as_str())? else {
+        return Ok(());
     };
-    Ok(Some(SourceFile {
+    if is_newer(rt, path.as_str(), place.module) {
+        let module = place.module;
+        write!(
+            found.notes,
+            "{path} is newer than {module}: its lines may be others\n"
+        )?;
+    }
+    found.files.push(SourceFile {
         directory: format!(in alloc; "{directory}")?,
         name: format!(in alloc; "{name}")?,
         text,
-    }))
+    })?;
+    Ok(())
 }
 
 /// The files of source that a module's bytes name in their debug information, as far as they are below this folder: of
 /// each the one with the longest end of its path. A file that can't be read, or is no text, is left out; what is behind
-/// the first 4 MiB of one, and behind 64 MiB of all, isn't read.
+/// the first 4 MiB of one, and behind 64 MiB of all, isn't read. It is said where there are none, and which are newer
+/// than the module.
 ///
 /// # Errors
 /// `NoMemory`.
 pub(crate) fn read_sources(
     rt: &HostRuntime,
-    folder: &str,
+    place: SourcePlace,
     module: &[u8],
-) -> Result<Vec<SourceFile>, Unread> {
+) -> Result<FoundSources, Unread> {
     let alloc = rt.alloc();
+    let mut found = FoundSources::none(alloc);
     let table = read_lines(alloc, DebugSections::of(module))?;
-    let mut files = Vec::new(alloc);
+    let sources = table.sources(alloc, MOST_FILES)?;
     let mut bytes = 0usize;
-    for source in table.sources(alloc, MOST_FILES)? {
-        if bytes >= MOST_IN_ALL {
-            return Ok(files);
-        }
-        if let Some(file) = file_of(rt, folder, source)? {
-            bytes = bytes.saturating_add(file.text.len());
-            if let Err(refused) = files.push(file) {
-                return Err(AllocError::from(refused).into());
+    for source in &sources {
+        if bytes < MOST_IN_ALL {
+            let before = found.files.len();
+            add_file(rt, place, *source, &mut found)?;
+            if let Some(file) = found.files.get(before) {
+                bytes = bytes.saturating_add(file.text.len());
             }
         }
     }
-    Ok(files)
+    if found.files.is_empty() {
+        found.note_none(place, &sources)?;
+    }
+    Ok(found)
 }

@@ -198,7 +198,8 @@ fn begin<'a, W: Write + Drop>(
 ) -> io::Result<Task<'a, W>> {
     let alloc = rt.alloc();
     let (place, memory) = places;
-    let err = Vec::with_capacity(alloc, room)?;
+    let mut err = Vec::with_capacity(alloc, room.saturating_add(input.notes.len()))?;
+    err.extend_from_slice(input.notes.as_bytes())?;
     let stdout = Copied::new(alloc, Noted::new(stdout), told.is_copied());
     let out = BufWriter::with_capacity(alloc, OUT, stdout)?;
     let save = BufWriter::with_capacity(alloc, RECORD, SavedFile::new(rt, place))?;
