@@ -1,36 +1,24 @@
 -- What is said of a thread at a moment.
-use Rattle.std.proofs.Common.{◌≡◌, ◌∙◌, ℕ, ◌<◌, List, ◌++◌, length, get_or, slice_get, codes, Option, Some, None, Bool, true, false, ◌||◌, not, cond, [], refl, sym, ap, subst, string_bytes}
+use Rattle.std.proofs.Common.{◌≡◌, ◌∙◌, ℕ, ◌<◌, List, ◌++◌, length, get_or, slice_get, codes, Option, Some, None, Bool, true, false, not, refl, sym, ap, subst}
 use Rattle.std.proofs.lemmas.Option.{slice_get-get_or}
 use Rattle.std.specs.Fmt.{decimal}
-use Rattle.std.specs.Global.{Vec}
 use Rattle.std.specs.Io.KnownBytes.{Appends, Keeps}
 use Rattle.types.specs.declared.event.Entry.{Entry}
 use Rattle.types.specs.declared.limits.TheConstants.{MOST_THREADS}
-use Rattle.types.specs.declared.value.ValType.{ValType}
 use Rattle.race_history.specs.declared.race.Race.{Race}
-use Rattle.validate.specs.Operands.{OwnOperandsAt}
-use Rattle.validate_module.specs.Own.{FindsLocals}
 use Rattle.show_text.specs.declared.words.Words.{Words}
 use Rattle.show_text.specs.Words.{words_text}
 use Rattle.show_rows.specs.declared.listing.Story.{Story}
-use Rattle.show_rows.specs.declared.spot.Spot.{Spot}
 use Rattle.show_rows.specs.Listing.{line_at, AreWordsOf, IsStoryOf}
-use Rattle.show_rows.specs.Spots.{IsSpotOf}
-use Rattle.show_frames.specs.declared.frames.Chain.{Chain}
-use Rattle.show_frames.specs.declared.frames.Frame.{Frame}
-use Rattle.show_frames.specs.declared.values.FrameValue.{FrameValue}
-use Rattle.show_text.specs.Plain.{plain_text}
 use Rattle.show_rows.proofs.Chosen.{appends_keeps}
 use Rattle.show_moments.specs.declared.moment.Moment.{Moment}
-use Rattle.show_moments.specs.declared.standing.OpenFunction.{OpenFunction}
 use Rattle.show_moments.specs.declared.standing.ThreadSnapshot.{ThreadSnapshot}
 use Rattle.show_moments.specs.Moments.{standing_at}
 use Rattle.show_moments.specs.declared.scene.MomentView.{MomentView}
-use Rattle.show_moments.specs.Values.{chained_text, has_parts, is_signed, number_of, number_text}
-use Rattle.show_moments.specs.Texts.{listed_text, queue_text, dump_text}
+use Rattle.show_moments.specs.Texts.{queue_text, dump_text}
 use Rattle.show_moments.specs.Scenes.{Seen, depth, is_spawned, AddsFunctions, AddsNext, AddsRaces, AddsStanding, AddsThread, AddsThreads, AddsSpawned}
-use Rattle.show_moments.specs.Scenes.{IsAskedText, IsFrontText, IsFunctionText, IsNextOf, IsNextText, WritesMoment, types_of}
-use Rattle.show_moments.specs.Scenes.{IsNumberText, IsValueBy, IsValueText, listing_text, seen_by}
+use Rattle.show_moments.specs.Scenes.{IsAskedText, IsFrontText, IsNextOf, IsNextText, WritesMoment}
+use Rattle.show_moments.specs.Scenes.{seen_by}
 
 stands : (log whole : List Entry) (at : ℕ) (d : Entry) → log ≡ whole → at < length whole → slice_get whole at ≡ Some (get_or log at d)
 stands log whole at d same within = subst (λ (l : List Entry). slice_get l at ≡ Some (get_or log at d)) same
@@ -99,59 +87,6 @@ asked_says s asked log made said line text same within made_is of line_is is =
     ∙ (slice_get-get_or log asked made within ∙ ap (λ (e : Entry). Some e) (sym made_is)) in
     subst (λ (x : Option Entry). IsAskedText s asked x text) (sym here)
     (said, of, is ∙ ap (λ (n : ℕ). words_text said ++ (codes ", since line " ++ (decimal n ++ codes "; "))) line_is)
-
-pub function_says : (s : Seen) (o : OpenFunction) (frame : Frame) (spot : Spot) (chain : Option Chain)
-    (locals operands : Option (Vec ValType)) (listed : Bool) (l p text : List ℕ)
-    → IsSpotOf s.shown.code.now o.place spot → FindsLocals s.m o.place.function locals
-    → OwnOperandsAt s.m o.place.function o.place.instr operands → chain ≡ frame.chain → listed ≡ (s.raw || not frame.is_known)
-    → l ≡ cond listed (listed_text (codes "locals") o.locals.now (types_of locals)) []
-    → p ≡ cond listed (listed_text (codes "operands") o.operands.now (types_of operands)) []
-    → text ≡ codes "    " ++ (chained_text spot chain ++ (l ++ (p ++ codes "\n"))) → IsFunctionText s o frame text
-function_says s o frame spot chain locals operands listed l p text spot_is locals_are operands_are chain_is listed_is l_is p_is is =
-    let shown_l = l_is ∙ ap (λ (b : Bool). cond b (listed_text (codes "locals") o.locals.now (types_of locals)) []) listed_is in
-    let shown_p = p_is ∙ ap (λ (b : Bool). cond b (listed_text (codes "operands") o.operands.now (types_of operands)) []) listed_is in
-    record {
-      spot = spot;
-      spot_is = spot_is;
-      locals = locals;
-      locals_are = locals_are;
-      operands = operands;
-      operands_are = operands_are;
-      is = is ∙ (ap (λ (x : Option Chain). codes "    " ++ (chained_text spot x ++ (l ++ (p ++ codes "\n")))) chain_is
-          ∙ (ap (λ (x : List ℕ). codes "    " ++ (chained_text spot frame.chain ++ (x ++ (p ++ codes "\n")))) shown_l
-          ∙ ap (λ (x : List ℕ). codes "    " ++ (chained_text spot frame.chain
-          ++ (listing_text s frame (codes "locals") o.locals.now (types_of locals) ++ (x ++ codes "\n")))) shown_p));
-    }
-
-pub value_parts : (s : Seen) (o : OpenFunction) (v : FrameValue) (b : Bool) (text : List ℕ) → b ≡ has_parts v.kind → b ≡ true
-    → text ≡ codes "        " ++ (plain_text (string_bytes v.label) ++ codes " ..\n") → IsValueText s o v text
-value_parts s o v b text is true_is says = subst (λ (x : Bool). IsValueBy s o v x text) (sym true_is ∙ is) says
-
-number_says : (s : Seen) (o : OpenFunction) (v : FrameValue) (b : Bool) (n : Option ℕ) (text : List ℕ) → b ≡ has_parts v.kind
-    → b ≡ false → n ≡ number_of o s.moment.memory.items v → IsNumberText s v n text → IsValueText s o v text
-number_says s o v b n text is not_parts same says = subst (λ (x : Bool). IsValueBy s o v x text) (sym not_parts ∙ is)
-    (subst (λ (x : Option ℕ). IsNumberText s v x text) same says)
-
-pub value_none : (s : Seen) (o : OpenFunction) (v : FrameValue) (b : Bool) (memory : List ℕ) (n : Option ℕ) (text : List ℕ)
-    → b ≡ has_parts v.kind → b ≡ false → memory ≡ s.moment.memory.items → n ≡ number_of o memory v → n ≡ None → text ≡ []
-    → IsValueText s o v text
-value_none s o v b memory n text is not_parts same n_is none empty = number_says s o v b n text is not_parts
-    (n_is ∙ ap (λ (m : List ℕ). number_of o m v) same) (subst (λ (x : Option ℕ). IsNumberText s v x text) (sym none) empty)
-
-pub value_says : (s : Seen) (o : OpenFunction) (v : FrameValue) (b : Bool) (memory : List ℕ) (n : Option ℕ) (number : ℕ)
-    (signed : Bool) (target text : List ℕ) → b ≡ has_parts v.kind → b ≡ false → memory ≡ s.moment.memory.items
-    → n ≡ number_of o memory v → Some number ≡ n → signed ≡ is_signed v.kind → IsTargetText s v.kind number target
-    → text ≡ codes "        " ++ (plain_text (string_bytes v.label) ++ (codes " = "
-    ++ (number_text (record { is_signed = signed; bits = v.bits; number = number }) ++ (target ++ codes "\n"))))
-    → IsValueText s o v text
-value_says s o v b memory n number signed target text is not_parts same n_is some signed_is points says =
-    number_says s o v b n text is not_parts (n_is ∙ ap (λ (m : List ℕ). number_of o m v) same)
-    (subst (λ (x : Option ℕ). IsNumberText s v x text) some (
-      target,
-      points,
-      says ∙ ap (λ (x : Bool). codes "        " ++ (plain_text (string_bytes v.label) ++ (codes " = "
-          ++ (number_text (record { is_signed = x; bits = v.bits; number = number }) ++ (target ++ codes "\n"))))) signed_is,
-    ))
 
 pub moment_of : (view : MomentView) (moment : Moment) (races : List Race) (story : Story) (log : List Entry)
     (queue dump : List ℕ) (a b c d e : Option (List ℕ)) → log ≡ view.shown.record.now.log → IsStoryOf log story
