@@ -1,7 +1,7 @@
 //! Back from where a thread stands: who wrote some bytes last, and who notified an address last.
 //!
-//! Proved: the place that is found is the last one before the given one whose entry writes one of the bytes, or notifies
-//! the address; none is found only where no entry does. Of a thread that stopped, what it touched last is that of its
+//! Proved: the place that is found is the last one before the given one whose entry writes one of the bytes (of any thread,
+//! or of another than the given one), or notifies the address; none is found only where no entry does. Of a thread that stopped, what it touched last is that of its
 //! last entry that touches bytes, and how often it did so is the number of such entries at its end that touch the same
 //! bytes.
 //!
