@@ -116,6 +116,6 @@ fn add_arguments(
     out.push('\n')?;
     add_unfit(out, func_type.params.as_slice(), args)?;
     out.push_str(
-        "an argument is a decimal or, behind 0x, a hexadecimal number that fits its type; -1 of an i32 is 4294967295\n",
+        "an argument is a number that fits its type, signed or unsigned, or hexadecimal behind 0x: 5, -5 or 0x10\n",
     )
 }
