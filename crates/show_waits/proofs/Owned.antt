@@ -1,6 +1,5 @@
 -- Whether the last write at some addresses is a thread's own.
-use Rattle.std.proofs.Common.{◌≡◌, ◌==◌, ℕ, List, Some, Bool, true, length, slice_get, slice_index_or, sym, ap, ◌∙◌, arith}
-use Rattle.std.proofs.lemmas.Bool.Decides.{nat_tests}
+use Rattle.std.proofs.Common.{◌≡◌, ℕ, List, Some, length, slice_get, slice_index_or, sym, ap, ◌∙◌}
 use Rattle.types.specs.declared.event.Entry.{Entry}
 use Rattle.report_choice.specs.declared.choice.Span.{Span}
 use Rattle.show_writes.specs.declared.lasts.Act.TheVariants as acts

@@ -18,7 +18,9 @@ fn words_of(alloc: Global, n: usize, others: &[usize]) -> Result<String, AllocEr
         text = format!(in alloc; "{text}t{at} waits for t{next}, ")?;
         at = *next;
     }
-    let text = format!(in alloc; "{text}t{at} waits for t{n}: each for the bytes that it stands at\n")?;
+    let text = format!(in alloc;
+        "{text}t{at} waits for t{n}: each for the bytes that it stands at\n"
+    )?;
     Ok(text)
 }
 
@@ -33,7 +35,11 @@ fn cycle_of(alloc: Global, waits: &[Option<usize>], n: usize) -> Result<String, 
 }
 
 /// Writes each cycle in which threads wait for one another.
-pub(crate) fn write_cycles<W: Write>(alloc: Global, shown: Shown, out: &mut W) -> Result<(), Unwritten>
+pub(crate) fn write_cycles<W: Write>(
+    alloc: Global,
+    shown: Shown,
+    out: &mut W,
+) -> Result<(), Unwritten>
     ensures { OnOk result (WritesCycles shown.entry (W.contents out.old) (W.contents out.new)) }
 {
     let ends = shown.record.ends.as_slice();

@@ -1,4 +1,4 @@
-use Rattle.std.proofs.Common.{◌≡◌, ◌≤◌, ◌+◌, ◌∷◌, [], List, ℕ, length, drop, string_bytes, codes, rules, arith}
+use Rattle.std.proofs.Common.{◌+◌, drop, string_bytes, codes}
 use Rattle.std.proofs.lemmas.List.{drop_all, drop_more}
 use Rattle.show_waits.specs.Cycles.{chain_text}
 use Rattle.show_waits.proofs.Chained.{last_one, one_more}

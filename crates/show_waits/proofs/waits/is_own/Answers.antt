@@ -1,4 +1,4 @@
-use Rattle.std.proofs.Common.{◌≡◌, ℕ, length, rules, refl}
+use Rattle.std.proofs.Common.{refl}
 use Rattle.std.proofs.lemmas.Bool.{eq-eqb, eqb-true}
 use Rattle.show_waits.proofs.Owned.{if_own, none_own, own_if}
 use Rattle.show_waits.proofs.waits.is_own.Goals as goal
