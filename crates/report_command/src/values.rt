@@ -26,11 +26,7 @@ fn negated(size: u64, most: u64) -> u64
     requires { size ≤ most }
     ensures { result ≡ (most + 1 - size) % (most + 1) }
 {
-    if size == 0 {
-        0
-    } else {
-        most - size + 1
-    }
+    if size == 0 { 0 } else { most - size + 1 }
 }
 
 /// The number that a text writes, of those up to the highest one.
