@@ -6,3 +6,4 @@ pub mod Results
 pub mod Found
 pub mod Addresses
 pub mod Options
+pub mod Spells

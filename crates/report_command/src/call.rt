@@ -36,7 +36,7 @@ pub(crate) const INVOKE: Argument = Argument {
 pub(crate) const ARGS: Argument = Argument {
     name: "args",
     value: "ARG",
-    help: "The function's arguments, unsigned decimals",
+    help: "The function's arguments, as 5, -5 or 0x10",
     kind: Kind::Rest,
     ..OPTION
 };

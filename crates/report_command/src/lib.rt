@@ -4,7 +4,7 @@
 //! and its numbers are in their ranges. No run keeps a record in place of its module, or one of a memory of words or
 //! with bytes laid over it, and none writes its memory in place of a file that it reads or of its record. A result that
 //! is expected of a search is spelled whole. The lines, addresses and moments of a show are those that its words spell
-//! (`specs/Addresses.antt`). What `clap` finds in words, cases say.
+//! (`specs/Addresses.antt`), and a value of a call the one that its text spells (`specs/Spells.antt`). What `clap` finds in words, cases say.
 #![tactic(auto)]
 
 mod advice;
@@ -20,6 +20,7 @@ mod places;
 mod races;
 mod search;
 mod show;
+mod values;
 mod words;
 
 pub use advice::{ADVICE, Advice};
@@ -33,3 +34,4 @@ pub use races::RacesJob;
 pub use report_choice::{Color, Find, Look, Sought, Target, Way};
 pub use search::Search;
 pub use show::{At, LastWrite, ShowLook, View};
+pub use values::value_in;

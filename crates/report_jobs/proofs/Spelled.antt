@@ -4,7 +4,8 @@ use Rattle.std.proofs.lemmas.List.{take_more, map-append}
 use Rattle.types.specs.declared.value.ValType.{ValType}
 use Rattle.types.specs.declared.value.Value.{Value}
 use Rattle.types.specs.Values.{type_of}
-use Rattle.report_jobs.specs.Arguments.{Spells, AreSpelled}
+use Rattle.report_command.specs.Spells.{Spells}
+use Rattle.report_jobs.specs.Arguments.{AreSpelled}
 
 spelled_push : (texts : List (List ℕ)) (args : List Value) (text : List ℕ) (v : Value) → AreSpelled texts args → Spells text v
     → AreSpelled (texts ++ text ∷ []) (args ++ v ∷ [])

@@ -1,22 +1,12 @@
 -- The arguments of a run, as they are written on the command line.
-use Rattle.std.specs.Prelude.{ℕ, ◌≡◌, ◌<◌, ◌^◌, List, [], ◌∷◌, map}
+use Rattle.std.specs.Prelude.{ℕ, ◌≡◌, List, [], ◌∷◌, map}
 use Rattle.std.specs.Borrow.{Bor}
-use Rattle.std.specs.Str.Parse.{IsNumeral, digits_value}
 use Rattle.types.specs.declared.value.ValType.{ValType}
 use Rattle.types.specs.declared.value.Value.{Value}
-use Rattle.types.specs.declared.value.Value.TheVariants as values
 use Rattle.types.specs.Values.{type_of}
 use Rattle.types.specs.declared.parts.Parts.{Parts}
+use Rattle.report_command.specs.Spells.{Spells}
 use Rattle.spawn_host.specs.Entries.{Takes}
-
--- The text is decimal digits, at least one and without a sign, and writes the number, which is below the bound.
-abbrev pub Writes : List ℕ → ℕ → ℕ → Type 0
-Writes text n bound = IsNumeral 10 text × (n ≡ digits_value 10 text) × (n < bound)
-
--- The text spells the value.
-abbrev pub Spells : List ℕ → Value → Type 0
-Spells text (values.I32 n) = Writes text n (2 ^ 32)
-Spells text (values.I64 n) = Writes text n (2 ^ 64)
 
 -- The texts spell the values, in number and order.
 abbrev pub AreSpelled : List (List ℕ) → List Value → Type 0

@@ -1,5 +1,6 @@
 //! Calls that can't be made.
 
+use report_command::value_in;
 use show_text::Plain;
 use std::alloc::AllocError;
 use types::{Export, ExportDesc, FuncType, ImportDesc, Parts, ValType};
@@ -85,19 +86,10 @@ fn add_types(out: &mut String, types: &[ValType]) -> Result<(), AllocError> {
     out.push(')')
 }
 
-/// Whether a text is an unsigned decimal that fits the type.
-fn fits(val_type: ValType, text: &str) -> bool {
-    !text.starts_with('+')
-        && match val_type {
-            ValType::I32 => text.parse::<u32>().is_ok(),
-            ValType::I64 => text.parse::<u64>().is_ok(),
-        }
-}
-
 /// Adds which arguments are none of their types.
 fn add_unfit(out: &mut String, types: &[ValType], args: &[&str]) -> Result<(), AllocError> {
     for (place, (val_type, text)) in types.iter().zip(args.iter()).enumerate() {
-        if !fits(*val_type, text) {
+        if value_in(*val_type, text).is_none() {
             let (number, text, name) = (place.saturating_add(1), Plain(text), type_name(*val_type));
             write!(out, "argument {number} is no {name}: {text}\n")?;
         }
@@ -124,6 +116,6 @@ fn add_arguments(
     out.push('\n')?;
     add_unfit(out, func_type.params.as_slice(), args)?;
     out.push_str(
-        "an argument is an unsigned decimal that fits its type; -1 of an i32 is 4294967295\n",
+        "an argument is a number that fits its type, signed or unsigned, or hexadecimal behind 0x: 5, -5 or 0x10\n",
     )
 }

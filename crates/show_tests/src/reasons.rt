@@ -315,13 +315,13 @@ static CALLS: [Call; 3] = [
         name: "f",
         args: &["1", "2"],
         lines: "f is of type (i32) -> (i32); arguments wanted: 1, given: 2\n\
-            an argument is an unsigned decimal that fits its type; -1 of an i32 is 4294967295\n",
+            an argument is a number that fits its type, signed or unsigned, or hexadecimal behind 0x: 5, -5 or 0x10\n",
     },
     Call {
         name: "f",
-        args: &["-1"],
-        lines: "f is of type (i32) -> (i32)\nargument 1 is no i32: -1\n\
-            an argument is an unsigned decimal that fits its type; -1 of an i32 is 4294967295\n",
+        args: &["-0x1"],
+        lines: "f is of type (i32) -> (i32)\nargument 1 is no i32: -0x1\n\
+            an argument is a number that fits its type, signed or unsigned, or hexadecimal behind 0x: 5, -5 or 0x10\n",
     },
     Call {
         name: "g",

@@ -1,1 +1,3 @@
+pub mod Chained
+pub mod Owned
 pub mod Telling

@@ -10,8 +10,7 @@ use Rattle.types.specs.declared.outcome.Outcome.{Outcome}
 use Rattle.types.specs.declared.outcome.Outcome.TheVariants as outcomes
 use Rattle.types.specs.declared.outcome.ThreadReport.{ThreadReport}
 use Rattle.types.specs.Outcomes.{outcome_text}
-use Rattle.show_rows.proofs.Chosen.{appends_keeps}
-use Rattle.show_races.proofs.Texts.{AreWritten}
+use Rattle.show_races.proofs.Texts.{AreWritten, all_written}
 use Rattle.show_rows.specs.declared.listing.Shown.{Shown}
 use Rattle.show_rows.specs.declared.listing.Story.{Story}
 use Rattle.show_rows.specs.Listing.{line_at}
@@ -21,34 +20,38 @@ use Rattle.show_writes.specs.declared.lasts.Act.TheVariants as acts
 use Rattle.show_writes.specs.declared.stands.Stand.{Stand}
 use Rattle.show_writes.specs.Stands.{IsStand}
 use Rattle.show_waits.specs.Lasts.{SaysLast}
-use Rattle.show_waits.specs.Waits.{SaysEnd, SaysNowhere, SaysStand, SaysWait, times_text}
+use Rattle.show_waits.specs.Cycles.{AreCycles, WritesCycles}
+use Rattle.show_waits.specs.Waits.{SaysEnd, SaysNowhere, SaysOther, SaysStand, SaysWait, times_text}
 
 -- the text, by the number of the line
-abbrev stand_words : ℕ → List ℕ → ℕ → List ℕ → List ℕ → List ℕ
-stand_words times last line written notified = last ++ (codes "\n  so " ++ (times_text times ++ (codes " since line "
+abbrev stand_words : ℕ → List ℕ → ℕ → List ℕ → List ℕ → List ℕ → List ℕ
+stand_words times last line written other notified = last ++ (codes "\n  so " ++ (times_text times ++ (codes " since line "
     ++ (decimal line ++ (codes "\n  last write there: " ++ (written
-    ++ (codes "\n  last notify there: " ++ (notified ++ codes "\n"))))))))
+    ++ (codes "\n" ++ (other ++ (codes "  last notify there: " ++ (notified ++ codes "\n"))))))))))
 
 module _ (shown : Shown) (map : DataMap) (story : Story) (n : ℕ) (stand : Stand) (is : IsStand n shown.record.now.log stand) where
-  pub says_stand : (end line : ℕ) (last written notified text : List ℕ) → end ≡ length shown.record.now.log
+  pub says_stand : (end line : ℕ) (last written other notified text : List ℕ) → end ≡ length shown.record.now.log
       → line ≡ line_at shown stand.since → IsEntryText shown map story stand.last last
       → SaysLast shown map story end (acts.Write stand.addrs) (codes "nobody") written
+      → SaysOther shown map story n stand.addrs other
       → SaysLast shown map story end (acts.Notify stand.addrs.first) (codes "nobody") notified
       → text ≡ last ++ (codes "\n  so " ++ (times_text stand.times ++ (codes " since line "
       ++ (decimal line ++ (codes "\n  last write there: " ++ (written
-      ++ (codes "\n  last notify there: " ++ (notified ++ codes "\n"))))))))
+      ++ (codes "\n" ++ (other ++ (codes "  last notify there: " ++ (notified ++ codes "\n"))))))))))
       → SaysStand shown map story n text
-  says_stand end line last written notified text whole line_is last_is written_is notified_is words = record {
+  says_stand end line last written other notified text whole line_is last_is written_is other_is notified_is words = record {
     stand = stand;
     is = is;
     last = last;
     last_is = last_is;
     written = written;
     written_is = subst (λ k. SaysLast shown map story k (acts.Write stand.addrs) (codes "nobody") written) whole written_is;
+    other = other;
+    other_is = other_is;
     notified = notified;
     notified_is = subst (λ k. SaysLast shown map story k (acts.Notify stand.addrs.first) (codes "nobody") notified) whole
         notified_is;
-    words = words ∙ ap (λ k. stand_words stand.times last k written notified) line_is;
+    words = words ∙ ap (λ k. stand_words stand.times last k written other notified) line_is;
   }
 
 -- of a thread that was stopped, by its report
@@ -68,10 +71,15 @@ says_stopped shown map story n ends d stop place text same within ended says wor
     )
 
 -- all paragraphs, and nothing behind them
-pub all_told : {X : Type 0} (Q : X → List ℕ → Type 0) (xs : List X) (n : ℕ) (a b c : Option (List ℕ)) → length xs ≤ n
-    → AreWritten Q xs n a b → Keeps b c → (texts : List (List ℕ)) × AllZip Q xs texts × Appends a c (concat texts)
-all_told {X} Q xs n a b c le (texts, all, wrote) last = (
-  texts,
-  subst (λ (ys : List X). AllZip Q ys texts) (take_all n xs le) all,
-  appends_keeps a b c (concat texts) wrote last,
-)
+pub all_told : {X : Type 0} (Q : X → List ℕ → Type 0) (xs : List X) (n : ℕ) (a b : Option (List ℕ)) → length xs ≤ n
+    → AreWritten Q xs n a b → (texts : List (List ℕ)) × AllZip Q xs texts × Appends a b (concat texts)
+all_told {X} Q xs n a b le (texts, all, wrote) = (texts, subst (λ (ys : List X). AllZip Q ys texts) (take_all n xs le) all, wrote)
+
+-- all paragraphs, and the cycles behind them
+pub all_and_cycles : (shown : Shown) (Q : ℕ → List ℕ → Type 0) (xs : List ℕ) (n : ℕ) (a b c d : Option (List ℕ)) → length xs ≤ n
+    → AreWritten Q xs n a b → WritesCycles shown b c → Keeps c d
+    → (texts : List (List ℕ)) × AllZip Q xs texts × (cycles : List (List ℕ)) × AreCycles shown cycles
+    × Appends a d (concat texts ++ concat cycles)
+all_and_cycles shown Q xs n a b c d le told (cycles, are, more) last =
+    let (texts, all, wrote) = all_written Q xs n (concat cycles) a b c d le told more last in
+    (texts, all, cycles, are, wrote)

@@ -3,10 +3,12 @@ use Rattle.std.specs.Prelude.{ℕ, ◌≡◌, ◌⊎◌, ◌==◌, ◌++◌, [],
 use Rattle.std.specs.Fmt.{decimal}
 use Rattle.std.specs.List.{AllZip, concat, range_with_len, slice_get}
 use Rattle.std.specs.Io.KnownBytes.{Appends}
+use Rattle.types.specs.declared.event.Entry.{Entry}
 use Rattle.types.specs.declared.outcome.Outcome.{Outcome}
 use Rattle.types.specs.declared.outcome.Outcome.TheVariants as outcomes
 use Rattle.types.specs.declared.outcome.ThreadReport.{ThreadReport}
 use Rattle.types.specs.Outcomes.{outcome_text}
+use Rattle.report_choice.specs.declared.choice.Span.{Span}
 use Rattle.show_rows.specs.declared.listing.Shown.{Shown}
 use Rattle.show_rows.specs.declared.listing.Story.{Story}
 use Rattle.show_rows.specs.Listing.{line_at}
@@ -14,14 +16,33 @@ use Rattle.show_named.specs.declared.data_map.DataMap.{DataMap}
 use Rattle.show_named.specs.Rows.{IsEntryText}
 use Rattle.show_writes.specs.declared.lasts.Act.TheVariants as acts
 use Rattle.show_writes.specs.declared.stands.Stand.{Stand}
+use Rattle.show_writes.specs.Lasts.{IsLast}
 use Rattle.show_writes.specs.Stands.{IsStand, TouchesNothing}
+use Rattle.show_waits.specs.Cycles.{AreCycles}
 use Rattle.show_waits.specs.Lasts.{SaysLast}
 
 abbrev pub times_text : ℕ → List ℕ
 times_text n = if n == 1 then codes "once" else decimal n ++ codes " times"
 
+-- The last write at these addresses is the thread's own.
+pub record IsOwn (log : List Entry) (n : ℕ) (addrs : Span) : Type 0 where
+  pub place : ℕ
+  pub last : IsLast (acts.Write addrs) log (length log) place
+  pub own : last.entry.thread ≡ n
+
+-- There it is told who was the last one of the others.
+pub record SaysLastOther (shown : Shown) (map : DataMap) (story : Story) (n : ℕ) (addrs : Span) (text : List ℕ) : Type 0 where
+  pub own : IsOwn shown.record.now.log n addrs
+  pub other : List ℕ
+  pub other_is : SaysLast shown map story (length shown.record.now.log) (acts.OtherWrite addrs n) (codes "nobody") other
+  pub words : text ≡ codes "  last write there of another thread: " ++ (other ++ codes "\n")
+
+abbrev pub SaysOther : Shown → DataMap → Story → ℕ → Span → List ℕ → Type 0
+SaysOther shown map story n addrs text = SaysLastOther shown map story n addrs text
+    ⊎ ((IsOwn shown.record.now.log n addrs → ⊥) × (text ≡ []))
+
 -- Where a thread stands: its last entry that touches bytes, since which line it touches no others, and how often; then
--- who wrote them last, and who notified their first address last.
+-- who wrote them last, and of the others where that is the thread itself, and who notified their first address last.
 pub record SaysStand (shown : Shown) (map : DataMap) (story : Story) (n : ℕ) (text : List ℕ) : Type 0 where
   pub stand : Stand
   pub is : IsStand n shown.record.now.log stand
@@ -29,11 +50,13 @@ pub record SaysStand (shown : Shown) (map : DataMap) (story : Story) (n : ℕ) (
   pub last_is : IsEntryText shown map story stand.last last
   pub written : List ℕ
   pub written_is : SaysLast shown map story (length shown.record.now.log) (acts.Write stand.addrs) (codes "nobody") written
+  pub other : List ℕ
+  pub other_is : SaysOther shown map story n stand.addrs other
   pub notified : List ℕ
   pub notified_is : SaysLast shown map story (length shown.record.now.log) (acts.Notify stand.addrs.first) (codes "nobody") notified
   pub words : text ≡ last ++ (codes "\n  so " ++ (times_text stand.times ++ (codes " since line "
       ++ (decimal (line_at shown stand.since) ++ (codes "\n  last write there: " ++ (written
-      ++ (codes "\n  last notify there: " ++ (notified ++ codes "\n"))))))))
+      ++ (codes "\n" ++ (other ++ (codes "  last notify there: " ++ (notified ++ codes "\n"))))))))))
 
 -- A thread that touches no bytes stands nowhere.
 abbrev pub SaysNowhere : Shown → ℕ → List ℕ → Type 0
@@ -51,7 +74,8 @@ abbrev pub SaysWait : Shown → DataMap → Story → ℕ → List ℕ → Type 
 SaysWait shown map story n text = (report : ThreadReport) × (slice_get shown.record.now.ends n ≡ Some report)
     × SaysEnd shown map story n report.outcome text
 
--- That of each thread, in order.
+-- That of each thread, in order, and then the cycles in which threads wait for one another.
 abbrev pub WritesWaits : Shown → DataMap → Story → Option (List ℕ) → Option (List ℕ) → Type 0
 WritesWaits shown map story old new = (texts : List (List ℕ))
-    × AllZip (SaysWait shown map story) (range_with_len 0 (length shown.record.now.ends)) texts × Appends old new (concat texts)
+    × AllZip (SaysWait shown map story) (range_with_len 0 (length shown.record.now.ends)) texts
+    × (cycles : List (List ℕ)) × AreCycles shown cycles × Appends old new (concat texts ++ concat cycles)

@@ -1,17 +1,19 @@
 //! What each thread waits for that was stopped, as text.
-ghost use Rattle.std.specs.Prelude.{◌≡◌, ◌<◌, ◌⊎◌, length, IfOk, OnOk, string_bytes};
+ghost use Rattle.std.specs.Prelude.{◌≡◌, ◌<◌, ◌⊎◌, ◌↔◌, true, length, IfOk, OnOk, string_bytes};
 ghost use Rattle.show_writes.specs.Stands.{IsStand};
-ghost use Rattle.show_waits.specs.Waits.{SaysNowhere, SaysStand, SaysWait, WritesWaits};
+ghost use Rattle.show_waits.specs.Waits.{IsOwn, SaysNowhere, SaysOther, SaysStand, SaysWait, WritesWaits};
 
+use crate::cycles::write_cycles;
 use crate::last::last_text;
+use report_choice::Span;
 use show_named::{DataMap, named_text};
 use show_rows::{Shown, Story};
 use show_text::Unwritten;
-use show_writes::{Act, Stand, stand_of};
+use show_writes::{Act, Stand, last_of, stand_of};
 use std::alloc::{AllocError, Global};
 use std::fmt::{self, Formatter};
 use std::io::Write;
-use types::Outcome;
+use types::{Entry, Outcome};
 
 /// How often.
 #[derive(Clone, Copy)]
@@ -31,6 +33,37 @@ impl fmt::Display for Times {
             write!(f, "{times} times")
         }
     }
+}
+
+/// Whether the last write at these addresses is a thread's own.
+fn is_own(log: &[Entry], n: usize, addrs: Span) -> bool
+    ensures { (result ≡ true) ↔ IsOwn log.now n addrs }
+{
+    match last_of(log, log.len(), Act::Write(addrs)) {
+        Some(at) => log[at].thread as usize == n,
+        None => false,
+    }
+}
+
+/// Where the last write there is the thread's own, who was the last one of the others.
+fn other_text(
+    alloc: Global,
+    shown: Shown,
+    map: &DataMap,
+    story: &Story,
+    n: usize,
+    addrs: Span,
+) -> Result<String, AllocError>
+    ensures { IfOk result (λ text. SaysOther shown.entry map.now story.now n addrs (string_bytes text)) }
+{
+    let log = shown.record.log.as_slice();
+    if !is_own(log, n, addrs) {
+        return Ok(String::new(alloc));
+    }
+    let sought = Act::OtherWrite(addrs, n);
+    let other = last_text(alloc, shown, map, story, log.len(), sought, "nobody")?;
+    let text = format!(in alloc; "  last write there of another thread: {other}\n")?;
+    Ok(text)
 }
 
 /// Where a thread stands, and who made the bytes there what they are.
@@ -54,6 +87,7 @@ fn stand_text(
     } = stand;
     let last = named_text(alloc, shown, map, story, last)?;
     let written = last_text(alloc, shown, map, story, end, Act::Write(addrs), "nobody")?;
+    let other = other_text(alloc, shown, map, story, n, addrs)?;
     let notified = last_text(
         alloc,
         shown,
@@ -65,7 +99,7 @@ fn stand_text(
     )?;
     let (times, line) = (Times(times), shown.line_of(since));
     let text = format!(in alloc;
-        "{last}\n  so {times} since line {line}\n  last write there: {written}\n  last notify there: {notified}\n"
+        "{last}\n  so {times} since line {line}\n  last write there: {written}\n{other}  last notify there: {notified}\n"
     )?;
     Ok(text)
 }
@@ -108,7 +142,8 @@ fn wait_text(
 }
 
 /// Writes of each thread that was stopped where it stood: its last entry that touches bytes, since which line it touched
-/// no others and how often, and who wrote them and notified them last.
+/// no others and how often, and who wrote them and notified them last. Behind them stand the cycles in which threads
+/// wait for one another.
 ///
 /// # Errors
 /// Where memory is refused, or the stream fails.
@@ -125,6 +160,7 @@ pub fn write_waits<W: Write>(
         let text = wait_text(alloc, shown, map, story, n)?;
         write!(out, "{text}")?;
     }
+    write_cycles(alloc, shown, out)?;
     out.flush()?;
     Ok(())
 }

@@ -1,5 +1,5 @@
 -- Which entry of a log was the last to write some bytes, or to notify an address.
-use Rattle.std.specs.Prelude.{ℕ, ◌≡◌, ◌<◌, ◌≤◌, true, false, List, Some}
+use Rattle.std.specs.Prelude.{ℕ, ◌≡◌, ◌≢◌, ◌<◌, ◌≤◌, true, false, List, Some}
 use Rattle.std.specs.List.{slice_get}
 use Rattle.types.specs.declared.event.Entry.{Entry}
 use Rattle.types.specs.declared.event.Event.TheVariants.{Ask}
@@ -29,6 +29,7 @@ pub record Notifies (addr : ℕ) (e : Entry) : Type 0 where
 
 abbrev pub Does : Act → Entry → Type 0
 Does (acts.Write addrs) e = Writes addrs e
+Does (acts.OtherWrite addrs n) e = (e.thread ≢ n) × Writes addrs e
 Does (acts.Notify addr) e = Notifies addr e
 
 -- The entry of this place does what is sought, and it is the last one before another place that does.

@@ -11,6 +11,8 @@ use types::{Entry, Event, Question, Reply};
 pub enum Act {
     /// It writes a byte at one of these addresses.
     Write(Span),
+    /// It does so, and is of another thread than this one.
+    OtherWrite(Span, usize),
     /// It notifies those that wait at this address.
     Notify(u64),
 }
@@ -45,6 +47,7 @@ fn does(entry: &Entry, act: Act) -> bool
 {
     match act {
         Act::Write(addrs) => writes(entry, addrs),
+        Act::OtherWrite(addrs, n) => entry.thread as usize != n && writes(entry, addrs),
         Act::Notify(addr) => notifies(entry, addr),
     }
 }

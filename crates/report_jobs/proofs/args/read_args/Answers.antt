@@ -16,12 +16,12 @@ returns-then-params-texts c = λ args all fit.
 pub returns-in_default : goal.returns-in_default
 returns-in_default c = λ args all fit.
     let found = spelled_at (λ text. text.now) c.loop-i.i c.args.texts.now args _ types.I32 (omega (arith, c.loop-i-test.true, c.if-params-texts.false)) all in
-    c.in_default.not-Some found.0 ((c.read_value.ensures found.0).1 (found.1, found.2 ∙ ap (λ (ps : List ValType). slice_index_or ps c.loop-i.i types.I32) fit))
+    c.in_default.not-Some found.0 ((c.value_in.ensures found.0).1 (found.1, found.2 ∙ ap (λ (ps : List ValType). slice_index_or ps c.loop-i.i types.I32) fit))
 
 pub loop-i-preserved : goal.loop-i-preserved
 loop-i-preserved c =
     let v = c.in-Some.value in
-    let read = (c.read_value.ensures v).0 c.in-Some.is in
+    let read = (c.value_in.ensures v).0 c.in-Some.is in
     let more = spelled_more (λ text. text.now) c.loop-i.i c.args.texts.now c.args.params.now c.loop-i.args.items _ _ v
     (omega (arith, c.loop-i-test.true, c.if-params-texts.false)) c.loop-i-test.true c.loop-i.invariant.0 c.loop-i.invariant.1 read.0 read.1 in
     let items = c.in_ok-push.ensures.items in (

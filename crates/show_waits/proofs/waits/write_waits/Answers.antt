@@ -3,7 +3,7 @@ use Rattle.std.specs.List.{range_with_len}
 use Rattle.std.proofs.lemmas.List.FromFn.{get_or-range_with_len, length-range_with_len}
 use Rattle.show_races.proofs.Texts.{text_next}
 use Rattle.show_waits.specs.Waits.{SaysWait}
-use Rattle.show_waits.proofs.Telling.{all_told}
+use Rattle.show_waits.proofs.Telling.{all_and_cycles}
 use Rattle.show_waits.proofs.waits.write_waits.Goals as goal
 
 pub loop-n-preserved : goal.loop-n-preserved
@@ -22,5 +22,5 @@ returns g c =
     let count = length c.args.shown.record.now.ends in
     let past : length (range_with_len 0 count) ≤ c.loop-n.n =
     omega (arith, c.loop-n-test.false, c.len-n-end.ensures, length-range_with_len 0 count) in
-    all_told (SaysWait c.args.shown c.args.map.now c.args.story.now) (range_with_len 0 count) c.loop-n.n _ _ _ past c.loop-n.invariant
-    c.in_ok-flush.ensures.bytes
+    all_and_cycles c.args.shown (SaysWait c.args.shown c.args.map.now c.args.story.now) (range_with_len 0 count) c.loop-n.n _ _ _ _
+    past c.loop-n.invariant c.in_ok-write_cycles.ensures c.in_ok-flush.ensures.bytes

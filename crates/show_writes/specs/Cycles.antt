@@ -1,0 +1,52 @@
+-- Which threads wait for one another.
+use Rattle.std.specs.Prelude.{ℕ, ◌≡◌, ◌<◌, List, [], ◌∷◌, Option, None, Some, All, length, option_and_then}
+use Rattle.std.specs.List.{AllZip, range_with_len, slice_get}
+use Rattle.types.specs.declared.event.Entry.{Entry}
+use Rattle.types.specs.declared.outcome.Outcome.TheVariants as outcomes
+use Rattle.types.specs.declared.outcome.Stop.{Stop}
+use Rattle.types.specs.declared.outcome.ThreadReport.{ThreadReport}
+use Rattle.show_writes.specs.declared.lasts.Act.TheVariants as acts
+use Rattle.show_writes.specs.declared.stands.Stand.{Stand}
+use Rattle.show_writes.specs.Lasts.{IsLast}
+use Rattle.show_writes.specs.Stands.{IsStand}
+
+-- The thread was stopped, by the reports of all.
+pub record IsStopped (ends : List ThreadReport) (n : ℕ) : Type 0 where
+  pub report : ThreadReport
+  pub at : slice_get ends n ≡ Some report
+  pub stop : Stop
+  pub is : report.outcome ≡ outcomes.Stop stop
+
+-- Thread n waits for thread m: both were stopped, and to the bytes at which n stands m was the last one of the other
+-- threads to write.
+pub record WaitsFor (log : List Entry) (ends : List ThreadReport) (n m : ℕ) : Type 0 where
+  pub stopped : IsStopped ends n
+  pub stand : Stand
+  pub is : IsStand n log stand
+  pub place : ℕ
+  pub last : IsLast (acts.OtherWrite stand.addrs n) log (length log) place
+  pub writer : last.entry.thread ≡ m
+  pub other : IsStopped ends m
+
+-- For whom a thread waits, or none.
+abbrev pub IsWait : List Entry → List ThreadReport → ℕ → Option ℕ → Type 0
+IsWait log ends n (Some m) = WaitsFor log ends n m
+IsWait log ends n None = (m : ℕ) → WaitsFor log ends n m → ⊥
+
+-- That of each thread, in order.
+abbrev pub AreWaits : List Entry → List ThreadReport → List (Option ℕ) → Type 0
+AreWaits log ends waits = AllZip (IsWait log ends) (range_with_len 0 (length ends)) waits
+
+abbrev pub wait_in : List (Option ℕ) → ℕ → Option ℕ
+wait_in waits n = option_and_then (λ wait. wait) (slice_get waits n)
+
+-- Thread n waits for the first of these, each of them for the next, and the last for thread `to`.
+abbrev pub IsChain : List (Option ℕ) → ℕ → List ℕ → ℕ → Type 0
+IsChain waits n [] to = wait_in waits n ≡ Some to
+IsChain waits n (m ∷ ms) to = (wait_in waits n ≡ Some m) × IsChain waits m ms to
+
+-- Thread n waits in a cycle with these: they have higher numbers, and with n they are no more than all threads.
+pub record IsCycle (waits : List (Option ℕ)) (n : ℕ) (others : List ℕ) : Type 0 where
+  pub chain : IsChain waits n others n
+  pub higher : All (λ m. n < m) others
+  pub few : length others < length waits
