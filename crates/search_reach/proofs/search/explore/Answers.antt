@@ -1,4 +1,4 @@
-use Rattle.std.proofs.Common.{ℕ, ◌<◌, ◌≡◌, ◌+◌, length, arith, sym, refl, ◌∙◌, rules}
+use Rattle.std.proofs.Common.{ℕ, ◌<◌, arith, sym, refl, ◌∙◌, rules}
 use Rattle.search_reach.proofs.Meeting.{met-at, going-first, going-more, going-sought, going-told, gone-through, sound-after, reached-all, reached-many, reached-stuck}
 use Rattle.search_reach.proofs.search.explore.Goals as goal
 

@@ -1,4 +1,4 @@
-use Rattle.std.proofs.Common.{◌<◌, ◌+◌, length, arith, rules, subst, sym}
+use Rattle.std.proofs.Common.{arith, rules, subst, sym}
 use Rattle.search_reach.specs.Stack.{IsOpened}
 use Rattle.search_reach.proofs.Meeting.{met-at, met-known, sound-after, reached-all, reached-stuck, reached-sought, reached-told}
 use Rattle.search_reach.proofs.Stacking.{Off, deep-first, deep-more, deep-all, below-met}
