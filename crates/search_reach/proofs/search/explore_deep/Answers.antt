@@ -46,7 +46,7 @@ returns-then-not-branch-clause-reached g c =
     let sought = g.Q.Seeks.sought c.args.sought.now in
     let so = c.loop-at.invariant.deep in
     let low = below-met k eq has sought c.loop-at.stack.items c.pop.new.self.items c.in-Some.at c.loop-at.gone c.loop-at.moves.items so
-        c.in-Some.ensures.items c.count-met.result c.count-met.ensures.len (omega arith) in
+    c.in-Some.ensures.items c.count-met.result c.count-met.ensures.len (omega arith) in
     let is = c.count-met.ensures.len (so.standing).states (so.standing).held in
     reached-stuck k eq has sought (Off c.loop-at.stack.items) c.loop-at.moves.items so.standing c.args.most _ _ tt c.in-Some.at
     (g.T.Meets.holds m c.next.new.table) c.next.new.moves.items (omega (arith, is, low)) (c.in_ok-next.ensures.none c.if-not-branch.true)
@@ -61,7 +61,7 @@ has_sought-requires g c =
     let sought = g.Q.Seeks.sought c.args.sought.now in
     let so = c.loop-at.invariant.deep in
     let low = below-met k eq has sought c.loop-at.stack.items c.pop.new.self.items c.in-Some.at c.loop-at.gone c.loop-at.moves.items so
-        c.in-Some.ensures.items c.count-met.result c.count-met.ensures.len (omega arith) in
+    c.in-Some.ensures.items c.count-met.result c.count-met.ensures.len (omega arith) in
     sound-after k eq has sought (Off c.loop-at.stack.items) c.loop-at.moves.items so.standing c.count-met.result c.count-met.ensures.len c.in-Some.at
     (g.T.Meets.holds m c.next.new.table) c.next.new.moves.items low (c.in_ok-next.ensures.next c.if-not-branch.false)
 
@@ -74,7 +74,7 @@ returns-then-branch-clause-reached g c =
     let sought = g.Q.Seeks.sought c.args.sought.now in
     let so = c.loop-at.invariant.deep in
     let low = below-met k eq has sought c.loop-at.stack.items c.pop.new.self.items c.in-Some.at c.loop-at.gone c.loop-at.moves.items so
-        c.in-Some.ensures.items c.count-met.result c.count-met.ensures.len (omega arith) in
+    c.in-Some.ensures.items c.count-met.result c.count-met.ensures.len (omega arith) in
     reached-sought k eq has sought (Off c.loop-at.stack.items) c.loop-at.moves.items so.standing c.count-met.result c.count-met.ensures.len c.in-Some.at
     (g.T.Meets.holds m c.next.new.table) c.next.new.moves.items low (c.in_ok-next.ensures.next c.if-not-branch.false) c.args.most _ _ tt _ c.if-branch.true
     c.in_ok-has_sought.ensures
@@ -88,7 +88,7 @@ open_places-requires-in-loop-at g c =
     let sought = g.Q.Seeks.sought c.args.sought.now in
     let so = c.loop-at.invariant.deep in
     let low = below-met k eq has sought c.loop-at.stack.items c.pop.new.self.items c.in-Some.at c.loop-at.gone c.loop-at.moves.items so
-        c.in-Some.ensures.items c.count-met.result c.count-met.ensures.len (omega arith) in
+    c.in-Some.ensures.items c.count-met.result c.count-met.ensures.len (omega arith) in
     met-known k eq has sought (Off c.loop-at.stack.items) c.loop-at.moves.items so.standing c.count-met.result c.count-met.ensures.len c.in-Some.at
     (g.T.Meets.holds m c.next.new.table) c.next.new.moves.items low (c.in_ok-next.ensures.next c.if-not-branch.false) c.count-known.result
     c.count-known.ensures.len
@@ -102,7 +102,7 @@ loop-at-preserved g c =
     let sought = g.Q.Seeks.sought c.args.sought.now in
     let so = c.loop-at.invariant.deep in
     let low = below-met k eq has sought c.loop-at.stack.items c.pop.new.self.items c.in-Some.at c.loop-at.gone c.loop-at.moves.items so
-        c.in-Some.ensures.items c.count-met.result c.count-met.ensures.len (omega arith) in
+    c.in-Some.ensures.items c.count-met.result c.count-met.ensures.len (omega arith) in
     record {
       deep = deep-more k eq has sought c.loop-at.stack.items c.pop.new.self.items c.in-Some.at c.loop-at.gone c.loop-at.moves.items so
           c.in-Some.ensures.items c.count-met.result c.count-met.ensures.len (g.T.Meets.holds m c.next.new.table) c.next.new.moves.items low
@@ -120,7 +120,7 @@ returns-in-End-clause-reached g c =
     let sought = g.Q.Seeks.sought c.args.sought.now in
     let so = c.loop-at.invariant.deep in
     let low = below-met k eq has sought c.loop-at.stack.items c.pop.new.self.items c.in-Some.at c.loop-at.gone c.loop-at.moves.items so
-        c.in-Some.ensures.items c.count-met.result c.count-met.ensures.len (omega arith) in
+    c.in-Some.ensures.items c.count-met.result c.count-met.ensures.len (omega arith) in
     reached-told k eq has sought (Off c.loop-at.stack.items) c.loop-at.moves.items so.standing c.count-met.result c.count-met.ensures.len c.in-Some.at
     (g.T.Meets.holds m c.next.new.table) c.next.new.moves.items low (c.in_ok-next.ensures.next c.if-not-branch.false) c.args.most _ _ tt _ c.if-branch.false
     c.in_ok-has_sought.ensures (sym c.in-End.ensures.wish)
