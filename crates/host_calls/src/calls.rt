@@ -109,7 +109,15 @@ pub fn endings_of(
             fuel: 0,
         },
     )?;
-    match all_endings(alloc, &request, Order::Breadth, most_states, dump as usize, &(), &mut ()) {
+    match all_endings(
+        alloc,
+        &request,
+        Order::Breadth,
+        most_states,
+        dump as usize,
+        &(),
+        &mut (),
+    ) {
         Ok(all) => Ok(all),
         Err(_) => Err(HostFault::NoMemory),
     }

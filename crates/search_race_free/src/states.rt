@@ -184,7 +184,8 @@ fn race_in<M: Accesses>(
     if reached.table.len() == 0 {
         return race_at_first(alloc, system);
     }
-    race_among(alloc, system, &reached.table, reached.last as usize, most_plain)
+    let from = reached.last as usize;
+    race_among(alloc, system, &reached.table, from, most_plain)
 }
 
 /// The threads whose turns lead to the state of this place, by the moves that were noted: one to a state stands before
