@@ -2,6 +2,7 @@
 //! open by every order of their entries. Both end at an ending that is looked for, where one is to.
 ghost use Rattle.std.specs.Prelude.{◌≡◌, false, IfOk, IfErr, IfSome};
 ghost use Rattle.spawn_host.specs.Requests.{Requested};
+ghost use Rattle.search_reach.specs.Levels.{IsLeveled};
 ghost use Rattle.search_reach.specs.declared.search.Verdict.TheVariants as verdicts;
 ghost use Rattle.search_modules.specs.Races.{CanRaceSo, NeverRaces};
 ghost use Rattle.report_command.specs.declared.search.Search.{Search as SearchWords};
@@ -181,6 +182,7 @@ fn all_of<F: Follows>(
 ) -> Result<Complete, Trouble>
     ensures complete { IfOk result (IsCompleteOf request.now search.now.sought.dump) }
     ensures sought { IfOk result (λ r. SaysSought search.now r.verdict r.endings.keys) }
+    ensures leveled { IfOk result (λ r. IsLeveled (specified.order_by search.now.deep) r.levels (r.states ≡ 0)) }
     ensures trouble { IfErr result IsOfSystem }
 {
     let early = early_of(search);
