@@ -69,6 +69,7 @@ fn the_bound_is_kept_depth_first(rt: HostRuntime) -> Result<(), Fail> {
 }
 
 /// Looks for any ending.
+#[derive(Clone, Copy)]
 struct Any;
 
 impl Seeks<Ending> for Any {
