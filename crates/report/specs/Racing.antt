@@ -3,6 +3,8 @@ use Rattle.std.specs.Prelude.{ℕ, ◌≡◌, ◌⊎◌, ◌↔◌, ◌&&◌, Bo
 use Rattle.std.specs.Fmt.{decimal}
 use Rattle.spawn_host.specs.Requests.{Requested}
 use Rattle.search_reach.specs.declared.ending.Ended.{Ended}
+use Rattle.search_reach.specs.declared.search.Order.{Order}
+use Rattle.search_reach.specs.declared.search.Order.TheVariants as orders
 use Rattle.search_reach.specs.declared.search.Verdict.{Verdict}
 use Rattle.search_reach.specs.declared.search.Verdict.TheVariants as verdicts
 use Rattle.search_endings.specs.Endings.{Ending}
@@ -31,6 +33,11 @@ IsKnownOf q Unknown = Unit {0}
 -- Races aren't asked for where every order is gone through at once, and there alone.
 abbrev pub IsAsked : Search → Racing → Type 0
 IsAsked s racing = (s.every_order ≡ true) ↔ (racing ≡ Unasked)
+
+-- In which order the states are gone on from.
+abbrev pub order_by : Bool → Order
+order_by true = orders.Depth
+order_by false = orders.Breadth
 
 -- Whether all may be well: races are allowed, or no run has one, or they aren't asked for.
 abbrev pub allows : Bool → Racing → Bool

@@ -2,6 +2,7 @@
 //! open by every order of their entries. Both end at an ending that is looked for, where one is to.
 ghost use Rattle.std.specs.Prelude.{◌≡◌, false, IfOk, IfErr, IfSome};
 ghost use Rattle.spawn_host.specs.Requests.{Requested};
+ghost use Rattle.search_reach.specs.Levels.{IsLeveled};
 ghost use Rattle.search_reach.specs.declared.search.Verdict.TheVariants as verdicts;
 ghost use Rattle.search_modules.specs.Races.{CanRaceSo, NeverRaces};
 ghost use Rattle.report_command.specs.declared.search.Search.{Search as SearchWords};
@@ -17,7 +18,7 @@ use report_command::Search;
 use report_jobs::Trouble;
 use search_endings::Ending;
 use search_modules::{Race, RaceFree, all_endings, race_free_endings};
-use search_reach::{Follows, Verdict};
+use search_reach::{Follows, Order, Verdict};
 use spawn_host::Request;
 use std::alloc::Global;
 
@@ -90,6 +91,17 @@ fn racing_by(verdict: Verdict) -> Racing
     }
 }
 
+/// In which order the states are gone on from.
+fn order_of(search: &Search) -> Order
+    ensures { result ≡ specified.order_by search.now.deep }
+{
+    if search.deep {
+        Order::Depth
+    } else {
+        Order::Breadth
+    }
+}
+
 /// The endings of a call by the orders that matter where no threads race. It ends at an ending that is looked for, where
 /// it says so.
 fn free_of<F: Follows>(
@@ -109,7 +121,8 @@ fn free_of<F: Follows>(
 {
     let early = early_of(search);
     let dump = search.sought.dump as usize;
-    let mut free = race_free_endings(alloc, request, most, dump, &early, follower)?;
+    let order = order_of(search);
+    let mut free = race_free_endings(alloc, request, order, most, dump, &early, follower)?;
     free.ended.levels = None;
     Ok(free)
 }
@@ -169,11 +182,13 @@ fn all_of<F: Follows>(
 ) -> Result<Complete, Trouble>
     ensures complete { IfOk result (IsCompleteOf request.now search.now.sought.dump) }
     ensures sought { IfOk result (λ r. SaysSought search.now r.verdict r.endings.keys) }
+    ensures leveled { IfOk result (λ r. IsLeveled (specified.order_by search.now.deep) r.levels (r.states ≡ 0)) }
     ensures trouble { IfErr result IsOfSystem }
 {
     let early = early_of(search);
     let dump = search.sought.dump as usize;
-    Ok(all_endings(alloc, request, most, dump, &early, follower)?)
+    let order = order_of(search);
+    Ok(all_endings(alloc, request, order, most, dump, &early, follower)?)
 }
 
 /// What is found of all runs of a call behind that first look.

@@ -259,6 +259,7 @@ pub record AsksSearch (f : Found) (s : Search) : Type 0 where
   pub effort : AsksEffort f s.shrink_time s.time s.jobs
   pub all : AsksAll f s.all
   pub every_order : IsWord f (codes "orders") (codes "all") s.every_order
+  pub deep : HasFlag f (codes "deep") s.deep
   pub races : HasFlag f (codes "races") s.races
   pub allow_races : HasFlag f (codes "allow-races") s.allow_races
   pub until : HasTextIfAny f (codes "until") s.until

@@ -48,6 +48,8 @@ pub struct Search<'a> {
     pub all: Option<u32>,
     /// Whether that is so at once: races aren't looked for.
     pub every_order: bool,
+    /// Whether they are gone through depth first.
+    pub deep: bool,
     /// Whether a run with a race is looked for: of every order, or the first drawn one.
     pub races: bool,
     /// Whether the status is that of the endings alone, where there are races or it isn't known.
@@ -155,6 +157,19 @@ const ORDERS: Argument = Argument {
     needs: &["all"],
     conflicts: &["races", "allow-races"],
     ..OPTION
+};
+
+/// What is said of going depth first.
+const DEEP_HELP: &str =
+    "With --all: go on each time from the state that was met last, so that what is looked for is met early where there \
+     are too many states";
+
+/// Depth first.
+const DEEP: Argument = Argument {
+    name: "deep",
+    help: DEEP_HELP,
+    needs: &["all"],
+    ..FLAG
 };
 
 /// What is said of runs with a race.
@@ -266,8 +281,8 @@ const UNTIL: Argument = Argument {
 };
 
 /// `search FILE --invoke NAME [--runs N] [--from I] [--seed S] [--strategy mix|random|pct:D|spin] [--jobs N] [--all
-/// [--states N] [--orders needed|all] [--allow-races]] [--find WORDS] [--expect RESULT] [--races] [--record OUT]
-/// [--shrink [--shrink-time SECONDS]] [--time SECONDS] [--until PATH] [--fuel N] [--limit N] [--dump N] [--json]
+/// [--states N] [--orders needed|all] [--deep] [--allow-races]] [--find WORDS] [--expect RESULT] [--races] [--record
+/// OUT] [--shrink [--shrink-time SECONDS]] [--time SECONDS] [--until PATH] [--fuel N] [--limit N] [--dump N] [--json]
 /// [--explain|--no-explain] [ARG..]`
 pub(crate) static SEARCH: CommandRow = CommandRow {
     name: "search",
@@ -285,6 +300,7 @@ pub(crate) static SEARCH: CommandRow = CommandRow {
         ALL,
         MET,
         ORDERS,
+        DEEP,
         RACES,
         ALLOW_RACES,
         FIND,
@@ -548,6 +564,7 @@ pub(crate) fn search_job<'a>(
         jobs,
         all,
         every_order: matches.get_str("orders") == Some("all"),
+        deep: matches.get_flag("deep"),
         races,
         allow_races: matches.get_flag("allow-races"),
         until: matches.get_str("until"),

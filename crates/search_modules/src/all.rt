@@ -3,13 +3,14 @@
 ghost use Rattle.std.specs.Prelude.{◌≡◌, IfOk, IfSome, vec_len};
 ghost use Rattle.indexmap.specs.IndexSet.{index_set_len};
 ghost use Rattle.search_reach.specs.Found.{AreListed};
+ghost use Rattle.search_reach.specs.Levels.{IsLeveled};
 ghost use Rattle.search_reach.specs.Told.{Obeys};
 ghost use Rattle.search_modules.specs.Endings.{HasEveryEndingWithin, HasSought, claims_of};
 ghost use Rattle.search_modules.specs.Liveness.{CountsStates, SaysWhereAll};
 
 use crate::calling::searched;
 use search_endings::Ending;
-use search_reach::{Ended, Follows, Seeks};
+use search_reach::{Ended, Follows, Order, Seeks};
 use search_settled::search_all;
 use spawn_host::Request;
 use std::alloc::{AllocError, Global};
@@ -30,7 +31,8 @@ use std::alloc::{AllocError, Global};
 ///
 /// It ends at the first state that has ended as is looked for: `Verdict::Sought` says that the list has such an ending,
 /// and every other verdict that it has none (`HasSought`). Whatever the verdict, the list has the ending of every run,
-/// as above, that has at most as many entries as `levels` says (`HasEveryEndingWithin`).
+/// as above, that has at most as many entries as `levels` says (`HasEveryEndingWithin`). Depth first `levels` says
+/// nothing; breadth first it does, unless no state was met.
 ///
 /// `states` is the number of states that it met, of which no two are equal, and to each of which threads can come
 /// (`CountsStates`). At `Verdict::All`, and there alone, it says of which of them no ending can be reached, and whether a
@@ -42,6 +44,7 @@ use std::alloc::{AllocError, Global};
 pub fn all_endings<Q: Seeks<Ending>, F: Follows>(
     alloc: Global,
     request: &Request,
+    order: Order,
     most_states: u32,
     dump: usize,
     sought: &Q,
@@ -54,9 +57,10 @@ pub fn all_endings<Q: Seeks<Ending>, F: Follows>(
     ensures seeks { IfOk result (λ r. HasSought (Q.sought sought.now) r.verdict r.endings.keys) }
     ensures levels { IfOk result (λ r. IfSome r.levels
         (HasEveryEndingWithin request.now.parts request.now.name request.now.args dump r.endings.keys)) }
+    ensures leveled { IfOk result (λ r. IsLeveled order r.levels (r.states ≡ 0)) }
     ensures obeys { IfOk result (λ r.
         Obeys (F.wish follower.old) (F.wish follower.new) (F.told_at follower.new) r.verdict r.states) }
 {
     let searched = searched(alloc, request, dump)?;
-    search_all(alloc, &searched, most_states, sought, follower)
+    search_all(alloc, &searched, order, most_states, sought, follower)
 }

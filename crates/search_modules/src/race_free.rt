@@ -12,7 +12,7 @@ ghost use Rattle.search_modules.specs.Races.{CanRaceSo, NeverRaces, race_free_cl
 use crate::calling::searched;
 use search_endings::Ending;
 use search_race_free::{RaceFree, all_choices, race_choices as choices_to_race, search_race_free};
-use search_reach::{Follows, Seeks};
+use search_reach::{Follows, Order, Seeks};
 use spawn_host::Request;
 use std::alloc::{AllocError, Global};
 
@@ -38,6 +38,7 @@ const MOST_PLAIN: u32 = 10_000;
 pub fn race_free_endings<Q: Seeks<Ending>, F: Follows>(
     alloc: Global,
     request: &Request,
+    order: Order,
     most_states: u32,
     dump: usize,
     sought: &Q,
@@ -58,7 +59,15 @@ pub fn race_free_endings<Q: Seeks<Ending>, F: Follows>(
         Obeys (F.wish follower.old) (F.wish follower.new) (F.told_at follower.new) r.ended.verdict r.ended.states) }
 {
     let searched = searched(alloc, request, dump)?;
-    search_race_free(alloc, &searched, most_states, MOST_PLAIN, sought, follower)
+    search_race_free(
+        alloc,
+        &searched,
+        order,
+        most_states,
+        MOST_PLAIN,
+        sought,
+        follower,
+    )
 }
 
 /// The choices of each turn along choices that `race_free_endings` gives with an ending, or with what never ends: which

@@ -16,7 +16,7 @@ use crate::met::{Held, held_row, held_rows, state_at};
 use crate::next::{first_state, next_states};
 use crate::{Accesses, Race};
 use search_graph::Move;
-use search_reach::{Ended, Follows, Meets, Reached, Seeks, Verdict, conclude, reach};
+use search_reach::{Ended, Follows, Meets, Order, Reached, Seeks, Verdict, conclude, reach};
 use search_settled::{put_rows, threads_of};
 use search_table::Table;
 use std::alloc::{AllocError, Global};
@@ -168,14 +168,6 @@ fn race_at_first<M: Accesses>(alloc: Global, system: &M) -> Result<Option<RaceBe
     }
 }
 
-/// The place behind the last state from which there are moves: a search that gave up did so there, or behind it.
-fn behind_last(moves: &[Move]) -> usize {
-    match moves.last() {
-        Some(last) => last.from as usize + 1,
-        None => 0,
-    }
-}
-
 /// The race for which a search gave up, if it was one.
 fn race_in<M: Accesses>(
     alloc: Global,
@@ -192,12 +184,12 @@ fn race_in<M: Accesses>(
     if reached.table.len() == 0 {
         return race_at_first(alloc, system);
     }
-    let from = behind_last(reached.moves.as_slice());
+    let from = reached.last as usize;
     race_among(alloc, system, &reached.table, from, most_plain)
 }
 
-/// The threads whose turns lead to the state of this place, by the moves that were noted: those from a state stand
-/// before those from later ones, so one walk back meets a move to each state of the way.
+/// The threads whose turns lead to the state of this place, by the moves that were noted: one to a state stands before
+/// those from it, so one walk back meets a move to each state of the way.
 fn way_to(alloc: Global, moves: &[Move], place: usize) -> Result<Vec<usize>, AllocError> {
     let mut way = Vec::new(alloc);
     let mut at = place;
@@ -247,6 +239,7 @@ fn racing(behind: Option<RaceBehind>) -> Option<Race>
 pub fn search_race_free<M: Accesses, Q: Seeks<M::Ending>, F: Follows>(
     alloc: Global,
     system: &M,
+    order: Order,
     most: u32,
     most_plain: u32,
     sought: &Q,
@@ -267,7 +260,7 @@ pub fn search_race_free<M: Accesses, Q: Seeks<M::Ending>, F: Follows>(
     ensures race { IfOk result (λ r. IfSome r.race (IsRaceOf M.Moves system.now)) }
 {
     let turns = RaceFreeTurns { system, most_plain };
-    let reached = reach(alloc, &turns, most, sought, follower)?;
+    let reached = reach(alloc, &turns, order, most, sought, follower)?;
     let behind = race_in(alloc, system, &reached, most_plain)?;
     let way = way_behind(alloc, reached.moves.as_slice(), behind)?;
     let ended = conclude(alloc, &turns, most, sought, reached, follower)?;

@@ -9,7 +9,7 @@ use Rattle.search_graph.specs.Graph.{Moves, Steps as MoveSteps}
 use Rattle.search_graph.specs.declared.graph.Move.{Move}
 use Rattle.search_reach.specs.declared.explores.Next.{Next}
 use Rattle.search_reach.specs.Search.{StepSystem, Steps, Covers, IsAll, StaysIn, LeadsOn}
-use Rattle.search_reach.specs.Explored.{moves_from, IsGoneOn, Explored}
+use Rattle.search_reach.specs.Explored.{moves_from, IsGoneOn, ExploredTo}
 use Rattle.search_reach.proofs.Paths.{stays, one_step, onward}
 use Rattle.search_reach.proofs.Searching.{Contains-head, Contains-tail, noted-each, noted-all, comes-next}
 
@@ -96,7 +96,7 @@ module _ {S W E : Type 0} (k : StepSystem S W E) (eq : S → S → Bool) (ks : L
           alike = same f.0.state f.2.next.key f.2.next.is;
         }
 
-    module _ (e : Explored k eq ks moves (length ks)) where
+    module _ (e : ExploredTo k eq ks moves (length ks)) where
       -- the state of this index stands for it
       pub record Stands (index : ℕ) (w : W) : Type 0 where
         pub state : S

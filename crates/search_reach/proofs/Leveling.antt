@@ -1,14 +1,14 @@
 -- How many levels are complete.
-use Rattle.std.specs.Prelude.{◌≡◌, ◌+◌, ◌<◌, ◌≤◌, ◌⊎◌, ℕ, zero, suc, Bool, true, List, length, Contains, Option, Some, None, refl}
+use Rattle.std.specs.Prelude.{◌≡◌, ◌<◌, ◌≤◌, ◌⊎◌, ℕ, zero, suc, Bool, true, List, length, Option, Some, None}
 use Rattle.std.proofs.Common.{ap, subst, sym, ◌∙◌, inl, inr, arith}
 use Rattle.std.specs.List.{slice_get}
 use Rattle.std.specs.Option.{IfSome}
 use Rattle.std.proofs.lemmas.Option.{slice_get_within, slice_get-get_or}
 use Rattle.search_graph.specs.declared.graph.Move.{Move}
-use Rattle.search_reach.specs.Search.{StepSystem, StandsFor, Covers, StaysIn, LeadsOn, HasEqual, AllEnds}
-use Rattle.search_reach.specs.Explored.{IsGoneOn, Explored}
+use Rattle.search_reach.specs.Search.{StepSystem, StandsFor, Covers, StaysIn, LeadsOn, AllEnds}
+use Rattle.search_reach.specs.Explored.{IsGoneOn, ExploredTo}
 use Rattle.search_reach.specs.Levels.{Comes, CoversBelow, HasLevels, HasEndsWithin, HasGoneThrough}
-use Rattle.search_reach.proofs.Searching.{Begins, get_longer, length-longer, here}
+use Rattle.search_reach.proofs.Searching.{Begins, get_longer, here}
 use Rattle.search_reach.proofs.Graphing.{move_to}
 
 module _ {S W E : Type 0} (k : StepSystem S W E) where
@@ -35,7 +35,7 @@ module _ {S W E : Type 0} (k : StepSystem S W E) where
   }
 
   module _ (eq : S → S → Bool) (same : (x y : S) → eq x y ≡ true → (w : W) (left : ℕ → ℕ) → k.stands x w left → k.stands y w left)
-      (ks : List S) (moves : List Move) (i : ℕ) (e : Explored k eq ks moves i) where
+      (ks : List S) (moves : List Move) (i : ℕ) (e : ExploredTo k eq ks moves i) where
     -- a step from what a state stands for that was gone on from
     next-covered : (j : ℕ) (s : S) → j < i → slice_get ks j ≡ Some s → (w z : W) (n : ℕ) → StandsFor k s w → k.worlds.steps n w z
         → CoversBelow k ks (length ks) z

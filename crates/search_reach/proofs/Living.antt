@@ -17,7 +17,7 @@ use Rattle.search_graph.specs.declared.graph.Move.{Move}
 use Rattle.search_graph.proofs.Shadow.{no-fair-run}
 use Rattle.search_graph.proofs.Rounds.{fair-run-along, fair-run-round}
 use Rattle.search_reach.specs.Search.{StepSystem, Steps, StandsFor, RestsIn, HasOf, IsMet, IsMarkedSo, StaysIn, LeadsOn, ComesBy}
-use Rattle.search_reach.specs.Explored.{IsGoneOn, Explored}
+use Rattle.search_reach.specs.Explored.{IsGoneOn, ExploredTo}
 use Rattle.search_reach.specs.Liveness.{CanEndSomehow, NeverEnds, StillEnds, AreEndless, SaysOf, IsLive, IsLiveWhereAll, SaysOfGraph, IsGraphLive, IsJudged}
 use Rattle.search_reach.specs.Found.{Claims, IsFound}
 use Rattle.search_reach.specs.declared.follows.Wish.{Wish}
@@ -48,7 +48,7 @@ get_at (k ∷ ks) zero h = (k, refl)
 get_at (k ∷ ks) (suc p) h = get_at ks p (omega arith)
 
 module _ {S W E : Type 0} (k : StepSystem S W E) (eq : S → S → Bool) (ks : List S) (moves : List Move)
-    (same : (x y : S) → eq x y ≡ true → (w : W) (left : ℕ → ℕ) → k.stands x w left → k.stands y w left) (e : Explored k eq ks moves (length ks)) where
+    (same : (x y : S) → eq x y ≡ true → (w : W) (left : ℕ → ℕ) → k.stands x w left → k.stands y w left) (e : ExploredTo k eq ks moves (length ks)) where
   abbrev StandsAt : ℕ → W → Type 0
   StandsAt p w = Stands k eq ks moves same e p w
 
@@ -232,16 +232,16 @@ module _ {S W E : Type 0} (k : StepSystem S W E) (eq : S → S → Bool) (ks : L
 
 -- each move is from a state to a state
 pub moves-within : {S W E : Type 0} (k : StepSystem S W E) (eq : S → S → Bool) (ks : List S) (moves : List Move) (states : ℕ) → states ≡ length ks
-    → Explored k eq ks moves (length ks) → All (IsWithin states) moves
+    → ExploredTo k eq ks moves (length ks) → All (IsWithin states) moves
 moves-within k eq ks moves states is e =
     All-weaker (Contains moves) (IsWithin states)
-    (λ m c. (let f = e.from m c in record { from = subst (λ (n : ℕ). m.from < n) (sym is) f.0; next = subst (λ (n : ℕ). m.next < n) (sym is) f.1 }))
+    (λ m c. (let f = e.from m c in record { from = subst (λ (n : ℕ). m.from < n) (sym is) f.1; next = subst (λ (n : ℕ). m.next < n) (sym is) f.2 }))
     moves (All-contains_itself moves)
 
 -- what is said of the graph is said of the worlds
 module _ {S W E : Type 0} (k : StepSystem S W E) (eq : S → S → Bool) (ks : List S) (g : Graph)
     (same : (x y : S) → eq x y ≡ true → (w : W) (left : ℕ → ℕ) → k.stands x w left → k.stands y w left)
-    (e : Explored k eq ks g.moves.items (length ks)) where
+    (e : ExploredTo k eq ks g.moves.items (length ks)) where
   says : (f : FairRuns) → SaysOfGraph g f → SaysOf k f
   says AllEnd all = no_fair_run k eq ks g.moves.items same e all
   says (GoOn c) round = fair_run k eq ks g.moves.items same e round.cycle.start (moves_at g.moves.items round.cycle.walk.items) round.is.runs

@@ -1,18 +1,21 @@
 -- Where a search of states in a table stands, from one to the next.
-use Rattle.std.specs.Prelude.{◌≡◌, ◌+◌, ◌^◌, ◌<◌, ◌≤◌, ◌⊎◌, ℕ, zero, suc, Bool, true, false, List, [], ◌∷◌, length, get_or, Option, Some, None, refl}
+use Rattle.std.specs.Prelude.{◌≡◌, ◌+◌, ◌^◌, ◌<◌, ◌≤◌, ◌⊎◌, ℕ, zero, suc, Bool, true, false, List, [], ◌∷◌, length, Option, Some, None, refl}
 use Rattle.std.specs.List.{slice_get}
 use Rattle.std.proofs.lemmas.Option.{none-some}
+use Rattle.std.proofs.lemmas.Bool.{cases_lt}
 use Rattle.std.proofs.Common.{ap, subst, sym, ◌∙◌, inl, inr, arith}
 use Rattle.search_graph.specs.declared.graph.Move.{Move}
 use Rattle.search_reach.specs.declared.follows.Wish.{Wish}
 use Rattle.search_reach.specs.declared.follows.Wish.TheVariants as wishes
 use Rattle.search_reach.specs.declared.search.Verdict.TheVariants as verdicts
 use Rattle.search_reach.specs.Search.{StepSystem, IsSound, AllGetStuck, CanGetStuck}
-use Rattle.search_reach.specs.Explored.{Explored}
+use Rattle.search_reach.specs.Explored.{Explored, ExploredTo}
 use Rattle.search_reach.specs.Meeting.{HasMetAt, OfStateAt, HasFirst, GoesOn, HasSound, OfStates, IsBegun, IsReached}
 use Rattle.search_reach.specs.Sought.{ArePassed, HasSoughtFrom, SaysFrom, SeeksAmong}
-use Rattle.search_reach.specs.Levels.{HasLevels, HasGoneThrough, IsBehind}
+use Rattle.search_reach.specs.Levels.{HasLevels, HasGoneThrough, IsBehind, levels_by}
 use Rattle.search_reach.specs.declared.search.Levels.{Levels}
+use Rattle.search_reach.specs.declared.search.Order.{Order}
+use Rattle.search_reach.specs.declared.search.Order.TheVariants.{Breadth, Depth}
 use Rattle.search_reach.specs.declared.search.Verdict.{Verdict}
 use Rattle.search_reach.proofs.Passing.{passed-more, sought-more, all-passed, seeks-none, seeks-some}
 use Rattle.search_reach.proofs.Leveling.{levels-longer, levels-all, levels-none, levels-more}
@@ -24,173 +27,165 @@ at-some [] i low = absurd (omega (arith, low))
 at-some (x ∷ xs) zero low = (x, refl)
 at-some (x ∷ xs) (suc i) low = at-some xs i (omega (arith, low))
 
-pub past-none : {A : Type 0} (xs : List A) (i : ℕ) → length xs ≤ i → slice_get xs i ≡ None
-past-none [] i past = refl
-past-none (x ∷ xs) zero past = absurd (omega (arith, past))
-past-none (x ∷ xs) (suc i) past = past-none xs i (omega (arith, past))
+-- The places that were gone on from, before and behind a turn at one of them.
+pub record Turns (gone now : ℕ → Type 0) (at met known : ℕ) : Type 0 where
+  pub before : gone at → ⊥
+  pub which : (j : ℕ) → j < known → now j → (gone j × (j < met)) ⊎ (at ≡ j)
+  pub kept : (j : ℕ) → j < met → gone j → now j
+  pub this : now at
+
+-- in their order
+pub turns-on : (at met known : ℕ) → at < met → Turns (λ (j : ℕ). j < at) (λ (j : ℕ). j < at + 1) at met known
+turns-on at met known low = record {
+  before = λ h. omega (arith, h);
+  which = λ j inside h. by j h (cases_lt j at);
+  kept = λ j inside h. omega (arith, h);
+  this = omega arith;
+}
+  where
+    by : (j : ℕ) → j < at + 1 → (j < at) ⊎ (at ≤ j) → ((j < at) × (j < met)) ⊎ (at ≡ j)
+    by j h (inl less) = inl (less, omega (arith, less, low))
+    by j h (inr high) = inr (omega (arith, h, high))
 
 module _ {S W E : Type 0} (k : StepSystem S W E) (eq : S → S → Bool) where
-  pub record Standing (has : List S → Type 0) (at : ℕ) (moves : List Move) : Type 0 where
+  -- where a search stands that has gone on from the states of some places, and has met nothing that is looked for
+  pub record Standing (has : List S → Type 0) (sought : E → Type 0) (gone : ℕ → Type 0) (moves : List Move) : Type 0 where
     pub states : List S
     pub held : has states
     pub sound : IsSound k states
-    pub explored : length states < 2 ^ 32 → Explored k eq states moves at
+    pub passed : ArePassed k sought states
+    pub explored : length states < 2 ^ 32 → Explored k eq states moves gone
 
   pub begun : (has : List S → Type 0) (sought : E → Type 0) (moves : List Move) → moves ≡ [] → HasFirst k has → (is : Bool) → is ≡ false
       → OfStates k has (SaysFrom k sought 0 is) → IsBegun k has eq sought moves
   begun has sought moves none f is fails said = record {
     states = f.state ∷ [];
     held = f.held;
-    explored = subst (λ l. Explored k eq (f.state ∷ []) l 0) (sym none) first;
+    explored = subst (λ l. ExploredTo k eq (f.state ∷ []) l 0) (sym none) first;
     passed = all-passed k sought (f.state ∷ []) (subst (λ b. OfStates k has (SaysFrom k sought 0 b)) fails said (f.state ∷ []) f.held first.sound);
   }
     where
-      first : Explored k eq (f.state ∷ []) [] 0
+      first : ExploredTo k eq (f.state ∷ []) [] 0
       first = explored-first eq k f.state f.is
 
   pub first-sound : (has : List S → Type 0) → HasFirst k has → HasSound k has
   first-sound has f = (f.state ∷ [], f.held, (explored-first eq k f.state f.is).sound)
 
-  -- where a search stands that has met nothing that is looked for
-  pub record Going (has : List S → Type 0) (sought : E → Type 0) (at : ℕ) (moves : List Move) (levels : Levels) : Type 0 where
-    pub standing : Standing has at moves
-    pub passed : ArePassed k sought standing.states
-    pub low : levels.complete ≤ at
-    pub inside : levels.end ≤ length standing.states
-    pub complete : HasLevels k standing.states levels.complete levels.end
+  module _ (has : List S → Type 0) (sought : E → Type 0) (gone : ℕ → Type 0) (moves : List Move) (was : Standing has sought gone moves) where
+    module _ (met : ℕ) (len : (ks : List S) → has ks → met ≡ length ks) where
+      pub long : met ≡ length was.states
+      long = len was.states was.held
 
-  pub going-first : (has : List S → Type 0) (sought : E → Type 0) (moves : List Move) (end : ℕ) → ((ks : List S) → has ks → end ≡ length ks)
-      → ((x y : S) → eq x y ≡ true → (w : W) (left : ℕ → ℕ) → k.stands x w left → k.stands y w left) → IsBegun k has eq sought moves
-      → Going has sought 0 moves (record { complete = 0; end = end })
-  going-first has sought moves end len same b =
-      let is = len b.states b.held in
-      record {
-        standing = record { states = b.states; held = b.held; sound = (b.explored).sound; explored = λ few. b.explored };
-        passed = b.passed;
-        low = omega arith;
-        inside = omega (arith, is);
-        complete = subst (λ (n : ℕ). HasLevels k b.states 0 n) (sym is) (levels-none k eq same b.states moves 0 b.explored);
-      }
+      pub met-at : (at : ℕ) → at < met → HasMetAt k has at
+      met-at at low =
+          let is = long in
+          let s = at-some was.states at (omega (arith, low, is)) in
+          (was.states, s.0, was.held, s.1, sound-is_met eq k was.states at s.0 was.sound s.1)
 
-  module _ (has : List S → Type 0) (sought : E → Type 0) (at : ℕ) (moves : List Move) (levels : Levels) (so : Going has sought at moves levels) (met : ℕ)
-      (len : (ks : List S) → has ks → met ≡ length ks) where
-    abbrev was : Standing has at moves
-    was = so.standing
+      -- behind one more state
+      module _ (at : ℕ) (new : List S → Type 0) (after : List Move) (low : at < met)
+          (of : OfStateAt k has at (λ ks s. GoesOn k new eq ks at s moves after)) where
+        pub here-is : (s : S) × (slice_get was.states at ≡ Some s)
+        here-is = let is = long in at-some was.states at (omega (arith, low, is))
 
-    long : met ≡ length was.states
-    long = len was.states was.held
+        pub goes : GoesOn k new eq was.states at here-is.0 moves after
+        goes = of was.states here-is.0 was.held here-is.1 (sound-is_met eq k was.states at here-is.0 was.sound here-is.1)
 
-    pub met-at : at < met → HasMetAt k has at
-    met-at low =
-        let is = long in
-        let s = at-some was.states at (omega (arith, low, is)) in
-        (was.states, s.0, was.held, s.1, sound-is_met eq k was.states at s.0 was.sound s.1)
+        pub begins : Begins was.states (goes).states
+        begins = Gains-begins was.states (goes).states (goes).next (goes).gains
 
-    seeks-so : (verdict : Verdict) → (verdict ≡ verdicts.Sought → ⊥) → SeeksAmong k sought verdict was.states
-    seeks-so verdict other = seeks-none k sought verdict was.states other so.passed
+        pub sound-now : IsSound k (goes).states
+        sound-now = sound-more eq k was.states (goes).states at here-is.0 (goes).next was.sound here-is.1 (goes).are (goes).gains
 
-    gone-through : HasGoneThrough k was.states (Some levels.complete)
-    gone-through = levels-all k was.states levels.complete levels.end so.inside so.complete
+        pub sound-after : HasSound k new
+        sound-after = ((goes).states, (goes).held, sound-now)
 
-    -- behind one more state
-    module _ (new : List S → Type 0) (after : List Move) (low : at < met) (of : OfStateAt k has at (λ ks s. GoesOn k new eq ks at s moves after)) where
-      pub here-is : (s : S) × (slice_get was.states at ≡ Some s)
-      here-is = let is = long in at-some was.states at (omega (arith, low, is))
+        pub passed-now : (is : Bool) → is ≡ false → OfStates k new (SaysFrom k sought met is) → ArePassed k sought (goes).states
+        passed-now is fails said =
+            passed-more k sought was.states (goes).states begins was.passed
+            (subst (λ (n : ℕ). SaysFrom k sought n false (goes).states) long
+            (subst (λ b. OfStates k new (SaysFrom k sought met b)) fails said (goes).states (goes).held sound-now))
 
-      pub goes : GoesOn k new eq was.states at here-is.0 moves after
-      goes = of was.states here-is.0 was.held here-is.1 (sound-is_met eq k was.states at here-is.0 was.sound here-is.1)
+        module _ (known : ℕ) (known-is : (ks : List S) → new ks → known ≡ length ks) where
+          pub now-long : known ≡ length (goes).states
+          now-long = known-is (goes).states (goes).held
 
-      pub begins : Begins was.states (goes).states
-      begins = Gains-begins was.states (goes).states (goes).next (goes).gains
+          pub met-known : met ≤ known
+          met-known =
+              let is = long in
+              let are = now-long in
+              let more = length-longer was.states (goes).states begins in
+              omega (arith, is, are, more)
 
-      abbrev pub standing-more : Standing new (at + 1) after
-      standing-more =
-          let g = goes in
-          let more = length-longer was.states g.states begins in
-          record {
-            states = g.states;
-            held = g.held;
-            sound = sound-more eq k was.states g.states at here-is.0 g.next was.sound here-is.1 g.are g.gains;
-            explored = λ few. explored-more eq k was.states g.states g.next moves after at here-is.0 (was.explored (omega (arith, more, few))) here-is.1 g.are
-                g.gains (g.noted few);
-          }
+          module _ (now : ℕ → Type 0) (turns : known < 2 ^ 32 → Turns gone now at met known) where
+            pub explored-now : length (goes).states < 2 ^ 32 → Explored k eq (goes).states after now
+            explored-now few =
+                let g = goes in
+                let are = now-long in
+                let is = long in
+                let more = length-longer was.states g.states begins in
+                let t = turns (omega (arith, are, few)) in
+                explored-more eq k was.states g.states g.next moves after at here-is.0 gone (was.explored (omega (arith, more, few))) t.before here-is.1 g.are
+                g.gains (g.noted few) now
+                (λ j inside h. subst (λ (n : ℕ). (gone j × (j < n)) ⊎ (at ≡ j)) is (t.which j (omega (arith, inside, are)) h))
+                (λ j inside h. t.kept j (omega (arith, inside, is)) h) t.this
 
-      pub sound-after : HasSound k new
-      sound-after = ((standing-more).states, (standing-more).held, (standing-more).sound)
+            -- where none of them has ended as is looked for
+            abbrev pub standing-more : (is : Bool) → is ≡ false → OfStates k new (SaysFrom k sought met is) → Standing new sought now after
+            standing-more is fails said = record {
+              states = (goes).states;
+              held = (goes).held;
+              sound = sound-now;
+              passed = passed-now is fails said;
+              explored = explored-now;
+            }
 
-      module _ (known : ℕ) (known-is : (ks : List S) → new ks → known ≡ length ks)
-          (same : (x y : S) → eq x y ≡ true → (w : W) (left : ℕ → ℕ) → k.stands x w left → k.stands y w left) (next : Levels)
-          (behind : IsBehind levels (at + 1) known next) where
-        abbrev now : Standing new (at + 1) after
-        now = standing-more
-
-        now-long : known ≡ length (now).states
-        now-long = known-is (now).states (now).held
-
-        inside-now : (n : Levels) → IsBehind levels (at + 1) known n → n.end ≤ length (now).states
-        inside-now n (inl same) =
-            let e : n.end ≡ levels.end = ap (λ (l : Levels). l.end) same in
-            let more = length-longer was.states (goes).states begins in
-            let in-old = so.inside in
-            omega (arith, e, more, in-old)
-        inside-now n (inr h) = let e = h.3 in let is = now-long in omega (arith, e, is)
-
-        low-now : (n : Levels) → IsBehind levels (at + 1) known n → n.complete ≤ at + 1
-        low-now n (inl same) = let e : n.complete ≡ levels.complete = ap (λ (l : Levels). l.complete) same in let l = so.low in omega (arith, e, l)
-        low-now n (inr h) = let e = h.2 in let l = so.low in omega (arith, e, l)
-
-        complete-now : (n : Levels) → IsBehind levels (at + 1) known n → HasLevels k (now).states n.complete n.end
-        complete-now n (inl is) =
-            subst (λ (l : Levels). HasLevels k (now).states l.complete l.end) (sym is)
-            (levels-longer k was.states (goes).states levels.complete levels.end begins so.complete)
-        complete-now n (inr h) =
-            let is = now-long in
-            let few = h.1 in
-            let gone = h.0 in
-            let e = (now).explored (omega (arith, is, few)) in
-            let old = levels-longer k was.states (goes).states levels.complete levels.end begins so.complete in
-            let one = levels-more k eq same (now).states after (at + 1) e levels.complete levels.end (omega (arith, gone)) old in
-            let number : n.complete ≡ suc levels.complete = (let c = h.2 in omega (arith, c)) in
-            let end-is : n.end ≡ length (now).states = h.3 ∙ is in
-            subst (λ (m : ℕ). HasLevels k (now).states m n.end) (sym number)
-            (subst (λ (m : ℕ). HasLevels k (now).states (suc levels.complete) m) (sym end-is) one)
-
-        -- where none of them has ended as is looked for
-        pub going-more : (is : Bool) → is ≡ false → OfStates k new (SaysFrom k sought met is) → Going new sought (at + 1) after next
-        going-more is fails said = let says = subst (λ b. OfStates k new (SaysFrom k sought met b)) fails said in record {
-          standing = standing-more;
-          passed = passed-more k sought was.states (goes).states begins so.passed
-              (subst (λ (n : ℕ). SaysFrom k sought n false (goes).states) long (says (now).states (now).held (now).sound));
-          low = low-now next behind;
-          inside = inside-now next behind;
-          complete = complete-now next behind;
+        -- where it is told to end
+        pub reached-told : (most : ℕ) (wish : Wish) (levels : Option ℕ) → HasGoneThrough k (goes).states levels → (is : Bool) → is ≡ false
+            → OfStates k new (SaysFrom k sought met is) → wish ≡ wishes.End → IsReached k new eq most wish sought after verdicts.Told levels
+        reached-told most wish levels through is fails said told = record {
+          states = (goes).states;
+          held = (goes).held;
+          found = record {
+            all = λ v. absurd (cc v);
+            sound = sound-now;
+            bound = λ v. absurd (cc v);
+            gives_up = λ v. absurd (cc v);
+            told = λ v. told;
+          };
+          whole = λ v. absurd (cc v);
+          seeks = seeks-none k sought verdicts.Told (goes).states (λ v. cc v) (passed-now is fails said);
+          gone_through = through;
         }
 
         -- where one has
-        pub reached-sought : (most : ℕ) (wish : Wish) (is : Bool) → is ≡ true → OfStates k new (SaysFrom k sought met is)
-            → IsReached k new eq most wish sought after verdicts.Sought (Some next.complete)
-        reached-sought most wish is holds said = let says = subst (λ b. OfStates k new (SaysFrom k sought met b)) holds said in record {
-          states = (now).states;
-          held = (now).held;
+        pub reached-sought : (most : ℕ) (wish : Wish) (levels : Option ℕ) → HasGoneThrough k (goes).states levels → (is : Bool) → is ≡ true
+            → OfStates k new (SaysFrom k sought met is) → IsReached k new eq most wish sought after verdicts.Sought levels
+        reached-sought most wish levels through is holds said = let says = subst (λ b. OfStates k new (SaysFrom k sought met b)) holds said in record {
+          states = (goes).states;
+          held = (goes).held;
           found = record {
             all = λ v. absurd (cc v);
-            sound = (now).sound;
+            sound = sound-now;
             bound = λ v. absurd (cc v);
             gives_up = λ v. absurd (cc v);
             told = λ v. absurd (cc v);
           };
           whole = λ v. absurd (cc v);
-          seeks = seeks-some k sought (now).states (sought-more k sought was.states (goes).states begins so.passed
-              (subst (λ (n : ℕ). HasSoughtFrom k sought n (goes).states) long (says (now).states (now).held (now).sound)));
-          gone_through = levels-all k (now).states next.complete next.end (inside-now next behind) (complete-now next behind);
+          seeks = seeks-some k sought (goes).states (sought-more k sought was.states (goes).states begins was.passed
+              (subst (λ (n : ℕ). HasSoughtFrom k sought n (goes).states) long (says (goes).states (goes).held sound-now)));
+          gone_through = through;
         }
 
-    module _ (most : ℕ) (wish : Wish) where
-      pub reached-all : met ≤ at → at < 2 ^ 32 → ((x y : S) → eq x y ≡ true → (w : W) (left : ℕ → ℕ) → k.stands x w left → k.stands y w left)
-          → IsReached k has eq most wish sought moves verdicts.All (Some levels.complete)
-      reached-all past few same =
-          let is = long in
-          let whole = explored-whole eq k was.states moves at was.explored few (past-none was.states at (omega (arith, past, is))) in
+    module _ (most : ℕ) (wish : Wish) (levels : Option ℕ) (through : HasGoneThrough k was.states levels) where
+      seeks-so : (verdict : Verdict) → (verdict ≡ verdicts.Sought → ⊥) → SeeksAmong k sought verdict was.states
+      seeks-so verdict other = seeks-none k sought verdict was.states other was.passed
+
+      pub reached-all : length was.states < 2 ^ 32 → ((j : ℕ) → j < length was.states → gone j)
+          → ((x y : S) → eq x y ≡ true → (w : W) (left : ℕ → ℕ) → k.stands x w left → k.stands y w left)
+          → IsReached k has eq most wish sought moves verdicts.All levels
+      reached-all few all same =
+          let whole = explored-whole eq k was.states moves gone all (was.explored few) in
           record {
             states = was.states;
             held = was.held;
@@ -203,12 +198,13 @@ module _ {S W E : Type 0} (k : StepSystem S W E) (eq : S → S → Bool) where
             };
             whole = λ v. whole;
             seeks = seeks-so verdicts.All (λ v. cc v);
-            gone_through = gone-through;
+            gone_through = through;
           }
 
-      pub reached-many : most < met → IsReached k has eq most wish sought moves verdicts.TooMany (Some levels.complete)
-      reached-many more =
-          let is = long in
+      pub reached-many : (met : ℕ) → ((ks : List S) → has ks → met ≡ length ks) → most < met
+          → IsReached k has eq most wish sought moves verdicts.TooMany levels
+      reached-many met len more =
+          let is = len was.states was.held in
           record {
             states = was.states;
             held = was.held;
@@ -221,14 +217,13 @@ module _ {S W E : Type 0} (k : StepSystem S W E) (eq : S → S → Bool) where
             };
             whole = λ v. absurd (cc v);
             seeks = seeks-so verdicts.TooMany (λ v. cc v);
-            gone_through = gone-through;
+            gone_through = through;
           }
 
-      pub reached-stuck : (new : List S → Type 0) (after : List Move) → at < met → OfStateAt k has at (λ ks s. new ks) → OfStateAt k has at (λ ks s. AllGetStuck k s)
-          → IsReached k new eq most wish sought after verdicts.CannotTell (Some levels.complete)
-      reached-stuck new after low none gives_up =
-          let long-is = long in
-          let s = at-some was.states at (omega (arith, low, long-is)) in
+      pub reached-stuck : (at : ℕ) (new : List S → Type 0) (after : List Move) → at < length was.states → OfStateAt k has at (λ ks s. new ks)
+          → OfStateAt k has at (λ ks s. AllGetStuck k s) → IsReached k new eq most wish sought after verdicts.CannotTell levels
+      reached-stuck at new after low none gives_up =
+          let s = at-some was.states at low in
           let is = sound-is_met eq k was.states at s.0 was.sound s.1 in
           record {
             states = was.states;
@@ -242,27 +237,98 @@ module _ {S W E : Type 0} (k : StepSystem S W E) (eq : S → S → Bool) where
             };
             whole = λ v. absurd (cc v);
             seeks = seeks-so verdicts.CannotTell (λ v. cc v);
-            gone_through = gone-through;
+            gone_through = through;
           }
 
-  pub reached-told : (has : List S → Type 0) (sought : E → Type 0) (at : ℕ) (moves : List Move) (levels : Levels) (most : ℕ) (wish : Wish)
-      → Going has sought at moves levels → wish ≡ wishes.End → IsReached k has eq most wish sought moves verdicts.Told (Some levels.complete)
-  reached-told has sought at moves levels most wish so told =
-      let was = so.standing in
+  -- where it has gone on from the first states, and how many levels are complete
+  pub record Going (has : List S → Type 0) (sought : E → Type 0) (at : ℕ) (moves : List Move) (levels : Levels) : Type 0 where
+    pub standing : Standing has sought (λ (j : ℕ). j < at) moves
+    pub low : levels.complete ≤ at
+    pub inside : levels.end ≤ length standing.states
+    pub complete : HasLevels k standing.states levels.complete levels.end
+
+  pub going-first : (has : List S → Type 0) (sought : E → Type 0) (moves : List Move) (end : ℕ) → ((ks : List S) → has ks → end ≡ length ks)
+      → ((x y : S) → eq x y ≡ true → (w : W) (left : ℕ → ℕ) → k.stands x w left → k.stands y w left) → IsBegun k has eq sought moves
+      → Going has sought 0 moves (record { complete = 0; end = end })
+  going-first has sought moves end len same b =
+      let is = len b.states b.held in
       record {
-        states = was.states;
-        held = was.held;
-        found = record {
-          all = λ v. absurd (cc v);
-          sound = was.sound;
-          bound = λ v. absurd (cc v);
-          gives_up = λ v. absurd (cc v);
-          told = λ v. told;
-        };
-        whole = λ v. absurd (cc v);
-        seeks = seeks-none k sought verdicts.Told was.states (λ v. cc v) so.passed;
-        gone_through = levels-all k was.states levels.complete levels.end so.inside so.complete;
+        standing = record { states = b.states; held = b.held; sound = (b.explored).sound; passed = b.passed; explored = λ few. b.explored };
+        low = omega arith;
+        inside = omega (arith, is);
+        complete = subst (λ (n : ℕ). HasLevels k b.states 0 n) (sym is) (levels-none k eq same b.states moves 0 b.explored);
       }
+
+  module _ (has : List S → Type 0) (sought : E → Type 0) (at : ℕ) (moves : List Move) (levels : Levels) (so : Going has sought at moves levels) where
+    pub gone-through : HasGoneThrough k (so.standing).states (Some levels.complete)
+    gone-through = levels-all k (so.standing).states levels.complete levels.end so.inside so.complete
+
+    module _ (met : ℕ) (len : (ks : List S) → has ks → met ≡ length ks) (new : List S → Type 0) (after : List Move) (low : at < met)
+        (of : OfStateAt k has at (λ ks s. GoesOn k new eq ks at s moves after)) (known : ℕ) (known-is : (ks : List S) → new ks → known ≡ length ks)
+        (same : (x y : S) → eq x y ≡ true → (w : W) (left : ℕ → ℕ) → k.stands x w left → k.stands y w left) (next : Levels)
+        (behind : IsBehind levels (at + 1) known next) where
+      abbrev was : Standing has sought (λ (j : ℕ). j < at) moves
+      was = so.standing
+
+      abbrev turned : GoesOn k new eq (was).states at (here-is has sought (λ (j : ℕ). j < at) moves was met len at new after low of).0 moves after
+      turned = goes has sought (λ (j : ℕ). j < at) moves was met len at new after low of
+
+      longer : Begins (was).states (turned).states
+      longer = begins has sought (λ (j : ℕ). j < at) moves was met len at new after low of
+
+      long-now : known ≡ length (turned).states
+      long-now = known-is (turned).states (turned).held
+
+      inside-now : (n : Levels) → IsBehind levels (at + 1) known n → n.end ≤ length (turned).states
+      inside-now n (inl same) =
+          let e : n.end ≡ levels.end = ap (λ (l : Levels). l.end) same in
+          let more = length-longer (was).states (turned).states longer in
+          let in-old = so.inside in
+          omega (arith, e, more, in-old)
+      inside-now n (inr h) = let e = h.3 in let is = long-now in omega (arith, e, is)
+
+      low-now : (n : Levels) → IsBehind levels (at + 1) known n → n.complete ≤ at + 1
+      low-now n (inl same) = let e : n.complete ≡ levels.complete = ap (λ (l : Levels). l.complete) same in let l = so.low in omega (arith, e, l)
+      low-now n (inr h) = let e = h.2 in let l = so.low in omega (arith, e, l)
+
+      complete-now : (n : Levels) → IsBehind levels (at + 1) known n → HasLevels k (turned).states n.complete n.end
+      complete-now n (inl is) =
+          subst (λ (l : Levels). HasLevels k (turned).states l.complete l.end) (sym is)
+          (levels-longer k (was).states (turned).states levels.complete levels.end longer so.complete)
+      complete-now n (inr h) =
+          let is = long-now in
+          let few = h.1 in
+          let gone = h.0 in
+          let e = explored-now has sought (λ (j : ℕ). j < at) moves was met len at new after low of known known-is (λ (j : ℕ). j < at + 1)
+          (λ small. turns-on at met known low) (omega (arith, is, few)) in
+          let old = levels-longer k (was).states (turned).states levels.complete levels.end longer so.complete in
+          let one = levels-more k eq same (turned).states after (at + 1) e levels.complete levels.end (omega (arith, gone)) old in
+          let number : n.complete ≡ suc levels.complete = (let c = h.2 in omega (arith, c)) in
+          let end-is : n.end ≡ length (turned).states = h.3 ∙ is in
+          subst (λ (m : ℕ). HasLevels k (turned).states m n.end) (sym number)
+          (subst (λ (m : ℕ). HasLevels k (turned).states (suc levels.complete) m) (sym end-is) one)
+
+      pub through-now : HasGoneThrough k (turned).states (Some next.complete)
+      through-now = levels-all k (turned).states next.complete next.end (inside-now next behind) (complete-now next behind)
+
+      pub going-more : (is : Bool) → is ≡ false → OfStates k new (SaysFrom k sought met is) → Going new sought (at + 1) after next
+      going-more is fails said = record {
+        standing = standing-more has sought (λ (j : ℕ). j < at) moves was met len at new after low of known known-is (λ (j : ℕ). j < at + 1)
+            (λ small. turns-on at met known low) is fails said;
+        low = low-now next behind;
+        inside = inside-now next behind;
+        complete = complete-now next behind;
+      }
+
+      pub going-told : (most : ℕ) (wish : Wish) (is : Bool) → is ≡ false → OfStates k new (SaysFrom k sought met is) → wish ≡ wishes.End
+          → IsReached k new eq most wish sought after verdicts.Told (Some next.complete)
+      going-told most wish is fails said told =
+          reached-told has sought (λ (j : ℕ). j < at) moves was met len at new after low of most wish (Some next.complete) through-now is fails said told
+
+      pub going-sought : (most : ℕ) (wish : Wish) (is : Bool) → is ≡ true → OfStates k new (SaysFrom k sought met is)
+          → IsReached k new eq most wish sought after verdicts.Sought (Some next.complete)
+      going-sought most wish is holds said =
+          reached-sought has sought (λ (j : ℕ). j < at) moves was met len at new after low of most wish (Some next.complete) through-now is holds said
 
   -- where nothing was met
   pub reached-none : (has : List S → Type 0) (sought : E → Type 0) (moves : List Move) (most : ℕ) (wish : Wish) → has [] → CanGetStuck k
@@ -285,8 +351,9 @@ module _ {S W E : Type 0} (k : StepSystem S W E) (eq : S → S → Bool) where
   -- where the first state has ended as is looked for
   pub reached-first : (has : List S → Type 0) (sought : E → Type 0) (moves : List Move) (most : ℕ) (wish : Wish) → moves ≡ []
       → ((x y : S) → eq x y ≡ true → (w : W) (left : ℕ → ℕ) → k.stands x w left → k.stands y w left) → HasFirst k has
-      → (is : Bool) → is ≡ true → OfStates k has (SaysFrom k sought 0 is) → IsReached k has eq most wish sought moves verdicts.Sought (Some 0)
-  reached-first has sought moves most wish none same f is holds said =
+      → (is : Bool) → is ≡ true → OfStates k has (SaysFrom k sought 0 is) → (order : Order) (levels : Option ℕ) → levels ≡ levels_by order 0
+      → IsReached k has eq most wish sought moves verdicts.Sought levels
+  reached-first has sought moves most wish none same f is holds said order levels counted =
       let says = subst (λ b. OfStates k has (SaysFrom k sought 0 b)) holds said in
       let first = explored-first eq k f.state f.is in
       record {
@@ -301,5 +368,9 @@ module _ {S W E : Type 0} (k : StepSystem S W E) (eq : S → S → Bool) where
         };
         whole = λ v. absurd (cc v);
         seeks = seeks-some k sought (f.state ∷ []) (says (f.state ∷ []) f.held first.sound);
-        gone_through = levels-none k eq same (f.state ∷ []) [] 0 first;
+        gone_through = subst (HasGoneThrough k (f.state ∷ [])) (sym counted) (through order);
       }
+    where
+      through : (order : Order) → HasGoneThrough k (f.state ∷ []) (levels_by order 0)
+      through Breadth = levels-none k eq same (f.state ∷ []) [] 0 (explored-first eq k f.state f.is)
+      through Depth = tt

@@ -1,5 +1,5 @@
 -- Which of the states that were met have ended as is looked for.
-use Rattle.std.specs.Prelude.{◌≡◌, ◌+◌, ◌<◌, ◌≤◌, ◌⊎◌, ◌↔◌, ℕ, Bool, true, false, List, length, Contains, Option, Some, None, refl}
+use Rattle.std.specs.Prelude.{◌≡◌, ◌+◌, ◌<◌, ◌≤◌, ◌⊎◌, ◌↔◌, ℕ, Bool, true, false, List, length, Contains, Some, None, refl}
 use Rattle.std.proofs.Common.{ap, subst, sym, ◌∙◌, inl, inr, arith, true≢false}
 use Rattle.std.specs.List.{slice_get}
 use Rattle.std.proofs.lemmas.Bool.{cases_lt}
@@ -8,7 +8,7 @@ use Rattle.search_reach.specs.Search.{StepSystem, IsSound, IsEnding, HasEqual, A
 use Rattle.search_reach.specs.Sought.{IsPassed, ArePassed, SaysOf, HasSoughtFrom, SaysFrom, SeeksAmong, SeeksIn}
 use Rattle.search_reach.specs.declared.search.Verdict.{Verdict}
 use Rattle.search_reach.specs.declared.search.Verdict.TheVariants as verdicts
-use Rattle.search_reach.proofs.Searching.{Begins, get_shorter, length-longer, here}
+use Rattle.search_reach.proofs.Searching.{Begins, get_shorter, here}
 
 module _ {S W E : Type 0} (k : StepSystem S W E) (Sought : E → Type 0) where
   pub says-none : (s : S) → IsEnding k s None → SaysOf k Sought false s

@@ -1,11 +1,11 @@
 -- What a search keeps.
-use Rattle.std.specs.Prelude.{◌≡◌, ◌==◌, ◌+◌, ◌^◌, ◌<◌, ◌≤◌, ◌⊎◌, ◌||◌, ℕ, zero, suc, Bool, true, false, List, [], ◌∷◌, ◌++◌, length}
-use Rattle.std.specs.Prelude.{Contains, slice_get, get_or, Option, Some, None, IfSome, refl, if◌then◌else◌}
+use Rattle.std.specs.Prelude.{◌≡◌, ◌==◌, ◌^◌, ◌<◌, ◌≤◌, ◌⊎◌, ◌||◌, ℕ, zero, suc, Bool, true, false, List, [], ◌∷◌, ◌++◌, length}
+use Rattle.std.specs.Prelude.{Contains, slice_get, get_or, Option, Some, IfSome, refl, if◌then◌else◌}
 use Rattle.std.proofs.Common.{ap, subst, sym, ◌∙◌, inl, inr, arith, true≢false, length-append, append_assoc}
 use Rattle.std.proofs.lemmas.List.Elements.{Contains-append_left, Contains-push, Contains-push_cases, Contains-append_right, Contains-append_cases, filter-append}
 use Rattle.std.proofs.lemmas.List.{append-nil}
 use Rattle.std.proofs.lemmas.Slice.Zip.{all_zipped_more}
-use Rattle.std.proofs.lemmas.Bool.{cases_lt, ne_eqb, eq-eqb, cond-true, cond-false}
+use Rattle.std.proofs.lemmas.Bool.{ne_eqb, eq-eqb, cond-true, cond-false}
 use Rattle.std.proofs.lemmas.Option.{slice_get_within, get_or_from_slice_get, slice_get-get_or, none-some}
 use Rattle.std.specs.List.{list_any}
 use Rattle.indexmap.specs.IndexSet.{insert_key}
@@ -14,13 +14,8 @@ use Rattle.search_graph.specs.Worlds.{CanStep}
 use Rattle.search_graph.specs.declared.graph.Move.{Move}
 use Rattle.search_reach.specs.declared.explores.Next.{Next}
 use Rattle.search_reach.specs.Search.{StepSystem, Steps, StandsFor, Covers, Comes, AreNext, IsFirst, IsMet, IsSound, AllGetStuck, CanGetStuck}
-use Rattle.search_reach.specs.Explored.{Gains, moves_from, HasAt, IsNoted, AreNoted, Notes, IsGoneOn, Explored}
+use Rattle.search_reach.specs.Explored.{Gains, moves_from, HasAt, IsNoted, AreNoted, Notes, IsGoneOn, Explored, ExploredTo}
 use Rattle.search_reach.proofs.Paths.{stays, one_step, onward, by_others}
-
-pub outside : {S : Type 0} (ks : List S) (i : ℕ) → i < length ks → slice_get ks i ≡ None → ⊥
-outside [] i h e = omega arith
-outside (k ∷ ks) zero h e = none-some k (sym e)
-outside (k ∷ ks) (suc i) h e = outside ks i (omega arith) e
 
 pub if_some_at : {X : Type 0} (P : X → Type 0) (o : Option X) (x : X) → o ≡ Some x → IfSome o P → P x
 if_some_at P o x e h = subst (λ q. IfSome q P) e h
@@ -226,9 +221,8 @@ module _ {S W E : Type 0} (eq : S → S → Bool) (k : StepSystem S W E) where
   covers-longer ks ls w b c = record { state = c.state; among = Contains-longer ks ls c.state b c.among; is = c.is }
 
   -- before the first state is gone on from
-  pub explored-first : (s : S) → IsFirst k s → Explored k eq (s ∷ []) [] 0
+  pub explored-first : (s : S) → IsFirst k s → ExploredTo k eq (s ∷ []) [] 0
   explored-first s f = record {
-    within = omega arith;
     begun = λ w b. record { state = s; among = Contains-head s []; is = f.all w b };
     gone_on = λ j x h. absurd (omega (arith, h));
     from = λ m c. absurd (omega (arith, c.1));
@@ -271,9 +265,19 @@ module _ {S W E : Type 0} (eq : S → S → Bool) (k : StepSystem S W E) where
       by (inl d) = sound x d
       by (inr d) = let f = g.among x d in subst (IsMet k) f.2 (met-next s xs n (sound s (here ks i s at)) f.0 f.1)
 
-  -- the next one is gone on from
-  module _ (ks ls : List S) (xs : List (Next S)) (moves after : List Move) (i : ℕ) (s : S) (e : Explored k eq ks moves i)
-      (at : slice_get ks i ≡ Some s) (n : AreNext k s xs) (g : Gains ks xs ls) (noted : Notes eq ls i xs moves after) where
+  -- the same places were gone on from
+  pub explored-alike : (ks : List S) (moves : List Move) (gone after : ℕ → Type 0) → ((j : ℕ) → j < length ks → gone j → after j)
+      → ((j : ℕ) → j < length ks → after j → gone j) → Explored k eq ks moves gone → Explored k eq ks moves after
+  explored-alike ks moves gone after forth back e = record {
+    begun = e.begun;
+    gone_on = λ j s h at. e.gone_on j s (back j (slice_get_within ks j s at) h) at;
+    from = λ m c. (let f = e.from m c in (forth m.from f.1 f.0, f.1, f.2));
+    sound = e.sound;
+  }
+
+  -- one more is gone on from, which wasn't before
+  module _ (ks ls : List S) (xs : List (Next S)) (moves after : List Move) (i : ℕ) (s : S) (gone : ℕ → Type 0) (e : Explored k eq ks moves gone)
+      (before : gone i → ⊥) (at : slice_get ks i ≡ Some s) (n : AreNext k s xs) (g : Gains ks xs ls) (noted : Notes eq ls i xs moves after) where
     inside : i < length ks
     inside = slice_get_within ks i s at
 
@@ -290,26 +294,18 @@ module _ {S W E : Type 0} (eq : S → S → Bool) (k : StepSystem S W E) where
     split : (j : ℕ) → moves_from j after ≡ moves_from j moves ++ moves_from j noted.new
     split j = ap (moves_from j) noted.is ∙ filter-append (λ (m : Move). m.from == j) moves noted.new
 
-    others : (j : ℕ) → j < i → moves_from j after ≡ moves_from j moves
-    others j low =
-        split j ∙ ap (λ l. moves_from j moves ++ l) (from-none j noted.new (λ m c same. let is = new_from m c in omega (arith, is, same, low)))
+    others : (j : ℕ) → (j ≡ i → ⊥) → moves_from j after ≡ moves_from j moves
+    others j other =
+        split j ∙ ap (λ l. moves_from j moves ++ l) (from-none j noted.new (λ m c same. other (sym same ∙ new_from m c)))
         ∙ append-nil (moves_from j moves)
 
     this : moves_from i after ≡ noted.new
     this =
-        split i ∙ ap (λ l. l ++ moves_from i noted.new) (from-none i moves (λ m c same. let low = (e.from m c).0 in omega (arith, low, same)))
+        split i ∙ ap (λ l. l ++ moves_from i noted.new) (from-none i moves (λ m c same. before (subst gone same (e.from m c).0)))
         ∙ from-all i noted.new new_from
 
-    gone : (j : ℕ) (x : S) → (j < i) ⊎ (i ≤ j) → j < i + 1 → slice_get ls j ≡ Some x → IsGoneOn k eq ls after j x
-    gone j x (inl low) h there =
-        let old = e.gone_on j x low (get_shorter ks ls j x begins (omega (arith, low, inside)) there) in
-        record {
-          next = old.next;
-          are = old.are;
-          noted = subst (λ l. AreNoted eq ls j old.next l) (sym (others j low)) (noted-longer eq ks ls j old.next (moves_from j moves) begins old.noted);
-        }
-    gone j x (inr high) h there =
-        let same : i ≡ j = omega (arith, high, h) in
+    here-gone : (j : ℕ) (x : S) → i ≡ j → slice_get ls j ≡ Some x → IsGoneOn k eq ls after j x
+    here-gone j x same there =
         let here : slice_get ls i ≡ Some s = get_longer ks ls i s begins at in
         let is : s ≡ x = cc (same, here, there) in
         record {
@@ -318,21 +314,36 @@ module _ {S W E : Type 0} (eq : S → S → Bool) (k : StepSystem S W E) where
           noted = subst (λ v. AreNoted eq ls v xs (moves_from v after)) same (subst (λ l. AreNoted eq ls i xs l) (sym this) noted.are);
         }
 
-    within_more : (m : Move) → Contains moves m ⊎ Contains noted.new m → (m.from < i + 1) × (m.next < length ls)
-    within_more m (inl c) = let f = e.from m c in (omega (arith, f.0), omega (arith, f.1, long))
-    within_more m (inr c) =
-        let f = noted-each eq ls i xs noted.new noted.are m c in
-        let is : m.from ≡ i = f.2.from in
-        (omega (arith, is), slice_get_within ls m.next f.2.next.key f.2.next.at)
+    still-gone : (j : ℕ) (x : S) → gone j → j < length ks → slice_get ls j ≡ Some x → IsGoneOn k eq ls after j x
+    still-gone j x h low there =
+        let old = e.gone_on j x h (get_shorter ks ls j x begins low there) in
+        record {
+          next = old.next;
+          are = old.are;
+          noted = subst (λ l. AreNoted eq ls j old.next l) (sym (others j (λ same. before (subst gone same h))))
+              (noted-longer eq ks ls j old.next (moves_from j moves) begins old.noted);
+        }
 
-    pub explored-more : Explored k eq ls after (i + 1)
-    explored-more = record {
-      within = omega (arith, inside, long);
-      begun = λ w b. covers-longer ks ls w begins (e.begun w b);
-      gone_on = λ j x h there. gone j x (cases_lt j i) h there;
-      from = λ m c. within_more m (Contains-append_cases moves noted.new m (subst (λ l. Contains l m) noted.is c));
-      sound = sound-more ks ls i s xs e.sound at n g;
-    }
+    module _ (now : ℕ → Type 0) (which : (j : ℕ) → j < length ls → now j → (gone j × (j < length ks)) ⊎ (i ≡ j))
+        (kept : (j : ℕ) → j < length ks → gone j → now j) (this-too : now i) where
+      within_more : (m : Move) → Contains moves m ⊎ Contains noted.new m → now m.from × (m.from < length ls) × (m.next < length ls)
+      within_more m (inl c) = let f = e.from m c in (kept m.from f.1 f.0, omega (arith, f.1, long), omega (arith, f.2, long))
+      within_more m (inr c) =
+          let f = noted-each eq ls i xs noted.new noted.are m c in
+          let is : m.from ≡ i = f.2.from in
+          (subst now (sym is) this-too, omega (arith, is, inside, long), slice_get_within ls m.next f.2.next.key f.2.next.at)
+
+      gone-by : (j : ℕ) (x : S) → slice_get ls j ≡ Some x → (gone j × (j < length ks)) ⊎ (i ≡ j) → IsGoneOn k eq ls after j x
+      gone-by j x there (inl h) = still-gone j x h.0 h.1 there
+      gone-by j x there (inr same) = here-gone j x same there
+
+      pub explored-more : Explored k eq ls after now
+      explored-more = record {
+        begun = λ w b. covers-longer ks ls w begins (e.begun w b);
+        gone_on = λ j x h there. gone-by j x there (which j (slice_get_within ls j x there) h);
+        from = λ m c. within_more m (Contains-append_cases moves noted.new m (subst (λ l. Contains l m) noted.is c));
+        sound = sound-more ks ls i s xs e.sound at n g;
+      }
 
   -- what it takes up was met
   pub sound-is_met : (ks : List S) (i : ℕ) (s : S) → IsSound k ks → slice_get ks i ≡ Some s → IsMet k s
@@ -350,14 +361,6 @@ module _ {S W E : Type 0} (eq : S → S → Bool) (k : StepSystem S W E) where
       }
 
   -- all were gone on from
-  pub explored-whole : (ks : List S) (moves : List Move) (i : ℕ) → (length ks < 2 ^ 32 → Explored k eq ks moves i) → i < 2 ^ 32 → slice_get ks i ≡ None
-      → Explored k eq ks moves (length ks)
-  explored-whole ks moves i e low none = by (cases_lt i (length ks))
-    where
-      by : (i < length ks) ⊎ (length ks ≤ i) → Explored k eq ks moves (length ks)
-      by (inl h) = absurd (outside ks i h none)
-      by (inr h) =
-          let so = e (omega (arith, h, low)) in
-          let within = so.within in
-          let same : i ≡ length ks = omega (arith, h, within) in
-          subst (λ n. Explored k eq ks moves n) same so
+  pub explored-whole : (ks : List S) (moves : List Move) (gone : ℕ → Type 0) → ((j : ℕ) → j < length ks → gone j) → Explored k eq ks moves gone
+      → ExploredTo k eq ks moves (length ks)
+  explored-whole ks moves gone all e = explored-alike ks moves gone (λ (j : ℕ). j < length ks) (λ j low h. low) (λ j low h. all j low) e

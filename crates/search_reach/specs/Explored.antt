@@ -1,5 +1,5 @@
 -- Where a search stands: the states that it met, and the moves that it noted.
-use Rattle.std.specs.Prelude.{◌≡◌, ◌==◌, ◌<◌, ◌≤◌, ℕ, Bool, true, Some, List, ◌++◌, length, filter, Contains}
+use Rattle.std.specs.Prelude.{◌≡◌, ◌==◌, ◌<◌, ℕ, Bool, true, Some, List, ◌++◌, length, filter, Contains}
 use Rattle.std.specs.List.{slice_get, AllZip}
 use Rattle.search_graph.specs.declared.graph.Move.{Move}
 use Rattle.search_reach.specs.Search.{StepSystem, Covers, AreNext, IsSound}
@@ -48,14 +48,18 @@ module _ {S W E : Type 0} (k : StepSystem S W E) (eq : S → S → Bool) (ks : L
     pub are : AreNext k s next
     pub noted : AreNoted eq ks index next (moves_from index moves)
 
-  -- Where a search stands that has met the states ks, has noted these moves, and has gone on from the first i states.
-  pub record Explored (i : ℕ) : Type 0 where
-    pub within : i ≤ length ks
+  -- Where a search stands that has met the states ks, has noted these moves, and has gone on from the states of some
+  -- places.
+  pub record Explored (gone : ℕ → Type 0) : Type 0 where
     pub begun : (w : W) → k.begins w → Covers k ks w
-    pub gone_on : (j : ℕ) (s : S) → j < i → slice_get ks j ≡ Some s → IsGoneOn j s
-    pub from : (m : Move) → Contains moves m → (m.from < i) × (m.next < length ks)
+    pub gone_on : (j : ℕ) (s : S) → gone j → slice_get ks j ≡ Some s → IsGoneOn j s
+    pub from : (m : Move) → Contains moves m → gone m.from × (m.from < length ks) × (m.next < length ks)
     pub sound : IsSound k ks
+
+  -- It has gone on from the first i states.
+  abbrev pub ExploredTo : ℕ → Type 0
+  ExploredTo i = Explored (λ (j : ℕ). j < i)
 
   -- Where the verdict says that it met all, it has gone on from all.
   abbrev pub IsWhole : Verdict → Type 0
-  IsWhole verdict = verdict ≡ verdicts.All → Explored (length ks)
+  IsWhole verdict = verdict ≡ verdicts.All → ExploredTo (length ks)

@@ -1,11 +1,13 @@
 -- How long the runs are that were all gone through. A step is quiet where that is said of its world and its thread: it
 -- stays within what the states stand for. The others are counted.
-use Rattle.std.specs.Prelude.{◌≡◌, ◌<◌, ◌+◌, ◌^◌, ◌⊎◌, ℕ, zero, suc, Bool, true, Option, Some, List, length}
+use Rattle.std.specs.Prelude.{◌≡◌, ◌<◌, ◌+◌, ◌^◌, ◌⊎◌, ℕ, zero, suc, Bool, true, Option, None, Some, List, length}
 use Rattle.std.specs.List.{slice_get}
 use Rattle.std.specs.Option.{IfSome}
 use Rattle.search_graph.specs.Worlds.{Worlds}
 use Rattle.search_reach.specs.Search.{StepSystem, StandsFor, HasEqual}
 use Rattle.search_reach.specs.declared.search.Levels.{Levels}
+use Rattle.search_reach.specs.declared.search.Order.{Order}
+use Rattle.search_reach.specs.declared.search.Order.TheVariants.{Breadth, Depth}
 
 -- From w so many steps lead to z, of which at most so many are not quiet.
 abbrev pub Comes : {W : Type 0} → Worlds W → (W → ℕ → Bool) → ℕ → ℕ → W → W → Type 0
@@ -49,3 +51,13 @@ module _ {S W E : Type 0} (k : StepSystem S W E) where
 abbrev pub IsBehind : Levels → ℕ → ℕ → Levels → Type 0
 IsBehind old gone known new =
     (new ≡ old) ⊎ ((gone ≡ old.end) × (known < 2 ^ 32) × (new.complete ≡ old.complete + 1) × (new.end ≡ known))
+
+-- Levels are counted breadth first alone.
+abbrev pub levels_by : Order → ℕ → Option ℕ
+levels_by Breadth levels = Some levels
+levels_by Depth levels = None
+
+-- Depth first no number is said; breadth first one is, but in the case that is named.
+abbrev pub IsLeveled : Order → Option ℕ → Type 0 → Type 0
+IsLeveled Breadth levels unless = levels ≡ None → unless
+IsLeveled Depth levels unless = levels ≡ None

@@ -6,7 +6,7 @@ use Rattle.search_reach.specs.declared.explores.Next.{Next}
 use Rattle.search_reach.specs.declared.follows.Wish.{Wish}
 use Rattle.search_reach.specs.declared.search.Verdict.{Verdict}
 use Rattle.search_reach.specs.Search.{StepSystem, IsAll, IsSound, CanGetStuck, IsFirst, IsMet, AreNext, IsMarkedSo, AllEnds, AreEnds, AreEndsOf}
-use Rattle.search_reach.specs.Explored.{Gains, Notes, Explored, IsWhole}
+use Rattle.search_reach.specs.Explored.{Gains, Notes, ExploredTo, IsWhole}
 use Rattle.search_reach.specs.Found.{IsFound}
 use Rattle.search_reach.specs.Sought.{ArePassed, SeeksAmong}
 use Rattle.search_reach.specs.Levels.{HasGoneThrough}
@@ -40,7 +40,7 @@ module _ {S W E : Type 0} (k : StepSystem S W E) (has : List S → Type 0) where
     pub record IsBegun (sought : E → Type 0) (moves : List Move) : Type 0 where
       pub states : List S
       pub held : has states
-      pub explored : Explored k eq states moves 0
+      pub explored : ExploredTo k eq states moves 0
       pub passed : ArePassed k sought states
 
     -- What a search found that was to meet no more than `most` states and a few, and to end at an ending that is looked

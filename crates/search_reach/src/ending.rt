@@ -5,14 +5,14 @@ ghost use Rattle.search_reach.specs.Meeting.{HasSound, OfStates, AreGathered, Is
 ghost use Rattle.search_reach.specs.Explored.{IsWhole};
 ghost use Rattle.search_reach.specs.Found.{AreEndings, IsSearched};
 ghost use Rattle.search_reach.specs.Liveness.{IsCount, IsLiveWhereAll};
-ghost use Rattle.search_reach.specs.Levels.{HasEndsWithin, HasGoneThrough};
+ghost use Rattle.search_reach.specs.Levels.{HasEndsWithin, HasGoneThrough, IsLeveled};
 ghost use Rattle.search_reach.specs.Sought.{SeeksAmong, SeeksIn};
 ghost use Rattle.search_reach.specs.Told.{Obeys, OfCount, StillObeys};
 
 use crate::liveness::judged;
 use crate::path::{paths_to, ways_in};
 use crate::plain::Plain;
-use crate::{Explores, Follows, Found, Liveness, Meets, Reached, Seeks, Verdict, reach};
+use crate::{Explores, Follows, Found, Liveness, Meets, Order, Reached, Seeks, Verdict, reach};
 use indexmap::IndexSet;
 use search_graph::Graph;
 use std::alloc::{AllocError, Global};
@@ -85,7 +85,8 @@ pub struct Ended<E: Eq + Hash> {
     pub states: usize,
     /// Whether these are all.
     pub verdict: Verdict,
-    /// Of all that ends behind no more moves than this the ending is there, if anything was met.
+    /// Of all that ends behind no more moves than this the ending is there, if anything was met and the search went
+    /// breadth first.
     pub levels: Option<u32>,
     /// Where they are all, whether all comes to an end.
     pub liveness: Option<Liveness>,
@@ -123,6 +124,8 @@ pub fn conclude<T: Meets, Q: Seeks<T::Ending>, F: Follows>(
     ensures seeks { IfOk result (λ r. SeeksIn (Q.sought _sought.now) T.Ending.eq r.verdict r.endings.keys) }
     ensures levels { IfOk result
         (λ r. IfSome r.levels (HasEndsWithin (T.system system.now) T.Ending.eq r.endings.keys)) }
+    ensures same { IfOk result (λ r. (r.levels ≡ reached.levels)
+        × OfCount (T.holds system.now reached.table) (λ n. r.states ≡ n)) }
     ensures obeys { IfOk result (λ r. StillObeys (λ before. OfCount (T.holds system.now reached.table)
         (Obeys before (F.wish follower.old) (F.told_at follower.old) reached.verdict))
         (F.wish follower.new) (F.told_at follower.new) r.verdict r.states) }
@@ -132,6 +135,7 @@ pub fn conclude<T: Meets, Q: Seeks<T::Ending>, F: Follows>(
         moves,
         verdict,
         levels,
+        ..
     } = reached;
     let Listed {
         endings,
@@ -194,16 +198,18 @@ pub fn endings_of<T: Explores, Q: Seeks<T::Ending>, F: Follows>(
         moves,
         verdict,
         levels,
+        last: 0,
     };
     conclude(alloc, &plain, most, sought, reached, follower)
 }
 
 /// The endings of a system, of which it meets no more than `most` states and a few, those before one that is looked for,
-/// and those before it is told to end.
+/// and those before it is told to end. Depth first no levels are counted; breadth first they are, unless none was met.
 /// Where it met all, it says of which states none ends, and whether every fair run ends.
 pub fn all_endings<T: Meets, Q: Seeks<T::Ending>, F: Follows>(
     alloc: Global,
     system: &T,
+    order: Order,
     most: u32,
     sought: &Q,
     follower: &mut F,
@@ -216,9 +222,10 @@ pub fn all_endings<T: Meets, Q: Seeks<T::Ending>, F: Follows>(
     ensures seeks { IfOk result (λ r. SeeksIn (Q.sought sought.now) T.Ending.eq r.verdict r.endings.keys) }
     ensures levels { IfOk result
         (λ r. IfSome r.levels (HasEndsWithin (T.system system.now) T.Ending.eq r.endings.keys)) }
+    ensures leveled { IfOk result (λ r. IsLeveled order r.levels (r.states ≡ 0)) }
     ensures obeys { IfOk result (λ r.
         Obeys (F.wish follower.old) (F.wish follower.new) (F.told_at follower.new) r.verdict r.states) }
 {
-    let reached = reach(alloc, system, most, sought, follower)?;
+    let reached = reach(alloc, system, order, most, sought, follower)?;
     conclude(alloc, system, most, sought, reached, follower)
 }

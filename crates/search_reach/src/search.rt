@@ -1,11 +1,12 @@
 //! The search.
-ghost use Rattle.std.specs.Prelude.{◌<◌, [], Some, IfOk};
+ghost use Rattle.std.specs.Prelude.{◌≡◌, ◌<◌, ◌≤◌, [], None, Some, OnOk, IfOk};
 ghost use Rattle.indexmap.specs.IndexSet.{index_set_len};
 ghost use Rattle.search_reach.specs.Explored.{IsWhole};
 ghost use Rattle.search_reach.specs.Found.{IsSearched};
-ghost use Rattle.search_reach.specs.Levels.{HasGoneThrough, IsBehind};
+ghost use Rattle.search_reach.specs.Levels.{HasGoneThrough, IsBehind, IsLeveled, levels_by};
 ghost use Rattle.search_reach.specs.Meeting.{IsBegun, IsReached};
 ghost use Rattle.search_reach.specs.Sought.{SeeksAmong};
+ghost use Rattle.search_reach.specs.Stack.{IsOpened};
 ghost use Rattle.search_reach.specs.Told.{Obeys, OfCount};
 
 use crate::plain::Plain;
@@ -15,6 +16,27 @@ use indexmap::IndexSet;
 use search_graph::Move;
 use std::alloc::{AllocError, Global};
 use std::hash::Hash;
+
+/// In which order a search goes on from the states that it met.
+#[derive(Clone, Copy, PartialEq, Eq, Debug)]
+pub enum Order {
+    /// As they were met: those that come by fewer moves before the others.
+    Breadth,
+    /// From the one that was met last of those that it hasn't gone on from.
+    Depth,
+}
+
+impl Order {
+    /// How many levels are said to be complete, where so many are: none are counted depth first.
+    fn levels(self, complete: u32) -> Option<u32>
+        ensures { result ≡ levels_by self complete }
+    {
+        match self {
+            Order::Breadth => Some(complete),
+            Order::Depth => None,
+        }
+    }
+}
 
 /// How far a search came.
 #[derive(Clone, Copy, PartialEq, Eq, Debug)]
@@ -41,7 +63,7 @@ pub struct Found<S: Eq + Hash> {
     pub moves: Vec<Move>,
     /// Whether these are all.
     pub verdict: Verdict,
-    /// All that comes by no more moves than this was met, if anything was.
+    /// All that comes by no more moves than this was met, if anything was and it went breadth first.
     pub levels: Option<u32>,
 }
 
@@ -53,6 +75,8 @@ pub struct Reached<T> {
     pub moves: Vec<Move>,
     pub verdict: Verdict,
     pub levels: Option<u32>,
+    /// The place of the state that it went on from last, or gave up at. No clause speaks of it: it is a hint.
+    pub last: u32,
 }
 
 /// All that comes by no more moves than `complete` is stood for by the states below `end`.
@@ -80,9 +104,9 @@ impl Levels {
     }
 }
 
-/// Goes on from each state that was met, until there are no more, it has met more than `most`, one of which the next
-/// states cannot be told, or one that has ended as is looked for, or it is told to end. Answers how many levels are
-/// complete.
+/// Goes on from each state that was met, in their order, until there are no more, it has met more than `most`, one of
+/// which the next states cannot be told, or one that has ended as is looked for, or it is told to end. Answers beside the
+/// verdict how many levels are complete, and the place where it ended.
 fn explore<T: Meets, Q: Seeks<T::Ending>, F: Follows>(
     alloc: Global,
     system: &T,
@@ -91,11 +115,12 @@ fn explore<T: Meets, Q: Seeks<T::Ending>, F: Follows>(
     follower: &mut F,
     table: &mut T::Table,
     moves: &mut Vec<Move>,
-) -> Result<(Verdict, u32), AllocError>
+) -> Result<(Verdict, Option<u32>, u32), AllocError>
     requires { IsBegun (T.system system.now) (T.holds system.now table.old) (T.equal system.now)
         (Q.sought sought.now) moves.old.items }
     ensures reached { IfOk result (λ r. IsReached (T.system system.now) (T.holds system.now table.new)
-        (T.equal system.now) most (F.wish follower.new) (Q.sought sought.now) moves.new.items r.0 (Some r.1)) }
+        (T.equal system.now) most (F.wish follower.new) (Q.sought sought.now) moves.new.items r.0 r.1) }
+    ensures levels { IfOk result (λ r. r.1 ≡ None → ⊥) }
     ensures obeys { IfOk result (λ r. OfCount (T.holds system.now table.new)
         (Obeys (F.wish follower.old) (F.wish follower.new) (F.told_at follower.new) r.0)) }
 {
@@ -105,41 +130,99 @@ fn explore<T: Meets, Q: Seeks<T::Ending>, F: Follows>(
     loop {
         let met = system.count(table);
         if met <= at as usize {
-            return Ok((Verdict::All, levels.complete));
+            return Ok((Verdict::All, Some(levels.complete), at));
         }
         if (most as usize) < met {
-            return Ok((Verdict::TooMany, levels.complete));
+            return Ok((Verdict::TooMany, Some(levels.complete), at));
         }
         if !system.next(alloc, table, at, moves)? {
-            return Ok((Verdict::CannotTell, levels.complete));
+            return Ok((Verdict::CannotTell, Some(levels.complete), at));
         }
         at += 1;
         let known = system.count(table);
         levels = levels.behind(at, known);
         if has_sought(alloc, system, table, met, sought)? {
-            return Ok((Verdict::Sought, levels.complete));
+            return Ok((Verdict::Sought, Some(levels.complete), at));
         }
         if let Wish::End = follower.states(known, known.saturating_sub(at as usize)) {
-            return Ok((Verdict::Told, levels.complete));
+            return Ok((Verdict::Told, Some(levels.complete), at));
         }
+    }
+}
+
+/// Puts these places on the stack.
+fn open_places(stack: &mut Vec<u32>, from: usize, end: usize) -> Result<(), AllocError>
+    requires { from ≤ end }
+    ensures { OnOk result (IsOpened stack.old.items from end stack.new.items) }
+{
+    for place in from..end {
+        stack.push(place.min(u32::MAX as usize) as u32)?;
+    }
+    Ok(())
+}
+
+/// The same depth first: the places of those that it hasn't gone on from are on a stack. No levels are counted.
+fn explore_deep<T: Meets, Q: Seeks<T::Ending>, F: Follows>(
+    alloc: Global,
+    system: &T,
+    most: u32,
+    sought: &Q,
+    follower: &mut F,
+    table: &mut T::Table,
+    moves: &mut Vec<Move>,
+) -> Result<(Verdict, Option<u32>, u32), AllocError>
+    requires { IsBegun (T.system system.now) (T.holds system.now table.old) (T.equal system.now)
+        (Q.sought sought.now) moves.old.items }
+    ensures reached { IfOk result (λ r. IsReached (T.system system.now) (T.holds system.now table.new)
+        (T.equal system.now) most (F.wish follower.new) (Q.sought sought.now) moves.new.items r.0 r.1) }
+    ensures levels { IfOk result (λ r. r.1 ≡ None) }
+    ensures obeys { IfOk result (λ r. OfCount (T.holds system.now table.new)
+        (Obeys (F.wish follower.old) (F.wish follower.new) (F.told_at follower.new) r.0)) }
+{
+    let mut stack = Vec::new(alloc);
+    let first = system.count(table);
+    open_places(&mut stack, 0, first)?;
+    let mut gone: u32 = 0;
+    loop {
+        let Some(at) = stack.pop() else {
+            return Ok((Verdict::All, None, 0));
+        };
+        let met = system.count(table);
+        if (most as usize) < met {
+            return Ok((Verdict::TooMany, None, at));
+        }
+        if !system.next(alloc, table, at, moves)? {
+            return Ok((Verdict::CannotTell, None, at));
+        }
+        gone += 1;
+        let known = system.count(table);
+        if has_sought(alloc, system, table, met, sought)? {
+            return Ok((Verdict::Sought, None, at));
+        }
+        if let Wish::End = follower.states(known, known.saturating_sub(gone as usize)) {
+            return Ok((Verdict::Told, None, at));
+        }
+        open_places(&mut stack, met, known)?;
     }
 }
 
 /// Goes through the states of a system, which it keeps in a table, until there are no more, it has met more than `most`,
 /// or one that has ended as is looked for, or it is told to end: then at once. The follower hears behind each how many
-/// were met.
+/// were met. Depth first no levels are counted; breadth first they are, unless it can't tell the first state.
 ///
 /// # Errors
 /// Where memory is refused.
 pub fn reach<T: Meets, Q: Seeks<T::Ending>, F: Follows>(
     alloc: Global,
     system: &T,
+    order: Order,
     most: u32,
     sought: &Q,
     follower: &mut F,
 ) -> Result<Reached<T::Table>, AllocError>
     ensures reached { IfOk result (λ r. IsReached (T.system system.now) (T.holds system.now r.table)
         (T.equal system.now) most (F.wish follower.new) (Q.sought sought.now) r.moves.items r.verdict r.levels) }
+    ensures leveled { IfOk result (λ r. IsLeveled order r.levels (T.holds system.now r.table [])) }
     ensures obeys { IfOk result (λ r. OfCount (T.holds system.now r.table)
         (Obeys (F.wish follower.old) (F.wish follower.new) (F.told_at follower.new) r.verdict)) }
 {
@@ -151,6 +234,7 @@ pub fn reach<T: Meets, Q: Seeks<T::Ending>, F: Follows>(
             moves,
             verdict: Verdict::CannotTell,
             levels: None,
+            last: 0,
         });
     }
     if has_sought(alloc, system, &table, 0, sought)? {
@@ -158,17 +242,24 @@ pub fn reach<T: Meets, Q: Seeks<T::Ending>, F: Follows>(
             table,
             moves,
             verdict: Verdict::Sought,
-            levels: Some(0),
+            levels: order.levels(0),
+            last: 0,
         });
     }
-    let (verdict, levels) = explore(
-        alloc, system, most, sought, follower, &mut table, &mut moves,
-    )?;
+    let (verdict, levels, last) = match order {
+        Order::Breadth => explore(
+            alloc, system, most, sought, follower, &mut table, &mut moves,
+        )?,
+        Order::Depth => explore_deep(
+            alloc, system, most, sought, follower, &mut table, &mut moves,
+        )?,
+    };
     Ok(Reached {
         table,
         moves,
         verdict,
-        levels: Some(levels),
+        levels,
+        last,
     })
 }
 
@@ -176,6 +267,7 @@ pub fn reach<T: Meets, Q: Seeks<T::Ending>, F: Follows>(
 pub fn reach_all<T: Explores, Q: Seeks<T::Ending>, F: Follows>(
     alloc: Global,
     system: &T,
+    order: Order,
     most: u32,
     sought: &Q,
     follower: &mut F,
@@ -184,11 +276,12 @@ pub fn reach_all<T: Explores, Q: Seeks<T::Ending>, F: Follows>(
     ensures whole { IfOk result (λ f. IsWhole (T.system system.now) T.State.eq f.met.keys f.moves.items f.verdict) }
     ensures seeks { IfOk result (λ f. SeeksAmong (T.system system.now) (Q.sought sought.now) f.verdict f.met.keys) }
     ensures levels { IfOk result (λ f. HasGoneThrough (T.system system.now) f.met.keys f.levels) }
+    ensures leveled { IfOk result (λ f. IsLeveled order f.levels (f.met.keys ≡ [])) }
     ensures obeys { IfOk result (λ f.
         Obeys (F.wish follower.old) (F.wish follower.new) (F.told_at follower.new) f.verdict (index_set_len f.met)) }
 {
     let plain = Plain { system };
-    let reached = reach(alloc, &plain, most, sought, follower)?;
+    let reached = reach(alloc, &plain, order, most, sought, follower)?;
     Ok(Found {
         met: reached.table,
         moves: reached.moves,

@@ -2,6 +2,7 @@
 ghost use Rattle.std.specs.Prelude.{◌≡◌, IfOk, IfSome, OnOk, vec_len};
 ghost use Rattle.indexmap.specs.IndexSet.{index_set_len};
 ghost use Rattle.search_reach.specs.Found.{AreEndings};
+ghost use Rattle.search_reach.specs.Levels.{IsLeveled};
 ghost use Rattle.search_reach.specs.Liveness.{IsCount, IsLiveWhereAll};
 ghost use Rattle.search_reach.specs.Sought.{SeeksIn};
 ghost use Rattle.search_reach.specs.Told.{Obeys};
@@ -15,7 +16,7 @@ use crate::Moves;
 use crate::met::{Met, NextRow};
 use crate::next::{next_rows, row_of, threads_of};
 use search_graph::Move;
-use search_reach::{Ended, Follows, Meets, Seeks, all_endings};
+use search_reach::{Ended, Follows, Meets, Order, Seeks, all_endings};
 use search_table::Table;
 use std::alloc::{AllocError, Global};
 use std::hash::Hash;
@@ -136,10 +137,12 @@ impl<M: Moves> Meets for Turns<'_, M> {
 /// The endings of all runs of threads, whatever the order of their turns; it meets no more than `most` settled states
 /// and a few, those before one that is looked for, and those before it is told to end. Where it met all, it says of which
 /// states no run ends, and whether every fair run ends: one in which each thread that wants a turn of its own or an event
-/// makes its next turn. The list has each ending of a run with no more events than levels are complete.
+/// makes its next turn. The list has each ending of a run with no more events than levels are complete. Depth first no
+/// levels are counted.
 pub fn search_all<M: Moves, Q: Seeks<M::Ending>, F: Follows>(
     alloc: Global,
     system: &M,
+    order: Order,
     most: u32,
     sought: &Q,
     follower: &mut F,
@@ -153,9 +156,10 @@ pub fn search_all<M: Moves, Q: Seeks<M::Ending>, F: Follows>(
     ensures seeks { IfOk result (λ r. SeeksIn (Q.sought sought.now) M.Ending.eq r.verdict r.endings.keys) }
     ensures levels { IfOk result (λ r. IfSome r.levels (HasEndsBehind (M.threads system.now).system
         (M.threads system.now).first (M.ends system.now) M.Ending.eq r.endings.keys)) }
+    ensures leveled { IfOk result (λ r. IsLeveled order r.levels (r.states ≡ 0)) }
     ensures obeys { IfOk result (λ r.
         Obeys (F.wish follower.old) (F.wish follower.new) (F.told_at follower.new) r.verdict r.states) }
 {
     let states = Turns { system };
-    all_endings(alloc, &states, most, sought, follower)
+    all_endings(alloc, &states, order, most, sought, follower)
 }

@@ -5,7 +5,7 @@ use crate::runs::{LIMIT, load};
 use search_endings::Ending;
 use search_finds::run_to;
 use search_modules::{RaceFree, race_free_endings, turn_choices};
-use search_reach::{Ended, Verdict};
+use search_reach::{Ended, Order, Verdict};
 use spawn_host::Request;
 use std::alloc::Global;
 use std::process::Abort;
@@ -34,9 +34,14 @@ static EXPECTED: [Expected; 9] = [
 /// A compare-exchange that fails reads, and doesn't race with a plain read.
 static EXPECTED_OF_EXCHANGES: [Expected; 2] = [Expected::Race(0, 1), Expected::States(7)];
 
-fn gone_freely(alloc: Global, valid: &ValidModule, gone: &Gone) -> Result<RaceFree<Ending>, Fail> {
+fn gone_freely(
+    alloc: Global,
+    valid: &ValidModule,
+    gone: &Gone,
+    order: Order,
+) -> Result<RaceFree<Ending>, Fail> {
     let request = Request::new(valid, call_of(gone))?;
-    Ok(race_free_endings(alloc, &request, MOST, DUMP as usize, &(), &mut ())?)
+    Ok(race_free_endings(alloc, &request, order, MOST, DUMP as usize, &(), &mut ())?)
 }
 
 /// They are the endings of every order.
@@ -74,7 +79,7 @@ fn check_free<R: Abort>(
     gone: &Gone,
     expected: &Expected,
 ) -> Result<(), Fail> {
-    let free = gone_freely(alloc, valid, gone)?;
+    let free = gone_freely(alloc, valid, gone, Order::Breadth)?;
     match expected {
         Expected::Race(one, other) => {
             assert_eq!(rt; free.ended.verdict, Verdict::CannotTell);
@@ -119,4 +124,34 @@ fn who_does_not_race_ends_as_by_every_order(rt: HostRuntime) -> Result<(), Fail>
         EXCHANGES.as_slice(),
         EXPECTED_OF_EXCHANGES.as_slice(),
     )
+}
+
+/// Depth first a race is found where one is, and else the same endings over as many states.
+fn check_deep<R: Abort>(
+    rt: &R,
+    alloc: Global,
+    valid: &ValidModule,
+    gone: &Gone,
+) -> Result<(), Fail> {
+    let deep = gone_freely(alloc, valid, gone, Order::Depth)?;
+    let broad = gone_freely(alloc, valid, gone, Order::Breadth)?;
+    assert_eq!(rt; deep.ended.verdict, broad.ended.verdict);
+    assert_eq!(rt; deep.race.is_some(), broad.race.is_some());
+    if deep.race.is_none() {
+        assert_eq!(rt; deep.ended.states, broad.ended.states);
+        check_same(rt, &deep.ended, &broad.ended);
+        check_paths(rt, alloc, valid, gone, &deep.ended)?;
+    }
+    Ok(())
+}
+
+#[test]
+fn depth_first_finds_as_much(rt: HostRuntime) -> Result<(), Fail> {
+    for modules in [MODULES.as_slice(), EXCHANGES.as_slice()] {
+        for gone in modules {
+            let valid = load(rt.alloc(), gone.module)?;
+            check_deep(&rt, rt.alloc(), &valid, gone)?;
+        }
+    }
+    Ok(())
 }

@@ -3,7 +3,7 @@
 use crate::all_runs::rows::{DUMP, Gone, MODULES, MOST, call_of};
 use crate::runs::load;
 use search_modules::all_endings;
-use search_reach::{Follows, Verdict, Wish};
+use search_reach::{Follows, Order, Verdict, Wish};
 use spawn_host::Request;
 use std::alloc::Global;
 use std::process::Abort;
@@ -41,7 +41,7 @@ impl Follows for Few {
 }
 
 /// It meets some more than those behind which it is told to end, and not all.
-fn check_told<R: Abort>(rt: &R, alloc: Global, gone: &Gone) -> Result<(), Fail> {
+fn check_told<R: Abort>(rt: &R, alloc: Global, gone: &Gone, order: Order) -> Result<(), Fail> {
     let valid = load(alloc, gone.module)?;
     let mut few = Few {
         most: 10,
@@ -49,7 +49,7 @@ fn check_told<R: Abort>(rt: &R, alloc: Global, gone: &Gone) -> Result<(), Fail> 
         told_at: 0,
     };
     let request = Request::new(&valid, call_of(gone))?;
-    let all = all_endings(alloc, &request, MOST, DUMP as usize, &(), &mut few)?;
+    let all = all_endings(alloc, &request, order, MOST, DUMP as usize, &(), &mut few)?;
     assert_eq!(rt; all.verdict, Verdict::Told);
     assert!(rt; 10 <= all.states && all.states < gone.states as usize);
     assert_eq!(rt; all.states, few.told_at);
@@ -59,7 +59,8 @@ fn check_told<R: Abort>(rt: &R, alloc: Global, gone: &Gone) -> Result<(), Fail> 
 #[test]
 fn a_search_ends_where_it_is_told_to(rt: HostRuntime) -> Result<(), Fail> {
     for gone in MODULES.as_slice() {
-        check_told(&rt, rt.alloc(), gone)?;
+        check_told(&rt, rt.alloc(), gone, Order::Breadth)?;
+        check_told(&rt, rt.alloc(), gone, Order::Depth)?;
     }
     Ok(())
 }

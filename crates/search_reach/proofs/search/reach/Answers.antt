@@ -18,9 +18,16 @@ returns-then-branch-clause-reached g c =
     let m = c.args.system.now in
     reached-first (g.T.Meets.system m) (g.T.Meets.equal m) (g.T.Meets.holds m c.first.new.table) (g.Q.Seeks.sought c.args.sought.now) _ c.args.most _
     (search rules) (g.met.T.Meets.alike m) (c.in_ok-first.ensures.first c.if-not-branch.false) _ c.if-branch.true c.in_ok-has_sought.ensures
+    c.args.order _ c.levels.ensures
 
 pub explore-requires : goal.explore-requires
 explore-requires g c =
+    let m = c.args.system.now in
+    begun (g.T.Meets.system m) (g.T.Meets.equal m) (g.T.Meets.holds m c.first.new.table) (g.Q.Seeks.sought c.args.sought.now) _ (search rules)
+    (c.in_ok-first.ensures.first c.if-not-branch.false) _ c.if-branch.false c.in_ok-has_sought.ensures
+
+pub explore_deep-requires : goal.explore_deep-requires
+explore_deep-requires g c =
     let m = c.args.system.now in
     begun (g.T.Meets.system m) (g.T.Meets.equal m) (g.T.Meets.holds m c.first.new.table) (g.Q.Seeks.sought c.args.sought.now) _ (search rules)
     (c.in_ok-first.ensures.first c.if-not-branch.false) _ c.if-branch.false c.in_ok-has_sought.ensures
