@@ -1,10 +1,11 @@
 -- Which threads wait for one another.
-use Rattle.std.specs.Prelude.{ℕ, ◌≡◌, ◌<◌, List, [], ◌∷◌, Option, None, Some, All, length, option_and_then}
+use Rattle.std.specs.Prelude.{ℕ, ◌≡◌, ◌≢◌, ◌<◌, List, [], ◌∷◌, Option, None, Some, All, length, option_and_then}
 use Rattle.std.specs.List.{AllZip, range_with_len, slice_get}
 use Rattle.types.specs.declared.event.Entry.{Entry}
 use Rattle.types.specs.declared.outcome.Outcome.TheVariants as outcomes
 use Rattle.types.specs.declared.outcome.Stop.{Stop}
 use Rattle.types.specs.declared.outcome.ThreadReport.{ThreadReport}
+use Rattle.report_choice.specs.declared.choice.Span.{Span}
 use Rattle.show_writes.specs.declared.lasts.Act.TheVariants as acts
 use Rattle.show_writes.specs.declared.stands.Stand.{Stand}
 use Rattle.show_writes.specs.Lasts.{IsLast}
@@ -17,8 +18,14 @@ pub record IsStopped (ends : List ThreadReport) (n : ℕ) : Type 0 where
   pub stop : Stop
   pub is : report.outcome ≡ outcomes.Stop stop
 
--- Thread n waits for thread m: both were stopped, and to the bytes at which n stands m was the last one of the other
--- threads to write.
+-- The thread stands at other bytes than these.
+pub record StandsElsewhere (m : ℕ) (log : List Entry) (addrs : Span) : Type 0 where
+  pub stand : Stand
+  pub is : IsStand m log stand
+  pub apart : stand.addrs ≢ addrs
+
+-- Thread n waits for thread m: both were stopped, to the bytes at which n stands m was the last one of the other threads
+-- to write, and m stands at others: it doesn't wait there itself.
 pub record WaitsFor (log : List Entry) (ends : List ThreadReport) (n m : ℕ) : Type 0 where
   pub stopped : IsStopped ends n
   pub stand : Stand
@@ -27,6 +34,7 @@ pub record WaitsFor (log : List Entry) (ends : List ThreadReport) (n m : ℕ) : 
   pub last : IsLast (acts.OtherWrite stand.addrs n) log (length log) place
   pub writer : last.entry.thread ≡ m
   pub other : IsStopped ends m
+  pub elsewhere : StandsElsewhere m log stand.addrs
 
 -- For whom a thread waits, or none.
 abbrev pub IsWait : List Entry → List ThreadReport → ℕ → Option ℕ → Type 0

@@ -1,9 +1,10 @@
 //! Which threads wait for one another.
 ghost use Rattle.std.specs.Prelude.{◌≡◌, ◌↔◌, ℕ, true, List, IfOk, MatchOption};
-ghost use Rattle.show_writes.specs.Cycles.{AreWaits, IsCycle, IsStopped, IsWait, wait_in};
+ghost use Rattle.show_writes.specs.Cycles.{AreWaits, IsCycle, IsStopped, IsWait, StandsElsewhere, wait_in};
 
 use crate::lasts::{Act, last_of};
-use crate::stands::stand_of;
+use crate::stands::{is_same, stand_of};
+use report_choice::Span;
 use std::alloc::{AllocError, Global};
 use types::{Entry, Outcome, ThreadReport};
 
@@ -17,8 +18,18 @@ fn is_stopped(ends: &[ThreadReport], n: usize) -> bool
     }
 }
 
-/// The thread for which this one waits: where it stands, this was the last one of the others to write, and both were
-/// stopped.
+/// Whether a thread stands at other bytes than these.
+fn stands_elsewhere(log: &[Entry], m: usize, addrs: Span) -> bool
+    ensures { (result ≡ true) ↔ StandsElsewhere m log.now addrs }
+{
+    match stand_of(log, m) {
+        Some(stand) => !is_same(stand.addrs, addrs),
+        None => false,
+    }
+}
+
+/// The thread for which this one waits: where it stands, this was the last one of the others to write, both were
+/// stopped, and that one stands elsewhere.
 fn wait_of(log: &[Entry], ends: &[ThreadReport], n: usize) -> Option<usize>
     ensures { IsWait log.now ends.now n result }
 {
@@ -28,7 +39,10 @@ fn wait_of(log: &[Entry], ends: &[ThreadReport], n: usize) -> Option<usize>
     let stand = stand_of(log, n)?;
     let at = last_of(log, log.len(), Act::OtherWrite(stand.addrs, n))?;
     let writer = log[at].thread as usize;
-    if is_stopped(ends, writer) {
+    if !is_stopped(ends, writer) {
+        return None;
+    }
+    if stands_elsewhere(log, writer, stand.addrs) {
         Some(writer)
     } else {
         None

@@ -20,7 +20,7 @@ pub struct Stand {
 }
 
 /// Whether two spans are the same.
-fn is_same(a: Span, b: Span) -> bool
+pub(crate) fn is_same(a: Span, b: Span) -> bool
     ensures { (result ≡ true) ↔ (a ≡ b) }
 {
     a.first == b.first && a.last == b.last
