@@ -3,7 +3,6 @@ use Rattle.std.proofs.Common.{ℕ, ◌≡◌, List, true, false, cond, is_some, 
 use Rattle.std.specs.Prelude.{Result, Ok, Err, OnOk}
 use Rattle.report_command.specs.Views.{path_of}
 use Rattle.report_command.specs.declared.show.ShowLook.{ShowLook}
-use Rattle.report_command.specs.declared.show.View.{View}
 use Rattle.report_jobs.specs.Prints.{WriterChange}
 use Rattle.report_looks.specs.Looked.{PrintsShow, stream_of}
 use Rattle.report_looks.specs.Raced.{OfModule}

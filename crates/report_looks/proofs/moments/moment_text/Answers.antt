@@ -1,4 +1,4 @@
-use Rattle.std.proofs.Common.{ℕ, List, [], Some, ap, refl, subst, sym}
+use Rattle.std.proofs.Common.{ℕ, List, Some, ap, refl, subst, sym}
 use Rattle.std.specs.Global.{Vec}
 use Rattle.std.specs.Prelude.{string_bytes}
 use Rattle.show_moments.specs.Scenes.{WritesMoment}

@@ -6,7 +6,7 @@ use Rattle.report_looks.proofs.showing.show_record.Goals as goal
 pub returns-in-Ok-print_asked-clause-prints : goal.returns-in-Ok-print_asked-clause-prints
 returns-in-Ok-print_asked-clause-prints g c =
     let seen = c.in-Ok.seen in
-    let map = c.in-Ok-read-2.map in
+    let map = c.in-Ok-read.map in
     let asked = c.in-Ok-asked_of.asked in
     record {
       record_is = seen.record;
@@ -14,7 +14,7 @@ returns-in-Ok-print_asked-clause-prints g c =
       seen = c.in-Ok.ensures.seen;
       map = map;
       asked = asked;
-      asked_is = subst (λ (r : RecordParts). IsAsked r map c.args.how.now asked) c.parts-2.ensures.parts
+      asked_is = subst (λ (r : RecordParts). IsAsked r map c.args.how.now asked) c.parts.ensures.parts
           c.in-Ok-asked_of.ensures.asked;
       prints = c.in-Ok-print_asked.ensures;
     }
