@@ -69,11 +69,14 @@ pub(crate) fn sources_of(rt: &HostRuntime, case: &Case) -> Result<Vec<SourceFile
     let mut files = Vec::new(alloc);
     if let Some(name) = case.get("source") {
         let text = read_file(rt, name)?;
-        files.push(SourceFile {
+        let file = SourceFile {
             directory: String::new(alloc),
             name: String::from_str(alloc, name)?,
             text: String::from_utf8(text).unwrap_or(String::new(alloc)),
-        })?;
+        };
+        if let Err(refused) = files.push(file) {
+            return Err(AllocError::from(refused).into());
+        }
     }
     Ok(files)
 }
