@@ -29,23 +29,21 @@ has span n = nat_le span.first n && nat_le n span.last
 abbrev pub meets : Span → Span → Bool
 meets a b = nat_le a.first b.last && nat_le b.first a.last
 
--- What isn't given chooses all, and no threads are all.
-abbrev pub is_chosen_line : Option Span → ℕ → Bool
-is_chosen_line None line = true
-is_chosen_line (Some lines) line = has lines line
+-- Where none are given, all are chosen.
+abbrev pub is_chosen_line : List Span → ℕ → Bool
+is_chosen_line lines line = (length lines == 0) || list_any (λ span. has span line) lines
 
 abbrev pub is_chosen_thread : List ℕ → ℕ → Bool
 is_chosen_thread threads thread = (length threads == 0) || list_any (λ n. n == thread) threads
 
-abbrev pub meets_some : Span → Option Span → Bool
+abbrev pub meets_some : List Span → Option Span → Bool
 meets_some addrs None = false
-meets_some addrs (Some span) = meets addrs span
+meets_some addrs (Some touched) = list_any (λ span. meets span touched) addrs
 
-abbrev pub is_chosen_address : Option Span → Event → Bool
-is_chosen_address None event = true
-is_chosen_address (Some addrs) event = meets_some addrs (touched event)
+abbrev pub is_chosen_address : List Span → Event → Bool
+is_chosen_address addrs event = (length addrs == 0) || meets_some addrs (touched event)
 
 -- The entry on this line of a record is chosen: by its line, its thread and its addresses.
 abbrev pub is_chosen : Choice → ℕ → Entry → Bool
-is_chosen choice line entry = is_chosen_line choice.lines line && (is_chosen_thread choice.threads.items entry.thread
-    && is_chosen_address choice.addrs entry.event)
+is_chosen choice line entry = is_chosen_line choice.lines.items line
+    && (is_chosen_thread choice.threads.items entry.thread && is_chosen_address choice.addrs.items entry.event)

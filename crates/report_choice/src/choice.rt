@@ -44,13 +44,13 @@ impl Span {
     }
 }
 
-/// Which entries are shown: those of these lines of the record, of these threads and at these addresses. What isn't
-/// given chooses all, and no threads are all.
+/// Which entries are shown: those on these lines of the record, of these threads and at these addresses. Where none are
+/// given, all are.
 #[derive(Drop)]
 pub struct Choice {
-    pub lines: Option<Span>,
+    pub lines: Vec<Span>,
     pub threads: Vec<u32>,
-    pub addrs: Option<Span>,
+    pub addrs: Vec<Span>,
 }
 
 impl Choice {
@@ -62,12 +62,9 @@ impl Choice {
     }
 
     fn has_line(&self, line: u64) -> bool
-        ensures { result ≡ is_chosen_line self.now.lines line }
+        ensures { result ≡ is_chosen_line self.now.lines.items line }
     {
-        match self.lines {
-            Some(lines) => lines.has(line),
-            None => true,
-        }
+        self.lines.is_empty() || some_has(self.lines.as_slice(), line)
     }
 
     fn has_thread(&self, thread: u32) -> bool
@@ -78,12 +75,14 @@ impl Choice {
 
     /// Whether the event touches one of the addresses.
     fn has_address(&self, event: Event) -> bool
-        ensures { result ≡ is_chosen_address self.now.addrs event }
+        ensures { result ≡ is_chosen_address self.now.addrs.items event }
     {
-        match (self.addrs, touched(event)) {
-            (None, _) => true,
-            (Some(addrs), Some(span)) => addrs.meets(span),
-            (Some(_), None) => false,
+        if self.addrs.is_empty() {
+            return true;
+        }
+        match touched(event) {
+            Some(span) => some_meets(self.addrs.as_slice(), span),
+            None => false,
         }
     }
 }
@@ -92,6 +91,20 @@ fn is_among(threads: &[u32], thread: u32) -> bool
     ensures { result ≡ list_any (λ n. n == thread) threads.now }
 {
     threads.iter().any(|other| *other == thread)
+}
+
+/// Whether a number is in one of these spans.
+fn some_has(spans: &[Span], number: u64) -> bool
+    ensures { result ≡ list_any (λ span. specified.has span number) spans.now }
+{
+    spans.iter().any(|span| span.has(number))
+}
+
+/// Whether a span meets one of these.
+fn some_meets(spans: &[Span], other: Span) -> bool
+    ensures { result ≡ list_any (λ span. specified.meets span other) spans.now }
+{
+    spans.iter().any(|span| span.meets(other))
 }
 
 /// The addresses of the bytes that an event touches, or at which it waits or wakes.

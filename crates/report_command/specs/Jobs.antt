@@ -6,15 +6,19 @@ use Rattle.report_command.specs.declared.command_line.Job.{Job}
 use Rattle.report_command.specs.declared.command_line.Job.TheVariants.{Check, Run, Replay, Show, Races, Search}
 use Rattle.report_command.specs.declared.command_line.RunJob.{RunJob}
 use Rattle.report_command.specs.declared.form.Form.{Form}
+use Rattle.report_command.specs.declared.show.ShowLook.{ShowLook}
 use Rattle.report_command.specs.Searches.{IsSearchInRange, SearchKeepsItsModule}
 use Rattle.report_command.specs.Views.{IsViewInRange, form_of, path_of}
+
+abbrev pub IsLookInRange : ShowLook → Type 0
+IsLookInRange how = (NARROWEST ≤ how.width) × (how.width ≤ WIDEST) × IsViewInRange how.view
 
 -- The numbers of a job are in their ranges.
 abbrev pub IsInRange : Job → Type 0
 IsInRange (Check file form) = Unit {0}
 IsInRange (Run job) = (job.call.fuel ≤ MOST_FUEL) × (1 ≤ job.limit) × (job.limit ≤ MOST_LIMIT) × (job.look.dump ≤ MOST_DUMP)
 IsInRange (Replay file saved look) = look.dump ≤ MOST_DUMP
-IsInRange (Show file saved names how) = (NARROWEST ≤ how.look.width) × (how.look.width ≤ WIDEST) × IsViewInRange how.view
+IsInRange (Show file saved names how) = IsLookInRange how
 IsInRange (Races job) = (1 ≤ job.most) × (job.most ≤ MOST_RACES)
 IsInRange (Search s) = IsSearchInRange s
 

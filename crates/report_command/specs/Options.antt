@@ -13,8 +13,6 @@ use Rattle.report_choice.specs.declared.way.Way.{Way}
 use Rattle.report_choice.specs.declared.way.Way.TheVariants.{Mix, Random, Priorities, Spin}
 use Rattle.report_choice.specs.declared.choice.Color.{Color}
 use Rattle.report_choice.specs.declared.choice.Color.TheVariants.{Auto, Always, Never}
-use Rattle.report_choice.specs.declared.choice.Look.{Look}
-use Rattle.report_choice.specs.declared.choice.Span.{Span}
 use Rattle.report_choice.specs.declared.sought.Find.{Find}
 use Rattle.report_choice.specs.declared.sought.Find.TheVariants.{Nothing, Failure, Words, NoEnd, ForEver}
 use Rattle.report_choice.specs.declared.sought.Target.{Target}
@@ -148,39 +146,27 @@ AsksColor f Never = first_value f (codes "color") ≡ Some (codes "never")
 AsksColor f Auto =
     (first_value f (codes "color") ≢ Some (codes "always")) × (first_value f (codes "color") ≢ Some (codes "never"))
 
--- The lines of a text, or all.
-abbrev pub AsksLines : Found → Option Span → Type 0
-AsksLines f None = HasNo f (codes "lines")
-AsksLines f (Some lines) = (text : List ℕ) × (first_value f (codes "lines") ≡ Some text) × IsSpan text lines
+-- The values of an argument, one for each of its texts; none where it isn't given.
+abbrev pub AsksEach : {T : Type 0} → (List ℕ → T → Type 0) → Found → List ℕ → List T → Type 0
+AsksEach Spells f name values = (texts : List (Bor (List ℕ))) × HasTexts f name texts
+    × AllZip (λ text value. Spells text.now value) texts values
 
--- The threads of texts, one for each.
-abbrev pub AsksThreads : Found → List ℕ → Type 0
-AsksThreads f threads = (texts : List (Bor (List ℕ))) × HasTexts f (codes "thread") texts
-    × AllZip (λ text n. IsThread text.now n) texts threads
-
--- The addresses of a text, or the words of which somebody else knows the addresses; or all.
-abbrev pub AsksAddresses : Found → Option Span → Option (Bor (List ℕ)) → Type 0
-AsksAddresses f None None = HasNo f (codes "addr")
-AsksAddresses f (Some addrs) None = (text : List ℕ) × (first_value f (codes "addr") ≡ Some text) × IsSpan text addrs
-AsksAddresses f None (Some words) = HasText f (codes "addr") words
-AsksAddresses f (Some addrs) (Some words) = ⊥
-
--- How a record is shown.
-pub record AsksLook (f : Found) (look : Look) : Type 0 where
-  pub lines : AsksLines f look.choice.lines
-  pub threads : AsksThreads f look.choice.threads.items
-  pub width : HasNumber f (codes "width") look.width
-  pub color : AsksColor f look.color
+-- Which entries of a record are shown, how, and what is made of it. Bytes may be given by their addresses, or by words.
+pub record AsksLook (f : Found) (how : ShowLook) : Type 0 where
+  pub lines : AsksEach IsSpan f (codes "lines") how.lines.items
+  pub threads : AsksEach IsThread f (codes "thread") how.threads.items
+  pub bytes : AsksEach (IsData IsSpan) f (codes "addr") how.bytes.items
+  pub width : HasNumber f (codes "width") how.width
+  pub color : AsksColor f how.color
+  pub source : HasTextIfAny f (codes "source") how.source
+  pub view : AsksView f how.view
 
 -- `show`
 pub record AsksShow (f : Found) (file saved : Bor (List ℕ)) (names : Option (Bor (List ℕ))) (how : ShowLook) : Type 0 where
   pub file_is : HasText f (codes "file") file
   pub saved_is : HasText f (codes "record") saved
   pub names_is : HasTextIfAny f (codes "names") names
-  pub source_is : HasTextIfAny f (codes "source") how.source
-  pub look_is : AsksLook f how.look
-  pub addrs_is : AsksAddresses f how.look.choice.addrs how.named
-  pub view_is : AsksView f how.view
+  pub look_is : AsksLook f how
 
 -- `races`
 pub record AsksRaces (f : Found) (job : RacesJob) : Type 0 where

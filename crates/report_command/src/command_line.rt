@@ -16,7 +16,7 @@ use crate::limits::{DEFAULT_DUMP, DEFAULT_LIMIT, MOST_DUMP};
 use crate::memory::{MEMORY_IN, MEMORY_OUT, MemoryFile, memory_in_of, memory_misread};
 use crate::races::{RACES, RacesJob, races_job};
 use crate::search::{SEARCH, Search, search_job, search_misuse};
-use crate::show::{SHOW, ShowLook, show_job, show_misread, threads_misread};
+use crate::show::{SHOW, ShowLook, show_job, show_misread};
 use crate::words::short_of;
 use clap::builder::ValueParser;
 use clap::error::ErrorKind;
@@ -521,10 +521,10 @@ impl Misuse {
             }
             Misuse::Unreadable => "the command line can't be read",
             Misuse::NoLines => {
-                "invalid value for '--lines <A-B>': it is a number, two with the lower one first, or the first one and a dash"
+                "invalid value for '--lines <A-B,..>': each is a number, two with the lower one first, or the first one and a dash"
             }
             Misuse::NoAddresses => {
-                "invalid value for '--addr <A[-B]>': it is an address, two with the lower one first, or a name of data; an \
+                "invalid value for '--addr <A[-B],..>': each is an address, two with the lower one first, or a name of data; an \
                 address is decimal digits, or hexadecimal ones behind 0x"
             }
             Misuse::NoThreads => {
@@ -689,10 +689,7 @@ pub fn command<'a>(alloc: Global, words: &'a [&'a str]) -> Result<Job<'a>, Usage
 /// Which of the arguments of a command can't be read, if one can't.
 fn misread(alloc: Global, name: &str, matches: &ArgMatches) -> Result<Option<Misuse>, AllocError> {
     match name {
-        "show" => match show_misread(matches) {
-            Some(misuse) => Ok(Some(misuse)),
-            None => threads_misread(alloc, matches),
-        },
+        "show" => show_misread(alloc, matches),
         "run" => Ok(memory_misread(matches)),
         _ => Ok(None),
     }

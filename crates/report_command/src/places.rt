@@ -1,5 +1,5 @@
 //! Numbers, addresses and moments as the words of `show` spell them.
-ghost use Rattle.std.specs.Prelude.{◌≡◌, ◌≤◌, ◌<◌, IfOk, IfSome};
+ghost use Rattle.std.specs.Prelude.{◌≡◌, ◌≤◌, ◌<◌, ℕ, List, IfOk, IfSome};
 ghost use Rattle.std.specs.List.{AllZip};
 ghost use Rattle.report_command.specs.declared.limits.TheConstants.{MOST_DUMP};
 ghost use Rattle.report_command.specs.Addresses.{IsAddress, IsBytes, IsData, IsEndOf, IsMoment, IsSpan, IsSpanOf};
@@ -154,19 +154,73 @@ fn thread_in(text: &str) -> Option<u32>
     }
 }
 
-/// The threads of these texts; `None` where one is none.
+/// A kind of value that texts spell: a type without values, which says how one text is read.
+pub(crate) trait Spelling<'a> {
+    type Value: Drop;
+
+    /// When a text spells a value.
+    ghost spells: { List ℕ → Self.Value → Type 0 };
+
+    /// The value that a text spells, if it spells one.
+    fn read(text: &'a str) -> Option<Self::Value>
+        ensures { IfSome result (spells text.now) };
+}
+
+/// Lines of a record.
+pub(crate) struct LineSpelling;
+
+impl<'a> Spelling<'a> for LineSpelling {
+    type Value = Span;
+
+    ghost spells = { IsSpan };
+
+    fn read(text: &'a str) -> Option<Span> {
+        span_in(text)
+    }
+}
+
+/// A thread.
+pub(crate) struct ThreadSpelling;
+
+impl<'a> Spelling<'a> for ThreadSpelling {
+    type Value = u32;
+
+    ghost spells = { IsThread };
+
+    fn read(text: &'a str) -> Option<u32> {
+        thread_in(text)
+    }
+}
+
+/// Bytes of the memory.
+pub(crate) struct DataSpelling;
+
+impl<'a> Spelling<'a> for DataSpelling {
+    type Value = Data<'a>;
+
+    ghost spells = { IsData IsSpan };
+
+    fn read(text: &'a str) -> Option<Data<'a>> {
+        data_in(text)
+    }
+}
+
+/// The values that these texts spell, one for each; `None` where one spells none.
 #[tactic(auto, using(crate::proofs::Zipped::zip_next))]
-pub(crate) fn threads_in(alloc: Global, texts: &[&str]) -> Result<Option<Vec<u32>>, AllocError>
-    ensures { IfOk result (λ read. IfSome read (λ all. AllZip (λ text n. IsThread text.now n) texts.now all.items)) }
+pub(crate) fn values_in<'a, S: Spelling<'a>>(
+    alloc: Global,
+    texts: &[&'a str],
+) -> Result<Option<Vec<S::Value>>, AllocError>
+    ensures { IfOk result (λ read. IfSome read (λ all. AllZip (λ text v. S.spells text.now v) texts.now all.items)) }
 {
-    let mut threads = Vec::new(alloc);
+    let mut values = Vec::new(alloc);
     for at in 0..texts.len() {
-        let Some(thread) = thread_in(texts[at]) else {
+        let Some(value) = S::read(texts[at]) else {
             return Ok(None);
         };
-        threads.push(thread)?;
+        values.push(value)?;
     }
-    Ok(Some(threads))
+    Ok(Some(values))
 }
 
 /// The moment of a text: a line of a record, or a word.

@@ -3,24 +3,25 @@
 ghost use Rattle.std.specs.Prelude.{◌≡◌, ◌≤◌, IfOk, IfSome, codes};
 ghost use Rattle.clap.specs.Words.{found_of};
 ghost use Rattle.report_command.specs.declared.limits.TheConstants.{MOST_DUMP, NARROWEST, WIDEST};
-ghost use Rattle.report_command.specs.Found.{HasFlag};
-ghost use Rattle.report_command.specs.Jobs.{IsInRange};
+ghost use Rattle.report_command.specs.Found.{HasFlag, HasNumber};
+ghost use Rattle.report_command.specs.Jobs.{IsInRange, IsLookInRange};
 ghost use Rattle.report_command.specs.Views as views;
 ghost use Rattle.report_command.specs.Views.{IsViewInRange, path_of};
 ghost use Rattle.report_command.specs.Addresses.{IsData, IsMoment, IsStretch};
-ghost use Rattle.report_command.specs.Options.{AsksAddresses, AsksBytes, AsksColor, AsksEntries, AsksBefore, AsksLines};
-ghost use Rattle.report_command.specs.Options.{AsksLook, AsksNamed, AsksShown, AsksThreads, AsksView};
+ghost use Rattle.report_command.specs.Options.{AsksBefore, AsksBytes, AsksColor, AsksEach, AsksEntries, AsksLook};
+ghost use Rattle.report_command.specs.Options.{AsksNamed, AsksShown, AsksView};
 
 use crate::arguments::{Argument, CommandRow, FLAG, Kind, OPTION};
 use crate::command_line::{FILE, Job, Misuse, RECORD};
 use crate::explain::{EXPLAIN, NO_EXPLAIN};
 use crate::form::{Form, JSON, form_of};
 use crate::limits::{DEFAULT_WIDTH, MOST_DUMP, NARROWEST, WIDEST};
-use crate::places::{Data, When, bytes_in, data_in, moment_in, span_in, target_in, threads_in};
+use crate::places::{Data, DataSpelling, LineSpelling, Spelling, ThreadSpelling, When};
+use crate::places::{bytes_in, moment_in, target_in, values_in};
 use crate::words::{short_of, texts_of};
 use clap::ArgMatches;
 use clap::builder::ValueParser;
-use report_choice::{Choice, Color, Look, Span};
+use report_choice::{Color, Span};
 use std::alloc::{AllocError, Global};
 
 /// A moment of a record's run, at which threads and memory are shown.
@@ -87,12 +88,18 @@ impl<'a> View<'a> {
     }
 }
 
-/// How a record is shown, and what is made of it.
+/// Which entries of a record are shown, how, and what is made of it. Where no lines, threads or bytes are given, those of
+/// all are shown.
 #[derive(Drop)]
 pub struct ShowLook<'a> {
-    pub look: Look,
-    /// The words that name the addresses at which entries are shown, in place of addresses in `look`.
-    pub named: Option<&'a str>,
+    /// The lines of the record.
+    pub lines: Vec<Span>,
+    pub threads: Vec<u32>,
+    /// The bytes at which entries are shown.
+    pub bytes: Vec<Data<'a>>,
+    /// How many characters a row has room for, 40 to 1000.
+    pub width: usize,
+    pub color: Color,
     /// The path of the folder that has the files of source, if one is given.
     pub source: Option<&'a str>,
     pub view: View<'a>,
@@ -156,8 +163,9 @@ const TRACE: Argument = Argument {
 /// The lines of which entries are shown.
 const LINES: Argument = Argument {
     name: "lines",
-    value: "A-B",
+    value: "A-B,..",
     help: "Only the entries on these lines of the record; A- goes to its end",
+    kind: Kind::List,
     ..OPTION
 };
 
@@ -173,8 +181,9 @@ const THREADS: Argument = Argument {
 /// The addresses at which they are.
 const ADDRESSES: Argument = Argument {
     name: "addr",
-    value: "A[-B]",
-    help: "Only the entries at these addresses, decimal or behind 0x, or at the data of this name, as queue.head",
+    value: "A[-B],..",
+    help: "Only the entries at these addresses, decimal or behind 0x, or at the data of these names, as queue.head",
+    kind: Kind::List,
     ..OPTION
 };
 
@@ -229,9 +238,9 @@ const COLOR: Argument = Argument {
     ..OPTION
 };
 
-/// `show FILE RECORD [--lines A-B] [--thread T,..] [--addr A[-B]] [--unfold] [--names FILE2] [--width N] [--color WHEN]
-/// [--html OUT] [--trace OUT] [--json] [--explain|--no-explain]`, `show FILE RECORD --at LINE [--dump A:N] [--raw] [--names FILE2]`, and `show FILE RECORD
-/// --last-write A[:N] [--at LINE] [--names FILE2]`
+/// `show FILE RECORD [--lines A-B,..] [--thread T,..] [--addr A[-B],..] [--unfold] [--names FILE2] [--width N]
+/// [--color WHEN] [--html OUT] [--trace OUT] [--json] [--explain|--no-explain]`, `show FILE RECORD --at LINE [--dump A:N]
+/// [--raw] [--names FILE2]`, and `show FILE RECORD --last-write A[:N] [--at LINE] [--names FILE2]`
 pub(crate) static SHOW: CommandRow = CommandRow {
     name: "show",
     call: "wathread show",
@@ -243,16 +252,8 @@ pub(crate) static SHOW: CommandRow = CommandRow {
     ],
 };
 
-/// Which of the arguments of `show` can't be read, if one can't. Threads are read by themselves.
-pub(crate) fn show_misread(matches: &ArgMatches) -> Option<Misuse> {
-    match matches.get_str("lines") {
-        Some(text) if span_in(text).is_none() => return Some(Misuse::NoLines),
-        _ => {}
-    }
-    match matches.get_str("addr") {
-        Some(text) if data_in(text).is_none() => return Some(Misuse::NoAddresses),
-        _ => {}
-    }
+/// Which of the arguments of `show` with one value can't be read, if one can't.
+fn text_misread(matches: &ArgMatches) -> Option<Misuse> {
     match matches.get_str("at") {
         Some(text) if moment_in(text).is_none() => return Some(Misuse::NoMoment),
         _ => {}
@@ -267,50 +268,33 @@ pub(crate) fn show_misread(matches: &ArgMatches) -> Option<Misuse> {
     }
 }
 
-/// The lines that are chosen, if they are; `None` where what is there can't be read.
-fn lines_of(matches: &ArgMatches) -> Option<Option<Span>>
-    ensures { IfSome result (AsksLines (found_of matches.now)) }
+/// The values of an argument that has a list of them; `None` where one can't be read.
+fn listed<'a, S: Spelling<'a>>(
+    alloc: Global,
+    matches: &ArgMatches<'a>,
+    name: &str,
+) -> Result<Option<Vec<S::Value>>, AllocError>
+    ensures { IfOk result (λ read. IfSome read (λ all. AsksEach S.spells (found_of matches.now) name.now all.items)) }
 {
-    match matches.get_str("lines") {
-        Some(text) => match span_in(text) {
-            Some(lines) => Some(Some(lines)),
-            None => None,
-        },
-        None => Some(None),
-    }
+    let texts = texts_of(alloc, matches, name)?;
+    values_in::<S>(alloc, texts.as_slice())
 }
 
-/// The addresses that are chosen, or the words that name them, if they are; `None` where what is there can't be read.
-fn addresses_of<'a>(matches: &ArgMatches<'a>) -> Option<(Option<Span>, Option<&'a str>)>
-    ensures { IfSome result (λ a. AsksAddresses (found_of matches.now) a.0 a.1) }
-{
-    let Some(text) = matches.get_str("addr") else {
-        return Some((None, None));
-    };
-    match data_in(text) {
-        Some(Data::At(addrs)) => Some((Some(addrs), None)),
-        Some(Data::Named(words)) => Some((None, Some(words))),
-        None => None,
-    }
-}
-
-/// The threads that are chosen; `None` where one of them is none.
-fn threads_of(alloc: Global, matches: &ArgMatches) -> Result<Option<Vec<u32>>, AllocError>
-    ensures { IfOk result (λ read. IfSome read (λ threads. AsksThreads (found_of matches.now) threads.items)) }
-{
-    let texts = texts_of(alloc, matches, "thread")?;
-    threads_in(alloc, texts.as_slice())
-}
-
-/// Why the threads that are chosen are none, if one is none.
-pub(crate) fn threads_misread(
+/// Which of the arguments of `show` can't be read, if one can't.
+pub(crate) fn show_misread(
     alloc: Global,
     matches: &ArgMatches,
 ) -> Result<Option<Misuse>, AllocError> {
-    match threads_of(alloc, matches)? {
-        Some(_) => Ok(None),
-        None => Ok(Some(Misuse::NoThreads)),
+    if listed::<LineSpelling>(alloc, matches, "lines")?.is_none() {
+        return Ok(Some(Misuse::NoLines));
     }
+    if listed::<ThreadSpelling>(alloc, matches, "thread")?.is_none() {
+        return Ok(Some(Misuse::NoThreads));
+    }
+    if listed::<DataSpelling>(alloc, matches, "addr")?.is_none() {
+        return Ok(Some(Misuse::NoAddresses));
+    }
+    Ok(text_misread(matches))
 }
 
 /// When threads have colors.
@@ -324,33 +308,47 @@ fn color_of(matches: &ArgMatches) -> Color
     }
 }
 
-/// How the record is shown, with these addresses; `None` where an argument can't be read.
-fn look_of(
-    alloc: Global,
-    matches: &ArgMatches,
-    addrs: Option<Span>,
-) -> Result<Option<Look>, AllocError>
-    ensures width { IfOk result (λ look. IfSome look (λ l. (NARROWEST ≤ l.width) × (l.width ≤ WIDEST))) }
-    ensures asks { IfOk result (λ look. IfSome look (AsksLook (found_of matches.now))) }
-    ensures addrs { IfOk result (λ look. IfSome look (λ l. l.choice.addrs ≡ addrs)) }
+/// How many characters a row has room for; `None` where that is too few or too many.
+fn width_of(matches: &ArgMatches) -> Option<usize>
+    ensures range { IfSome result (λ width. (NARROWEST ≤ width) × (width ≤ WIDEST)) }
+    ensures asks { IfSome result (HasNumber (found_of matches.now) (codes "width")) }
 {
-    let (Some(lines), Some(width)) = (lines_of(matches), short_of(matches, "width")) else {
-        return Ok(None);
-    };
-    if width < NARROWEST || width > WIDEST {
-        return Ok(None);
+    let width = short_of(matches, "width")?;
+    if NARROWEST <= width && width <= WIDEST {
+        Some(width as usize)
+    } else {
+        None
     }
-    let Some(threads) = threads_of(alloc, matches)? else {
+}
+
+/// How the record is shown, and what is made of it; `None` where an argument can't be read.
+fn look_of<'a>(
+    alloc: Global,
+    matches: &ArgMatches<'a>,
+) -> Result<Option<ShowLook<'a>>, AllocError>
+    ensures range { IfOk result (λ look. IfSome look IsLookInRange) }
+    ensures asks { IfOk result (λ look. IfSome look (AsksLook (found_of matches.now))) }
+{
+    let (Some(view), Some(width)) = (view_of(matches), width_of(matches)) else {
         return Ok(None);
     };
-    Ok(Some(Look {
-        choice: Choice {
-            lines,
-            threads,
-            addrs,
-        },
-        width: width as usize,
+    let Some(lines) = listed::<LineSpelling>(alloc, matches, "lines")? else {
+        return Ok(None);
+    };
+    let Some(threads) = listed::<ThreadSpelling>(alloc, matches, "thread")? else {
+        return Ok(None);
+    };
+    let Some(bytes) = listed::<DataSpelling>(alloc, matches, "addr")? else {
+        return Ok(None);
+    };
+    Ok(Some(ShowLook {
+        lines,
+        threads,
+        bytes,
+        width,
         color: color_of(matches),
+        source: matches.get_str("source"),
+        view,
     }))
 }
 
@@ -457,21 +455,13 @@ pub(crate) fn show_job<'a>(
     let (Some(file), Some(saved)) = (matches.get_str("file"), matches.get_str("record")) else {
         return Ok(None);
     };
-    let (Some(view), Some((addrs, named))) = (view_of(matches), addresses_of(matches)) else {
-        return Ok(None);
-    };
-    let Some(look) = look_of(alloc, matches, addrs)? else {
+    let Some(how) = look_of(alloc, matches)? else {
         return Ok(None);
     };
     Ok(Some(Job::Show {
         file,
         saved,
         names: matches.get_str("names"),
-        how: ShowLook {
-            look,
-            named,
-            source: matches.get_str("source"),
-            view,
-        },
+        how,
     }))
 }

@@ -1,7 +1,7 @@
 -- What is asked for of a record's run, and what is printed of it.
-use Rattle.std.specs.Prelude.{ℕ, ◌≡◌, ◌==◌, ◌+◌, ◌-◌, min, Bool, true, false, cond, List, length, position}
+use Rattle.std.specs.Prelude.{ℕ, ◌≡◌, ◌==◌, ◌&&◌, ◌+◌, ◌-◌, min, Bool, true, false, cond, List, length, position}
 use Rattle.std.specs.Prelude.{Option, Some, None, MatchOption, is_some}
-use Rattle.std.specs.List.{list_any, slice_get}
+use Rattle.std.specs.List.{AllZip, list_any, slice_get}
 use Rattle.types.specs.declared.parts.Parts.{Parts}
 use Rattle.types.specs.declared.event.Entry.{Entry}
 use Rattle.types.specs.declared.event.Event.{Event}
@@ -84,25 +84,20 @@ IsWanted r map (views.Write write) w = (addrs : Span) × (before : ℕ) × (w �
 IsWanted r map (views.Moment at) w = (here : Here) × (w ≡ wanted.Moment here) × (place_in r at.when ≡ Some here.place)
 IsWanted r map view w = w ≡ wanted.Entries view
 
--- The addresses at which entries are chosen: those that are asked for, or those of the data of a name.
-abbrev pub AreChosen : DataMap → ShowLook → Option Span → Type 0
-AreChosen map how addrs = MatchOption how.named (addrs ≡ how.look.choice.addrs)
-    (λ words. (span : Span) × (addrs ≡ Some span) × AreAddresses map (Named words) span)
-
--- A look that differs in the addresses alone.
-pub record IsLookWith (look : Look) (addrs : Option Span) (new : Look) : Type 0 where
-  pub lines : new.choice.lines ≡ look.choice.lines
-  pub threads : new.choice.threads.items ≡ look.choice.threads.items
-  pub addrs_are : new.choice.addrs ≡ addrs
-  pub width : new.width ≡ look.width
-  pub color : new.color ≡ look.color
+-- The look that is asked for, at these addresses.
+pub record IsLookAt (how : ShowLook) (addrs : List Span) (look : Look) : Type 0 where
+  pub lines : look.choice.lines.items ≡ how.lines.items
+  pub threads : look.choice.threads.items ≡ how.threads.items
+  pub addrs_are : look.choice.addrs.items ≡ addrs
+  pub width : look.width ≡ how.width
+  pub color : look.color ≡ how.color
 
 -- What is shown of a record, and how.
 pub record IsAsked (r : RecordParts) (map : DataMap) (how : ShowLook) (asked : Asked) : Type 0 where
   pub wanted_is : IsWanted r map how.view asked.wanted
-  pub addrs : Option Span
-  pub chosen : AreChosen map how addrs
-  pub look_is : IsLookWith how.look addrs asked.look
+  pub addrs : List Span
+  pub addrs_are : AllZip (AreAddresses map) how.bytes.items addrs
+  pub look_is : IsLookAt how addrs asked.look
 
 -- The words of the last entry before a place that writes there are written, or that none does.
 abbrev pub WritesLastOf : Shown → DataMap → ℕ → Span → Option (List ℕ) → Option (List ℕ) → Type 0
@@ -111,7 +106,8 @@ WritesLastOf shown map before addrs old new = (story : Story) × IsStoryOf shown
 
 -- Whether all entries are chosen, and whether a thread was stopped.
 abbrev pub chooses_all : Choice → Bool
-chooses_all choice = cond (is_some choice.lines) false (cond (is_some choice.addrs) false (length choice.threads.items == 0))
+chooses_all choice =
+    (length choice.lines.items == 0) && ((length choice.addrs.items == 0) && (length choice.threads.items == 0))
 
 abbrev pub is_stop : Outcome → Bool
 is_stop (outcomes.Trap trap) = false

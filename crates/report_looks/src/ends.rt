@@ -25,7 +25,6 @@ pub(crate) fn write_end<W: Write>(
     if moment.is_short {
         return Err(Unwritten::NoMemory);
     }
-    view.map.begin_moment();
     let story = Story::new(alloc, view.shown.record.log.as_slice())?;
     for (n, report) in view.shown.record.ends.as_slice().iter().enumerate() {
         write_thread(alloc, view, &story, moment, n, report.outcome, out)?;

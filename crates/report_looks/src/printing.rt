@@ -113,7 +113,7 @@ fn print_entries<W: Write>(
 fn chooses_all(choice: &Choice) -> bool
     ensures { result ≡ looked.chooses_all choice.now }
 {
-    choice.lines.is_none() && choice.addrs.is_none() && choice.threads.is_empty()
+    choice.lines.is_empty() && choice.addrs.is_empty() && choice.threads.is_empty()
 }
 
 /// Whether a thread was stopped that ended so.

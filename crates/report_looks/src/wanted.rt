@@ -1,10 +1,11 @@
 //! What is asked for of a record, with its own places and addresses; or why it has no such thing.
-ghost use Rattle.std.specs.Prelude.{◌≡◌, IfErr, IfOk, position};
+ghost use Rattle.std.specs.Prelude.{◌≡◌, ◌++◌, ◌∷◌, [], IfErr, IfOk, OnOk, position};
+ghost use Rattle.std.specs.List.{AllZip};
 ghost use Rattle.report_choice.specs.Choices as chosen;
 ghost use Rattle.report_command.specs.declared.show.View.TheVariants as views;
 ghost use Rattle.show_named.specs.declared.data_map.DataMap.{DataMap};
 ghost use Rattle.report_looks.specs.Looked as looked;
-ghost use Rattle.report_looks.specs.Looked.{AreAddresses, AreChosen, IsAsked, IsLookWith, IsWanted};
+ghost use Rattle.report_looks.specs.Looked.{AreAddresses, IsAsked, IsLookAt, IsWanted};
 ghost use Rattle.report_looks.specs.Silent.{IsUnrefused};
 
 use replay_text::RecordParts;
@@ -197,33 +198,45 @@ fn wanted_of<'a>(
     }
 }
 
-/// The addresses at which entries are chosen, if some are.
-fn chosen_addresses(alloc: Global, map: &DataMap, how: &ShowLook) -> Result<Option<Span>, Unshown>
-    ensures addresses { IfOk result (AreChosen map.now how.now) }
-    ensures why { IfErr result IsUnrefused }
+/// Puts a span behind the others.
+fn put(spans: &mut Vec<Span>, span: Span) -> Result<(), AllocError>
+    ensures { OnOk result (spans.new.items ≡ spans.old.items ++ span ∷ []) }
 {
-    let Some(words) = how.named else {
-        return Ok(how.look.choice.addrs);
-    };
-    match span_of(alloc, map, Data::Named(words)) {
-        Ok(span) => Ok(Some(span)),
-        Err(why) => Err(why),
-    }
+    spans.push(span)?;
+    Ok(())
 }
 
-/// The same look, with these addresses.
-fn look_with(alloc: Global, look: &Look, addrs: Option<Span>) -> Result<Look, AllocError>
-    ensures { IfOk result (IsLookWith look.now addrs) }
+/// The addresses of each of these data, in order.
+fn spans_of(alloc: Global, map: &DataMap, all: &[Data]) -> Result<Vec<Span>, Unshown>
+    ensures addresses { IfOk result (λ spans. AllZip (AreAddresses map.now) all.now spans.items) }
+    ensures why { IfErr result IsUnrefused }
 {
-    let threads = Vec::from_slice(alloc, look.choice.threads.as_slice())?;
+    let mut spans = Vec::new(alloc);
+    for k in 0..all.len() {
+        let span = match span_of(alloc, map, all[k]) {
+            Ok(span) => span,
+            Err(why) => return Err(why),
+        };
+        match put(&mut spans, span) {
+            Ok(()) => {}
+            Err(_) => return Err(Unshown::Unfit(Unfit::NoMemory)),
+        }
+    }
+    Ok(spans)
+}
+
+/// How entries are shown at these addresses.
+fn look_at(alloc: Global, how: &ShowLook, addrs: Vec<Span>) -> Result<Look, AllocError>
+    ensures { IfOk result (IsLookAt how.now addrs.items) }
+{
     Ok(Look {
         choice: Choice {
-            lines: look.choice.lines,
-            threads,
+            lines: Vec::from_slice(alloc, how.lines.as_slice())?,
+            threads: Vec::from_slice(alloc, how.threads.as_slice())?,
             addrs,
         },
-        width: look.width,
-        color: look.color,
+        width: how.width,
+        color: how.color,
     })
 }
 
@@ -241,11 +254,11 @@ pub(crate) fn asked_of<'a>(
         Ok(wanted) => wanted,
         Err(why) => return Err(why),
     };
-    let addrs = match chosen_addresses(alloc, map, how) {
+    let addrs = match spans_of(alloc, map, how.bytes.as_slice()) {
         Ok(addrs) => addrs,
         Err(why) => return Err(why),
     };
-    match look_with(alloc, &how.look, addrs) {
+    match look_at(alloc, how, addrs) {
         Ok(look) => Ok(Asked { wanted, look }),
         Err(_) => Err(Unshown::Unfit(Unfit::NoMemory)),
     }

@@ -1,20 +1,16 @@
 -- What a command line asks for, with colors as standard output takes them, and explained as standard error does.
 use Rattle.std.specs.Prelude.{ℕ, ◌≡◌, Bool, List}
-use Rattle.report_choice.specs.declared.choice.Look.{Look}
+use Rattle.report_choice.specs.declared.choice.Color.{Color}
 use Rattle.report_command.specs.declared.command_line.Job.{Job}
 use Rattle.report_command.specs.declared.command_line.Job.TheVariants.{Check, Run, Replay, Show, Races, Search}
 use Rattle.report_command.specs.declared.command_line.Order.{Order}
 use Rattle.report_command.specs.Options.{IsAskedBy, is_explained}
 use Rattle.report_program.specs.declared.order.Plan.{Plan}
 
--- A look that differs in nothing but when threads have colors.
-abbrev pub IsRecolored : Look → Look → Type 0
-IsRecolored old new = (new.choice ≡ old.choice) × (new.width ≡ old.width)
-
--- The same job, but for the look of a show, and whether the end of a run has the calls of a thread that trapped.
+-- The same job, but for when threads of a show have colors, and whether the end of a run has the calls of a thread that trapped.
 abbrev pub IsColored : Bool → Job → Job → Type 0
 IsColored explain (Show file saved names how) new =
-    (colored : Look) × (new ≡ Show file saved names (record how { look = colored })) × IsRecolored how.look colored
+    (color : Color) × (new ≡ Show file saved names (record how { color = color }))
 IsColored explain (Check file form) new = new ≡ Check file form
 IsColored explain (Run job) new = new ≡ Run (record job { look = record job.look { callers = explain } })
 IsColored explain (Replay file saved look) new = new ≡ Replay file saved (record look { callers = explain })

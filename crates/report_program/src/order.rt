@@ -5,7 +5,7 @@ ghost use Rattle.report_command.specs.Jobs.{IsInRange};
 ghost use Rattle.report_command.specs.Options.{is_explained, texts_in};
 ghost use Rattle.report_program.specs.Coloring.{IsColored, IsPlanOf};
 
-use report_command::{Color, EndLook, Job, Look, Misuse, Order, ShowLook, Usage, asked, misused};
+use report_command::{Color, EndLook, Job, Misuse, Order, ShowLook, Usage, asked, misused};
 use std::env;
 use std::io::{ErrorKind, IsTerminal};
 
@@ -65,36 +65,15 @@ fn colored<'a>(job: Job<'a>, is_terminal: bool, explain: bool) -> Job<'a>
             saved,
             names,
             how,
-        } => {
-            let ShowLook {
-                look,
-                named,
-                source,
-                view,
-            } = how;
-            let Look {
-                choice,
-                width,
-                color,
-            } = look;
-            let color = color_on(color, is_terminal);
-            let look = Look {
-                choice,
-                width,
-                color,
-            };
-            Job::Show {
-                file,
-                saved,
-                names,
-                how: ShowLook {
-                    look,
-                    named,
-                    source,
-                    view,
-                },
-            }
-        }
+        } => Job::Show {
+            file,
+            saved,
+            names,
+            how: ShowLook {
+                color: color_on(how.color, is_terminal),
+                ..how
+            },
+        },
         other => other,
     }
 }

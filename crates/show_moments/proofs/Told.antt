@@ -6,6 +6,9 @@ use Rattle.std.specs.Io.KnownBytes.{Appends, Keeps}
 use Rattle.types.specs.declared.event.Entry.{Entry}
 use Rattle.types.specs.declared.limits.TheConstants.{MOST_THREADS}
 use Rattle.race_history.specs.declared.race.Race.{Race}
+use Rattle.report_choice.specs.declared.choice.Span.{Span}
+use Rattle.show_waits.specs.Lasts.{SaysLast}
+use Rattle.show_writes.specs.declared.lasts.Act.TheVariants as acts
 use Rattle.show_text.specs.declared.words.Words.{Words}
 use Rattle.show_text.specs.Words.{words_text}
 use Rattle.show_rows.specs.declared.listing.Story.{Story}
@@ -16,7 +19,8 @@ use Rattle.show_moments.specs.declared.standing.ThreadSnapshot.{ThreadSnapshot}
 use Rattle.show_moments.specs.Moments.{standing_at}
 use Rattle.show_moments.specs.declared.scene.MomentView.{MomentView}
 use Rattle.show_moments.specs.Texts.{queue_text, dump_text}
-use Rattle.show_moments.specs.Scenes.{Seen, depth, is_spawned, AddsFunctions, AddsNext, AddsRaces, AddsStanding, AddsThread, AddsThreads, AddsSpawned}
+use Rattle.show_moments.specs.Scenes.{Seen, depth, is_spawned, touched_at, AddsFunctions, AddsLast, AddsNext, AddsRaces}
+use Rattle.show_moments.specs.Scenes.{AddsSpawned, AddsStanding, AddsThread, AddsThreads}
 use Rattle.show_moments.specs.Scenes.{IsAskedText, IsFrontText, IsNextOf, IsNextText, WritesMoment}
 use Rattle.show_moments.specs.Scenes.{seen_by}
 
@@ -43,13 +47,21 @@ thread_gone s thread b log o old new is there same comes none wrote =
     spawned s thread b log None old new is there same (subst (λ (x : Option ℕ). IsNextOf log s.moment.at thread x) none comes) wrote
 
 pub thread_comes : (s : Seen) (thread : ℕ) (b : Bool) (log : List Entry) (at : ℕ) (d : Entry) (next : List ℕ)
-    (old middle new : Option (List ℕ)) → b ≡ is_spawned s.moment.queue thread → b ≡ true → log ≡ s.shown.record.now.log
+    (old told behind new : Option (List ℕ)) → b ≡ is_spawned s.moment.queue thread → b ≡ true → log ≡ s.shown.record.now.log
     → at < length s.shown.record.now.log → IsNextOf log s.moment.at thread (Some at) → IsNextText s at next
-    → Appends old middle (codes "t" ++ (decimal thread ++ (codes " " ++ next)))
-    → AddsStanding s (standing_at s.moment (get_or log at d)) middle new → AddsThread s thread old new
-thread_comes s thread b log at d next old middle new is there same within comes says wrote adds =
+    → Appends old told (codes "t" ++ (decimal thread ++ (codes " " ++ next))) → AddsLast s (touched_at s at) told behind
+    → AddsStanding s (standing_at s.moment (get_or log at d)) behind new → AddsThread s thread old new
+thread_comes s thread b log at d next old told behind new is there same within comes says wrote last adds =
     spawned s thread b log (Some at) old new is there same comes
-    (get_or log at d, stands log s.shown.record.now.log at d same within, next, says, middle, wrote, adds)
+    (get_or log at d, stands log s.shown.record.now.log at d same within, next, says, told, behind, wrote, last, adds)
+
+pub last_none : (s : Seen) (o : Option Span) (a : Option (List ℕ)) → o ≡ None → AddsLast s o a a
+last_none s o a is = subst (λ (x : Option Span). AddsLast s x a a) (sym is) refl
+
+pub last_some : (s : Seen) (o : Option Span) (addrs : Span) (text : List ℕ) (a b : Option (List ℕ)) → o ≡ Some addrs
+    → SaysLast s.shown s.map s.story s.moment.at (acts.Write addrs) (codes "nobody") text
+    → Appends a b (codes "    last write there: " ++ (text ++ codes "\n")) → AddsLast s o a b
+last_some s o addrs text a b is says wrote = subst (λ (x : Option Span). AddsLast s x a b) (sym is) (text, says, wrote)
 
 pub standing_none : (s : Seen) (o : Option ThreadSnapshot) (a : Option (List ℕ)) → None ≡ o → AddsStanding s o a a
 standing_none s o a is = subst (λ (x : Option ThreadSnapshot). AddsStanding s x a a) is refl

@@ -1,7 +1,7 @@
 -- A moment as text.
 use Rattle.std.specs.Prelude.{ℕ, ◌≡◌, ◌⊎◌, ◌+◌, ◌-◌, ◌^◌, ◌<◌, ◌≤◌, ◌==◌, ◌||◌, not, min, zero, suc, nat_le, Bool, true, false}
 use Rattle.std.specs.Prelude.{if◌then◌else◌, cond, List, [], ◌∷◌, ◌++◌, codes, find, length, Option, Some, None, IsSome}
-use Rattle.std.specs.Prelude.{option_map, string_bytes}
+use Rattle.std.specs.Prelude.{option_and_then, option_map, string_bytes}
 use Rattle.std.specs.Global.{Vec}
 use Rattle.std.specs.List.{slice_get, list_any}
 use Rattle.std.specs.Fmt.{decimal}
@@ -15,6 +15,8 @@ use Rattle.types.specs.declared.parts.Parts.{Parts}
 use Rattle.types.specs.declared.value.ValType.{ValType}
 use Rattle.waiters.specs.declared.kept.KeptQueue.{KeptQueue}
 use Rattle.race_history.specs.declared.race.Race.{Race}
+use Rattle.report_choice.specs.declared.choice.Span.{Span}
+use Rattle.report_choice.specs.Choices.{touched}
 use Rattle.validate.specs.Operands.{OwnOperandsAt}
 use Rattle.validate_module.specs.Own.{FindsLocals}
 use Rattle.show_text.specs.declared.context.Context.{Context}
@@ -24,7 +26,7 @@ use Rattle.show_text.specs.Words.{words_text}
 use Rattle.show_rows.specs.declared.listing.Shown.{Shown}
 use Rattle.show_rows.specs.declared.listing.Story.{Story}
 use Rattle.show_rows.specs.declared.spot.Spot.{Spot}
-use Rattle.show_rows.specs.Listing.{line_at, AreWordsOf, IsStoryOf}
+use Rattle.show_rows.specs.Listing.{line_at, context_at, made_at, AreWordsOf, IsStoryOf}
 use Rattle.show_rows.specs.Spots.{IsSpotOf, named_offset, range_at}
 use Rattle.show_rows.specs.Around.{around_text, lines_around}
 use Rattle.show_rows.specs.declared.around.Around.{Around}
@@ -37,6 +39,8 @@ use Rattle.show_frames.specs.declared.values.FrameValue.{FrameValue}
 use Rattle.show_text.specs.Plain.{plain_text}
 use Rattle.show_named.specs.declared.data_map.DataMap.{DataMap}
 use Rattle.show_races.specs.Written.{IsEntryText}
+use Rattle.show_waits.specs.Lasts.{SaysLast}
+use Rattle.show_writes.specs.declared.lasts.Act.TheVariants as acts
 use Rattle.show_moments.specs.declared.moment.Moment.{Moment}
 use Rattle.show_moments.specs.declared.scene.MomentView.{MomentView}
 use Rattle.show_moments.specs.declared.scene.Scene.{Scene}
@@ -206,17 +210,30 @@ AddsFunctions s standing (suc number) old new = (middle : Option (List ℕ))
 abbrev pub depth : ThreadSnapshot → ℕ
 depth standing = min (length standing.callers.items + 1) (2 ^ 64 - 1)
 
+-- Of an answer it is the question that comes to bytes.
+abbrev pub touched_at : Seen → ℕ → Option Span
+touched_at s at = option_and_then (λ made. touched made.event)
+    (slice_get s.shown.record.now.log (made_at (context_at s.story at) at))
+
+-- Who wrote these bytes last before the moment is written, if there are some.
+abbrev pub AddsLast : Seen → Option Span → Option (List ℕ) → Option (List ℕ) → Type 0
+AddsLast s None old new = new ≡ old
+AddsLast s (Some addrs) old new = (text : List ℕ)
+    × SaysLast s.shown s.map s.story s.moment.at (acts.Write addrs) (codes "nobody") text
+    × Appends old new (codes "    last write there: " ++ (text ++ codes "\n"))
+
 abbrev pub AddsStanding : Seen → Option ThreadSnapshot → Option (List ℕ) → Option (List ℕ) → Type 0
 AddsStanding s None old new = new ≡ old
 AddsStanding s (Some standing) old new = AddsFunctions s standing (depth standing) old new
 
--- What is written is what a thread comes to next, with its open functions where it stands; or that it is gone.
+-- What is written is what a thread comes to next, who wrote these bytes last, and its open functions where it stands;
+-- or that it is gone.
 abbrev pub AddsNext : Seen → ℕ → Option ℕ → Option (List ℕ) → Option (List ℕ) → Type 0
 AddsNext s thread None old new = Appends old new (codes "t" ++ (decimal thread ++ codes " is gone\n"))
 AddsNext s thread (Some at) old new = (made : Entry) × (slice_get s.shown.record.now.log at ≡ Some made)
-    × (next : List ℕ) × IsNextText s at next × (middle : Option (List ℕ))
-    × Appends old middle (codes "t" ++ (decimal thread ++ (codes " " ++ next)))
-    × AddsStanding s (standing_at s.moment made) middle new
+    × (next : List ℕ) × IsNextText s at next × (told behind : Option (List ℕ))
+    × Appends old told (codes "t" ++ (decimal thread ++ (codes " " ++ next)))
+    × AddsLast s (touched_at s at) told behind × AddsStanding s (standing_at s.moment made) behind new
 
 -- Of a thread that wasn't spawned nothing is written.
 abbrev pub AddsSpawned : Seen → ℕ → Bool → Option (List ℕ) → Option (List ℕ) → Type 0

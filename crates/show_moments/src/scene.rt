@@ -5,7 +5,8 @@ ghost use Rattle.std.specs.List.{slice_get, list_any};
 ghost use Rattle.show_moments.specs.Scenes as specified;
 ghost use Rattle.show_races.specs.Told.{IsWithin};
 ghost use Rattle.show_moments.specs.Texts as texts;
-ghost use Rattle.show_moments.specs.Scenes.{AddsFunctions, AddsOpened, AddsRace, AddsRaces, AddsThread, AddsThreads};
+ghost use Rattle.show_moments.specs.Scenes.{AddsFunctions, AddsLast, AddsOpened, AddsRace, AddsRaces, AddsThread};
+ghost use Rattle.show_moments.specs.Scenes.{AddsThreads};
 ghost use Rattle.show_moments.specs.Scenes.{AddsValues, IsAskedText, IsFrontText, IsFunctionText, IsNextOf, IsNextText};
 ghost use Rattle.show_moments.specs.Scenes.{IsOwedText, IsTargetText, IsValueText, WritesMoment};
 
@@ -15,12 +16,15 @@ use crate::texts::{dump_text, listed_text, queue_text};
 use crate::values::{FrameNumber, FrameSpot, has_parts, is_pointer, is_signed, number_of};
 use interp::CodePlace;
 use race_history::Race;
+use report_choice::{Span, touched};
 use shared_memory::Sleeper;
 use show_frames::{Frame, FrameValue};
 use show_named::DataMap;
 use show_races::entry_text;
 use show_rows::{Shown, Story};
 use show_text::{Context, Plain, Unwritten};
+use show_waits::last_text;
+use show_writes::Act;
 use std::alloc::{AllocError, Global};
 use std::io::Write;
 use types::{Entry, Event, MOST_THREADS, Question, ValType};
@@ -37,8 +41,8 @@ pub struct MomentView<'v, 'd, 'r, 'w, 'c, 'm, 'n, 'b> {
     pub is_raw: bool,
 }
 
-/// Writes a moment of a run of the module: of each thread what it comes to next or on what it sleeps, with its open
-/// functions, the one that runs first, and their values; with what the entry of this moment races, of these races; who
+/// Writes a moment of a run of the module: of each thread what it comes to next or on what it sleeps, who wrote these
+/// bytes last, and its open functions, the one that runs first, with their values; with what the entry of this moment races, of these races; who
 /// sleeps, in the order of the queue; and the bytes.
 ///
 /// # Errors
@@ -56,7 +60,6 @@ pub fn write_moment<W: Write>(
     if moment.is_short {
         return Err(Unwritten::NoMemory);
     }
-    view.map.begin_moment();
     let story = Story::new(alloc, view.shown.record.log.as_slice())?;
     let scene = Scene {
         alloc,
@@ -182,10 +185,44 @@ impl Scene<'_, '_, '_, '_, '_, '_, '_, '_, '_, '_, '_> {
         };
         let next = self.next_text(at)?;
         write!(out, "t{thread} {next}")?;
+        self.write_last(out, at)?;
         match self.moment.standing(&log[at]) {
             Some(standing) => self.write_functions(out, standing),
             None => Ok(()),
         }
+    }
+
+    /// The addresses of the bytes to which an entry comes, or to which the question came that it answers.
+    fn touched_at(&self, at: usize) -> Option<Span>
+        ensures { result ≡ specified.touched_at (specified.seen self.now) at }
+    {
+        let made = match self.story.context_at(at) {
+            Context::Asked(_, asked) => asked,
+            _ => at,
+        };
+        let entry = self.view.shown.record.log.as_slice().get(made)?;
+        touched(entry.event)
+    }
+
+    /// Writes who wrote last before the moment the bytes to which a thread comes, if it comes to some.
+    fn write_last<W: Write>(&self, out: &mut W, at: usize) -> Result<(), Unwritten>
+        ensures { OnOk result (AddsLast (specified.seen self.now) (specified.touched_at (specified.seen self.now) at)
+            (W.contents out.old) (W.contents out.new)) }
+    {
+        let Some(addrs) = self.touched_at(at) else {
+            return Ok(());
+        };
+        let last = last_text(
+            self.alloc,
+            self.view.shown,
+            self.view.map,
+            self.story,
+            self.moment.at,
+            Act::Write(addrs),
+            "nobody",
+        )?;
+        write!(out, "    last write there: {last}\n")?;
+        Ok(())
     }
 
     /// What a thread comes to next, or on what it sleeps: its first entry from the moment on stands at this place.
@@ -248,6 +285,7 @@ impl Scene<'_, '_, '_, '_, '_, '_, '_, '_, '_, '_, '_> {
         ensures { OnOk result (AddsFunctions (specified.seen self.now) standing.now (specified.depth standing.now)
             (W.contents out.old) (W.contents out.new)) }
     {
+        self.view.map.begin_stack();
         for number in (0..standing.depth()).rev() {
             self.write_function(out, standing.open_function(number))?;
         }

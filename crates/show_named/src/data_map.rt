@@ -16,8 +16,8 @@ use types::Event;
 /// How many steps the name of an address takes at most.
 const NAME_STEPS: u64 = 1 << 14;
 
-/// How many steps all frames of a moment take at most, and the names to which their pointers lead.
-const MOMENT_STEPS: u64 = 1 << 23;
+/// How many steps the open functions of a thread take at most, and the names to which their pointers lead.
+const STACK_STEPS: u64 = 1 << 21;
 
 /// How many steps a byte of the entries takes at most, on average, where all entries are asked.
 const BYTE_STEPS: u64 = 4;
@@ -60,9 +60,10 @@ impl<'n> DataMap<'n> {
         })
     }
 
-    /// Lets the frames of a moment be asked. What takes more steps than all of them may is left out of the further ones.
-    pub fn begin_moment(&self) {
-        self.units.allow(MOMENT_STEPS);
+    /// Lets the frames of a thread's open functions be asked. What takes more steps than all of them may is left out of
+    /// the further ones.
+    pub fn begin_stack(&self) {
+        self.units.allow(STACK_STEPS);
     }
 
     /// What is said of a frame whose function is at an offset of the code.

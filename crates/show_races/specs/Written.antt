@@ -49,7 +49,7 @@ IsNextWrite log kinds thread first (Some at) = (first < at) × (is_atomic_write 
 
 -- Nothing leads from a write before the second entry to its thread.
 abbrev pub leads_text : Bool → ℕ → List ℕ
-leads_text is_between second = if is_between then codes ", and nothing leads from it to t" ++ decimal second else []
+leads_text is_between second = if is_between then codes ", and t" ++ (decimal second ++ codes " had seen nothing of that") else []
 
 abbrev pub write_text : Shown → Race → ℕ → Option ℕ → List ℕ
 write_text shown r second None = codes " makes no atomic write behind it"
@@ -58,8 +58,8 @@ write_text shown r second (Some at) = codes "'s next atomic write is on line " +
 
 -- What would have ordered the first entry before the second, by their threads.
 abbrev pub order_text : Shown → Race → ℕ → ℕ → Option ℕ → List ℕ
-order_text shown r first second next = codes "  nothing between them orders t" ++ (decimal first ++ (codes " before t"
-    ++ (decimal second ++ (codes ": t" ++ (decimal first ++ write_text shown r second next)))))
+order_text shown r first second next = codes "  nothing told t" ++ (decimal second ++ (codes " that t"
+    ++ (decimal first ++ (codes " was done: t" ++ (decimal first ++ write_text shown r second next)))))
 
 -- It is that text, of the threads of the two entries.
 abbrev pub IsOrderText : Shown → List Kind → Race → List ℕ → Type 0

@@ -77,7 +77,7 @@ impl fmt::Display for Leads {
     fn fmt<W: fmt::Write>(&self, f: &mut Formatter<W>) -> fmt::Result {
         let second = self.second;
         if self.is_between {
-            write!(f, ", and nothing leads from it to t{second}")
+            write!(f, ", and t{second} had seen nothing of that")
         } else {
             Ok(())
         }
@@ -94,7 +94,7 @@ fn order_text(alloc: Global, shown: Shown, kinds: &[Kind], race: Race) -> Result
     let (first, second) = (log[race.first].thread, log[race.second].thread);
     let Some(write) = next_atomic_write(log, kinds, first, race.first) else {
         let none = format!(in alloc;
-            "  nothing between them orders t{first} before t{second}: t{first} makes no atomic write behind it"
+            "  nothing told t{second} that t{first} was done: t{first} makes no atomic write behind it"
         )?;
         return Ok(none);
     };
@@ -104,7 +104,7 @@ fn order_text(alloc: Global, shown: Shown, kinds: &[Kind], race: Race) -> Result
     };
     let line = shown.line_of(write);
     let some = format!(in alloc;
-        "  nothing between them orders t{first} before t{second}: t{first}'s next atomic write is on line {line}{leads}"
+        "  nothing told t{second} that t{first} was done: t{first}'s next atomic write is on line {line}{leads}"
     )?;
     Ok(some)
 }

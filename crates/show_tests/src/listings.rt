@@ -18,9 +18,9 @@ struct Listing {
     module: &'static [u8],
     names: &'static [u8],
     record: &'static [u8],
-    lines: Option<Span>,
+    lines: &'static [Span],
     threads: &'static [u32],
-    addrs: Option<Span>,
+    addrs: &'static [Span],
     width: usize,
     color: Color,
     text: &'static str,
@@ -30,15 +30,15 @@ const TOLD_WHOLE: Listing = Listing {
     module: TELLING,
     names: NAMES,
     record: TOLD,
-    lines: None,
+    lines: &[],
     threads: &[],
-    addrs: None,
+    addrs: &[],
     width: 120,
     color: Color::Never,
     text: "",
 };
 
-static LISTINGS: [Listing; 5] = [
+static LISTINGS: [Listing; 6] = [
     Listing {
         text: "\
             \x20     6  t0 spawns t1 (arg 4294967295)                                          tell+0x3\n\
@@ -51,6 +51,21 @@ static LISTINGS: [Listing; 5] = [
             \x20    13                              t1 ends: ok                                sleep?+0xd\n\
             \x20    14                              t1 gone                                    sleep?+0xd\n\
             \x20    15  t0 gone                                                                tell+0xe\n",
+        ..TOLD_WHOLE
+    },
+    // on several lines, and at several addresses
+    Listing {
+        lines: &[Span { first: 6, last: 8 }, Span { first: 9, last: 9 }],
+        addrs: &[
+            Span {
+                first: 100,
+                last: 200,
+            },
+            Span { first: 8, last: 8 },
+        ],
+        text: "\
+            \x20     8                              t1 sleeps on 8 while 0                     sleep?+0x8\n\
+            \x20     9  t0 notify 8, at most 1: wakes t1                                       tell+0xa\n",
         ..TOLD_WHOLE
     },
     // of the other version
@@ -84,8 +99,8 @@ static LISTINGS: [Listing; 5] = [
     },
     // of some addresses and some lines, in colors
     Listing {
-        lines: Some(Span { first: 8, last: 11 }),
-        addrs: Some(Span { first: 0, last: 8 }),
+        lines: &[Span { first: 8, last: 11 }],
+        addrs: &[Span { first: 0, last: 8 }],
         width: 90,
         color: Color::Always,
         text: "\
@@ -140,7 +155,7 @@ static KINDS_PRINTED: Listing = Listing {
     text: "\
             \x20     6  t0 atomic store32 1024 <- 9 (had 3)                                    run+0x9 small.c:10\n\
             \x20     7  t0 store32 1024 <- 9 (had 3)                                           run+0x7 small.c:10\n\
-            \x20     8  t0 store32 1024 <- 9                                                   func 7\n\
+            \x20     8  t0 store32 1024 <- 9 (had 9)                                           func 7\n\
             \x20     9  t0 size = 1\n\
             \x20    10  t0 grow +2 = 1\n\
             \x20    11  t0 grow +9 = refused\n\
@@ -187,9 +202,9 @@ static KINDS_PRINTED: Listing = Listing {
 /// How a listing is looked at.
 fn look_of(alloc: Global, listing: &Listing) -> Result<Look, Fail> {
     let choice = Choice {
-        lines: listing.lines,
+        lines: listing.lines.to_vec(alloc)?,
         threads: listing.threads.to_vec(alloc)?,
-        addrs: listing.addrs,
+        addrs: listing.addrs.to_vec(alloc)?,
     };
     Ok(Look {
         choice,

@@ -55,9 +55,9 @@ static TRACES: [(&[u32], &str); 2] = [(&[], WHOLE), (&[1], OF_ONE)];
 
 fn look_at(alloc: Global, threads: &[u32]) -> Result<Look, Fail> {
     let choice = Choice {
-        lines: None,
+        lines: Vec::new(alloc),
         threads: threads.to_vec(alloc)?,
-        addrs: None,
+        addrs: Vec::new(alloc),
     };
     Ok(Look {
         choice,

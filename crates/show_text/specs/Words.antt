@@ -55,14 +55,14 @@ bits_text width = if width == 4 then [] else decimal (width * 8)
 abbrev pub atomic_text : Bool → List ℕ
 atomic_text is_atomic = if is_atomic then codes "atomic " else []
 
--- What a store overwrote, where that is another number.
-abbrev pub before_text : ℕ → Option ℕ → List ℕ
-before_text value None = []
-before_text value (Some before) = if before == value then [] else codes " (had " ++ decimal before ++ codes ")"
+-- What a store overwrote.
+abbrev pub before_text : Option ℕ → List ℕ
+before_text None = []
+before_text (Some before) = codes " (had " ++ decimal before ++ codes ")"
 
-abbrev pub stored_text : Reply → ℕ → Option ℕ → List ℕ
-stored_text replies.OutOfBounds value before = codes ": out of bounds"
-stored_text reply value before = before_text value before
+abbrev pub stored_text : Reply → Option ℕ → List ℕ
+stored_text replies.OutOfBounds before = codes ": out of bounds"
+stored_text reply before = before_text before
 
 -- What stood there in place of the expected number.
 abbrev pub exchanged_text : Reply → ℕ → List ℕ
@@ -154,7 +154,7 @@ load_text w addr width = atomic_text w.is_atomic ++ codes "load" ++ decimal (wid
 
 abbrev pub store_text : Words → ℕ → ℕ → ℕ → List ℕ
 store_text w addr width value = atomic_text w.is_atomic ++ codes "store" ++ decimal (width * 8) ++ codes " "
-    ++ decimal addr ++ codes " <- " ++ decimal value ++ stored_text w.entry.reply value w.before
+    ++ decimal addr ++ codes " <- " ++ decimal value ++ stored_text w.entry.reply w.before
 
 -- What the thread does, and what that comes to.
 abbrev pub event_text : Words → Event → List ℕ

@@ -99,7 +99,7 @@ impl Words<'_> {
     {
         let (atomic, bits) = (Atomic(self.is_atomic), bits_of(width));
         write!(f, "{atomic}store{bits} {addr} <- {value}")?;
-        write_stored(f, self.entry.reply, value, self.before)
+        write_stored(f, self.entry.reply, self.before)
     }
 }
 
@@ -107,15 +107,14 @@ impl Words<'_> {
 fn write_stored<W: Write>(
     f: &mut Formatter<W>,
     reply: Reply,
-    value: u64,
     before: Option<u64>,
 ) -> fmt::Result
-    ensures { WritesOnOk W.write_str_gives f.old result (stored_text reply value before) f.new }
+    ensures { WritesOnOk W.write_str_gives f.old result (stored_text reply before) f.new }
 {
     match (reply, before) {
         (Reply::OutOfBounds, _) => f.write_str(": out of bounds"),
-        (_, Some(before)) if before != value => write!(f, " (had {before})"),
-        _ => Ok(()),
+        (_, Some(before)) => write!(f, " (had {before})"),
+        (_, None) => Ok(()),
     }
 }
 

@@ -12,8 +12,12 @@ use std::alloc::{AllocError, Global};
 use std::fmt::{self, Formatter};
 use std::io::Write;
 
-/// The words of the last entry before the one of this place that does something, or these where none does.
-pub(crate) fn last_text(
+/// The words of the last entry before the one of this place, counted from 0, that does something, or these where none
+/// does.
+///
+/// # Errors
+/// Where memory is refused.
+pub fn last_text(
     alloc: Global,
     shown: Shown,
     map: &DataMap,

@@ -14,5 +14,5 @@ mod cycles;
 mod last;
 mod waits;
 
-pub use last::write_last;
+pub use last::{last_text, write_last};
 pub use waits::write_waits;

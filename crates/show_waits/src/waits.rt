@@ -99,7 +99,7 @@ fn stand_text(
     )?;
     let (times, line) = (Times(times), shown.line_of(since));
     let text = format!(in alloc;
-        "{last}\n  so {times} since line {line}\n  last write there: {written}\n{other}  last notify there: {notified}\n"
+        "{last}\n  touches nothing else since line {line} ({times})\n  last write there: {written}\n{other}  last notify there: {notified}\n"
     )?;
     Ok(text)
 }

@@ -24,8 +24,8 @@ returns-in-Some-standing g c =
     let within = subst (λ (l : List Entry). c.in-Some.at < length l) c.as_slice-log.ensures
     (next_within c.as_slice-log.result.now _ _ c.in-Some.at c.in-Some.ensures) in
     on_ok_weaker c.write_functions.result (λ adds. thread_comes s c.args.thread c.is_spawned.result c.as_slice-log.result.now
-    c.in-Some.at _ _ _ _ _ c.is_spawned.ensures c.if-not-is_spawned.false c.as_slice-log.ensures within c.in-Some.ensures
-    c.in_ok-next.ensures c.in_ok-write-2.ensures.bytes
+    c.in-Some.at _ _ _ _ _ _ c.is_spawned.ensures c.if-not-is_spawned.false c.as_slice-log.ensures within c.in-Some.ensures
+    c.in_ok-next.ensures c.in_ok-write-2.ensures.bytes c.in_ok-write_last.ensures
     (standing_some s _ c.in-Some-standing.standing.now _ _ c.in-Some-standing.ensures adds)) c.write_functions.ensures
 
 pub returns : goal.returns
@@ -33,6 +33,6 @@ returns g c =
     let s = seen c.args.self.now in
     let within = subst (λ (l : List Entry). c.in-Some.at < length l) c.as_slice-log.ensures
     (next_within c.as_slice-log.result.now _ _ c.in-Some.at c.in-Some.ensures) in
-    thread_comes s c.args.thread c.is_spawned.result c.as_slice-log.result.now c.in-Some.at _ _ _ _ _ c.is_spawned.ensures
+    thread_comes s c.args.thread c.is_spawned.result c.as_slice-log.result.now c.in-Some.at _ _ _ _ _ _ c.is_spawned.ensures
     c.if-not-is_spawned.false c.as_slice-log.ensures within c.in-Some.ensures c.in_ok-next.ensures c.in_ok-write-2.ensures.bytes
-    (standing_none s _ _ c.in-None.ensures)
+    c.in_ok-write_last.ensures (standing_none s _ _ c.in-None.ensures)
