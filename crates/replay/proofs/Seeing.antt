@@ -1,18 +1,31 @@
 -- From what a watch sees of a walk to what it sees of a replay.
-use Rattle.std.proofs.Common.{List, Result, Ok, Err, refl, inl, inr}
+use Rattle.std.proofs.Common.{◌≡◌, List, Result, Ok, Err, refl, inl, inr, subst}
+use Rattle.types.specs.declared.event.Entry.{Entry}
 use Rattle.types.specs.declared.parts.Parts.{Parts}
 use Rattle.shared_memory.specs.Memory.{Memory}
+use Rattle.interp_trait.specs.Turns.{Meaning}
 use Rattle.interp.specs.declared.thread.Thread.{Thread}
 use Rattle.interp.specs.Threads.{meaning_in}
 use Rattle.spawn_host.specs.declared.end.EndState.{EndState}
 use Rattle.replay_text.specs.declared.parts.RecordParts.{RecordParts}
-use Rattle.replay_walk.specs.Seen.{Sight}
+use Rattle.replay_walk.specs.declared.walk.Walk.{Walk}
+use Rattle.replay_walk.specs.Seen.{Sight, SeesWhole}
+use Rattle.replay_walk.specs.Walked.{ComesAlong}
 use Rattle.replay.specs.Runs.{HasLength, HasPages, OfScale}
 use Rattle.replay.specs.Threads.{OfCall}
-use Rattle.replay.specs.Watching.{SeesWalk, SeesRun, SeesRefused, SeesReplay}
+use Rattle.replay.specs.Watching.{SeesAll, SeesWalk, SeesRun, SeesRefused, SeesReplay}
 use Rattle.replay.specs.declared.fault.ReplayFault.{ReplayFault}
 use Rattle.replay.specs.declared.fault.ReplayFault.TheVariants.{Line, EndLine, NoMemory}
 use Rattle.replay.proofs.Ready.{CanBegin}
+
+pub seen_all : {T W : Type 0} (meaning : T → Meaning) (sees : W → Sight T → W → Type 0) (r : RecordParts) (first last : Walk T)
+    (log : List Entry) (old new : W) → log ≡ r.log → ComesAlong meaning first r.limit log last
+    → SeesWhole meaning sees first r.limit log last old new → SeesAll meaning sees r first old new
+seen_all meaning sees r first last log old new same comes whole = (
+  last,
+  subst (λ (l : List Entry). ComesAlong meaning first r.limit l last) same comes,
+  subst (λ (l : List Entry). SeesWhole meaning sees first r.limit l last old new) same whole,
+)
 
 module _ {W : Type 0} (sees : W → Sight Thread → W → Type 0) (m : Parts) (r : RecordParts) where
   pub unseen_scale : (fault : ReplayFault) → OfScale m r fault → (w : W) → SeesRefused sees m r fault w w

@@ -10,16 +10,18 @@ use Rattle.replay_text.specs.Versions.{header_count}
 use Rattle.replay_text.specs.declared.parts.RecordParts.{RecordParts}
 use Rattle.replay_walk.specs.declared.walk.Walk.{Walk}
 use Rattle.replay_walk.specs.Seen.{Sight, SeesWhole, SeesUpTo}
-use Rattle.replay_walk.specs.Walked.{Run, WalkCame, start}
+use Rattle.replay_walk.specs.Walked.{Run, ComesAlong, WalkCame, start}
 use Rattle.replay.specs.Runs.{BeginsBy, start_of_record, IsHeaderFault}
 use Rattle.replay.specs.Walks.{IsReadyFor}
 use Rattle.replay.specs.declared.fault.ReplayFault.{ReplayFault}
 use Rattle.replay.specs.declared.fault.ReplayFault.TheVariants.{Line, EndLine, NoMemory}
 
 module _ {T W : Type 0} (meaning : T → Meaning) (sees : W → Sight T → W → Type 0) where
-  -- From this walk on it sees all of the record's log; or the log up to the entry of this line.
+  -- From this walk on it sees all of the record's log, and the walk that came along it; or the log up to the entry of this
+  -- line.
   abbrev pub SeesAll : RecordParts → Walk T → W → W → Type 0
-  SeesAll r first old new = (last : Walk T) × SeesWhole meaning sees first r.limit r.log last old new
+  SeesAll r first old new = (last : Walk T) × ComesAlong meaning first r.limit r.log last
+      × SeesWhole meaning sees first r.limit r.log last old new
 
   abbrev pub SeesUntil : RecordParts → ℕ → Walk T → W → W → Type 0
   SeesUntil r line first old new =

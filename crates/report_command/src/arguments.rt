@@ -87,7 +87,7 @@ pub(crate) struct CommandRow {
     pub call: &'static str,
     /// What help says of it.
     pub about: &'static str,
-    /// The last line of its help.
+    /// What its help ends with.
     pub after_help: Option<&'static str>,
     /// Its arguments, in the order of its help.
     pub arguments: &'static [Argument],

@@ -16,8 +16,10 @@ use crate::command_line::{FILE, Job, Misuse, RECORD};
 use crate::explain::{EXPLAIN, NO_EXPLAIN};
 use crate::form::{Form, JSON, form_of};
 use crate::limits::{DEFAULT_WIDTH, MOST_DUMP, NARROWEST, WIDEST};
-use crate::places::{Data, DataSpelling, LineSpelling, Spelling, ThreadSpelling, When};
-use crate::places::{bytes_in, moment_in, target_in, values_in};
+use crate::places::{
+    Data, DataSpelling, LineSpelling, Spelling, ThreadSpelling, When, bytes_in, moment_in,
+    target_in, values_in,
+};
 use crate::words::{short_of, texts_of};
 use clap::ArgMatches;
 use clap::builder::ValueParser;
@@ -238,6 +240,20 @@ const COLOR: Argument = Argument {
     ..OPTION
 };
 
+/// How rows are read.
+const NOTATION: &str = "\
+A row: the line in the record, the thread, what it did, and where.
+  load32 4096 = 5             it read 4 bytes at 4096, and got 5; an atomic instruction says so: atomic load32
+  store32 4096 <- 6 (had 5)   it wrote 6, where 5 stood
+  add 4096 +1 = 6             in one step it added 1 and got what stood there, 6; so are sub, and, or, xor
+  xchg 4096 <- 1 = 0          in one step it wrote 1 and got what stood there, 0
+  cmpxchg 4096 0 -> 1         in one step it found 0 and wrote 1
+  cmpxchg 4096 0 -> 1: has 2  it found 2 in place of 0, and wrote nothing
+  sleeps on 4096 while 1      it found 1 and sleeps until a notify of 4096, as on a futex
+  notify 4096: wakes t1       it woke t1
+  ... at queue.head           the static data that is there
+  main+0x4a queue.c:27        where: the function, how many bytes behind its start, the line of source";
+
 /// `show FILE RECORD [--lines A-B,..] [--thread T,..] [--addr A[-B],..] [--unfold] [--names FILE2] [--width N]
 /// [--color WHEN] [--html OUT] [--trace OUT] [--json] [--explain|--no-explain]`, `show FILE RECORD --at LINE [--dump A:N]
 /// [--raw] [--names FILE2]`, and `show FILE RECORD --last-write A[:N] [--at LINE] [--names FILE2]`
@@ -245,7 +261,7 @@ pub(crate) static SHOW: CommandRow = CommandRow {
     name: "show",
     call: "wathread show",
     about: "Shows the entries of a record in words, with the place in the module of each",
-    after_help: None,
+    after_help: Some(NOTATION),
     arguments: &[
         FILE, RECORD, LINES, THREADS, ADDRESSES, UNFOLD, NAMES, SOURCE, WIDTH, COLOR, AT, BYTES,
         RAW, LAST_WRITE, HTML, TRACE, OBJECT, EXPLAIN, NO_EXPLAIN,
@@ -322,10 +338,7 @@ fn width_of(matches: &ArgMatches) -> Option<usize>
 }
 
 /// How the record is shown, and what is made of it; `None` where an argument can't be read.
-fn look_of<'a>(
-    alloc: Global,
-    matches: &ArgMatches<'a>,
-) -> Result<Option<ShowLook<'a>>, AllocError>
+fn look_of<'a>(alloc: Global, matches: &ArgMatches<'a>) -> Result<Option<ShowLook<'a>>, AllocError>
     ensures range { IfOk result (λ look. IfSome look IsLookInRange) }
     ensures asks { IfOk result (λ look. IfSome look (AsksLook (found_of matches.now))) }
 {

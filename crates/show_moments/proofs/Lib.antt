@@ -1,4 +1,5 @@
 pub mod Seen
+pub mod Walked
 mod Listed
 mod Nexts
 mod Scenes

@@ -104,11 +104,7 @@ impl Words<'_> {
 }
 
 /// What a store got, and what it overwrote.
-fn write_stored<W: Write>(
-    f: &mut Formatter<W>,
-    reply: Reply,
-    before: Option<u64>,
-) -> fmt::Result
+fn write_stored<W: Write>(f: &mut Formatter<W>, reply: Reply, before: Option<u64>) -> fmt::Result
     ensures { WritesOnOk W.write_str_gives f.old result (stored_text reply before) f.new }
 {
     match (reply, before) {

@@ -8,8 +8,9 @@ use Rattle.replay_text.specs.Versions.{header_count}
 use Rattle.replay_text.specs.Text.{IsRecord}
 use Rattle.replay_text.proofs.Whole.{counted}
 use Rattle.replay_walk.specs.Walked as walked
-use Rattle.replay_walk.specs.Seen.{SeesUpTo, SeesWhole}
+use Rattle.replay_walk.specs.Seen.{SeesUpTo}
 use Rattle.replay.proofs.Deciding.{wider, first_misfit, within_log, none_left, is_recorded, is_wrong, within_ends}
+use Rattle.replay.proofs.Seeing.{seen_all}
 use Rattle.replay.proofs.walking.walk.Goals as goal
 
 few : (r : RecordParts) → IsRecord r → (1 ≤ r.threads) × (r.threads ≤ MOST_THREADS)
@@ -96,24 +97,18 @@ returns-in-Some-clause-seen g c =
 
 pub returns-in-Some-first_wrong_end-clause-seen : goal.returns-in-Some-first_wrong_end-clause-seen
 returns-in-Some-first_wrong_end-clause-seen g c =
-    let whole = c.along_watched.ensures.seen (none_left c.along_watched.result c.in_default.not-Some) in (
+    let none = none_left c.along_watched.result c.in_default.not-Some in (
       c.new-walk.result,
       λ run ready. c.new-walk.ensures run ready.ready ready.most,
-      (
-        c.along_watched.new.self,
-        subst (λ (l : List Entry). SeesWhole g.T.TakesTurns.meaning g.W.Watch.sees c.new-walk.result
-            c.args.parts.now.limit l c.along_watched.new.self c.args.watch.now c.along_watched.new.watch) c.as_slice-log.ensures whole,
-      ),
+      seen_all g.T.TakesTurns.meaning g.W.Watch.sees c.args.parts.now c.new-walk.result c.along_watched.new.self
+          c.as_slice-log.result.now _ _ c.as_slice-log.ensures (c.along_watched.ensures.whole none) (c.along_watched.ensures.seen none),
     )
 
 pub returns-in-None-clause-seen : goal.returns-in-None-clause-seen
 returns-in-None-clause-seen g c =
-    let whole = c.along_watched.ensures.seen (none_left c.along_watched.result c.in_default.not-Some) in (
+    let none = none_left c.along_watched.result c.in_default.not-Some in (
       c.new-walk.result,
       λ run ready. c.new-walk.ensures run ready.ready ready.most,
-      (
-        c.along_watched.new.self,
-        subst (λ (l : List Entry). SeesWhole g.T.TakesTurns.meaning g.W.Watch.sees c.new-walk.result
-            c.args.parts.now.limit l c.along_watched.new.self c.args.watch.now c.along_watched.new.watch) c.as_slice-log.ensures whole,
-      ),
+      seen_all g.T.TakesTurns.meaning g.W.Watch.sees c.args.parts.now c.new-walk.result c.along_watched.new.self
+          c.as_slice-log.result.now _ _ c.as_slice-log.ensures (c.along_watched.ensures.whole none) (c.along_watched.ensures.seen none),
     )

@@ -1,6 +1,4 @@
-use Rattle.std.proofs.Common.{List, subst, sym, refl, take, ◌+◌}
-use Rattle.std.specs.Borrow.{Bor}
-use Rattle.std.specs.List.{AllZip}
+use Rattle.std.proofs.Common.{refl}
 use Rattle.report_command.proofs.Zipped.{zip_next}
 use Rattle.report_command.proofs.places.values_in.Goals as goal
 
