@@ -3,3 +3,4 @@ mod RacePairs
 pub mod Zipped
 mod Printed
 mod ObjectRows
+mod RunMoments

@@ -1,4 +1,5 @@
 pub mod PageMoments
+pub mod RunMoments
 pub mod RaceObjects
 pub mod Raced
 pub mod Silent

@@ -30,6 +30,7 @@ use Rattle.show_data.specs.declared.place.Place.{Place}
 use Rattle.show_data.specs.Within.{IsWithinOne}
 use Rattle.show_events.specs.Written.{WritesPage, WritesTrace}
 use Rattle.show_events.specs.declared.run.MomentText.{MomentText}
+use Rattle.show_moments.specs.declared.moment.Moment.{Moment}
 use Rattle.show_named.specs.declared.data_map.DataMap.{DataMap}
 use Rattle.show_named.specs.Folds.{WritesFolded}
 use Rattle.show_named.specs.Rows.{WritesRows}
@@ -45,6 +46,7 @@ use Rattle.report_looks.specs.declared.wanted.Wanted.{Wanted}
 use Rattle.report_looks.specs.declared.wanted.Wanted.TheVariants as wanted
 use Rattle.report_looks.specs.PageMoments.{AreOfPage}
 use Rattle.report_looks.specs.RaceObjects.{WritesObject}
+use Rattle.report_looks.specs.RunMoments.{IsMomentIn, WritesHere}
 use Rattle.report_looks.specs.Raced.{IsSeen}
 
 abbrev pub is_trap : Outcome → Bool
@@ -143,11 +145,13 @@ WritesEntries views.Object shown map look old new = WritesObject shown look old 
 WritesEntries views.Unfolded shown map look old new = WritesRowsOf shown map look old new
 WritesEntries view shown map look old new = WritesFoldedOf shown map look old new
 
--- What is wanted of a record is written; of a moment nothing is said here.
+-- What is wanted of a record is written.
 abbrev pub WritesWanted : Shown → DataMap → Look → Wanted → Option (List ℕ) → Option (List ℕ) → Type 0
 WritesWanted shown map look (wanted.Write addrs before) old new = WritesLastOf shown map before addrs old new
 WritesWanted shown map look (wanted.Entries view) old new = WritesEntries view shown map look old new
-WritesWanted shown map look (wanted.Moment here) old new = Unit {0}
+WritesWanted shown map look (wanted.Moment here) old new = (moment : Moment)
+    × IsMomentIn shown.code.now.parts.now shown.record.now here.place here.bytes moment
+    × WritesHere shown.code.now.parts.now shown map here moment old new
 
 -- A record as it is shown: its entries, their rows, and places of this module.
 pub record IsShown (m : Parts) (r : RecordParts) (rows : List (Option Row)) (shown : Shown) : Type 0 where

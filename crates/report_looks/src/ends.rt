@@ -1,5 +1,7 @@
 //! How the threads of a run ended, and where those stand that trapped or were stopped.
 
+ghost use Rattle.std.specs.Prelude.{◌≡◌, false, OnOk};
+
 use show_moments::{Moment, MomentView, write_stack};
 use show_rows::Story;
 use show_text::Unwritten;
@@ -21,7 +23,9 @@ pub(crate) fn write_end<W: Write>(
     view: MomentView,
     moment: &Moment,
     out: &mut W,
-) -> Result<(), Unwritten> {
+) -> Result<(), Unwritten>
+    ensures { OnOk result (moment.now.is_short ≡ false) }
+{
     if moment.is_short {
         return Err(Unwritten::NoMemory);
     }

@@ -55,7 +55,8 @@ fn moment_text(
     races: &[Race],
     at: usize,
 ) -> Result<MomentText, Unwritten>
-    requires { All (IsWithin seen.shown.record.now.log) races.now }
+    requires of_record { «record».now ≡ seen.shown.record.now }
+    requires races { All (IsWithin seen.shown.record.now.log) races.now }
     ensures { IfOk result (IsMomentAt seen.entry races.now at) }
 {
     let bytes = match seen.shown.record.log.as_slice().get(at) {
@@ -93,7 +94,8 @@ fn moments_at(
     races: &[Race],
     places: &[usize],
 ) -> Result<Vec<MomentText>, Unwritten>
-    requires { All (IsWithin seen.shown.record.now.log) races.now }
+    requires of_record { «record».now ≡ seen.shown.record.now }
+    requires races { All (IsWithin seen.shown.record.now.log) races.now }
     ensures { IfOk result (λ ms. AllZip (IsMomentAt seen.entry races.now) places.now ms.items) }
 {
     let mut moments = Vec::with_capacity(alloc, places.len())?;
@@ -112,7 +114,8 @@ fn moments_of(
     look: &Look,
     races: &[Race],
 ) -> Result<Vec<MomentText>, Unwritten>
-    requires { All (IsWithin seen.shown.record.now.log) races.now }
+    requires of_record { «record».now ≡ seen.shown.record.now }
+    requires races { All (IsWithin seen.shown.record.now.log) races.now }
     ensures { IfOk result (λ ms. AreMomentsOf seen.entry look.now races.now ms.items) }
 {
     let chosen = chosen_entries(alloc, seen.shown, look)?;
@@ -139,7 +142,8 @@ pub(crate) fn marks_of(
     look: &Look,
     view: View,
 ) -> Result<Marks, Unwritten>
-    requires { shown.code.now.parts.now ≡ «module».now.parts }
+    requires of_module { shown.code.now.parts.now ≡ «module».now.parts }
+    requires of_record { «record».now ≡ shown.record.now }
     ensures { IfOk result (AreMarks view.entry shown.entry map.now look.now) }
 {
     match view {

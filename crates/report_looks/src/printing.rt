@@ -1,8 +1,9 @@
 //! What is written of a record that is shown.
-ghost use Rattle.std.specs.Prelude.{◌≡◌, All, IfOk, OnOk};
+ghost use Rattle.std.specs.Prelude.{◌≡◌, false, All, IfOk, OnOk};
 ghost use Rattle.show_races.specs.Told.{IsWithin};
 ghost use Rattle.report_looks.specs.Looked as looked;
 ghost use Rattle.report_looks.specs.PageMoments.{AreMarks};
+ghost use Rattle.report_looks.specs.RunMoments.{IsMomentIn, WritesHere};
 ghost use Rattle.report_looks.specs.Looked.{PrintsAsked, WritesBelow, WritesEntries, WritesFoldedOf, WritesLastOf, WritesRowsOf};
 
 use crate::ends::write_end;
@@ -188,7 +189,10 @@ pub(crate) fn moment_of<'r>(
     module: &ValidModule,
     record: &'r Record,
     here: Here,
-) -> Result<Moment<'r>, Unwritten> {
+) -> Result<Moment<'r>, Unwritten>
+    ensures { IfOk result (λ moment. moment.is_short ≡ false
+        → IsMomentIn «module».now.parts «record».now here.place here.bytes moment) }
+{
     let log = record.parts().log.as_slice();
     let mut moment = Moment::new(alloc, log, here.place, here.bytes)?;
     match replay_watched(alloc, module, record, &mut moment) {
@@ -206,7 +210,10 @@ fn print_moment<W: Write>(
     moment: &Moment,
     here: Here,
     out: &mut W,
-) -> Result<(), Unwritten> {
+) -> Result<(), Unwritten>
+    ensures { OnOk result (WritesHere «module».now.parts shown.entry map.now here moment.now
+        (W.contents out.old) (W.contents out.new)) }
+{
     let view = MomentView {
         valid: module,
         shown,

@@ -26,6 +26,10 @@ record Kept (old new : Moment) : Type 0 where
   round : KeepsRound old new
   short : new.is_short ≡ false → old.is_short ≡ false
 
+-- it is before the same entry, with the same bytes
+abbrev pub AsksSame : Moment → Moment → Type 0
+AsksSame old new = (new.at ≡ old.at) × (new.wanted ≡ old.wanted)
+
 not_short : (a b : Bool) → (a ≡ true → b ≡ true) → b ≡ false → a ≡ false
 not_short false b f is = refl
 not_short true b f is = absurd (false≢true (sym is ∙ f refl))
@@ -112,16 +116,19 @@ module _ (meaning : Thread → Meaning) where
         let behind : between.at < count + 1 = (let same = here.at in omega (arith, past, same)) in
         kept_then old between new here (log_keeps log (count + 1) between new behind rest)
 
-    next_at : (count : ℕ) (e : Entry) (old new : Moment) → SeesNext meaning MomentSees Stands limit count e true old new
-        → new.at ≡ old.at
-    next_at count e old new next =
-        (entry_keeps e.event limit count next.walk e next.between new next.entry).at ∙ next.came.same.at
+    next_asks : (count : ℕ) (e : Entry) (old new : Moment) → SeesNext meaning MomentSees Stands limit count e true old new
+        → AsksSame old new
+    next_asks count e old new next =
+        let k = entry_keeps e.event limit count next.walk e next.between new next.entry in
+        (k.at ∙ next.came.same.at, k.wanted ∙ next.came.same.wanted)
 
-    log_at : (log : List Entry) (count : ℕ) (old new : Moment) → SeesLog meaning MomentSees Stands limit count log old new
-        → new.at ≡ old.at
-    log_at [] count old new sees = ap (λ (m : Moment). m.at) sees
-    log_at (e ∷ log) count old new (between, next, rest) =
-        log_at log (count + 1) between new rest ∙ next_at count e old between next
+    log_asks : (log : List Entry) (count : ℕ) (old new : Moment) → SeesLog meaning MomentSees Stands limit count log old new
+        → AsksSame old new
+    log_asks [] count old new sees = (ap (λ (m : Moment). m.at) sees, ap (λ (m : Moment). m.wanted) sees)
+    log_asks (e ∷ log) count old new (between, next, rest) =
+        let here = next_asks count e old between next in
+        let all = log_asks log (count + 1) between new rest in
+        (all.0 ∙ here.0, all.1 ∙ here.1)
 
     -- the entry of the moment
     next_sees : (count : ℕ) (e : Entry) (old new : Moment) → count ≡ old.at → new.is_short ≡ false
@@ -139,7 +146,7 @@ module _ (meaning : Thread → Meaning) where
         → (w : Walk Thread) × Stands old.at w × IsRound new w
     log_sees [] count old new from to whole sees = let no : ⊥ = omega (arith, from, to) in absurd no
     log_sees (e ∷ log) count old new from to whole (between, next, rest) =
-        let same = next_at count e old between next in
+        let same = (next_asks count e old between next).0 in
         elim (cases_eq count old.at) [
           | inl is ↦ (
               let behind : between.at < count + 1 = omega (arith, is, same) in
@@ -162,7 +169,7 @@ module _ (meaning : Thread → Meaning) where
       → (w : Walk Thread) × CameAlong meaning first limit log old.at w × IsRound new w
   whole_sees first last limit log old new within whole comes (between, sees, came) =
       let Stands = CameAlong meaning first limit log in
-      let same = log_at Stands limit log 0 old between sees in
+      let same = (log_asks Stands limit log 0 old between sees).0 in
       elim (cases_eq old.at (length log)) [
         | inl is ↦ (
             let all : take old.at log ≡ log = take_all old.at log (omega (arith, is)) in (
@@ -178,3 +185,9 @@ module _ (meaning : Thread → Meaning) where
             (found.0, found.1, round_kept between new found.0 k found.2)
             )
       ]
+
+  pub whole_asks : (first last : Walk Thread) (limit : ℕ) (log : List Entry) (old new : Moment)
+      → SeesWhole meaning MomentSees first limit log last old new → AsksSame old new
+  whole_asks first last limit log old new (between, sees, came) =
+      let all = log_asks (CameAlong meaning first limit log) limit log 0 old between sees in
+      (came.same.at ∙ all.0, came.same.wanted ∙ all.1)

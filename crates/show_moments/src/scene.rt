@@ -1,6 +1,6 @@
 //! A moment as text.
 
-ghost use Rattle.std.specs.Prelude.{◌≡◌, ◌==◌, ◌<◌, All, IfOk, OnOk, cond, [], length, string_bytes};
+ghost use Rattle.std.specs.Prelude.{◌≡◌, ◌==◌, ◌<◌, false, All, IfOk, OnOk, cond, [], length, string_bytes};
 ghost use Rattle.std.specs.List.{slice_get, list_any};
 ghost use Rattle.show_moments.specs.Scenes as specified;
 ghost use Rattle.show_races.specs.Told.{IsWithin};
@@ -55,7 +55,8 @@ pub fn write_moment<W: Write>(
     out: &mut W,
 ) -> Result<(), Unwritten>
     requires { All (IsWithin view.shown.record.now.log) races.now }
-    ensures { OnOk result (WritesMoment view.entry moment.now races.now (W.contents out.old) (W.contents out.new)) }
+    ensures says { OnOk result (WritesMoment view.entry moment.now races.now (W.contents out.old) (W.contents out.new)) }
+    ensures whole { OnOk result (moment.now.is_short ≡ false) }
 {
     if moment.is_short {
         return Err(Unwritten::NoMemory);

@@ -9,7 +9,7 @@ returns-in_ok-moments-in-Page c =
     let seen : MomentView = record { valid = c.args.module; shown = c.args.shown; map = c.args.map; is_raw = false } in
     rw c.in-Page.is (record {
       seen = seen;
-      view = record { of_record = refl; of_module = sym c.requires; of_data = refl; named = refl };
+      view = record { of_record = refl; of_module = sym c.requires.of_module; of_data = refl; raw = refl };
       each = subst (λ (races : List Race). AreMomentsOf seen c.args.look.now races c.in_ok-moments-in-Page.moments.items)
           c.deref.ensures.value c.in_ok-moments-in-Page.ensures;
     })

@@ -18,5 +18,14 @@ returns-in_ok-marks-in-Entries g c =
 pub returns-in_ok-moment-in-Moment : goal.returns-in_ok-moment-in-Moment
 returns-in_ok-moment-in-Moment g c =
     let shown : Shown = record { «record» = c.parts.result; rows = c.as_slice.result; code = c.args.code } in
-    rw c.in-Moment.is (on_ok_always c.print_moment.result
-    (shown, record { of_record = c.parts.ensures.parts; of_rows = c.as_slice.ensures.value; of_module = c.requires }, tt))
+    let m = c.args.module.now.parts in
+    rw c.in-Moment.is (on_ok_weaker c.print_moment.result (λ writes. (
+      shown,
+      record { of_record = c.parts.ensures.parts; of_rows = c.as_slice.ensures.value; of_module = c.requires },
+      (
+        c.in_ok-moment.moment,
+        moment_in m c.args.code.now.parts.now _ _ _ _ _ (sym c.requires) (sym c.parts.ensures.parts)
+            (c.in_ok-moment.ensures writes.whole),
+        subst (λ (p : Parts). WritesHere p shown c.args.map.now c.in-Moment.here c.in_ok-moment.moment _ _) (sym c.requires) writes,
+      ),
+    )) c.print_moment.ensures)

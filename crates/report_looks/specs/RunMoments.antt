@@ -1,0 +1,53 @@
+-- Moments of a record's run.
+use Rattle.std.specs.Prelude.{ℕ, ◌≡◌, ◌≤◌, Bool, true, false, List, length, take, Option}
+use Rattle.types.specs.declared.parts.Parts.{Parts}
+use Rattle.interp.specs.declared.thread.Thread.{Thread}
+use Rattle.interp.specs.Threads.{meaning_in}
+use Rattle.replay_text.specs.declared.parts.RecordParts.{RecordParts}
+use Rattle.replay_walk.specs.declared.walk.Walk.{Walk}
+use Rattle.replay_walk.specs.Walked.{Run, WalkCame, start}
+use Rattle.replay.specs.Runs.{BeginsBy, start_of_record}
+use Rattle.race_history.specs.declared.race.Race.{Race}
+use Rattle.show_moments.specs.declared.moment.Bytes.{Bytes}
+use Rattle.show_moments.specs.declared.moment.Moment.{Moment}
+use Rattle.show_moments.specs.declared.scene.MomentView.{MomentView}
+use Rattle.show_moments.specs.Moments.{IsRound}
+use Rattle.show_moments.specs.Scenes.{WritesMoment}
+use Rattle.show_named.specs.declared.data_map.DataMap.{DataMap}
+use Rattle.show_rows.specs.declared.listing.Shown.{Shown}
+use Rattle.report_looks.specs.declared.wanted.Here.{Here}
+
+-- The moment is of the module's run by a record, with these bytes wanted: its queue, its memory and where its threads stand
+-- are those of the walk that came along so many of the record's entries.
+pub record IsMomentOf (m : Parts) (r : RecordParts) (at : ℕ) (bytes : Bytes) (moment : Moment) : Type 0 where
+  pub at_is : moment.at ≡ at
+  pub wanted : moment.wanted ≡ bytes
+  pub run : Run
+  pub beginning : BeginsBy m r
+  pub same : start run ≡ start_of_record m r beginning
+  pub walk : Walk Thread
+  pub came : WalkCame meaning_in run (take at r.log) walk
+  pub round : IsRound moment walk
+
+-- There is no such moment behind the record's last entry.
+abbrev pub IsMomentIn : Parts → RecordParts → ℕ → Bytes → Moment → Type 0
+IsMomentIn m r at bytes moment = at ≤ length r.log → IsMomentOf m r at bytes moment
+
+-- A moment is shown of this record and this module, by this debug section; and whether all words are, as they are.
+pub record IsViewOf (m : Parts) (shown : Shown) (map : DataMap) (is_raw : Bool) (view : MomentView) : Type 0 where
+  pub of_record : view.shown ≡ shown
+  pub of_module : view.valid.now.parts ≡ m
+  pub of_data : view.map.now ≡ map
+  pub raw : view.is_raw ≡ is_raw
+
+-- What threads and memory are like before an entry is written; of the end nothing is said here.
+abbrev pub WritesScene : MomentView → Bool → Moment → Option (List ℕ) → Option (List ℕ) → Type 0
+WritesScene view true moment old new = Unit {0}
+WritesScene view false moment old new = (races : List Race) × WritesMoment view moment races old new
+
+pub record WritesHere (m : Parts) (shown : Shown) (map : DataMap) (here : Here) (moment : Moment)
+    (old new : Option (List ℕ)) : Type 0 where
+  pub view : MomentView
+  pub view_is : IsViewOf m shown map here.is_raw view
+  pub whole : moment.is_short ≡ false
+  pub writes : WritesScene view here.is_end moment old new
