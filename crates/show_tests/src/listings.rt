@@ -1,7 +1,7 @@
 //! Rows as they are printed.
 
 use crate::asserts::is_text;
-use crate::data::{KINDS, LATE, NAMES, RECORD, SMALL, TOLD, TOLD_2};
+use crate::data::{KINDS, LATE, NAMES, RECORD, SMALL, TOLD, TOLD_2, TWO, TWO_RECORD};
 use crate::made::{module_of, record_of, rows_of};
 use interp::CodePlace;
 use replay_text::Record;
@@ -38,7 +38,7 @@ const TOLD_WHOLE: Listing = Listing {
     text: "",
 };
 
-static LISTINGS: [Listing; 5] = [
+static LISTINGS: [Listing; 7] = [
     Listing {
         text: "\
             \x20     6  t0 spawns t1 (arg 4294967295)                                          tell+0x3\n\
@@ -106,6 +106,36 @@ static LISTINGS: [Listing; 5] = [
             \x20     9  t0 gone                        run+0xe small.c:10\n",
         ..TOLD_WHOLE
     },
+    // with a call from another file, which only the row has that it led to at once
+    Listing {
+        module: TWO,
+        names: TWO,
+        record: TWO_RECORD,
+        width: 60,
+        text: "\
+            \x20     6  t0 add 1024 +5 = 0             add+0x5 sum.c:4 < run two.c:7\n\
+            \x20     7  t0 add 1024 +2 = 5             add+0x5 sum.c:4\n\
+            \x20     8  t0 add 1024 +2 = 7             add+0x5 sum.c:4\n\
+            \x20     9  t0 atomic load32 1024 = 9      run+0x13 two.c:9\n\
+            \x20    10  t0 ends: ok i32:9              run+0x18 two.c:9\n\
+            \x20    11  t0 gone                        run+0x18 two.c:9\n",
+        ..TOLD_WHOLE
+    },
+    // the same without lines of source
+    Listing {
+        module: TWO,
+        names: NAMES,
+        record: TWO_RECORD,
+        width: 60,
+        text: "\
+            \x20     6  t0 add 1024 +5 = 0             tell+0x5\n\
+            \x20     7  t0 add 1024 +2 = 5             tell+0x5\n\
+            \x20     8  t0 add 1024 +2 = 7             tell+0x5\n\
+            \x20     9  t0 atomic load32 1024 = 9      spawn+0x13\n\
+            \x20    10  t0 ends: ok i32:9              spawn+0x18\n\
+            \x20    11  t0 gone                        spawn+0x18\n",
+        ..TOLD_WHOLE
+    },
 ];
 
 /// Each kind of entry, with these rows before some.
@@ -115,6 +145,7 @@ static KIND_ROWS: [Option<Row>; 3] = [
             function: 0,
             instr: 2,
         },
+        caller: None,
         before: Some(3),
     }),
     Some(Row {
@@ -122,6 +153,7 @@ static KIND_ROWS: [Option<Row>; 3] = [
             function: 0,
             instr: 1,
         },
+        caller: None,
         before: Some(3),
     }),
     Some(Row {
@@ -129,6 +161,7 @@ static KIND_ROWS: [Option<Row>; 3] = [
             function: 7,
             instr: 0,
         },
+        caller: None,
         before: Some(9),
     }),
 ];
