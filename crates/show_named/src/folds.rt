@@ -91,7 +91,8 @@ impl Listing<'_, '_, '_, '_, '_, '_, '_, '_> {
     /// that is needn't be asked of the lines of source where the callers are the same.
     fn is_same_call(&self, a: usize, b: usize) -> bool
         requires { place_of self.now.shown self.now.story.now a ≡ place_of self.now.shown self.now.story.now b }
-        ensures { result ≡ true → call_of self.now.shown self.now.story.now a ≡ call_of self.now.shown self.now.story.now b }
+        ensures { result ≡ true →
+            call_of self.now.shown self.now.story.now a ≡ call_of self.now.shown self.now.story.now b }
     {
         let (shown, story) = (self.shown, self.story);
         if is_same_place(shown.caller_at(story, a), shown.caller_at(story, b)) {

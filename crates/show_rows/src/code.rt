@@ -201,11 +201,7 @@ impl<'m, 'n> CodeMap<'m, 'n> {
     }
 
     /// The call, where it and the place that it led to have a line of source each, in files that differ.
-    pub fn call_apart(
-        &self,
-        place: Option<CodePlace>,
-        call: Option<CodePlace>,
-    ) -> Option<CodePlace>
+    pub fn call_apart(&self, place: Option<CodePlace>, call: Option<CodePlace>) -> Option<CodePlace>
         ensures { result ≡ specified.call_apart self.now place call }
     {
         let place = place?;

@@ -1,8 +1,9 @@
 //! The rows of a record, one below the other.
 
 ghost use Rattle.std.specs.Prelude.{◌≡◌, ◌<◌, [], ◌∷◌, ◌++◌, cond, length, string_bytes, IfOk, OnOk, All, option_and_then};
-ghost use Rattle.show_rows.specs.Listing.{line_at, chosen, row_at, context_at, made_row, place_of, caller_of, call_of, outcome_of, is_atomic_row};
-ghost use Rattle.show_rows.specs.Listing.{IsStoryOf, AreWordsOf, IsPlaceText, IsCallText, IsPlaceTextOf, AddsEntry, AddsEntries, WritesRows};
+ghost use Rattle.show_rows.specs.Listing.{line_at, chosen, row_at, context_at, outcome_of, is_atomic_row};
+ghost use Rattle.show_rows.specs.Listing.{made_row, place_of, caller_of, call_of, IsPlaceText, IsCallText, IsPlaceTextOf};
+ghost use Rattle.show_rows.specs.Listing.{IsStoryOf, AreWordsOf, AddsEntry, AddsEntries, WritesRows};
 
 use crate::Row;
 use crate::code::CodeMap;
@@ -179,11 +180,7 @@ impl Shown<'_, '_, '_, '_, '_> {
 }
 
 /// The text of a place; empty where it isn't known.
-fn spot_text(
-    alloc: Global,
-    code: &CodeMap,
-    place: Option<CodePlace>,
-) -> Result<String, AllocError>
+fn spot_text(alloc: Global, code: &CodeMap, place: Option<CodePlace>) -> Result<String, AllocError>
     ensures { IfOk result (λ text. IsPlaceText code.now place (string_bytes text)) }
 {
     match place {
@@ -193,11 +190,7 @@ fn spot_text(
 }
 
 /// The text of a call; empty where there is none.
-fn call_text(
-    alloc: Global,
-    code: &CodeMap,
-    call: Option<CodePlace>,
-) -> Result<String, AllocError>
+fn call_text(alloc: Global, code: &CodeMap, call: Option<CodePlace>) -> Result<String, AllocError>
     ensures { IfOk result (λ text. IsCallText code.now call (string_bytes text)) }
 {
     match call {
