@@ -58,21 +58,21 @@ end 0 ok i32:5 9\n\
 pages 1\n\
 finish\n";
 
-/// Of two sources, `two.c` and `sum.c`, with the switch `-gline-tables-only` as well, and without the sections that say
+/// A source, `two.c`.
+pub const TWO_TEXT: &str = r#"#define EXPORT(name) __attribute__((export_name(name)))
+#define WORD ((_Atomic int *)1024)
+void add(int by);
+void twice(int by);
+
+EXPORT("f") int run(void) {
+    add(5);
+    twice(2);
+    return *WORD;
+}
+"#;
+
+/// Of this source and another one, `sum.c`, with the switch `-gline-tables-only` as well, and without the sections that say
 /// more than names and lines:
-///
-/// ```c
-/// #define EXPORT(name) __attribute__((export_name(name)))
-/// #define WORD ((_Atomic int *)1024)
-/// void add(int by);
-/// void twice(int by);
-///
-/// EXPORT("f") int run(void) {
-///     add(5);
-///     twice(2);
-///     return *WORD;
-/// }
-/// ```
 ///
 /// ```c
 /// #define WORD ((_Atomic int *)1024)

@@ -1,11 +1,12 @@
 //! Rows as they are printed.
 
 use crate::asserts::is_text;
-use crate::data::{KINDS, LATE, NAMES, RECORD, SMALL, TOLD, TOLD_2, TWO, TWO_RECORD};
+use crate::data::{KINDS, LATE, NAMES, RECORD, SMALL, TOLD, TOLD_2, TWO, TWO_RECORD, TWO_TEXT};
 use crate::made::{module_of, record_of, rows_of};
 use interp::CodePlace;
 use replay_text::Record;
 use report_choice::{Choice, Color, Look, Span};
+use show_lines::{SourceFile, Sources};
 use show_rows::{CodeMap, Row, Shown, write_rows};
 use std::alloc::Global;
 use std::process::Abort;
@@ -18,6 +19,8 @@ struct Listing {
     module: &'static [u8],
     names: &'static [u8],
     record: &'static [u8],
+    /// Files of source that are at hand: what each is called, and its text.
+    sources: &'static [(&'static str, &'static str)],
     lines: Option<Span>,
     threads: &'static [u32],
     addrs: Option<Span>,
@@ -30,6 +33,7 @@ const TOLD_WHOLE: Listing = Listing {
     module: TELLING,
     names: NAMES,
     record: TOLD,
+    sources: &[],
     lines: None,
     threads: &[],
     addrs: None,
@@ -38,7 +42,7 @@ const TOLD_WHOLE: Listing = Listing {
     text: "",
 };
 
-static LISTINGS: [Listing; 7] = [
+static LISTINGS: [Listing; 8] = [
     Listing {
         text: "\
             \x20     6  t0 spawns t1 (arg 4294967295)                                          tell+0x3\n\
@@ -119,6 +123,22 @@ static LISTINGS: [Listing; 7] = [
             \x20     9  t0 atomic load32 1024 = 9      run+0x13 two.c:9\n\
             \x20    10  t0 ends: ok i32:9              run+0x18 two.c:9\n\
             \x20    11  t0 gone                        run+0x18 two.c:9\n",
+        ..TOLD_WHOLE
+    },
+    // the same, with the text of one of its files
+    Listing {
+        module: TWO,
+        names: TWO,
+        record: TWO_RECORD,
+        sources: &[("two.c", TWO_TEXT)],
+        width: 60,
+        text: "\
+            \x20     6  t0 add 1024 +5 = 0             add+0x5 sum.c:4 < run two.c:7 | add(5);\n\
+            \x20     7  t0 add 1024 +2 = 5             add+0x5 sum.c:4\n\
+            \x20     8  t0 add 1024 +2 = 7             add+0x5 sum.c:4\n\
+            \x20     9  t0 atomic load32 1024 = 9      run+0x13 two.c:9 | return *WORD;\n\
+            \x20    10  t0 ends: ok i32:9              run+0x18 two.c:9 | return *WORD;\n\
+            \x20    11  t0 gone                        run+0x18 two.c:9 | return *WORD;\n",
         ..TOLD_WHOLE
     },
     // the same without lines of source
@@ -239,6 +259,19 @@ fn lines_of(alloc: Global, listing: &Listing, shown: Shown) -> Result<Vec<u8>, F
     Ok(out)
 }
 
+/// The files of source of a listing.
+fn files_of(alloc: Global, listing: &Listing) -> Result<Vec<SourceFile>, Fail> {
+    let mut files = Vec::new(alloc);
+    for (name, text) in listing.sources {
+        files.push(SourceFile {
+            directory: String::new(alloc),
+            name: name.to_string(alloc)?,
+            text: text.to_string(alloc)?,
+        })?;
+    }
+    Ok(files)
+}
+
 /// What is printed of a record with these rows.
 fn printed(
     alloc: Global,
@@ -247,7 +280,9 @@ fn printed(
     record: &Record,
     rows: &[Option<Row>],
 ) -> Result<Vec<u8>, Fail> {
+    let files = files_of(alloc, listing)?;
     let code = CodeMap::read(alloc, valid.parts(), listing.module, listing.names)?;
+    let code = code.with_sources(Sources::new(alloc, files.as_slice())?);
     let shown = Shown {
         record: record.parts(),
         rows,
