@@ -13,7 +13,7 @@ use Rattle.show_text.specs.Words.{words_text}
 use Rattle.show_text.specs.Rows.{RowText}
 use Rattle.show_rows.specs.declared.listing.Shown.{Shown}
 use Rattle.show_rows.specs.declared.listing.Story.{Story}
-use Rattle.show_rows.specs.Listing.{line_at, place_of, chosen, AreWordsOf, IsPlaceText, IsStoryOf}
+use Rattle.show_rows.specs.Listing.{line_at, chosen, AreWordsOf, IsPlaceTextOf, IsStoryOf}
 use Rattle.replay_forms.proofs.Written.{appends_then}
 use Rattle.show_rows.proofs.Chosen.{appends_keeps}
 use Rattle.show_rows.proofs.Saying.{says_of}
@@ -31,7 +31,7 @@ use Rattle.show_events.specs.declared.run.MomentText.{MomentText}
 pub event_says : (shown : Shown) (story : Story) (at long line : ℕ) (log : List Entry) (d : Entry) (said : Words)
     (words place json : List ℕ) (old new : Option (List ℕ)) → log ≡ shown.record.now.log → at < length shown.record.now.log
     → AreWordsOf shown story at (get_or log at d) said → words ≡ words_text said
-    → IsPlaceText shown.code.now (place_of shown story at) place → line ≡ line_at shown at → Lasts story.contexts.items at long
+    → IsPlaceTextOf shown story at place → line ≡ line_at shown at → Lasts story.contexts.items at long
     → json ≡ entry_json (record { line = line; thread = (get_or log at d).thread; words = words; place = place }) at long
     → Appends old new (line_text Next json) → AddsEvent shown story at old new
 event_says shown story at long line log d said words place json old new same within of words_are place_is line_is lasts is wrote =

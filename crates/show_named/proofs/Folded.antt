@@ -16,21 +16,32 @@ use Rattle.show_text.specs.Rows.{RowText}
 use Rattle.show_rows.specs.declared.rows.Row.{Row}
 use Rattle.show_rows.specs.declared.listing.Shown.{Shown}
 use Rattle.show_rows.specs.declared.listing.Story.{Story}
-use Rattle.show_rows.specs.Listing.{IsPlaceText, context_at, is_atomic_row, line_at, row_at}
+use Rattle.show_rows.specs.Listing.{IsCallText, IsPlaceText, context_at, is_atomic_row, line_at, row_at}
 use Rattle.show_rows.proofs.Chosen.{keeps_same}
 use Rattle.show_named.specs.declared.data_map.DataMap.{DataMap}
 use Rattle.show_named.specs.declared.folds.Rounds.{Rounds}
-use Rattle.show_named.specs.Folds.{AddsFolded, AddsNoted, AddsPart, AddsParts, AreAlike, AreOfOne, AreRounds, AreToldAlike, AreNamedWords, IsAnswered, IsBy, IsRoundsOf, Repeats, often_text}
+use Rattle.show_named.specs.Folds.{AddsFolded, AddsNoted, AddsPart, AddsParts, AreAlike, AreOfOne, AreRounds, AreToldAlike, AreNamedWords, IsAnswered, IsBy, IsRoundsOf, Repeats, often_text, without_caller}
 use Rattle.show_named.specs.Rows.{AddsEntries, SaysNamed}
 use Rattle.show_named.proofs.Listed.{entry_behind, keeps_keeps, keeps_then}
 
+before_in : Option Row → Option ℕ
+before_in row = option_and_then (λ (r : Row). r.before) row
+
+before_without : (row : Option Row) → before_in row ≡ before_in (without_caller row)
+before_without None = refl
+before_without (Some row) = refl
+
 module _ (shown : Shown) (map : DataMap) (story : Story) where
+  atomic_without : (row : Option Row) → is_atomic_row shown row ≡ is_atomic_row shown (without_caller row)
+  atomic_without None = refl
+  atomic_without (Some row) = refl
+
   -- Equal entries of which the log and the rows say the same are alike.
   pub alike : (a b : ℕ) → slice_get shown.record.now.log a ≡ slice_get shown.record.now.log b → AreToldAlike shown story a b
       → AreAlike shown map story a b
   alike a b same told row says =
-      let rows : row_at shown a ≡ row_at shown b = told.row in
       let w = says.says.words_of in
+      let p = says.says.place in
       record {
         row = record says.row { line = line_at shown b };
         says = record {
@@ -42,13 +53,20 @@ module _ (shown : Shown) (map : DataMap) (story : Story) where
           words_of = record {
             entry = w.entry;
             context = w.context ∙ told.context;
-            atomic = w.atomic ∙ ap (is_atomic_row shown) rows;
-            before = w.before ∙ ap (option_and_then (λ (r : Row). r.before)) rows;
+            atomic = w.atomic ∙ atomic_without (row_at shown a) ∙ ap (is_atomic_row shown) told.row
+                ∙ sym (atomic_without (row_at shown b));
+            before = w.before ∙ before_without (row_at shown a) ∙ ap before_in told.row ∙ sym (before_without (row_at shown b));
             woken = w.woken ∙ told.woken ∙ sym told.woken_too;
             outcome = w.outcome;
           };
           words = says.says.words;
-          place = subst (λ p. IsPlaceText shown.code.now p says.row.place) told.place says.says.place;
+          place = record {
+            spot = p.spot;
+            spot_is = subst (λ x. IsPlaceText shown.code.now x p.spot) told.place p.spot_is;
+            call = p.call;
+            call_is = subst (λ x. IsCallText shown.code.now x p.call) told.call p.call_is;
+            text_is = p.text_is;
+          };
         };
         name = says.name;
         name_is = record { made = says.name_is.made; stands = sym same ∙ says.name_is.stands; named = says.name_is.named };

@@ -10,7 +10,7 @@ use Rattle.show_text.specs.Words.{words_text}
 use Rattle.show_text.specs.Rows.{RowText, AddsRow}
 use Rattle.show_rows.specs.declared.listing.Shown.{Shown}
 use Rattle.show_rows.specs.declared.listing.Story.{Story}
-use Rattle.show_rows.specs.Listing.{line_at, place_of, AreWordsOf, IsPlaceText}
+use Rattle.show_rows.specs.Listing.{line_at, AreWordsOf, IsPlaceTextOf}
 use Rattle.show_rows.proofs.Saying.{says_of}
 use Rattle.show_named.specs.declared.data_map.DataMap.{DataMap}
 use Rattle.show_named.specs.Names.{IsDataText}
@@ -22,7 +22,7 @@ pub says_named : (shown : Shown) (map : DataMap) (story : Story) (at : ℕ) (log
     (words name place : List ℕ)
     → log ≡ shown.record.now.log → at < length shown.record.now.log → AreWordsOf shown story at (get_or log at d) said
     → line ≡ line_at shown at → words ≡ words_text said ++ name
-    → IsPlaceText shown.code.now (place_of shown story at) place → IsDataText map (get_or log at d).event name
+    → IsPlaceTextOf shown story at place → IsDataText map (get_or log at d).event name
     → SaysNamed shown map story at (record { line = line; thread = (get_or log at d).thread; words = words; place = place })
 says_named shown map story at log d said line words name place same within of line_is words_are place_is named =
     let row : RowText =
@@ -64,7 +64,7 @@ named_of shown map story at log d said words name same within of named is =
 pub says_words : (shown : Shown) (map : DataMap) (story : Story) (at : ℕ) (log : List Entry) (d : Entry) (line : ℕ)
     (words place : List ℕ)
     → log ≡ shown.record.now.log → at < length shown.record.now.log → line ≡ line_at shown at
-    → AreNamedWords shown map story at words → IsPlaceText shown.code.now (place_of shown story at) place
+    → AreNamedWords shown map story at words → IsPlaceTextOf shown story at place
     → SaysNamed shown map story at (record { line = line; thread = (get_or log at d).thread; words = words; place = place })
 says_words shown map story at log d line words place same within line_is w place_is =
     let stands : slice_get shown.record.now.log at ≡ Some (get_or log at d)

@@ -1,6 +1,6 @@
 -- Rounds that are made again and again have the rows of the first one, with how often; and an answer stands on the row of
 -- its question, where nothing is between.
-use Rattle.std.specs.Prelude.{ℕ, ◌≡◌, ◌≤◌, ◌+◌, ◌⊎◌, ◌==◌, ◌++◌, [], ◌∷◌, if◌then◌else◌, List, Option, Some, Bool, All, codes, length, take}
+use Rattle.std.specs.Prelude.{ℕ, ◌≡◌, ◌≤◌, ◌+◌, ◌⊎◌, ◌==◌, ◌++◌, [], ◌∷◌, if◌then◌else◌, List, Option, Some, None, Bool, All, codes, length, option_map, take}
 use Rattle.std.specs.Fmt.{decimal}
 use Rattle.std.specs.List.{AllZip, concat, slice_get}
 use Rattle.std.specs.Io.KnownBytes.{Keeps}
@@ -14,7 +14,8 @@ use Rattle.show_text.specs.Words.{words_text}
 use Rattle.show_text.specs.Rows.{RowText, AddsRow}
 use Rattle.show_rows.specs.declared.listing.Shown.{Shown}
 use Rattle.show_rows.specs.declared.listing.Story.{Story}
-use Rattle.show_rows.specs.Listing.{AreWordsOf, IsStoryOf, chosen, context_at, line_at, place_of, row_at}
+use Rattle.show_rows.specs.declared.rows.Row.{Row}
+use Rattle.show_rows.specs.Listing.{AreWordsOf, IsStoryOf, call_of, chosen, context_at, line_at, place_of, row_at}
 use Rattle.show_named.specs.declared.data_map.DataMap.{DataMap}
 use Rattle.show_named.specs.declared.folds.Piece.{Piece}
 use Rattle.show_named.specs.declared.folds.Piece.TheVariants as pieces
@@ -26,11 +27,16 @@ abbrev pub AreAlike : Shown → DataMap → Story → ℕ → ℕ → Type 0
 AreAlike shown map story a b = (row : RowText) → SaysNamed shown map story a row
     → SaysNamed shown map story b (record row { line = line_at shown b })
 
--- The log and the rows say the same of both.
+-- All that a row has but its caller.
+abbrev pub without_caller : Option Row → Option Row
+without_caller row = option_map (λ r. record r { caller = None }) row
+
+-- The log and the rows say the same of both; the callers of their functions may differ where rows don't have them.
 pub record AreToldAlike (shown : Shown) (story : Story) (a b : ℕ) : Type 0 where
   pub context : context_at story a ≡ context_at story b
-  pub row : row_at shown a ≡ row_at shown b
+  pub row : without_caller (row_at shown a) ≡ without_caller (row_at shown b)
   pub place : place_of shown story a ≡ place_of shown story b
+  pub call : call_of shown story a ≡ call_of shown story b
   pub woken : woken_in story.wakes a ≡ []
   pub woken_too : woken_in story.wakes b ≡ []
 

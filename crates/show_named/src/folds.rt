@@ -1,6 +1,6 @@
 //! Which entries have one row, or the rows of one round.
 ghost use Rattle.std.specs.Prelude.{◌≡◌, ◌+◌, ◌≤◌, ◌<◌, true, All, length, take, drop};
-ghost use Rattle.show_rows.specs.Listing.{row_at};
+ghost use Rattle.show_rows.specs.Listing.{call_of, place_of, row_at};
 ghost use Rattle.show_named.specs.Folds.{AreAlike, AreOfOne, AreToldAlike, IsAnswered, IsBy, IsPiece, IsRoundsOf, Repeats};
 
 use crate::data_map::DataMap;
@@ -87,6 +87,20 @@ impl Listing<'_, '_, '_, '_, '_, '_, '_, '_> {
         }
     }
 
+    /// Whether the rows of two entries that were made at one place have the same call behind it, or none has one. Which
+    /// that is needn't be asked of the lines of source where the callers are the same.
+    fn is_same_call(&self, a: usize, b: usize) -> bool
+        requires { place_of self.now.shown self.now.story.now a ≡ place_of self.now.shown self.now.story.now b }
+        ensures { result ≡ true →
+            call_of self.now.shown self.now.story.now a ≡ call_of self.now.shown self.now.story.now b }
+    {
+        let (shown, story) = (self.shown, self.story);
+        if is_same_place(shown.caller_at(story, a), shown.caller_at(story, b)) {
+            return true;
+        }
+        is_same_place(shown.call_at(story, a), shown.call_at(story, b))
+    }
+
     /// Whether the log and the rows say the same of two entries.
     fn is_told_alike(&self, a: usize, b: usize) -> bool
         ensures { result ≡ true → AreToldAlike self.now.shown self.now.story.now a b }
@@ -99,6 +113,9 @@ impl Listing<'_, '_, '_, '_, '_, '_, '_, '_> {
             return false;
         }
         if !is_same_place(shown.place_at(story, a), shown.place_at(story, b)) {
+            return false;
+        }
+        if !self.is_same_call(a, b) {
             return false;
         }
         story.wakes.by(a).is_empty() && story.wakes.by(b).is_empty()

@@ -1,5 +1,6 @@
 //! Whether entries, and what is known of them, are the same.
-ghost use Rattle.std.specs.Prelude.{◌≡◌, true};
+ghost use Rattle.std.specs.Prelude.{◌≡◌, true, None};
+ghost use Rattle.show_named.specs.Folds.{without_caller};
 
 use interp::CodePlace;
 use replay_walk::{is_same_answer, is_same_event, is_same_reply};
@@ -50,7 +51,7 @@ pub(crate) fn is_same_place(a: Option<CodePlace>, b: Option<CodePlace>) -> bool
 }
 
 fn is_same_known_row(a: Row, b: Row) -> bool
-    ensures { result ≡ true → a ≡ b }
+    ensures { result ≡ true → record a { caller = None } ≡ record b { caller = None } }
 {
     if a.place.function != b.place.function {
         return false;
@@ -58,9 +59,9 @@ fn is_same_known_row(a: Row, b: Row) -> bool
     a.place.instr == b.place.instr && is_same_number(a.before, b.before)
 }
 
-/// Whether two rows are the same, or neither is known.
+/// Whether two rows are the same but for their callers, or neither is known.
 pub(crate) fn is_same_row(a: Option<Row>, b: Option<Row>) -> bool
-    ensures { result ≡ true → a ≡ b }
+    ensures { result ≡ true → without_caller a ≡ without_caller b }
 {
     match (a, b) {
         (Some(a), Some(b)) => is_same_known_row(a, b),

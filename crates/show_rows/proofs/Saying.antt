@@ -8,13 +8,13 @@ use Rattle.show_text.specs.Words.{words_text}
 use Rattle.show_text.specs.Rows.{RowText}
 use Rattle.show_rows.specs.declared.listing.Shown.{Shown}
 use Rattle.show_rows.specs.declared.listing.Story.{Story}
-use Rattle.show_rows.specs.Listing.{line_at, place_of, AreWordsOf, IsPlaceText, Says}
+use Rattle.show_rows.specs.Listing.{line_at, AreWordsOf, IsPlaceTextOf, Says}
 
 -- It says so of the entry that a log has there, which is the record's.
 pub says_of : (shown : Shown) (story : Story) (at : ℕ) (log : List Entry) (d : Entry) (said : Words) (row : RowText)
     → log ≡ shown.record.now.log → at < length shown.record.now.log → AreWordsOf shown story at (get_or log at d) said
     → row.line ≡ line_at shown at → row.thread ≡ (get_or log at d).thread → row.words ≡ words_text said
-    → IsPlaceText shown.code.now (place_of shown story at) row.place → Says shown story at row
+    → IsPlaceTextOf shown story at row.place → Says shown story at row
 says_of shown story at log d said row same within of line thread words place = record {
   made = get_or log at d;
   stands = subst (λ (l : List Entry). slice_get l at ≡ Some (get_or log at d)) same

@@ -1,5 +1,5 @@
 -- What is written of a record: a row for each entry that is chosen.
-use Rattle.std.specs.Prelude.{ℕ, ◌≡◌, ◌+◌, ◌-◌, ◌^◌, min, Bool, false, List, [], ◌∷◌, length, map, filter}
+use Rattle.std.specs.Prelude.{ℕ, ◌≡◌, ◌+◌, ◌-◌, ◌^◌, min, Bool, false, List, [], ◌∷◌, ◌++◌, length, map, filter}
 use Rattle.std.specs.Prelude.{Option, Some, None, option_map, option_and_then, unwrap_or}
 use Rattle.std.specs.List.{slice_get, enumerate_from}
 use Rattle.std.specs.Io.KnownBytes.{Keeps}
@@ -27,7 +27,7 @@ use Rattle.show_rows.specs.declared.spot.Spot.{Spot}
 use Rattle.show_rows.specs.declared.code.CodeMap.{CodeMap}
 use Rattle.show_rows.specs.declared.listing.Shown.{Shown}
 use Rattle.show_rows.specs.declared.listing.Story.{Story}
-use Rattle.show_rows.specs.Spots.{IsSpotOf, is_atomic, spot_text}
+use Rattle.show_rows.specs.Spots.{IsSpotOf, call_apart, call_text, is_atomic, spot_text}
 
 -- The line of the record that has the entry at a place.
 abbrev pub line_at : Shown → ℕ → ℕ
@@ -54,9 +54,21 @@ abbrev pub made_at : Context → ℕ → ℕ
 made_at (Asked question asked) at = asked
 made_at context at = at
 
+-- The row of where an entry was made.
+abbrev pub made_row : Shown → Story → ℕ → Option Row
+made_row shown story at = row_at shown (made_at (context_at story at) at)
+
 -- Where an entry was made, as the rows have it.
 abbrev pub place_of : Shown → Story → ℕ → Option CodePlace
-place_of shown story at = option_map (λ row. row.place) (row_at shown (made_at (context_at story at) at))
+place_of shown story at = option_map (λ row. row.place) (made_row shown story at)
+
+-- From where the function was called in which it was made.
+abbrev pub caller_of : Shown → Story → ℕ → Option CodePlace
+caller_of shown story at = option_and_then (λ row. row.caller) (made_row shown story at)
+
+-- The same, where that is in another file of source.
+abbrev pub call_of : Shown → Story → ℕ → Option CodePlace
+call_of shown story at = call_apart shown.code.now (place_of shown story at) (caller_of shown story at)
 
 abbrev pub outcome_by : Event → Option ThreadReport → Option Outcome
 outcome_by (Ask Leave) report = option_map (λ r. r.outcome) report
@@ -87,6 +99,19 @@ abbrev pub IsPlaceText : CodeMap → Option CodePlace → List ℕ → Type 0
 IsPlaceText code None text = text ≡ []
 IsPlaceText code (Some place) text = (s : Spot) × IsSpotOf code place s × (text ≡ spot_text s)
 
+-- The text of a call, or none.
+abbrev pub IsCallText : CodeMap → Option CodePlace → List ℕ → Type 0
+IsCallText code None text = text ≡ []
+IsCallText code (Some call) text = (s : Spot) × IsSpotOf code call s × (text ≡ call_text s)
+
+-- The text of where the entry at a place was made: of its place, and behind it of the call that is in another file.
+pub record IsPlaceTextOf (shown : Shown) (story : Story) (at : ℕ) (text : List ℕ) : Type 0 where
+  pub spot : List ℕ
+  pub spot_is : IsPlaceText shown.code.now (place_of shown story at) spot
+  pub call : List ℕ
+  pub call_is : IsCallText shown.code.now (call_of shown story at) call
+  pub text_is : text ≡ spot ++ call
+
 -- A row says of the entry at a place: its line, its thread, its words and where it was made.
 pub record Says (shown : Shown) (story : Story) (at : ℕ) (row : RowText) : Type 0 where
   pub made : Entry
@@ -96,7 +121,7 @@ pub record Says (shown : Shown) (story : Story) (at : ℕ) (row : RowText) : Typ
   pub said : Words
   pub words_of : AreWordsOf shown story at made said
   pub words : row.words ≡ words_text said
-  pub place : IsPlaceText shown.code.now (place_of shown story at) row.place
+  pub place : IsPlaceTextOf shown story at row.place
 
 -- What is written is a row that says so of the entry at a place.
 abbrev pub AddsEntry : Shown → Story → ℕ → Option (List ℕ) → Option (List ℕ) → Type 0

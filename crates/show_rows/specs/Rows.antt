@@ -1,6 +1,6 @@
 -- What a row says of a thread, and which rows are made.
-use Rattle.std.specs.Prelude.{ℕ, ◌≡◌, ◌+◌, ◌&&◌, zero, suc, nat_le, if◌then◌else◌, List, length, take, drop}
-use Rattle.std.specs.Prelude.{Option, Some, None, option_and_then, slice_set}
+use Rattle.std.specs.Prelude.{ℕ, ◌≡◌, ◌+◌, ◌-◌, ◌&&◌, zero, suc, nat_le, if◌then◌else◌, List, length, take, drop}
+use Rattle.std.specs.Prelude.{Option, Some, None, option_map, option_and_then, slice_set}
 use Rattle.std.specs.List.{slice_get}
 use Rattle.types.specs.declared.event.Event.{Event}
 use Rattle.types.specs.declared.event.Event.TheVariants.{Load, Store, Rmw, Cmpxchg, Ask}
@@ -10,18 +10,31 @@ use Rattle.shared_memory.specs.Numbers.{le_number}
 use Rattle.schedule.specs.Machine.{Thread.Runs}
 use Rattle.interp_machine.specs.Config.{Config}
 use Rattle.interp_machine.specs.State.{At}
+use Rattle.interp_state.specs.declared.state.Caller.{Caller}
+use Rattle.interp.specs.declared.place.CodePlace.{CodePlace}
 use Rattle.interp.specs.declared.thread.Thread.{Thread}
 use Rattle.interp.specs.Threads.{StandsFor}
-use Rattle.interp.specs.Places.{IsAtPlace}
+use Rattle.interp.specs.Places.{IsAtPlace, HasCallers}
 use Rattle.replay_walk.specs.Seen.{Sight, Sight.Came, Sight.Settled, Sight.Wanted}
 use Rattle.show_rows.specs.declared.rows.Row.{Row}
 use Rattle.show_rows.specs.declared.rows.Rows.{Rows}
 
--- The next instruction of each configuration that the thread stands for stands at the row's place.
-abbrev pub StandsThere : Thread → Row → Type 0
-StandsThere thread row =
-    (c : Config) (left : ℕ) → StandsFor thread (Runs (At c) left)
-    → IsAtPlace thread.parts.now row.place.function row.place.instr c
+-- The call of a function that goes on behind it.
+abbrev pub call_by : Caller → CodePlace
+call_by caller = record { function = caller.function; instr = caller.pc - 1 }
+
+-- The call of the last of these functions.
+abbrev pub last_call : List Caller → Option CodePlace
+last_call callers = option_map call_by (slice_get callers (length callers - 1))
+
+-- The next instruction of each configuration that the thread stands for stands at the row's place, and the row's caller
+-- is the call of the last one of the functions that called there, the outermost first.
+pub record StandsThere (thread : Thread) (row : Row) : Type 0 where
+  pub place : (c : Config) (left : ℕ) → StandsFor thread (Runs (At c) left)
+      → IsAtPlace thread.parts.now row.place.function row.place.instr c
+  pub callers : List Caller
+  pub called : (c : Config) (left : ℕ) → StandsFor thread (Runs (At c) left) → HasCallers thread.parts.now callers c
+  pub caller : row.caller ≡ last_call callers
 
 -- The bytes that an event touches: the first one's address, and how many.
 abbrev pub touched : Event → Option (ℕ × ℕ)

@@ -1,5 +1,5 @@
 -- A place in a module's code, as it is printed.
-use Rattle.std.specs.Prelude.{ℕ, ◌≡◌, ◌⊎◌, ◌+◌, ◌-◌, ◌^◌, ◌==◌, min, Bool, true, false, if◌then◌else◌, List, [], ◌++◌, codes}
+use Rattle.std.specs.Prelude.{ℕ, ◌≡◌, ◌⊎◌, ◌+◌, ◌-◌, ◌^◌, ◌==◌, not, min, Bool, true, false, if◌then◌else◌, List, [], ◌++◌, codes}
 use Rattle.std.specs.Prelude.{length, drop, find, Result, Ok, Err, Option, Some, None, option_map, option_and_then}
 use Rattle.std.specs.Borrow.{Bor}
 use Rattle.std.specs.List.{slice_get}
@@ -21,7 +21,8 @@ use Rattle.show_places.specs.Bodies.{bodies_in}
 use Rattle.show_places.specs.Names.{IsCalled}
 use Rattle.show_places.specs.Sections.{Part, HasFirst, HasNone}
 use Rattle.show_lines.specs.declared.table.Range.{Range}
-use Rattle.show_lines.specs.Lines.{holds}
+use Rattle.show_lines.specs.contracts.header.SourcePartialEq.TheImpl as equal
+use Rattle.show_lines.specs.Lines.{holds, source_of}
 use Rattle.show_text.specs.Plain.{plain_text}
 use Rattle.show_rows.specs.declared.spot.Spot.{Spot}
 use Rattle.show_lines.specs.Sources.{IsTextOf, line_in}
@@ -50,6 +51,10 @@ behind_text (Some text) = codes " | " ++ plain_text text.now
 abbrev pub spot_text : Spot → List ℕ
 spot_text s = name_text s.name ++ offset_text s.offset ++ source_text (λ file. file.now) s.source ++ behind_text s.text
 
+-- The place of a call, behind the place that it led to.
+abbrev pub call_text : Spot → List ℕ
+call_text s = codes " < " ++ name_text s.name ++ source_text (λ file. file.now) s.source ++ behind_text s.text
+
 -- The index of a function of the module itself, behind those that are imported.
 abbrev pub index_of : ℕ → ℕ → ℕ
 index_of imported function = min (min function (2 ^ 32 - 1) + imported) (2 ^ 32 - 1)
@@ -75,6 +80,16 @@ named_offset code place = if has_as_many (slice_get code.bodies place.function) 
 -- Its lines.
 abbrev pub range_at : CodeMap → CodePlace → Option Range
 range_at code place = option_and_then (λ offset. find (holds offset) code.lines.ranges.items) (named_offset code place)
+
+-- Both have a line of source, in files that differ.
+abbrev pub are_apart : Option Range → Option Range → Bool
+are_apart (Some a) (Some b) = not (equal.eq-value.it (source_of a) (source_of b))
+are_apart a b = false
+
+-- A call, where it and the place that it led to have a line of source each, in files that differ.
+abbrev pub call_apart : CodeMap → Option CodePlace → Option CodePlace → Option CodePlace
+call_apart code (Some place) (Some call) = if are_apart (range_at code place) (range_at code call) then Some call else None
+call_apart code place call = None
 
 -- The function's name, how far the instruction is behind the start of its body, the file and the line, and what stands there.
 pub record IsSpotOf (code : CodeMap) (place : CodePlace) (s : Spot) : Type 0 where

@@ -6,7 +6,7 @@ ghost use Rattle.show_places.specs.Names.{IsNames};
 ghost use Rattle.show_rows.specs.Spots as specified;
 ghost use Rattle.show_lines.specs.Sources.{IsTextOf, line_in};
 ghost use Rattle.show_rows.specs.Around.{lines_around};
-ghost use Rattle.show_rows.specs.Spots.{IsSpotOf, AreBodies, is_function_import, range_at};
+ghost use Rattle.show_rows.specs.Spots.{IsSpotOf, AreBodies, are_apart, is_function_import, range_at};
 
 use crate::around::Around;
 use crate::spot::Spot;
@@ -188,6 +188,29 @@ impl<'m, 'n> CodeMap<'m, 'n> {
     {
         let offset = self.named_offset(place)?;
         self.lines.at(offset as u64)
+    }
+
+    /// Whether both places have a line of source, in files that differ.
+    fn are_apart(&self, a: CodePlace, b: CodePlace) -> bool
+        ensures { result ≡ are_apart (range_at self.now a) (range_at self.now b) }
+    {
+        match (self.range_of(a), self.range_of(b)) {
+            (Some(a), Some(b)) => a.source() != b.source(),
+            _ => false,
+        }
+    }
+
+    /// The call, where it and the place that it led to have a line of source each, in files that differ.
+    pub fn call_apart(&self, place: Option<CodePlace>, call: Option<CodePlace>) -> Option<CodePlace>
+        ensures { result ≡ specified.call_apart self.now place call }
+    {
+        let place = place?;
+        let call = call?;
+        if self.are_apart(place, call) {
+            Some(call)
+        } else {
+            None
+        }
     }
 
     /// Whether the instruction at a place is an atomic one.

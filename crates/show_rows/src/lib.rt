@@ -1,8 +1,9 @@
 //! The rows of a record as text: each entry in words, and the place in the module where it was made, which is seen by a
 //! replay as it goes along the record's log.
 //!
-//! Proved: a row is written for each entry that is chosen, in order, with its line, its thread, its words and its place;
-//! the row of an event is where the thread stands that wants it, with the number that it finds in memory.
+//! Proved: a row is written for each entry that is chosen, in order, with its line, its thread, its words and its
+//! place, and with the call that led there where that is in another file of source; the row of an event is where the
+//! thread stands that wants it, with the last call in it and the number that it finds in memory.
 #![tactic(auto)]
 
 mod around;

@@ -1,11 +1,13 @@
 //! The rows of a record, one below the other.
 
 ghost use Rattle.std.specs.Prelude.{◌≡◌, ◌<◌, [], ◌∷◌, ◌++◌, cond, length, string_bytes, IfOk, OnOk, All, option_and_then};
-ghost use Rattle.show_rows.specs.Listing.{line_at, chosen, row_at, context_at, place_of, outcome_of, is_atomic_row};
-ghost use Rattle.show_rows.specs.Listing.{IsStoryOf, AreWordsOf, IsPlaceText, AddsEntry, AddsEntries, WritesRows};
+ghost use Rattle.show_rows.specs.Listing.{line_at, chosen, row_at, context_at, outcome_of, is_atomic_row};
+ghost use Rattle.show_rows.specs.Listing.{made_row, place_of, caller_of, call_of, IsPlaceText, IsCallText, IsPlaceTextOf};
+ghost use Rattle.show_rows.specs.Listing.{IsStoryOf, AreWordsOf, AddsEntry, AddsEntries, WritesRows};
 
 use crate::Row;
 use crate::code::CodeMap;
+use crate::spot::CallSpot;
 use interp::CodePlace;
 use replay_text::RecordParts;
 use report_choice::{Color, Look};
@@ -114,28 +116,54 @@ impl Shown<'_, '_, '_, '_, '_> {
         }
     }
 
-    /// Where the entry at a place was made: an answer where its question was asked.
-    pub fn place_at(&self, story: &Story, at: usize) -> Option<CodePlace>
-        ensures { result ≡ place_of self.now story.now at }
+    /// The row of where the entry at a place was made: of an answer, that of its question.
+    fn made_row(&self, story: &Story, at: usize) -> Option<Row>
+        ensures { result ≡ made_row self.now story.now at }
     {
         let made = match story.context_at(at) {
             Context::Asked(_, asked) => asked,
             _ => at,
         };
-        match self.row_at(made) {
+        self.row_at(made)
+    }
+
+    /// Where the entry at a place was made: an answer where its question was asked.
+    pub fn place_at(&self, story: &Story, at: usize) -> Option<CodePlace>
+        ensures { result ≡ place_of self.now story.now at }
+    {
+        match self.made_row(story, at) {
             Some(row) => Some(row.place),
             None => None,
         }
     }
 
-    /// The text of the place where the entry at a place was made; empty where that isn't known.
-    pub fn place_text(&self, alloc: Global, story: &Story, at: usize) -> Result<String, AllocError>
-        ensures { IfOk result (λ text. IsPlaceText self.now.code.now (place_of self.now story.now at) (string_bytes text)) }
+    /// From where the function was called in which the entry at a place was made.
+    pub fn caller_at(&self, story: &Story, at: usize) -> Option<CodePlace>
+        ensures { result ≡ caller_of self.now story.now at }
     {
-        match self.place_at(story, at) {
-            Some(place) => self.code.spot(place).to_string(alloc),
-            None => Ok(String::new(alloc)),
+        match self.made_row(story, at) {
+            Some(row) => row.caller,
+            None => None,
         }
+    }
+
+    /// The same, where that is in another file of source.
+    pub fn call_at(&self, story: &Story, at: usize) -> Option<CodePlace>
+        ensures { result ≡ call_of self.now story.now at }
+    {
+        let place = self.place_at(story, at);
+        self.code.call_apart(place, self.caller_at(story, at))
+    }
+
+    /// The text of the place where the entry at a place was made, with that of the call behind it where the call is in
+    /// another file of source; empty where the place isn't known.
+    pub fn place_text(&self, alloc: Global, story: &Story, at: usize) -> Result<String, AllocError>
+        ensures { IfOk result (λ text. IsPlaceTextOf self.now story.now at (string_bytes text)) }
+    {
+        let mut text = spot_text(alloc, self.code, self.place_at(story, at))?;
+        let call = call_text(alloc, self.code, self.call_at(story, at))?;
+        text.push_str(call.as_str())?;
+        Ok(text)
     }
 
     /// The threads that have an entry which is chosen, in the order of their numbers.
@@ -148,6 +176,26 @@ impl Shown<'_, '_, '_, '_, '_> {
         }
         threads.sort_unstable();
         Ok(threads)
+    }
+}
+
+/// The text of a place; empty where it isn't known.
+fn spot_text(alloc: Global, code: &CodeMap, place: Option<CodePlace>) -> Result<String, AllocError>
+    ensures { IfOk result (λ text. IsPlaceText code.now place (string_bytes text)) }
+{
+    match place {
+        Some(place) => code.spot(place).to_string(alloc),
+        None => Ok(String::new(alloc)),
+    }
+}
+
+/// The text of a call; empty where there is none.
+fn call_text(alloc: Global, code: &CodeMap, call: Option<CodePlace>) -> Result<String, AllocError>
+    ensures { IfOk result (λ text. IsCallText code.now call (string_bytes text)) }
+{
+    match call {
+        Some(call) => CallSpot(code.spot(call)).to_string(alloc),
+        None => Ok(String::new(alloc)),
     }
 }
 

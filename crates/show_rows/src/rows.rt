@@ -7,17 +7,20 @@ ghost use Rattle.show_rows.specs.Rows as found;
 ghost use Rattle.show_rows.specs.Rows.{StandsThere, SetsRow, SeesThread, SeesLast, SeesRound, SeesWanted};
 
 use interp::{CodePlace, Thread};
+use interp_state::Caller;
 use interp_trait::Turn;
 use replay_walk::{Walk, Watch};
 use shared_memory_sequential::OneMemory;
 use std::alloc::{AllocError, Global};
 use types::{Entry, Event, Question};
 
-/// Of an entry: where its thread stands, and what an access finds in memory.
+/// Of an entry: where its thread stands, from where its function was called, and what an access finds in memory.
 #[derive(Clone, Copy, PartialEq, Eq)]
 pub struct Row {
     /// The function of the module itself, and the number of the instruction in its flat code.
     pub place: CodePlace,
+    /// The call of the function that runs; a thread's first function has none.
+    pub caller: Option<CodePlace>,
     /// The number in the bytes of an access before it, where it lies within the memory.
     pub before: Option<u64>,
 }
@@ -41,13 +44,25 @@ impl<'a> Rows<'a> {
     }
 }
 
-/// Where a thread stands, and what it finds.
+/// The call of the last of these functions: the instruction before the one where it goes on.
+fn last_call(callers: &[Caller]) -> Option<CodePlace>
+    ensures { result ≡ found.last_call callers.now }
+{
+    let caller = callers.last()?;
+    Some(CodePlace {
+        function: caller.function,
+        instr: caller.pc.saturating_sub(1),
+    })
+}
+
+/// Where a thread stands, from where its function was called, and what it finds.
 fn row_of(thread: &Thread, before: Option<u64>) -> Row
     ensures stands { StandsThere thread.now result }
     ensures before { result.before ≡ before }
 {
     Row {
         place: thread.place(),
+        caller: last_call(thread.callers()),
         before,
     }
 }

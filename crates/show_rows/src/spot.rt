@@ -1,7 +1,8 @@
 //! A place in a module, as it is printed.
 
 ghost use Rattle.std.specs.Fmt.{WritesOnOk};
-ghost use Rattle.show_rows.specs.Spots.{name_text};
+ghost use Rattle.std.specs.Prelude.{◌++◌};
+ghost use Rattle.show_rows.specs.Spots.{behind_text, name_text, source_text};
 
 use show_places::FunctionName;
 use show_text::Plain;
@@ -30,16 +31,42 @@ impl fmt::Display for Spot<'_> {
         if let Some(offset) = self.offset {
             write!(f, "+0x{offset:x}")?;
         }
-        if let Some((file, line)) = self.source {
-            let file = Plain(file);
-            write!(f, " {file}:{line}")?;
-        }
-        if let Some(text) = self.text {
-            let text = Plain(text);
-            write!(f, " | {text}")?;
-        }
-        Ok(())
+        write_source(f, self)
     }
+}
+
+/// The place of a call, as it is printed behind the place that it led to.
+#[derive(Clone, Copy, PartialEq, Eq)]
+pub(crate) struct CallSpot<'a>(pub(crate) Spot<'a>);
+
+impl fmt::Display for CallSpot<'_> {
+    ghost use Rattle.std.specs.Prelude.{Some};
+    ghost use Rattle.show_rows.specs.Spots.{call_text};
+
+    ghost output = { λ c. Some (call_text c.0) };
+
+    /// As ` < transfer one.c:8`, or ` < transfer one.c:8 | mutex_lock(&one);`.
+    fn fmt<W: Write>(&self, f: &mut Formatter<W>) -> fmt::Result {
+        write!(f, " < ")?;
+        write_name(f, self.0.name)?;
+        write_source(f, &self.0)
+    }
+}
+
+/// The file and the line, and what stands there, as far as they are known.
+fn write_source<W: Write>(f: &mut Formatter<W>, spot: &Spot) -> fmt::Result
+    ensures { WritesOnOk W.write_str_gives f.old result
+        (source_text (λ file. file.now) spot.now.source ++ behind_text spot.now.text) f.new }
+{
+    if let Some((file, line)) = spot.source {
+        let file = Plain(file);
+        write!(f, " {file}:{line}")?;
+    }
+    if let Some(text) = spot.text {
+        let text = Plain(text);
+        write!(f, " | {text}")?;
+    }
+    Ok(())
 }
 
 fn write_name<W: Write>(f: &mut Formatter<W>, name: FunctionName) -> fmt::Result

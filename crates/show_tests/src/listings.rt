@@ -1,11 +1,12 @@
 //! Rows as they are printed.
 
 use crate::asserts::is_text;
-use crate::data::{KINDS, LATE, NAMES, RECORD, SMALL, TOLD, TOLD_2};
+use crate::data::{KINDS, LATE, NAMES, RECORD, SMALL, TOLD, TOLD_2, TWO, TWO_RECORD, TWO_TEXT};
 use crate::made::{module_of, record_of, rows_of};
 use interp::CodePlace;
 use replay_text::Record;
 use report_choice::{Choice, Color, Look, Span};
+use show_lines::{SourceFile, Sources};
 use show_rows::{CodeMap, Row, Shown, write_rows};
 use std::alloc::Global;
 use std::process::Abort;
@@ -18,6 +19,8 @@ struct Listing {
     module: &'static [u8],
     names: &'static [u8],
     record: &'static [u8],
+    /// Files of source that are at hand: what each is called, and its text.
+    sources: &'static [(&'static str, &'static str)],
     lines: &'static [Span],
     threads: &'static [u32],
     addrs: &'static [Span],
@@ -30,6 +33,7 @@ const TOLD_WHOLE: Listing = Listing {
     module: TELLING,
     names: NAMES,
     record: TOLD,
+    sources: &[],
     lines: &[],
     threads: &[],
     addrs: &[],
@@ -38,7 +42,7 @@ const TOLD_WHOLE: Listing = Listing {
     text: "",
 };
 
-static LISTINGS: [Listing; 6] = [
+static LISTINGS: [Listing; 9] = [
     Listing {
         text: "\
             \x20     6  t0 spawns t1 (arg 4294967295)                                          tell+0x3\n\
@@ -121,6 +125,52 @@ static LISTINGS: [Listing; 6] = [
             \x20     9  t0 gone                        run+0xe small.c:10\n",
         ..TOLD_WHOLE
     },
+    // with a call from another file, which only the row has that it led to at once
+    Listing {
+        module: TWO,
+        names: TWO,
+        record: TWO_RECORD,
+        width: 60,
+        text: "\
+            \x20     6  t0 add 1024 +5 = 0             add+0x5 sum.c:4 < run two.c:7\n\
+            \x20     7  t0 add 1024 +2 = 5             add+0x5 sum.c:4\n\
+            \x20     8  t0 add 1024 +2 = 7             add+0x5 sum.c:4\n\
+            \x20     9  t0 atomic load32 1024 = 9      run+0x13 two.c:9\n\
+            \x20    10  t0 ends: ok i32:9              run+0x18 two.c:9\n\
+            \x20    11  t0 gone                        run+0x18 two.c:9\n",
+        ..TOLD_WHOLE
+    },
+    // the same, with the text of one of its files
+    Listing {
+        module: TWO,
+        names: TWO,
+        record: TWO_RECORD,
+        sources: &[("two.c", TWO_TEXT)],
+        width: 60,
+        text: "\
+            \x20     6  t0 add 1024 +5 = 0             add+0x5 sum.c:4 < run two.c:7 | add(5);\n\
+            \x20     7  t0 add 1024 +2 = 5             add+0x5 sum.c:4\n\
+            \x20     8  t0 add 1024 +2 = 7             add+0x5 sum.c:4\n\
+            \x20     9  t0 atomic load32 1024 = 9      run+0x13 two.c:9 | return *WORD;\n\
+            \x20    10  t0 ends: ok i32:9              run+0x18 two.c:9 | return *WORD;\n\
+            \x20    11  t0 gone                        run+0x18 two.c:9 | return *WORD;\n",
+        ..TOLD_WHOLE
+    },
+    // the same without lines of source
+    Listing {
+        module: TWO,
+        names: NAMES,
+        record: TWO_RECORD,
+        width: 60,
+        text: "\
+            \x20     6  t0 add 1024 +5 = 0             tell+0x5\n\
+            \x20     7  t0 add 1024 +2 = 5             tell+0x5\n\
+            \x20     8  t0 add 1024 +2 = 7             tell+0x5\n\
+            \x20     9  t0 atomic load32 1024 = 9      spawn+0x13\n\
+            \x20    10  t0 ends: ok i32:9              spawn+0x18\n\
+            \x20    11  t0 gone                        spawn+0x18\n",
+        ..TOLD_WHOLE
+    },
 ];
 
 /// Each kind of entry, with these rows before some.
@@ -130,6 +180,7 @@ static KIND_ROWS: [Option<Row>; 3] = [
             function: 0,
             instr: 2,
         },
+        caller: None,
         before: Some(3),
     }),
     Some(Row {
@@ -137,6 +188,7 @@ static KIND_ROWS: [Option<Row>; 3] = [
             function: 0,
             instr: 1,
         },
+        caller: None,
         before: Some(3),
     }),
     Some(Row {
@@ -144,6 +196,7 @@ static KIND_ROWS: [Option<Row>; 3] = [
             function: 7,
             instr: 0,
         },
+        caller: None,
         before: Some(9),
     }),
 ];
@@ -221,6 +274,19 @@ fn lines_of(alloc: Global, listing: &Listing, shown: Shown) -> Result<Vec<u8>, F
     Ok(out)
 }
 
+/// The files of source of a listing.
+fn files_of(alloc: Global, listing: &Listing) -> Result<Vec<SourceFile>, Fail> {
+    let mut files = Vec::new(alloc);
+    for (name, text) in listing.sources {
+        files.push(SourceFile {
+            directory: String::new(alloc),
+            name: name.to_string(alloc)?,
+            text: text.to_string(alloc)?,
+        })?;
+    }
+    Ok(files)
+}
+
 /// What is printed of a record with these rows.
 fn printed(
     alloc: Global,
@@ -229,7 +295,9 @@ fn printed(
     record: &Record,
     rows: &[Option<Row>],
 ) -> Result<Vec<u8>, Fail> {
+    let files = files_of(alloc, listing)?;
     let code = CodeMap::read(alloc, valid.parts(), listing.module, listing.names)?;
+    let code = code.with_sources(Sources::new(alloc, files.as_slice())?);
     let shown = Shown {
         record: record.parts(),
         rows,

@@ -1,13 +1,13 @@
 use Rattle.std.proofs.Common.{◌∙◌, List, subst, sym}
 use Rattle.show_text.specs.declared.context.Context.{Context}
-use Rattle.show_rows.specs.Listing.{place_of, IsPlaceText}
+use Rattle.show_rows.specs.Listing.{IsPlaceTextOf}
 use Rattle.show_events.specs.Links.{Lasts}
 use Rattle.show_events.proofs.Said.{event_says}
 use Rattle.show_events.proofs.write.write_entry.Goals as goal
 
 pub returns-clause-which : goal.returns-clause-which
 returns-clause-which g c =
-    let place = subst (IsPlaceText c.args.shown.code.now (place_of c.args.shown c.args.story.now c.args.at))
+    let place = subst (IsPlaceTextOf c.args.shown c.args.story.now c.args.at)
     (sym c.as_str-2.ensures.value) c.in_ok-place.ensures in
     let lasts = subst (λ (cs : List Context). Lasts cs c.args.at c.length_of.result) c.deref.ensures.value c.length_of.ensures in
     event_says c.args.shown c.args.story.now c.args.at c.length_of.result c.line_of.result c.as_slice-log.result.now _ c.words_at.result

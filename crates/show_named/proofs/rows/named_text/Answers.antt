@@ -1,5 +1,5 @@
 use Rattle.std.proofs.Common.{subst, sym}
-use Rattle.show_rows.specs.Listing.{place_of, IsPlaceText}
+use Rattle.show_rows.specs.Listing.{IsPlaceTextOf}
 use Rattle.show_named.proofs.Saying.{says_named}
 use Rattle.show_named.proofs.rows.named_text.Goals as goal
 
@@ -9,7 +9,7 @@ returns c = (
   says_named c.args.shown c.args.map.now c.args.story.now c.args.at c.as_slice.result.now _ c.words_at-words.result
       c.line_of-line.result _ _ _ c.as_slice.ensures c.requires c.words_at-words.ensures c.line_of-line.ensures
       c.in_ok-said.ensures.ok
-      (subst (IsPlaceText c.args.shown.code.now (place_of c.args.shown c.args.story.now c.args.at)) (sym c.as_str.ensures.value) c.in_ok-place.ensures)
+      (subst (IsPlaceTextOf c.args.shown c.args.story.now c.args.at) (sym c.as_str.ensures.value) c.in_ok-place.ensures)
       c.in_ok-name.ensures,
   c.in_ok-text.ensures.ok,
 )

@@ -1,5 +1,5 @@
 use Rattle.std.proofs.Common.{◌∙◌, refl, subst, sym, List, ℕ}
-use Rattle.show_rows.specs.Listing.{place_of, IsPlaceText}
+use Rattle.show_rows.specs.Listing.{IsPlaceTextOf}
 use Rattle.show_rows.proofs.Saying.{says_of}
 use Rattle.show_rows.proofs.listing.write_entry.Goals as goal
 
@@ -9,6 +9,6 @@ returns g c = (
   _,
   says_of c.args.shown c.args.story.now c.args.at c.as_slice.result.now _ c.words_at.result _ c.as_slice.ensures c.requires
       c.words_at.ensures c.line_of-line.ensures refl (c.as_str.ensures.value ∙ c.in_ok-words.ensures.ok)
-      (subst (IsPlaceText c.args.shown.code.now (place_of c.args.shown c.args.story.now c.args.at)) (sym c.as_str-2.ensures.value) c.in_ok-place.ensures),
+      (subst (IsPlaceTextOf c.args.shown c.args.story.now c.args.at) (sym c.as_str-2.ensures.value) c.in_ok-place.ensures),
   c.in_ok-write_row.ensures,
 )

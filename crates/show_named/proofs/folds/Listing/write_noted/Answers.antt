@@ -1,5 +1,5 @@
 use Rattle.std.proofs.Common.{◌∙◌, subst, sym}
-use Rattle.show_rows.specs.Listing.{place_of, IsPlaceText}
+use Rattle.show_rows.specs.Listing.{IsPlaceTextOf}
 use Rattle.show_named.proofs.Saying.{noted, says_words}
 use Rattle.show_named.proofs.folds.Listing.write_noted.Goals as goal
 
@@ -10,5 +10,5 @@ returns g c =
     (c.as_str.ensures.value ∙ c.in_ok-said.ensures.ok)
     (says_words s.shown s.map.now s.story.now c.args.at c.as_slice.result.now _ c.line_of-line.result _ _ c.as_slice.ensures c.requires
     c.line_of-line.ensures c.in_ok-words.ensures
-    (subst (IsPlaceText s.shown.code.now (place_of s.shown s.story.now c.args.at)) (sym c.as_str-2.ensures.value) c.in_ok-place.ensures))
+    (subst (IsPlaceTextOf s.shown s.story.now c.args.at) (sym c.as_str-2.ensures.value) c.in_ok-place.ensures))
     c.in_ok-write_row.ensures
