@@ -5,7 +5,6 @@ use Rattle.std.proofs.lemmas.List.{append-nil, map-append, take_all, take_more, 
 use Rattle.std.proofs.lemmas.List.Elements.{filter-append, All-push}
 use Rattle.std.specs.List.{enumerate_from}
 use Rattle.std.specs.Io.KnownBytes.{Appends, Keeps}
-use Rattle.show_text.specs.Rows.{AddsRow}
 use Rattle.show_rows.specs.declared.listing.Shown.{Shown}
 use Rattle.show_rows.specs.declared.listing.Story.{Story}
 use Rattle.types.specs.declared.event.Entry.{Entry}

@@ -1,5 +1,5 @@
 -- What bytes have as bodies, by what their reading answers.
-use Rattle.std.proofs.Common.{◌≡◌, ◌+◌, ◌-◌, ◌^◌, ◌<◌, ℕ, List, [], Bool, true, false, Result, Ok, Err, length, get_or, take, min, sym, subst, refl}
+use Rattle.std.proofs.Common.{◌≡◌, ℕ, List, [], Result, Ok, Err, sym, subst, refl}
 use Rattle.binary_wire.specs.declared.fault.Refusal.{Refusal}
 use Rattle.show_places.specs.declared.bodies.BodyPlaces.{BodyPlaces}
 use Rattle.show_rows.specs.Spots.{AreBodiesIn}

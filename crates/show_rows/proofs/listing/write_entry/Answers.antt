@@ -1,4 +1,4 @@
-use Rattle.std.proofs.Common.{◌∙◌, refl, subst, sym, List, ℕ}
+use Rattle.std.proofs.Common.{◌∙◌, refl, subst, sym}
 use Rattle.show_rows.specs.Listing.{IsPlaceTextOf}
 use Rattle.show_rows.proofs.Saying.{says_of}
 use Rattle.show_rows.proofs.listing.write_entry.Goals as goal

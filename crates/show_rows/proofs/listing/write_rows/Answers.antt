@@ -1,4 +1,4 @@
-use Rattle.std.proofs.Common.{◌∙◌, ℕ, List, length, subst}
+use Rattle.std.proofs.Common.{◌∙◌, ℕ, List, subst}
 use Rattle.types.specs.declared.event.Entry.{Entry}
 use Rattle.show_rows.specs.Listing.{AddsEntries, IsStoryOf}
 use Rattle.show_rows.proofs.Chosen.{flushed}
