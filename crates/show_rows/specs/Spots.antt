@@ -51,9 +51,20 @@ behind_text (Some text) = codes " | " ++ plain_text text.now
 abbrev pub spot_text : Spot → List ℕ
 spot_text s = name_text s.name ++ offset_text s.offset ++ source_text (λ file. file.now) s.source ++ behind_text s.text
 
--- The place of a call, behind the place that it led to.
+abbrev pub is_underscore : Option ℕ → Bool
+is_underscore None = false
+is_underscore (Some byte) = byte == 95
+
+-- A name that C reserves for its implementation (ISO C, section 7.1.3).
+abbrev pub is_reserved : FunctionName → Bool
+is_reserved (called.Named name) = is_underscore (slice_get name.now 0)
+is_reserved (called.Exported name) = is_underscore (slice_get name.now 0)
+is_reserved (called.Numbered index) = false
+
+-- The place of a call, behind the place that it led to. What calls a program or a thread's first function isn't told.
 abbrev pub call_text : Spot → List ℕ
-call_text s = codes " < " ++ name_text s.name ++ source_text (λ file. file.now) s.source ++ behind_text s.text
+call_text s = if is_reserved s.name then []
+    else codes " < " ++ name_text s.name ++ source_text (λ file. file.now) s.source ++ behind_text s.text
 
 -- The index of a function of the module itself, behind those that are imported.
 abbrev pub index_of : ℕ → ℕ → ℕ

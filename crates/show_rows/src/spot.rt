@@ -45,11 +45,29 @@ impl fmt::Display for CallSpot<'_> {
 
     ghost output = { λ c. Some (call_text c.0) };
 
-    /// As ` < transfer one.c:8`, or ` < transfer one.c:8 | mutex_lock(&one);`.
+    /// As ` < transfer one.c:8`, or ` < transfer one.c:8 | mutex_lock(&one);`. A function of C's implementation, as the
+    /// one that calls `main`, isn't told.
     fn fmt<W: Write>(&self, f: &mut Formatter<W>) -> fmt::Result {
+        if is_reserved(self.0.name) {
+            return Ok(());
+        }
         write!(f, " < ")?;
         write_name(f, self.0.name)?;
         write_source(f, &self.0)
+    }
+}
+
+/// Whether a function has a name that C reserves for its implementation: one that begins with an underscore (ISO C,
+/// section 7.1.3).
+fn is_reserved(name: FunctionName) -> bool
+    ensures { result ≡ is_reserved name.entry }
+{
+    match name {
+        FunctionName::Named(name) | FunctionName::Exported(name) => match name.as_bytes().first() {
+            Some(byte) => *byte == b'_',
+            None => false,
+        },
+        FunctionName::Numbered(_) => false,
     }
 }
 
