@@ -1,8 +1,8 @@
 //! A place in a module, as it is printed.
 
 ghost use Rattle.std.specs.Fmt.{WritesOnOk};
-ghost use Rattle.std.specs.Prelude.{◌++◌};
-ghost use Rattle.show_rows.specs.Spots.{behind_text, name_text, source_text};
+ghost use Rattle.std.specs.Prelude.{◌≡◌, ◌++◌};
+ghost use Rattle.show_rows.specs.Spots.{behind_text, is_reserved, name_text, source_text};
 
 use show_places::FunctionName;
 use show_text::Plain;
