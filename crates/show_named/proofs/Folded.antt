@@ -24,7 +24,7 @@ use Rattle.show_named.specs.Folds.{AddsFolded, AddsNoted, AddsPart, AddsParts, A
 use Rattle.show_named.specs.Rows.{AddsEntries, SaysNamed}
 use Rattle.show_named.proofs.Listed.{entry_behind, keeps_keeps, keeps_then}
 
-before_in : Option Row → Option ℕ
+abbrev before_in : Option Row → Option ℕ
 before_in row = option_and_then (λ (r : Row). r.before) row
 
 before_without : (row : Option Row) → before_in row ≡ before_in (without_caller row)

@@ -29,7 +29,8 @@ AreAlike shown map story a b = (row : RowText) → SaysNamed shown map story a r
 
 -- All that a row has but its caller.
 abbrev pub without_caller : Option Row → Option Row
-without_caller row = option_map (λ r. record r { caller = None }) row
+without_caller None = None
+without_caller (Some row) = Some (record row { caller = None })
 
 -- The log and the rows say the same of both; the callers of their functions may differ where rows don't have them.
 pub record AreToldAlike (shown : Shown) (story : Story) (a b : ℕ) : Type 0 where
