@@ -1,16 +1,15 @@
 -- Entries that are alike, rounds, and what stands for entries, one behind the other.
-use Rattle.std.proofs.Common.{◌≡◌, ℕ, ◌+◌, ◌≤◌, ◌<◌, List, [], ◌∷◌, ◌++◌, length, take, drop, Option, Some, None, All, inl, inr}
+use Rattle.std.proofs.Common.{◌≡◌, ℕ, ◌+◌, ◌≤◌, ◌<◌, List, [], ◌∷◌, ◌++◌, length, take, drop, Option, Some, None, inl, inr}
 use Rattle.std.proofs.Common.{refl, sym, ap, subst, ◌∙◌, arith, get_or}
 use Rattle.std.proofs.lemmas.List.{append-nil, append_assoc, take_all, take_more, length-append, length-take}
 use Rattle.std.proofs.lemmas.List.Elements.{All-nil, All-push, AllZip-push}
 use Rattle.std.proofs.lemmas.List.Folds.{concat-append}
 use Rattle.std.proofs.Math.Seq.{take-add}
-use Rattle.std.specs.List.{AllZip, concat, slice_get}
-use Rattle.std.specs.Io.KnownBytes.{Appends, Keeps}
+use Rattle.std.specs.List.{concat, slice_get}
+use Rattle.std.specs.Io.KnownBytes.{Keeps}
 use Rattle.std.specs.Prelude.{codes, option_and_then, option_map, unwrap_or}
 use Rattle.types.specs.declared.event.Entry.{Entry}
 use Rattle.types.specs.declared.event.Question.{Question}
-use Rattle.show_text.specs.declared.context.Context.{Context}
 use Rattle.show_text.specs.declared.context.Context.TheVariants.{Asked}
 use Rattle.show_text.specs.Rows.{RowText}
 use Rattle.show_rows.specs.declared.rows.Row.{Row}
@@ -21,7 +20,7 @@ use Rattle.show_rows.proofs.Chosen.{keeps_same}
 use Rattle.show_named.specs.declared.data_map.DataMap.{DataMap}
 use Rattle.show_named.specs.declared.folds.Rounds.{Rounds}
 use Rattle.show_named.specs.Folds.{AddsFolded, AddsNoted, AddsPart, AddsParts, AreAlike, AreOfOne, AreRounds, AreToldAlike, AreNamedWords, IsAnswered, IsBy, IsRoundsOf, Repeats, often_text, without_caller}
-use Rattle.show_named.specs.Rows.{AddsEntries, SaysNamed}
+use Rattle.show_named.specs.Rows.{AddsEntries}
 use Rattle.show_named.proofs.Listed.{entry_behind, keeps_keeps, keeps_then}
 
 abbrev before_in : Option Row → Option ℕ

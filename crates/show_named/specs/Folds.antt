@@ -1,6 +1,6 @@
 -- Rounds that are made again and again have the rows of the first one, with how often; and an answer stands on the row of
 -- its question, where nothing is between.
-use Rattle.std.specs.Prelude.{ℕ, ◌≡◌, ◌≤◌, ◌+◌, ◌⊎◌, ◌==◌, ◌++◌, [], ◌∷◌, if◌then◌else◌, List, Option, Some, None, Bool, All, codes, length, option_map, take}
+use Rattle.std.specs.Prelude.{ℕ, ◌≡◌, ◌≤◌, ◌+◌, ◌⊎◌, ◌==◌, ◌++◌, [], ◌∷◌, if◌then◌else◌, List, Option, Some, None, Bool, All, codes, length, take}
 use Rattle.std.specs.Fmt.{decimal}
 use Rattle.std.specs.List.{AllZip, concat, slice_get}
 use Rattle.std.specs.Io.KnownBytes.{Keeps}
