@@ -11,8 +11,9 @@
 //! of the entries that are asked for, folded or each by itself (`show_named`), with what each thread waits for below,
 //! where all are shown and one was stopped; the object is the one of these entries, in order, each with its line, its
 //! words and its place; a page and a trace have the lines of these entries, and are written to their file
-//! (`specs/Looked.antt`); of a moment nothing is said. The object of races has what its lines say: of each the two
-//! entries, and the next atomic write of the first one's thread.
+//! (`specs/Looked.antt`); a moment that is shown, and each of a page, has the queue and the memory of the walk along the
+//! record up to there (`specs/RunMoments.antt`), and of the end nothing is said. The object of races has what its lines
+//! say: of each the two entries, and the next atomic write of the first one's thread.
 #![tactic(auto)]
 
 mod ends;
