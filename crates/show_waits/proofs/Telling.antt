@@ -25,8 +25,8 @@ use Rattle.show_waits.specs.Waits.{SaysEnd, SaysNowhere, SaysOther, SaysStand, S
 
 -- the text, by the number of the line
 abbrev stand_words : ℕ → List ℕ → ℕ → List ℕ → List ℕ → List ℕ → List ℕ
-stand_words times last line written other notified = last ++ (codes "\n  so " ++ (times_text times ++ (codes " since line "
-    ++ (decimal line ++ (codes "\n  last write there: " ++ (written
+stand_words times last line written other notified = last ++ (codes "\n  touches nothing else since line " ++ (decimal line
+    ++ (codes " (" ++ (times_text times ++ (codes ")\n  last write there: " ++ (written
     ++ (codes "\n" ++ (other ++ (codes "  last notify there: " ++ (notified ++ codes "\n"))))))))))
 
 module _ (shown : Shown) (map : DataMap) (story : Story) (n : ℕ) (stand : Stand) (is : IsStand n shown.record.now.log stand) where
@@ -35,9 +35,7 @@ module _ (shown : Shown) (map : DataMap) (story : Story) (n : ℕ) (stand : Stan
       → SaysLast shown map story end (acts.Write stand.addrs) (codes "nobody") written
       → SaysOther shown map story n stand.addrs other
       → SaysLast shown map story end (acts.Notify stand.addrs.first) (codes "nobody") notified
-      → text ≡ last ++ (codes "\n  so " ++ (times_text stand.times ++ (codes " since line "
-      ++ (decimal line ++ (codes "\n  last write there: " ++ (written
-      ++ (codes "\n" ++ (other ++ (codes "  last notify there: " ++ (notified ++ codes "\n"))))))))))
+      → text ≡ stand_words stand.times last line written other notified
       → SaysStand shown map story n text
   says_stand end line last written other notified text whole line_is last_is written_is other_is notified_is words = record {
     stand = stand;
