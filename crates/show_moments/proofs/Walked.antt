@@ -1,5 +1,5 @@
 -- From what a moment sees of a walk along a whole log to the walk that it keeps.
-use Rattle.std.proofs.Common.{◌≡◌, ◌≢◌, ◌∙◌, ◌⊎◌, inl, inr, ℕ, ◌+◌, ◌<◌, ◌≤◌, Bool, true, false, List, [], ◌∷◌, length, take}
+use Rattle.std.proofs.Common.{◌≡◌, ◌≢◌, ◌∙◌, inl, inr, ℕ, ◌+◌, ◌<◌, ◌≤◌, Bool, true, false, List, [], ◌∷◌, length, take}
 use Rattle.std.proofs.Common.{refl, sym, ap, subst, arith}
 use Rattle.std.proofs.lemmas.Bool.{cases_eq, false≢true}
 use Rattle.std.proofs.lemmas.List.{take_all}
@@ -12,11 +12,10 @@ use Rattle.interp.specs.declared.thread.Thread.{Thread}
 use Rattle.interp_trait.specs.Turns.{Meaning}
 use Rattle.interp_trait.specs.declared.turn.Turn.{Turn}
 use Rattle.replay_walk.specs.declared.walk.Walk.{Walk}
-use Rattle.replay_walk.specs.Seen.{Sight.Came, CameAlong, IsShown, IsToldOf, SeesBy, SeesLog, SeesNext, SeesWhole}
-use Rattle.replay_walk.specs.Walked.{Run, ComesAlong, WalkCame}
+use Rattle.replay_walk.specs.Seen.{CameAlong, IsShown, IsToldOf, SeesBy, SeesLog, SeesNext, SeesWhole}
+use Rattle.replay_walk.specs.Walked.{ComesAlong, WalkCame}
 use Rattle.show_moments.specs.declared.moment.Moment.{Moment}
 use Rattle.show_moments.specs.declared.moment.Bytes.{Bytes}
-use Rattle.show_moments.specs.declared.standing.ThreadSnapshot.{ThreadSnapshot}
 use Rattle.show_moments.specs.Moments.{bytes_of, IsOfSame, IsRound, KeepsRound, MomentSees, StandsIn}
 
 -- what isn't the moment's own entry leaves of it
