@@ -1,6 +1,5 @@
 -- What is printed of a record, to which stream.
 use Rattle.std.proofs.Common.{ℕ, ◌≡◌, List, true, false, cond, is_some, sym, subst, ap}
-use Rattle.std.specs.Prelude.{Result, Ok, Err, OnOk}
 use Rattle.report_command.specs.Views.{path_of}
 use Rattle.report_command.specs.declared.show.ShowLook.{ShowLook}
 use Rattle.report_jobs.specs.Prints.{WriterChange}
@@ -18,8 +17,3 @@ pub to_output : (how : ShowLook) (bytes saved : List ℕ) (out save : WriterChan
     → OfModule (PrintsShow how out) bytes saved → OfModule (PrintsShow how (stream_of how.view out save)) bytes saved
 to_output how bytes saved out save is = subst (λ (w : WriterChange). OfModule (PrintsShow how w) bytes saved)
     (sym (ap (λ b. cond b save out) is))
-
--- Of what goes well holds what holds anyway.
-pub on_ok_always : {T E P : Type 0} (r : Result T E) → P → OnOk r P
-on_ok_always (Ok v) p = p
-on_ok_always (Err e) p = tt

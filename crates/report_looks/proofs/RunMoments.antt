@@ -1,5 +1,5 @@
 -- From what a moment sees of a replay to the run's moment.
-use Rattle.std.proofs.Common.{◌≡◌, ◌∙◌, ℕ, ◌≤◌, List, length, take, Result, Ok, Err, true, false, sym, subst}
+use Rattle.std.proofs.Common.{◌≡◌, ◌∙◌, ℕ, ◌≤◌, List, length, take, Option, Result, Ok, Err, Bool, true, false, sym, subst}
 use Rattle.std.specs.Prelude.{OnOk}
 use Rattle.types.specs.declared.parts.Parts.{Parts}
 use Rattle.interp.specs.Threads.{meaning_in}
@@ -11,14 +11,20 @@ use Rattle.show_moments.specs.declared.moment.Bytes.{Bytes}
 use Rattle.show_moments.specs.declared.moment.Moment.{Moment}
 use Rattle.show_moments.specs.Moments.{MomentSees}
 use Rattle.show_moments.proofs.Walked.{whole_asks, whole_sees}
-use Rattle.report_looks.specs.RunMoments.{IsMomentIn, IsMomentOf}
+use Rattle.show_moments.specs.declared.scene.MomentView.{MomentView}
+use Rattle.show_moments.specs.Scenes.{WritesMoment}
+use Rattle.show_named.specs.declared.data_map.DataMap.{DataMap}
+use Rattle.show_rows.specs.declared.listing.Shown.{Shown}
+use Rattle.race_history.specs.declared.race.Race.{Race}
+use Rattle.report_looks.specs.declared.wanted.Here.{Here}
+use Rattle.report_looks.specs.RunMoments.{IsMomentIn, IsViewOf, WritesHere, WritesScene}
 
 pub seen_moment : (m : Parts) (r : RecordParts) (at : ℕ) (bytes : Bytes) (old new : Moment) (end : EndState) → old.at ≡ at
     → old.wanted ≡ bytes → SeesReplay MomentSees m r (Ok end) old new → new.is_short ≡ false → IsMomentIn m r at bytes new
-seen_moment m r at bytes old new end here wanted (first, stands, last, comes, sees) whole = λ within.
+seen_moment m r at bytes old new end here wanted (first, stands, all) whole = λ within.
     let low : old.at ≤ length r.log = subst (λ (k : ℕ). k ≤ length r.log) (sym here) within in
-    let found = whole_sees meaning_in first last r.limit r.log old new low whole comes sees in
-    let asks = whole_asks meaning_in first last r.limit r.log old new sees in
+    let found = whole_sees meaning_in first all.0 r.limit r.log old new low whole all.1 all.2 in
+    let asks = whole_asks meaning_in first all.0 r.limit r.log old new all.2 in
     record {
       at_is = asks.0 ∙ here;
       wanted = asks.1 ∙ wanted;
@@ -36,6 +42,26 @@ pub moment_in : (m n : Parts) (r s : RecordParts) (at : ℕ) (bytes : Bytes) (mo
     → IsMomentIn m r at bytes moment → IsMomentIn n s at bytes moment
 moment_in m n r s at bytes moment e f is = subst (λ (p : Parts). IsMomentIn p s at bytes moment) e
     (subst (λ (x : RecordParts). IsMomentIn m x at bytes moment) f is)
+
+-- what is written of a moment, at the end and elsewhere
+module _ (m : Parts) (shown : Shown) (map : DataMap) (here : Here) (moment : Moment) (old new : Option (List ℕ))
+    (view : MomentView) (is : IsViewOf m shown map here.is_raw view) where
+  pub end_here : here.is_end ≡ true → moment.is_short ≡ false → WritesHere m shown map here moment old new
+  end_here end whole = record {
+    view = view;
+    view_is = is;
+    whole = whole;
+    writes = subst (λ (b : Bool). WritesScene view b moment old new) (sym end) tt;
+  }
+
+  pub scene_here : here.is_end ≡ false → (races : List Race) → WritesMoment view moment races old new → moment.is_short ≡ false
+      → WritesHere m shown map here moment old new
+  scene_here inside races says whole = record {
+    view = view;
+    view_is = is;
+    whole = whole;
+    writes = subst (λ (b : Bool). WritesScene view b moment old new) (sym inside) (races, says);
+  }
 
 -- two things that hold where it goes well
 pub on_ok_both : {T E P Q R : Type 0} (r : Result T E) → (P → Q → R) → OnOk r P → OnOk r Q → OnOk r R

@@ -1,6 +1,6 @@
 -- What is asked for of a record's run, and what is printed of it.
 use Rattle.std.specs.Prelude.{ℕ, ◌≡◌, ◌==◌, ◌&&◌, ◌+◌, ◌-◌, min, Bool, true, false, cond, List, length, position}
-use Rattle.std.specs.Prelude.{Option, Some, None, MatchOption, is_some}
+use Rattle.std.specs.Prelude.{Option, Some, None, is_some}
 use Rattle.std.specs.List.{AllZip, list_any, slice_get}
 use Rattle.types.specs.declared.parts.Parts.{Parts}
 use Rattle.types.specs.declared.event.Entry.{Entry}

@@ -1,6 +1,9 @@
+use Rattle.std.proofs.Common.{subst, sym}
 use Rattle.std.proofs.lemmas.Result.{on_ok_weaker}
+use Rattle.types.specs.declared.parts.Parts.{Parts}
 use Rattle.show_rows.specs.declared.listing.Shown.{Shown}
-use Rattle.report_looks.proofs.Printed.{on_ok_always}
+use Rattle.report_looks.specs.RunMoments.{WritesHere}
+use Rattle.report_looks.proofs.RunMoments.{moment_in}
 use Rattle.report_looks.proofs.printing.print_asked.Goals as goal
 
 pub returns-in-Write : goal.returns-in-Write
@@ -23,9 +26,10 @@ returns-in_ok-moment-in-Moment g c =
       shown,
       record { of_record = c.parts.ensures.parts; of_rows = c.as_slice.ensures.value; of_module = c.requires },
       (
-        c.in_ok-moment.moment,
+        c.in_ok-moment-in-Moment.moment,
         moment_in m c.args.code.now.parts.now _ _ _ _ _ (sym c.requires) (sym c.parts.ensures.parts)
-            (c.in_ok-moment.ensures writes.whole),
-        subst (λ (p : Parts). WritesHere p shown c.args.map.now c.in-Moment.here c.in_ok-moment.moment _ _) (sym c.requires) writes,
+            (c.in_ok-moment-in-Moment.ensures writes.whole),
+        subst (λ (p : Parts). WritesHere p shown c.args.map.now c.in-Moment.here c.in_ok-moment-in-Moment.moment
+            (g.W.Write.contents c.args.out.now) (g.W.Write.contents c.print_moment.new.out)) (sym c.requires) writes,
       ),
     )) c.print_moment.ensures)
