@@ -287,6 +287,17 @@ fn files_of(alloc: Global, listing: &Listing) -> Result<Vec<SourceFile>, Fail> {
     Ok(files)
 }
 
+/// The code of a listing's module, with these files of source.
+fn code_of<'a>(
+    alloc: Global,
+    listing: &'a Listing,
+    valid: &'a ValidModule,
+    files: &'a [SourceFile],
+) -> Result<CodeMap<'a, 'a>, Fail> {
+    let code = CodeMap::read(alloc, valid.parts(), listing.module, listing.names)?;
+    Ok(code.with_sources(Sources::new(alloc, files)?))
+}
+
 /// What is printed of a record with these rows.
 fn printed(
     alloc: Global,
@@ -296,8 +307,7 @@ fn printed(
     rows: &[Option<Row>],
 ) -> Result<Vec<u8>, Fail> {
     let files = files_of(alloc, listing)?;
-    let code = CodeMap::read(alloc, valid.parts(), listing.module, listing.names)?;
-    let code = code.with_sources(Sources::new(alloc, files.as_slice())?);
+    let code = code_of(alloc, listing, valid, files.as_slice())?;
     let shown = Shown {
         record: record.parts(),
         rows,
