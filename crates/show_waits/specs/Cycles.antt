@@ -15,7 +15,7 @@ chain_text n [] to = wait_text n to
 chain_text n (m ∷ ms) to = wait_text n m ++ (codes ", " ++ chain_text m ms to)
 
 abbrev pub cycle_text : ℕ → List ℕ → List ℕ
-cycle_text n others = chain_text n others n ++ codes ": a cycle, each stands at bytes that the next one wrote last\n"
+cycle_text n others = chain_text n others n ++ codes ": a cycle; where each stands, the next one was the last of the others to write\n"
 
 -- A cycle is told at its thread of the lowest number; where a thread is that of none, nothing is.
 abbrev pub SaysCycle : List (Option ℕ) → ℕ → List ℕ → Type 0

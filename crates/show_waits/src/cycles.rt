@@ -19,7 +19,7 @@ fn words_of(alloc: Global, n: usize, others: &[usize]) -> Result<String, AllocEr
         at = *next;
     }
     let text = format!(in alloc;
-        "{text}t{at} waits for t{n}: a cycle, each stands at bytes that the next one wrote last\n"
+        "{text}t{at} waits for t{n}: a cycle; where each stands, the next one was the last of the others to write\n"
     )?;
     Ok(text)
 }

@@ -16,5 +16,5 @@ returns c =
     let i = c.loop-next.next-index in
     let others = c.args.others.now in
     last_one (string_bytes c.loop-next.text) (chain_text c.args.n others c.args.n)
-    (codes ": a cycle, each stands at bytes that the next one wrote last\n") _ c.loop-next.at c.args.n (drop i others)
+    (codes ": a cycle; where each stands, the next one was the last of the others to write\n") _ c.loop-next.at c.args.n (drop i others)
     (drop_all i others c.loop-next-test.false) c.in_ok-text-2.ensures.ok c.loop-next.invariant
