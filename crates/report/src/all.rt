@@ -24,7 +24,7 @@ use report_lines::{write_for_ever, write_found_ending, write_no_end, write_witho
 use search_endings::Ending;
 use search_finds::{Hears, entries_leading, is_looked_for, run_round, run_to};
 use search_modules::turn_choices;
-use search_reach::{FairRuns, Liveness};
+use search_reach::{Crew, FairRuns, Liveness};
 use spawn_host::Request;
 use std::alloc::{AllocError, Global};
 use std::io::{self, Write};
@@ -416,9 +416,10 @@ fn tell_behind<F: Hears, W: Write, S: Write>(
 /// Goes through all runs of a call: where no threads race by the orders that matter then, and else through every order
 /// of their entries. Tells a race that it found, prints the endings, whether these are all, what is known of races, and
 /// what never ends; then what is told behind that. Answers the status.
-pub fn search_all_orders<F: Hears, W: Write, S: Write>(
+pub fn search_all_orders<C: Crew, F: Hears, W: Write, S: Write>(
     alloc: Global,
     request: &Request,
+    crew: &C,
     asked: Asked,
     most: u32,
     follower: &mut F,
@@ -437,10 +438,10 @@ pub fn search_all_orders<F: Hears, W: Write, S: Write>(
     ensures trouble { IfErr result IsOfSystem }
 {
     let search = asked.search;
-    let look = first_look(alloc, request, search, most, follower)?;
+    let look = first_look(alloc, request, crew, search, most, follower)?;
     follower.end();
     tell_race(alloc, request, asked, &look, out, save)?;
-    let whole = whole_of(alloc, request, search, most, look, follower)?;
+    let whole = whole_of(alloc, request, crew, search, most, look, follower)?;
     follower.end();
     write_complete(out, &whole.all, most, whole.racing)?;
     tell_behind(alloc, request, search, &whole, follower, out, save)

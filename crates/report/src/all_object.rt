@@ -26,6 +26,7 @@ use search_races::watched;
 use search_scheduled::MadeRun;
 use show_races::races_shown;
 use show_rows::{CodeMap, Shown, Story};
+use search_reach::Crew;
 use spawn_host::Request;
 use std::alloc::Global;
 use std::io::Write;
@@ -263,9 +264,10 @@ fn keep_found<S: Write>(
 
 /// Goes through all runs of a call, as `search_all_orders` does, writes the object of what is found, and then the
 /// record, where one is wanted. Answers the status.
-pub fn write_all_orders<F: Hears, W: Write, S: Write>(
+pub fn write_all_orders<C: Crew, F: Hears, W: Write, S: Write>(
     alloc: Global,
     request: &Request,
+    crew: &C,
     asked: Asked,
     most: u32,
     follower: &mut F,
@@ -284,10 +286,10 @@ pub fn write_all_orders<F: Hears, W: Write, S: Write>(
     ensures trouble { IfErr result IsOfSystem }
 {
     let search = asked.search;
-    let look = first_look(alloc, request, search, most, follower)?;
+    let look = first_look(alloc, request, crew, search, most, follower)?;
     follower.end();
     let raced = run_of_race(alloc, request, search, &look)?;
-    let whole = whole_of(alloc, request, search, most, look, follower)?;
+    let whole = whole_of(alloc, request, crew, search, most, look, follower)?;
     follower.end();
     let behind = behind_of(alloc, request, search, &whole, follower)?;
     let told = Told {

@@ -18,7 +18,7 @@ use report_command::Search;
 use report_jobs::Trouble;
 use search_endings::Ending;
 use search_modules::{Race, RaceFree, all_endings, race_free_endings};
-use search_reach::{Follows, Order, Verdict};
+use search_reach::{Crew, Follows, Order, Verdict};
 use spawn_host::Request;
 use std::alloc::Global;
 
@@ -104,9 +104,10 @@ fn order_of(search: &Search) -> Order
 
 /// The endings of a call by the orders that matter where no threads race. It ends at an ending that is looked for, where
 /// it says so.
-fn free_of<F: Follows>(
+fn free_of<C: Crew, F: Follows>(
     alloc: Global,
     request: &Request,
+    crew: &C,
     search: &Search,
     most: u32,
     follower: &mut F,
@@ -122,7 +123,7 @@ fn free_of<F: Follows>(
     let early = early_of(search);
     let dump = search.sought.dump as usize;
     let order = order_of(search);
-    let mut free = race_free_endings(alloc, request, order, most, dump, &early, follower)?;
+    let mut free = race_free_endings(alloc, request, crew, order, most, dump, &early, follower)?;
     free.ended.levels = None;
     Ok(free)
 }
@@ -152,9 +153,10 @@ fn look_of(free: RaceFree<Ending>) -> FirstLook
 }
 
 /// Looks at all runs of a call by the orders that matter where no threads race, unless every order is asked for.
-pub fn first_look<F: Follows>(
+pub fn first_look<C: Crew, F: Follows>(
     alloc: Global,
     request: &Request,
+    crew: &C,
     search: &Search,
     most: u32,
     follower: &mut F,
@@ -168,14 +170,15 @@ pub fn first_look<F: Follows>(
             way: Vec::new(alloc),
         });
     }
-    let free = free_of(alloc, request, search, most, follower)?;
+    let free = free_of(alloc, request, crew, search, most, follower)?;
     Ok(look_of(free))
 }
 
 /// Goes through every order of the entries of a call, and ends at an ending that is looked for, where it says so.
-fn all_of<F: Follows>(
+fn all_of<C: Crew, F: Follows>(
     alloc: Global,
     request: &Request,
+    crew: &C,
     search: &Search,
     most: u32,
     follower: &mut F,
@@ -188,13 +191,14 @@ fn all_of<F: Follows>(
     let early = early_of(search);
     let dump = search.sought.dump as usize;
     let order = order_of(search);
-    Ok(all_endings(alloc, request, order, most, dump, &early, follower)?)
+    Ok(all_endings(alloc, request, crew, order, most, dump, &early, follower)?)
 }
 
 /// What is found of all runs of a call behind that first look.
-pub fn whole_of<F: Follows>(
+pub fn whole_of<C: Crew, F: Follows>(
     alloc: Global,
     request: &Request,
+    crew: &C,
     search: &Search,
     most: u32,
     look: FirstLook,
@@ -215,7 +219,7 @@ pub fn whole_of<F: Follows>(
             })
         }
         FirstLook::Open { racing, .. } => {
-            let all = all_of(alloc, request, search, most, follower)?;
+            let all = all_of(alloc, request, crew, search, most, follower)?;
             Ok(Whole {
                 all,
                 racing,

@@ -114,7 +114,8 @@ const STRATEGY: Argument = Argument {
 const JOBS: Argument = Argument {
     name: "jobs",
     value: "N",
-    help: "How many threads make runs, 1 to 256; without it as many as there are processors",
+    help: "How many threads make runs, 1 to 256, without it as many as there are processors; with --all how many go \
+           through states, 1 to 64, without it 1",
     parser: ValueParser::Signed(1, MOST_JOBS as i64),
     ..OPTION
 };
@@ -129,7 +130,7 @@ const ALL_HELP: &str =
 const ALL: Argument = Argument {
     name: "all",
     help: ALL_HELP,
-    conflicts: &["runs", "from", "seed", "strategy", "jobs"],
+    conflicts: &["runs", "from", "seed", "strategy"],
     ..FLAG
 };
 

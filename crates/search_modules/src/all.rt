@@ -10,7 +10,7 @@ ghost use Rattle.search_modules.specs.Liveness.{CountsStates, SaysWhereAll};
 
 use crate::calling::searched;
 use search_endings::Ending;
-use search_reach::{Ended, Follows, Order, Seeks};
+use search_reach::{Crew, Ended, Follows, Order, Seeks};
 use search_settled::search_all;
 use spawn_host::Request;
 use std::alloc::{AllocError, Global};
@@ -41,9 +41,10 @@ use std::alloc::{AllocError, Global};
 ///
 /// # Errors
 /// Where memory is refused.
-pub fn all_endings<Q: Seeks<Ending>, F: Follows>(
+pub fn all_endings<C: Crew, Q: Seeks<Ending>, F: Follows>(
     alloc: Global,
     request: &Request,
+    crew: &C,
     order: Order,
     most_states: u32,
     dump: usize,
@@ -62,5 +63,5 @@ pub fn all_endings<Q: Seeks<Ending>, F: Follows>(
         Obeys (F.wish follower.old) (F.wish follower.new) (F.told_at follower.new) r.verdict r.states) }
 {
     let searched = searched(alloc, request, dump)?;
-    search_all(alloc, &searched, order, most_states, sought, follower)
+    search_all(alloc, &searched, crew, order, most_states, sought, follower)
 }

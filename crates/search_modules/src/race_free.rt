@@ -12,7 +12,7 @@ ghost use Rattle.search_modules.specs.Races.{CanRaceSo, NeverRaces, race_free_cl
 use crate::calling::searched;
 use search_endings::Ending;
 use search_race_free::{RaceFree, all_choices, race_choices as choices_to_race, search_race_free};
-use search_reach::{Follows, Order, Seeks};
+use search_reach::{Crew, Follows, Order, Seeks};
 use spawn_host::Request;
 use std::alloc::{AllocError, Global};
 
@@ -35,9 +35,10 @@ const MOST_PLAIN: u32 = 10_000;
 ///
 /// # Errors
 /// Where memory is refused.
-pub fn race_free_endings<Q: Seeks<Ending>, F: Follows>(
+pub fn race_free_endings<C: Crew, Q: Seeks<Ending>, F: Follows>(
     alloc: Global,
     request: &Request,
+    crew: &C,
     order: Order,
     most_states: u32,
     dump: usize,
@@ -62,6 +63,7 @@ pub fn race_free_endings<Q: Seeks<Ending>, F: Follows>(
     search_race_free(
         alloc,
         &searched,
+        crew,
         order,
         most_states,
         MOST_PLAIN,

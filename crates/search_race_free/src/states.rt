@@ -14,13 +14,19 @@ ghost use Rattle.search_race_free.specs.Met.{HasOwning};
 use crate::alone::Came;
 use crate::met::{Held, held_row, held_rows, state_at};
 use crate::next::{first_state, next_states};
-use crate::{Accesses, Race};
+use crate::{Accesses, Owning, Race};
 use search_graph::Move;
-use search_reach::{Ended, Follows, Meets, Order, Reached, Seeks, Verdict, conclude, reach};
-use search_settled::{put_rows, threads_of};
+use search_reach::{Crew, Ended, Follows, Meets, Next, Order, Reached, Seeks, Verdict, conclude, reach};
+use search_settled::{Flat, put_rows, threads_of};
 use search_table::Table;
 use std::alloc::{AllocError, Global};
 use std::hash::Hash;
+
+/// The next states of some states in a row, the last first; none of one of which they can't be told.
+#[derive(Drop)]
+struct Ahead<S, T> {
+    next: Vec<Option<Vec<Next<Owning<Flat<S, T>>>>>>,
+}
 
 /// The turns of threads that do not race, in any order.
 #[derive(Drop)]
@@ -41,6 +47,8 @@ impl<M: Accesses> Meets for RaceFreeTurns<'_, M> {
     type Table = Table<Held<M::Shared>, M::Thread>;
 
     type Ending = M::Ending;
+
+    type Ahead = Ahead<M::Shared, M::Thread>;
 
     ghost State = { OwningState (FlatState M.Shared M.Thread) };
 
@@ -98,6 +106,50 @@ impl<M: Accesses> Meets for RaceFreeTurns<'_, M> {
             Came::Races(_) => Ok(false),
             Came::Unknown => Ok(false),
         }
+    }
+
+    fn ahead(
+        &self,
+        alloc: Global,
+        table: &Table<Held<M::Shared>, M::Thread>,
+        from: u32,
+        count: usize,
+    ) -> Result<Ahead<M::Shared, M::Thread>, AllocError> {
+        let mut all = Vec::new(alloc);
+        for k in 0..count {
+            let at = (from as usize).saturating_add(k);
+            let next = match state_at(alloc, self.system, table, at)? {
+                Some(state) => match next_states(alloc, self.system, &state, self.most_plain)? {
+                    Came::To(next) => Some(next),
+                    Came::Races(_) => None,
+                    Came::Unknown => None,
+                },
+                None => None,
+            };
+            let is_last = next.is_none();
+            all.push(next)?;
+            if is_last {
+                break;
+            }
+        }
+        all.reverse();
+        Ok(Ahead { next: all })
+    }
+
+    fn next_by(
+        &self,
+        alloc: Global,
+        table: &mut Table<Held<M::Shared>, M::Thread>,
+        at: u32,
+        ahead: &mut Ahead<M::Shared, M::Thread>,
+        moves: &mut Vec<Move>,
+    ) -> Result<bool, AllocError> {
+        let Some(Some(next)) = ahead.next.pop() else {
+            return Ok(false);
+        };
+        let rows = held_rows(alloc, table, next)?;
+        put_rows(table, moves, at, rows)?;
+        Ok(true)
     }
 
     fn ending(
@@ -236,9 +288,10 @@ fn racing(behind: Option<RaceBehind>) -> Option<Race>
 ///
 /// # Errors
 /// Where memory is refused.
-pub fn search_race_free<M: Accesses, Q: Seeks<M::Ending>, F: Follows>(
+pub fn search_race_free<M: Accesses, C: Crew, Q: Seeks<M::Ending>, F: Follows>(
     alloc: Global,
     system: &M,
+    crew: &C,
     order: Order,
     most: u32,
     most_plain: u32,
@@ -260,10 +313,10 @@ pub fn search_race_free<M: Accesses, Q: Seeks<M::Ending>, F: Follows>(
     ensures race { IfOk result (λ r. IfSome r.race (IsRaceOf M.Moves system.now)) }
 {
     let turns = RaceFreeTurns { system, most_plain };
-    let reached = reach(alloc, &turns, order, most, sought, follower)?;
+    let reached = reach(alloc, &turns, crew, order, most, sought, follower)?;
     let behind = race_in(alloc, system, &reached, most_plain)?;
     let way = way_behind(alloc, reached.moves.as_slice(), behind)?;
-    let ended = conclude(alloc, &turns, most, sought, reached, follower)?;
+    let ended = conclude(alloc, &turns, crew, most, sought, reached, follower)?;
     Ok(RaceFree {
         ended,
         race: racing(behind),

@@ -12,7 +12,7 @@ ghost use Rattle.search_reach.specs.Told.{Obeys, OfCount, StillObeys};
 use crate::liveness::judged;
 use crate::path::{paths_to, ways_in};
 use crate::plain::Plain;
-use crate::{Explores, Follows, Found, Liveness, Meets, Order, Reached, Seeks, Verdict, reach};
+use crate::{Alone, Crew, Explores, Follows, Found, Liveness, Meets, Order, Reached, Seeks, Verdict, reach};
 use indexmap::IndexSet;
 use search_graph::Graph;
 use std::alloc::{AllocError, Global};
@@ -46,10 +46,12 @@ fn add_ending<E: Eq + Hash + Drop>(
 }
 
 /// The endings of the states of a table, each once, in the order of their first states.
-fn endings<T: Meets>(
+fn endings_in<T: Meets>(
     alloc: Global,
     system: &T,
     table: &T::Table,
+    from: usize,
+    end: usize,
 ) -> Result<Listed<T::Ending>, AllocError>
     requires { HasSound (T.system system.now) (T.holds system.now table.now) }
     ensures gathered { IfOk result (λ r. OfStates (T.system system.now) (T.holds system.now table.now)
@@ -59,7 +61,7 @@ fn endings<T: Meets>(
     let mut endings = IndexSet::new(alloc);
     let mut firsts = Vec::new(alloc);
     let mut ended = Vec::new(alloc);
-    for at in 0..system.count(table) {
+    for at in from..end {
         let ending = system.ending(alloc, table, at)?;
         ended.push(ending.is_some())?;
         if let Some(ending) = ending {
@@ -72,6 +74,46 @@ fn endings<T: Meets>(
         ended,
     })
 }
+
+/// The same, by several threads.
+fn endings<T: Meets, C: Crew>(
+    alloc: Global,
+    system: &T,
+    crew: &C,
+    table: &T::Table,
+) -> Result<Listed<T::Ending>, AllocError> {
+    let count = system.count(table);
+    let jobs = crew.jobs();
+    if jobs < 2 || count < MANY {
+        return endings_in(alloc, system, table, 0, count);
+    }
+    let size = count.div_ceil(jobs);
+    let pieces = crew.map(alloc, jobs, &|n: usize| {
+        let from = n.saturating_mul(size).min(count);
+        endings_in(alloc, system, table, from, from.saturating_add(size).min(count))
+    })?;
+    let mut endings = IndexSet::new(alloc);
+    let mut firsts = Vec::new(alloc);
+    let mut ended = Vec::with_capacity(alloc, count)?;
+    for piece in pieces {
+        let mut piece = piece?;
+        ended.append(&mut piece.ended)?;
+        let Listed { endings: own, firsts: places, .. } = piece;
+        for (place, ending) in own.into_iter().enumerate() {
+            if let Some(at) = places.get(place) {
+                add_ending(&mut endings, &mut firsts, *at, ending)?;
+            }
+        }
+    }
+    Ok(Listed {
+        endings,
+        firsts,
+        ended,
+    })
+}
+
+/// Of fewer states the endings are listed by one thread.
+const MANY: usize = 4096;
 
 /// What was found of a system's endings.
 #[derive(Drop)]
@@ -106,9 +148,10 @@ fn paths_of(alloc: Global, graph: &Graph, states: &[usize]) -> Result<Vec<Vec<us
 ///
 /// # Errors
 /// Where memory is refused.
-pub fn conclude<T: Meets, Q: Seeks<T::Ending>, F: Follows>(
+pub fn conclude<T: Meets, C: Crew, Q: Seeks<T::Ending>, F: Follows>(
     alloc: Global,
     system: &T,
+    crew: &C,
     most: u32,
     _sought: &Q,
     reached: Reached<T::Table>,
@@ -141,7 +184,7 @@ pub fn conclude<T: Meets, Q: Seeks<T::Ending>, F: Follows>(
         endings,
         firsts,
         ended,
-    } = endings(alloc, system, &table)?;
+    } = endings(alloc, system, crew, &table)?;
     let states = system.count(&table);
     drop(table);
     let graph = Graph { states, moves };
@@ -200,15 +243,16 @@ pub fn endings_of<T: Explores, Q: Seeks<T::Ending>, F: Follows>(
         levels,
         last: 0,
     };
-    conclude(alloc, &plain, most, sought, reached, follower)
+    conclude(alloc, &plain, &Alone, most, sought, reached, follower)
 }
 
 /// The endings of a system, of which it meets no more than `most` states and a few, those before one that is looked for,
 /// and those before it is told to end. Depth first no levels are counted; breadth first they are, unless none was met.
 /// Where it met all, it says of which states none ends, and whether every fair run ends.
-pub fn all_endings<T: Meets, Q: Seeks<T::Ending>, F: Follows>(
+pub fn all_endings<T: Meets, C: Crew, Q: Seeks<T::Ending>, F: Follows>(
     alloc: Global,
     system: &T,
+    crew: &C,
     order: Order,
     most: u32,
     sought: &Q,
@@ -226,6 +270,6 @@ pub fn all_endings<T: Meets, Q: Seeks<T::Ending>, F: Follows>(
     ensures obeys { IfOk result (λ r.
         Obeys (F.wish follower.old) (F.wish follower.new) (F.told_at follower.new) r.verdict r.states) }
 {
-    let reached = reach(alloc, system, order, most, sought, follower)?;
-    conclude(alloc, system, most, sought, reached, follower)
+    let reached = reach(alloc, system, crew, order, most, sought, follower)?;
+    conclude(alloc, system, crew, most, sought, reached, follower)
 }

@@ -21,12 +21,12 @@ pub struct Next<S> {
 }
 
 /// Worlds, between which threads make steps, and concrete states that stand for them.
-pub trait Explores {
+pub trait Explores: Sync {
     /// A concrete state.
-    type State: Eq + Hash + Drop;
+    type State: Eq + Hash + Drop + Send + Sync;
 
     /// How a state has ended.
-    type Ending: Eq + Hash + Drop;
+    type Ending: Eq + Hash + Drop + Send;
 
     /// The worlds.
     ghost World: { Type 0 };

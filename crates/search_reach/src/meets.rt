@@ -10,12 +10,15 @@ use std::hash::Hash;
 
 /// Worlds, between which threads make steps, and states that stand for them, which are kept in a table: each once, in
 /// the order of their meeting.
-pub trait Meets {
+pub trait Meets: Sync {
     /// The states that were met.
-    type Table: Drop;
+    type Table: Drop + Send + Sync;
 
     /// How a state has ended.
-    type Ending: Eq + Hash + Drop;
+    type Ending: Eq + Hash + Drop + Send;
+
+    /// What comes of some states in a row.
+    type Ahead: Drop + Send;
 
     /// The states.
     ghost State: { Type 0 };
@@ -65,6 +68,25 @@ pub trait Meets {
             (λ ks s. holds self.now table.new ks)) }
         ensures gives_up { IfOk result (λ told. told ≡ false → OfStateAt (system self.now) (holds self.now table.old) at
             (λ ks s. AllGetStuck (system self.now) s)) };
+
+    /// What comes of so many states from this place on. It is right for this table, and for any that grows from it.
+    fn ahead(
+        &self,
+        alloc: Global,
+        table: &Self::Table,
+        from: u32,
+        count: usize,
+    ) -> Result<Self::Ahead, AllocError>;
+
+    /// As `next`, by what was made ahead of the state at this place, which is the first of those that weren't taken.
+    fn next_by(
+        &self,
+        alloc: Global,
+        table: &mut Self::Table,
+        at: u32,
+        ahead: &mut Self::Ahead,
+        moves: &mut Vec<Move>,
+    ) -> Result<bool, AllocError>;
 
     /// How the state at this place has ended, where it has.
     fn ending(

@@ -42,6 +42,8 @@ impl<T: Explores> Meets for Plain<'_, T> {
 
     type Ending = T::Ending;
 
+    type Ahead = ();
+
     ghost State = { T.State };
 
     ghost World = { T.World };
@@ -85,6 +87,27 @@ impl<T: Explores> Meets for Plain<'_, T> {
         };
         add_all(table, moves, at, after)?;
         Ok(true)
+    }
+
+    fn ahead(
+        &self,
+        _alloc: Global,
+        _table: &IndexSet<T::State>,
+        _from: u32,
+        _count: usize,
+    ) -> Result<(), AllocError> {
+        Ok(())
+    }
+
+    fn next_by(
+        &self,
+        alloc: Global,
+        table: &mut IndexSet<T::State>,
+        at: u32,
+        _ahead: &mut (),
+        moves: &mut Vec<Move>,
+    ) -> Result<bool, AllocError> {
+        self.next(alloc, table, at, moves)
     }
 
     fn ending(

@@ -11,7 +11,8 @@ ghost use Rattle.search_reach.specs.Told.{Obeys, OfCount};
 
 use crate::plain::Plain;
 use crate::seeking::has_sought;
-use crate::{Explores, Follows, Meets, Seeks, Wish};
+use crate::pieces::Pieces;
+use crate::{Alone, Crew, Explores, Follows, Meets, Seeks, Wish};
 use indexmap::IndexSet;
 use search_graph::Move;
 use std::alloc::{AllocError, Global};
@@ -107,9 +108,10 @@ impl Levels {
 /// Goes on from each state that was met, in their order, until there are no more, it has met more than `most`, one of
 /// which the next states cannot be told, or one that has ended as is looked for, or it is told to end. Answers beside the
 /// verdict how many levels are complete, and the place where it ended.
-fn explore<T: Meets, Q: Seeks<T::Ending>, F: Follows>(
+fn explore<T: Meets, C: Crew, Q: Seeks<T::Ending>, F: Follows>(
     alloc: Global,
     system: &T,
+    crew: &C,
     most: u32,
     sought: &Q,
     follower: &mut F,
@@ -125,6 +127,7 @@ fn explore<T: Meets, Q: Seeks<T::Ending>, F: Follows>(
         (Obeys (F.wish follower.old) (F.wish follower.new) (F.told_at follower.new) r.0)) }
 {
     let mut at: u32 = 0;
+    let mut ahead = Pieces::new(alloc);
     let end = system.count(table);
     let mut levels = Levels { complete: 0, end };
     loop {
@@ -135,7 +138,7 @@ fn explore<T: Meets, Q: Seeks<T::Ending>, F: Follows>(
         if (most as usize) < met {
             return Ok((Verdict::TooMany, Some(levels.complete), at));
         }
-        if !system.next(alloc, table, at, moves)? {
+        if !ahead.next(alloc, system, crew, table, at, moves)? {
             return Ok((Verdict::CannotTell, Some(levels.complete), at));
         }
         at += 1;
@@ -212,9 +215,10 @@ fn explore_deep<T: Meets, Q: Seeks<T::Ending>, F: Follows>(
 ///
 /// # Errors
 /// Where memory is refused.
-pub fn reach<T: Meets, Q: Seeks<T::Ending>, F: Follows>(
+pub fn reach<T: Meets, C: Crew, Q: Seeks<T::Ending>, F: Follows>(
     alloc: Global,
     system: &T,
+    crew: &C,
     order: Order,
     most: u32,
     sought: &Q,
@@ -248,7 +252,7 @@ pub fn reach<T: Meets, Q: Seeks<T::Ending>, F: Follows>(
     }
     let (verdict, levels, last) = match order {
         Order::Breadth => explore(
-            alloc, system, most, sought, follower, &mut table, &mut moves,
+            alloc, system, crew, most, sought, follower, &mut table, &mut moves,
         )?,
         Order::Depth => explore_deep(
             alloc, system, most, sought, follower, &mut table, &mut moves,
@@ -281,7 +285,7 @@ pub fn reach_all<T: Explores, Q: Seeks<T::Ending>, F: Follows>(
         Obeys (F.wish follower.old) (F.wish follower.new) (F.told_at follower.new) f.verdict (index_set_len f.met)) }
 {
     let plain = Plain { system };
-    let reached = reach(alloc, &plain, order, most, sought, follower)?;
+    let reached = reach(alloc, &plain, &Alone, order, most, sought, follower)?;
     Ok(Found {
         met: reached.table,
         moves: reached.moves,

@@ -22,6 +22,7 @@
 #![tactic(auto)]
 
 mod access;
+mod ahead;
 mod flat;
 mod met;
 mod moves;

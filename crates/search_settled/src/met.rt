@@ -44,7 +44,7 @@ const FEWEST_SLOTS: usize = 1024;
 const MOST_SLOTS: usize = 1 << 18;
 
 /// The slot of a turn, of so many.
-fn slot_of(shared: u32, thread: u32, n: u32, slots: usize) -> usize
+pub(crate) fn slot_of(shared: u32, thread: u32, n: u32, slots: usize) -> usize
     requires { 0 < slots }
     ensures { result < slots }
 {

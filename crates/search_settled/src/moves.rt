@@ -23,18 +23,18 @@ use std::alloc::{AllocError, Global};
 use std::hash::Hash;
 
 /// A system of threads, what they share and each of them as values that can be compared.
-pub trait Moves {
+pub trait Moves: Sync {
     /// What threads share.
-    type Shared: Eq + Hash + Drop;
+    type Shared: Eq + Hash + Drop + Send + Sync;
 
     /// A thread at rest.
-    type Thread: Eq + Hash + Drop;
+    type Thread: Eq + Hash + Drop + Send + Sync;
 
     /// What an event makes of the threads.
     type Effect: Drop;
 
     /// How threads have ended.
-    type Ending: Eq + Hash + Drop;
+    type Ending: Eq + Hash + Drop + Send;
 
     /// What threads share, the threads, and their events, replies and answers, as the system has them.
     ghost X: { Type 0 };

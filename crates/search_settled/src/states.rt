@@ -13,10 +13,11 @@ ghost use Rattle.search_settled.specs.Same.{flat_eq};
 ghost use Rattle.search_settled.specs.Known.{PutsRows};
 
 use crate::Moves;
+use crate::ahead::{Ahead, ahead_of};
 use crate::met::{Met, NextRow};
 use crate::next::{next_rows, row_of, threads_of};
 use search_graph::Move;
-use search_reach::{Ended, Follows, Meets, Order, Seeks, all_endings};
+use search_reach::{Crew, Ended, Follows, Meets, Order, Seeks, all_endings};
 use search_table::Table;
 use std::alloc::{AllocError, Global};
 use std::hash::Hash;
@@ -61,6 +62,8 @@ impl<M: Moves> Meets for Turns<'_, M> {
     type Table = Met<M::Shared, M::Thread>;
 
     type Ending = M::Ending;
+
+    type Ahead = Ahead<M::Shared, M::Thread>;
 
     ghost State = { FlatState M.Shared M.Thread };
 
@@ -117,6 +120,27 @@ impl<M: Moves> Meets for Turns<'_, M> {
         Ok(true)
     }
 
+    fn ahead(
+        &self,
+        alloc: Global,
+        met: &Met<M::Shared, M::Thread>,
+        from: u32,
+        count: usize,
+    ) -> Result<Ahead<M::Shared, M::Thread>, AllocError> {
+        ahead_of(alloc, self.system, met, from, count)
+    }
+
+    fn next_by(
+        &self,
+        alloc: Global,
+        met: &mut Met<M::Shared, M::Thread>,
+        at: u32,
+        ahead: &mut Ahead<M::Shared, M::Thread>,
+        moves: &mut Vec<Move>,
+    ) -> Result<bool, AllocError> {
+        ahead.take(alloc, met, at, moves)
+    }
+
     fn ending(
         &self,
         alloc: Global,
@@ -139,9 +163,10 @@ impl<M: Moves> Meets for Turns<'_, M> {
 /// states no run ends, and whether every fair run ends: one in which each thread that wants a turn of its own or an event
 /// makes its next turn. The list has each ending of a run with no more events than levels are complete. Depth first no
 /// levels are counted.
-pub fn search_all<M: Moves, Q: Seeks<M::Ending>, F: Follows>(
+pub fn search_all<M: Moves, C: Crew, Q: Seeks<M::Ending>, F: Follows>(
     alloc: Global,
     system: &M,
+    crew: &C,
     order: Order,
     most: u32,
     sought: &Q,
@@ -161,5 +186,5 @@ pub fn search_all<M: Moves, Q: Seeks<M::Ending>, F: Follows>(
         Obeys (F.wish follower.old) (F.wish follower.new) (F.told_at follower.new) r.verdict r.states) }
 {
     let states = Turns { system };
-    all_endings(alloc, &states, order, most, sought, follower)
+    all_endings(alloc, &states, crew, order, most, sought, follower)
 }

@@ -171,6 +171,37 @@ impl<S: Eq + Hash + Drop, T: Eq + Hash + Drop> Table<S, T> {
         Ok(chain)
     }
 
+    /// The number of what is shared, where something that equals it is there.
+    pub fn find_shared(&self, shared: &S) -> Option<u32> {
+        u32::try_from(self.shared.get_index_of(shared)?).ok()
+    }
+
+    /// The number of a thread, where one that equals it is there.
+    pub fn find_thread(&self, thread: &T) -> Option<u32> {
+        u32::try_from(self.threads.get_index_of(thread)?).ok()
+    }
+
+    /// The chain of this thread and that chain, where it is there.
+    pub fn find_link(&self, thread: u32, rest: u32) -> Option<u32> {
+        let place = self.links.get_index_of(&Link { thread, rest })?;
+        u32::try_from(place).ok()?.checked_add(1)
+    }
+
+    /// The chain with this thread in the place of its n-th one, where it is there.
+    pub fn find_with_thread(&self, chain: u32, n: usize, thread: u32) -> Option<u32> {
+        let link = self.link(chain)?;
+        if n == 0 {
+            return self.find_link(thread, link.rest);
+        }
+        let rest = self.find_with_thread(link.rest, n - 1, thread)?;
+        self.find_link(link.thread, rest)
+    }
+
+    /// The place of a row, where it is there.
+    pub fn find_row(&self, row: Row) -> Option<u32> {
+        u32::try_from(self.rows.get_index_of(&row)?).ok()
+    }
+
     /// The place of a row, which is put behind the others where it isn't there.
     ///
     /// # Errors
