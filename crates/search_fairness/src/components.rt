@@ -97,22 +97,22 @@ impl Search {
         Ok(())
     }
 
-    /// One step, or false where the path is at its end.
+    /// Goes on to the next state that wasn't met, or back; false where the path is at its end.
     fn step(&mut self, graph: &Graph, out: &Grouped) -> Result<bool, AllocError> {
-        let Some(call) = self.path.pop() else {
+        let Some(Call { state, at }) = self.path.last().copied() else {
             return Ok(false);
         };
-        if call.at >= out.end(call.state) {
-            self.go_back(call.state)?;
-            return Ok(true);
+        for k in at..out.end(state) {
+            if let Some(next) = self.go_on(graph, state, out.index_at(k)) {
+                if let Some(call) = self.path.last_mut() {
+                    call.at = k.saturating_add(1);
+                }
+                self.visit(next, out.start(next))?;
+                return Ok(true);
+            }
         }
-        self.path.push(Call {
-            state: call.state,
-            at: call.at.saturating_add(1),
-        })?;
-        if let Some(next) = self.go_on(graph, call.state, out.index_at(call.at)) {
-            self.visit(next, out.start(next))?;
-        }
+        let _ = self.path.pop();
+        self.go_back(state)?;
         Ok(true)
     }
 }

@@ -96,6 +96,21 @@ pub fn members_of(found: &Components, component: u32) -> &[u32] {
     }
 }
 
+/// The thread of the first move from a state, where none leads back there.
+fn leaver_of(graph: &Graph, out: &Grouped, state: u32) -> Option<u32> {
+    let mut first = None;
+    for k in out.start(state)..out.end(state) {
+        let m = graph.moves.get(out.index_at(k) as usize)?;
+        if m.next == state {
+            return None;
+        }
+        if first.is_none() {
+            first = Some(m.thread);
+        }
+    }
+    first
+}
+
 /// A thread that has a move at each state of the component, and none inside of it; any thread where no state has moves.
 pub fn mover_of(
     graph: &Graph,
@@ -104,16 +119,21 @@ pub fn mover_of(
     tally: &mut Tally,
     component: u32,
 ) -> Option<u32> {
-    tally.take(graph, out, found, component);
     let members = members_of(found, component);
     let Some(first) = members.first() else {
         return Some(0);
     };
     let start = out.start(*first);
     let end = out.end(*first);
-    if start >= end && members.len() == 1 {
-        return Some(0);
+    if members.len() == 1 {
+        if start >= end {
+            return Some(0);
+        }
+        if let Some(thread) = leaver_of(graph, out, *first) {
+            return Some(thread);
+        }
     }
+    tally.take(graph, out, found, component);
     for k in start..end {
         if let Some(m) = graph.moves.get(out.index_at(k) as usize) {
             let count = number_at(&tally.counts, m.thread as usize) as usize;

@@ -5,8 +5,8 @@ ghost use Rattle.search_race_free.specs.Met.{IsHeldRow, AreHeldRows, IsStateAt};
 
 use crate::{Accesses, Owning, Touch};
 use search_reach::Next;
-use search_settled::{Flat, NextRow, row_of, threads_of};
-use search_table::{Row, Table};
+use search_settled::{Flat, NextWords, put_words, threads_of};
+use search_table::Table;
 use std::alloc::{AllocError, Global};
 use std::hash::Hash;
 
@@ -17,47 +17,28 @@ pub(crate) struct Held<S> {
     pub(crate) owned: Vec<Touch>,
 }
 
-/// The row of a state, whose parts are put into the table.
-pub(crate) fn held_row<S: Eq + Hash + Drop, T: Eq + Hash + Drop>(
-    table: &mut Table<Held<S>, T>,
-    state: Owning<Flat<S, T>>,
-) -> Result<Row, AllocError>
-    requires { IsOrdered table.old.links.keys }
-    ensures grows { OnOk result (Grows table.old table.new) }
-    ensures ordered { OnOk result (IsOrdered table.new.links.keys) }
-    ensures row { IfOk result (IsHeldRow S.eq T.eq table.new state) }
-{
+/// What is shared, and what the threads own, beside the threads.
+pub(crate) fn held<S, T>(state: Owning<Flat<S, T>>) -> Flat<Held<S>, T> {
     let Owning { flat, owned } = state;
     let Flat { shared, threads } = flat;
-    row_of(
-        table,
-        Flat {
-            shared: Held { shared, owned },
-            threads,
-        },
-    )
+    Flat {
+        shared: Held { shared, owned },
+        threads,
+    }
 }
 
-/// The rows of these next states, whose parts are put into the table.
-pub(crate) fn held_rows<S: Eq + Hash + Drop, T: Eq + Hash + Drop>(
+/// The words of these next states, whose parts are put into the table.
+pub(crate) fn held_words<S: Eq + Hash + Drop, T: Eq + Hash + Drop>(
     alloc: Global,
     table: &mut Table<Held<S>, T>,
     next: Vec<Next<Owning<Flat<S, T>>>>,
-) -> Result<Vec<NextRow>, AllocError>
-    requires { IsOrdered table.old.links.keys }
-    ensures grows { OnOk result (Grows table.old table.new) }
-    ensures ordered { OnOk result (IsOrdered table.new.links.keys) }
-    ensures rows { IfOk result (λ v. AreHeldRows S.eq T.eq table.new next.items v.items) }
-{
-    let mut rows = Vec::new(alloc);
+) -> Result<NextWords, AllocError> {
+    let mut all = NextWords::new(alloc);
     for one in next {
-        let row = held_row(table, one.state)?;
-        rows.push(NextRow {
-            thread: one.thread,
-            row,
-        })?;
+        put_words(table, held(one.state), &mut all)?;
+        all.end(one.thread)?;
     }
-    Ok(rows)
+    Ok(all)
 }
 
 /// A copy.
@@ -76,17 +57,15 @@ pub(crate) fn state_at<M: Accesses>(
     table: &Table<Held<M::Shared>, M::Thread>,
     at: usize,
 ) -> Result<Option<Owning<Flat<M::Shared, M::Thread>>>, AllocError>
-    requires { IsOrdered table.now.links.keys }
-    ensures { IfOk result (IsStateAt (M.threads system.now) table.now at) }
 {
-    let Some(row) = table.row(at) else {
+    let Some(number) = table.words(at).first() else {
         return Ok(None);
     };
-    let Some(held) = table.shared.get_index(row.shared as usize) else {
+    let Some(held) = table.shared.get_index(*number as usize) else {
         return Ok(None);
     };
     let shared = system.copied(alloc, &held.shared)?;
-    let threads = threads_of(alloc, system, table, row.chain)?;
+    let threads = threads_of(alloc, system, table, at)?;
     let owned = copied(alloc, held.owned.as_slice())?;
     let flat = Flat { shared, threads };
     Ok(Some(Owning { flat, owned }))

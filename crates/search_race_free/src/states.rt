@@ -12,21 +12,15 @@ ghost use Rattle.search_race_free.specs.Same.{owning_eq};
 ghost use Rattle.search_race_free.specs.Met.{HasOwning};
 
 use crate::alone::Came;
-use crate::met::{Held, held_row, held_rows, state_at};
+use crate::met::{Held, held, held_words, state_at};
 use crate::next::{first_state, next_states};
-use crate::{Accesses, Owning, Race};
+use crate::{Accesses, Race};
 use search_graph::Move;
-use search_reach::{Crew, Ended, Follows, Meets, Next, Order, Reached, Seeks, Verdict, conclude, reach};
-use search_settled::{Flat, put_rows, threads_of};
+use search_reach::{Crew, Ended, Follows, Meets, Order, Reached, Seeks, Verdict, conclude, reach};
+use search_settled::{Ahead, put_flat, threads_of};
 use search_table::Table;
 use std::alloc::{AllocError, Global};
 use std::hash::Hash;
-
-/// The next states of some states in a row, the last first; none of one of which they can't be told.
-#[derive(Drop)]
-struct Ahead<S, T> {
-    next: Vec<Option<Vec<Next<Owning<Flat<S, T>>>>>>,
-}
 
 /// The turns of threads that do not race, in any order.
 #[derive(Drop)]
@@ -48,7 +42,7 @@ impl<M: Accesses> Meets for RaceFreeTurns<'_, M> {
 
     type Ending = M::Ending;
 
-    type Ahead = Ahead<M::Shared, M::Thread>;
+    type Ahead = Ahead<Held<M::Shared>, M::Thread>;
 
     ghost State = { OwningState (FlatState M.Shared M.Thread) };
 
@@ -78,8 +72,7 @@ impl<M: Accesses> Meets for RaceFreeTurns<'_, M> {
     ) -> Result<bool, AllocError> {
         match first_state(alloc, self.system)? {
             Came::To(state) => {
-                let row = held_row(table, state)?;
-                table.put_row(row)?;
+                put_flat(alloc, table, held(state))?;
                 Ok(true)
             }
             Came::Races(_) => Ok(false),
@@ -99,8 +92,7 @@ impl<M: Accesses> Meets for RaceFreeTurns<'_, M> {
         };
         match next_states(alloc, self.system, &state, self.most_plain)? {
             Came::To(next) => {
-                let rows = held_rows(alloc, table, next)?;
-                put_rows(table, moves, at, rows)?;
+                held_words(alloc, table, next)?.put(table, moves, at)?;
                 Ok(true)
             }
             Came::Races(_) => Ok(false),
@@ -114,26 +106,23 @@ impl<M: Accesses> Meets for RaceFreeTurns<'_, M> {
         table: &Table<Held<M::Shared>, M::Thread>,
         from: u32,
         count: usize,
-    ) -> Result<Ahead<M::Shared, M::Thread>, AllocError> {
-        let mut all = Vec::new(alloc);
+    ) -> Result<Ahead<Held<M::Shared>, M::Thread>, AllocError> {
+        let mut ahead = Ahead::new(alloc)?;
         for k in 0..count {
             let at = (from as usize).saturating_add(k);
-            let next = match state_at(alloc, self.system, table, at)? {
-                Some(state) => match next_states(alloc, self.system, &state, self.most_plain)? {
-                    Came::To(next) => Some(next),
-                    Came::Races(_) => None,
-                    Came::Unknown => None,
-                },
-                None => None,
-            };
-            let is_last = next.is_none();
-            all.push(next)?;
-            if is_last {
+            let Some(state) = state_at(alloc, self.system, table, at)? else {
                 break;
+            };
+            let Came::To(next) = next_states(alloc, self.system, &state, self.most_plain)? else {
+                ahead.end_state(false)?;
+                break;
+            };
+            for one in next {
+                ahead.push_flat(table, one.thread, held(one.state))?;
             }
+            ahead.end_state(true)?;
         }
-        all.reverse();
-        Ok(Ahead { next: all })
+        Ok(ahead)
     }
 
     fn next_by(
@@ -141,15 +130,11 @@ impl<M: Accesses> Meets for RaceFreeTurns<'_, M> {
         alloc: Global,
         table: &mut Table<Held<M::Shared>, M::Thread>,
         at: u32,
-        ahead: &mut Ahead<M::Shared, M::Thread>,
+        ahead: &mut Ahead<Held<M::Shared>, M::Thread>,
         moves: &mut Vec<Move>,
     ) -> Result<bool, AllocError> {
-        let Some(Some(next)) = ahead.next.pop() else {
-            return Ok(false);
-        };
-        let rows = held_rows(alloc, table, next)?;
-        put_rows(table, moves, at, rows)?;
-        Ok(true)
+        ahead.put_parts(alloc, table)?;
+        ahead.take(table, at, moves)
     }
 
     fn ending(
@@ -158,13 +143,13 @@ impl<M: Accesses> Meets for RaceFreeTurns<'_, M> {
         table: &Table<Held<M::Shared>, M::Thread>,
         at: usize,
     ) -> Result<Option<M::Ending>, AllocError> {
-        let Some(row) = table.row(at) else {
+        let Some(number) = table.words(at).first() else {
             return Ok(None);
         };
-        let Some(held) = table.shared.get_index(row.shared as usize) else {
+        let Some(held) = table.shared.get_index(*number as usize) else {
             return Ok(None);
         };
-        let threads = threads_of(alloc, self.system, table, row.chain)?;
+        let threads = threads_of(alloc, self.system, table, at)?;
         self.system.ending(alloc, &held.shared, threads.as_slice())
     }
 }

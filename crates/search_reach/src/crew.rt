@@ -3,7 +3,7 @@ ghost use Rattle.std.specs.Prelude.{◌≡◌, ◌<◌, ℕ, IfOk, vec_len};
 ghost use Rattle.std.specs.Fork.{GivesEach};
 
 use std::alloc::{AllocError, Global};
-use std::thread::{Threads, map_indices};
+use std::thread::{Threads, join, map_indices};
 
 /// Makes calls, each by itself.
 pub trait Crew {
@@ -23,6 +23,13 @@ pub trait Crew {
         requires { (i : ℕ) → i < n → F.pre f.now i }
         ensures len { IfOk result (λ v. vec_len v ≡ n) }
         ensures each { IfOk result (λ v. GivesEach F.Fn f.now n v.items) };
+
+    /// What f() and g() give.
+    fn both<F: FnOnce() -> A + Send, G: FnOnce() -> B, A: Send, B>(&self, f: F, g: G) -> (A, B)
+        requires first { F.pre f }
+        requires second { G.pre g }
+        ensures first { F.post f result.0 }
+        ensures second { G.post g result.1 };
 }
 
 /// The thread alone that searches.
@@ -46,6 +53,11 @@ impl Crew for Alone {
         }
         Ok(all)
     }
+
+    fn both<F: FnOnce() -> A + Send, G: FnOnce() -> B, A: Send, B>(&self, f: F, g: G) -> (A, B) {
+        let first = f();
+        (first, g())
+    }
 }
 
 /// So many threads.
@@ -67,5 +79,13 @@ impl<R: Threads + Sync> Crew for Hands<'_, R> {
         f: &F,
     ) -> Result<Vec<X>, AllocError> {
         map_indices(self.rt, alloc, n, f)
+    }
+
+    fn both<F: FnOnce() -> A + Send, G: FnOnce() -> B, A: Send, B>(&self, f: F, g: G) -> (A, B) {
+        if self.jobs < 2 {
+            let first = f();
+            return (first, g());
+        }
+        join(self.rt, f, g)
     }
 }

@@ -186,10 +186,16 @@ pub fn conclude<T: Meets, C: Crew, Q: Seeks<T::Ending>, F: Follows>(
         ended,
     } = endings(alloc, system, crew, &table)?;
     let states = system.count(&table);
-    drop(table);
     let graph = Graph { states, moves };
-    let paths = paths_of(alloc, &graph, firsts.as_slice())?;
-    let (verdict, liveness) = judged(alloc, &graph, ended.as_slice(), verdict, follower)?;
+    let (_, told) = crew.both(
+        move || drop(table),
+        || -> Result<(Vec<Vec<usize>>, (Verdict, Option<Liveness>)), AllocError> {
+            let paths = paths_of(alloc, &graph, firsts.as_slice())?;
+            let judged = judged(alloc, crew, &graph, ended.as_slice(), verdict, follower)?;
+            Ok((paths, judged))
+        },
+    );
+    let (paths, (verdict, liveness)) = told?;
     Ok(Ended {
         endings,
         paths,

@@ -8,7 +8,7 @@ ghost use Rattle.search_reach.specs.Liveness.{IsRoundOf, SaysOfGraph, IsGraphLiv
 ghost use Rattle.search_reach.specs.Told.{Obeys, StillObeys};
 
 use crate::path::{choices_of, path_to, ways_in};
-use crate::{Follows, Verdict, Wish};
+use crate::{Crew, Follows, Verdict, Wish};
 use search_fairness::{Cycle, Fairness, judge};
 use search_graph::{Graph, Move, cannot_end};
 use std::alloc::{AllocError, Global};
@@ -84,10 +84,21 @@ fn fair_runs_of(alloc: Global, graph: &Graph, ways: &[usize]) -> Result<FairRuns
     }
 }
 
+/// Ways to the states of a graph, and what is known of its fair runs.
+fn ways_and_fair_runs(
+    alloc: Global,
+    graph: &Graph,
+) -> Result<(Vec<usize>, FairRuns), AllocError> {
+    let ways = ways_in(alloc, graph.states, graph.moves.as_slice())?;
+    let fair_runs = fair_runs_of(alloc, graph, ways.as_slice())?;
+    Ok((ways, fair_runs))
+}
+
 /// What is said of the states of a graph, of which some are marked as ended, or nothing where the follower wishes the
 /// end.
-fn liveness_of<F: Follows>(
+fn liveness_of<C: Crew, F: Follows>(
     alloc: Global,
+    crew: &C,
     graph: &Graph,
     ended: &[bool],
     follower: &mut F,
@@ -99,12 +110,15 @@ fn liveness_of<F: Follows>(
     ensures heard { IfOk result (λ o. (F.wish follower.old ≡ wishes.End → ⊥) → F.wish follower.new ≡ wishes.End
         → (o ≡ None) × (graph.now.states ≡ F.told_at follower.new)) }
 {
-    let endless = cannot_end(alloc, graph, ended)?;
+    let (endless, fair) = crew.both(
+        || cannot_end(alloc, graph, ended),
+        || ways_and_fair_runs(alloc, graph),
+    );
+    let endless = endless?;
     if let Wish::End = follower.states(graph.states, 0) {
         return Ok(None);
     }
-    let ways = ways_in(alloc, graph.states, graph.moves.as_slice())?;
-    let fair_runs = fair_runs_of(alloc, graph, ways.as_slice())?;
+    let (ways, fair_runs) = fair?;
     let first = endless.first().copied().unwrap_or(0);
     let path = path_to(alloc, graph.moves.as_slice(), ways.as_slice(), first)?;
     Ok(Some(Liveness {
@@ -115,8 +129,9 @@ fn liveness_of<F: Follows>(
 }
 
 /// What is said of the states where all were met, and the verdict behind it: the follower is asked before each part.
-pub(crate) fn judged<F: Follows>(
+pub(crate) fn judged<C: Crew, F: Follows>(
     alloc: Global,
+    crew: &C,
     graph: &Graph,
     ended: &[bool],
     verdict: Verdict,
@@ -136,7 +151,7 @@ pub(crate) fn judged<F: Follows>(
     if let Wish::End = follower.states(graph.states, 0) {
         return Ok((Verdict::Told, None));
     }
-    match liveness_of(alloc, graph, ended, follower)? {
+    match liveness_of(alloc, crew, graph, ended, follower)? {
         Some(liveness) => Ok((Verdict::All, Some(liveness))),
         None => Ok((Verdict::Told, None)),
     }

@@ -1,10 +1,10 @@
 //! What comes of states, by a table that nobody changes meanwhile: it is right for that table, and for any that grew
 //! from it.
 
-use crate::Moves;
 use crate::met::{Known, Met, Turn, note, recall, slot_of};
+use crate::{Flat, Moves};
 use search_graph::Move;
-use search_table::{Row, Table};
+use search_table::{Table, digest_of};
 use std::alloc::{AllocError, Global};
 use std::hash::Hash;
 use std::mem::replace;
@@ -16,19 +16,16 @@ enum Part {
     New(u32),
 }
 
-/// As `Turn`, by parts.
+/// What comes of the event that a thread wants, by parts.
 #[derive(Clone, Copy)]
 enum TurnAhead {
     Still,
     Alone { shared: Part, thread: Part },
-    /// Others hear of it; it isn't noted.
-    Heard { shared: Part, from: u32, end: u32 },
-    Unknown,
 }
 
 /// A turn that was made anew, and of whom.
 #[derive(Clone, Copy)]
-struct Made {
+struct MadeAhead {
     shared: u32,
     thread: u32,
     n: u32,
@@ -40,12 +37,18 @@ struct Made {
 enum Onward {
     /// To the state at this place.
     Met(u32),
-    /// To a state that wasn't there, of parts that were.
-    New(Row),
-    /// To this shared, and this thread in the place of the one that makes the turn.
-    Alone { shared: Part, thread: Part },
-    /// To this shared, and those threads of the list of all that others heard of.
-    Heard { shared: Part, from: u32, end: u32 },
+    /// To a state that wasn't there, of parts that were: the one of this place among the new ones.
+    New(u32),
+    /// To one with parts that weren't there: its parts, up to this end.
+    Parts { end: u32 },
+}
+
+/// A state that wasn't there: where its words begin and end, and their number.
+#[derive(Clone, Copy)]
+struct NewState {
+    from: u32,
+    end: u32,
+    digest: u64,
 }
 
 /// A next state, and the thread whose event leads there.
@@ -55,10 +58,9 @@ struct NextAhead {
     onward: Onward,
 }
 
-/// A state: its chain, where its next ones end, and whether they can be told.
+/// Where the next states of a state end, and whether they can be told.
 #[derive(Clone, Copy)]
 struct StateAhead {
-    chain: u32,
     end: u32,
     is_told: bool,
 }
@@ -70,15 +72,20 @@ pub struct Ahead<S, T> {
     shared: Vec<S>,
     threads: Vec<T>,
     /// The turns that were made anew, and their slots: a place in that list, counted from 1.
-    made: Vec<Made>,
+    made: Vec<MadeAhead>,
     slots: Vec<u32>,
-    /// All threads of the next states of which others hear.
-    heard: Vec<Part>,
+    words: Vec<u32>,
+    /// The states that weren't there, each once as far as their slots tell.
+    new: Vec<NewState>,
+    new_slots: Vec<u32>,
+    parts: Vec<Part>,
     next: Vec<NextAhead>,
     states: Vec<StateAhead>,
-    /// How many states were taken, and where the next ones of the next begin.
+    /// How many states, next states and parts were taken, and the places of the new states that were.
     taken: usize,
-    from: usize,
+    taken_next: usize,
+    taken_parts: usize,
+    places: Vec<u32>,
     /// The numbers of the new parts, once they are in the table.
     shared_numbers: Vec<u32>,
     thread_numbers: Vec<u32>,
@@ -88,17 +95,26 @@ pub struct Ahead<S, T> {
 const SLOTS: usize = 4096;
 
 impl<S: Eq + Hash + Drop, T: Eq + Hash + Drop> Ahead<S, T> {
-    fn new(alloc: Global) -> Result<Ahead<S, T>, AllocError> {
+    /// Nothing.
+    ///
+    /// # Errors
+    /// Where memory is refused.
+    pub fn new(alloc: Global) -> Result<Ahead<S, T>, AllocError> {
         Ok(Ahead {
             shared: Vec::new(alloc),
             threads: Vec::new(alloc),
             made: Vec::new(alloc),
             slots: vec![in alloc; 0u32; SLOTS]?,
-            heard: Vec::new(alloc),
+            words: Vec::new(alloc),
+            new: Vec::new(alloc),
+            new_slots: vec![in alloc; 0u32; SLOTS]?,
+            parts: Vec::new(alloc),
             next: Vec::new(alloc),
             states: Vec::new(alloc),
             taken: 0,
-            from: 0,
+            taken_next: 0,
+            taken_parts: 0,
+            places: Vec::new(alloc),
             shared_numbers: Vec::new(alloc),
             thread_numbers: Vec::new(alloc),
         })
@@ -136,20 +152,171 @@ impl<S: Eq + Hash + Drop, T: Eq + Hash + Drop> Ahead<S, T> {
     }
 
     /// Notes a turn.
-    fn note(&mut self, made: Made) -> Result<(), AllocError> {
+    fn note(&mut self, made: MadeAhead) -> Result<(), AllocError> {
         self.made.push(made)?;
         let place = self.made.len() as u32;
-        if let Some(slot) = self
-            .slots
-            .get_mut(slot_of(made.shared, made.thread, made.n, SLOTS))
-        {
+        let slot = slot_of(made.shared, made.thread, made.n, SLOTS);
+        if let Some(slot) = self.slots.get_mut(slot) {
             *slot = place;
         }
         Ok(())
     }
 
-    /// Puts the new parts into the table.
-    fn put_parts(&mut self, alloc: Global, table: &mut Table<S, T>) -> Result<(), AllocError> {
+    /// The place among the new states of the one with the words from this place on, where its slot has it.
+    fn recall_new(&self, from: usize, digest: u64) -> Option<u32> {
+        let place = self.new_slots.get(digest as usize % SLOTS)?.checked_sub(1)?;
+        let new = self.new.get(place as usize)?;
+        if new.digest != digest {
+            return None;
+        }
+        let words = self.words.get(new.from as usize..new.end as usize)?;
+        if words == self.words.get(from..self.words.len())? {
+            Some(place)
+        } else {
+            None
+        }
+    }
+
+    /// The place among the new states of the one with the words from this place on.
+    fn new_place(&mut self, from: usize, digest: u64) -> Result<u32, AllocError> {
+        if let Some(place) = self.recall_new(from, digest) {
+            self.words.truncate(from);
+            return Ok(place);
+        }
+        let place = self.new.len() as u32;
+        self.new.push(NewState {
+            from: from as u32,
+            end: self.words.len() as u32,
+            digest,
+        })?;
+        if let Some(slot) = self.new_slots.get_mut(digest as usize % SLOTS) {
+            *slot = place.saturating_add(1);
+        }
+        Ok(place)
+    }
+
+    /// The words from this place on are those of a next state by this thread.
+    fn end_words(
+        &mut self,
+        table: &Table<S, T>,
+        thread: u32,
+        from: usize,
+    ) -> Result<(), AllocError> {
+        let words = self.words.get(from..self.words.len()).unwrap_or(&[]);
+        let digest = digest_of(words);
+        let onward = match table.find(words, digest) {
+            Some(place) => {
+                self.words.truncate(from);
+                Onward::Met(place)
+            }
+            None => Onward::New(self.new_place(from, digest)?),
+        };
+        self.next.push(NextAhead { thread, onward })?;
+        Ok(())
+    }
+
+    /// The parts from this place on are those of a next state by this thread.
+    fn end_parts(
+        &mut self,
+        table: &Table<S, T>,
+        thread: u32,
+        from: usize,
+    ) -> Result<(), AllocError> {
+        let words = self.words.len();
+        for place in from..self.parts.len() {
+            let Some(Part::Old(number)) = self.parts.get(place).copied() else {
+                self.words.truncate(words);
+                let onward = Onward::Parts {
+                    end: self.parts.len() as u32,
+                };
+                self.next.push(NextAhead { thread, onward })?;
+                return Ok(());
+            };
+            self.words.push(number)?;
+        }
+        self.parts.truncate(from);
+        self.end_words(table, thread, words)
+    }
+
+    /// A next state by thread n: these words, but for what is shared and that thread.
+    fn push_turn(
+        &mut self,
+        table: &Table<S, T>,
+        words: &[u32],
+        n: usize,
+        shared: Part,
+        thread: Part,
+    ) -> Result<(), AllocError> {
+        if let (Part::Old(shared), Part::Old(thread)) = (shared, thread) {
+            let from = self.words.len();
+            self.words.extend_from_slice(words)?;
+            if let Some(word) = self.words.get_mut(from) {
+                *word = shared;
+            }
+            if let Some(word) = self.words.get_mut(from.saturating_add(n).saturating_add(1)) {
+                *word = thread;
+            }
+            return self.end_words(table, n as u32, from);
+        }
+        for (place, word) in words.iter().enumerate() {
+            let part = if place == 0 {
+                shared
+            } else if place == n.saturating_add(1) {
+                thread
+            } else {
+                Part::Old(*word)
+            };
+            self.parts.push(part)?;
+        }
+        let onward = Onward::Parts {
+            end: self.parts.len() as u32,
+        };
+        self.next.push(NextAhead {
+            thread: n as u32,
+            onward,
+        })?;
+        Ok(())
+    }
+
+    /// A next state by a thread.
+    ///
+    /// # Errors
+    /// Where memory is refused.
+    pub fn push_flat(
+        &mut self,
+        table: &Table<S, T>,
+        thread: u32,
+        flat: Flat<S, T>,
+    ) -> Result<(), AllocError> {
+        let from = self.parts.len();
+        let Flat { shared, threads } = flat;
+        let shared = self.shared_part(table, shared)?;
+        self.parts.push(shared)?;
+        for one in threads {
+            let part = self.thread_part(table, one)?;
+            self.parts.push(part)?;
+        }
+        self.end_parts(table, thread, from)
+    }
+
+    /// The next states of a state end here, and can be told or not.
+    ///
+    /// # Errors
+    /// Where memory is refused.
+    pub fn end_state(&mut self, is_told: bool) -> Result<(), AllocError> {
+        let end = self.next.len() as u32;
+        self.states.push(StateAhead { end, is_told })?;
+        Ok(())
+    }
+
+    /// Puts the new parts into the table, unless they are there.
+    ///
+    /// # Errors
+    /// Where memory is refused.
+    pub fn put_parts(&mut self, alloc: Global, table: &mut Table<S, T>) -> Result<(), AllocError> {
+        if self.taken > 0 {
+            return Ok(());
+        }
         for shared in replace(&mut self.shared, Vec::new(alloc)) {
             self.shared_numbers.push(table.put_shared(shared)?)?;
         }
@@ -175,21 +342,20 @@ impl<S: Eq + Hash + Drop, T: Eq + Hash + Drop> Ahead<S, T> {
         }
     }
 
-    /// Notes the turns that were made anew among those that are known.
-    fn put_turns(
+    /// Notes the turns that were made anew among those that are known, unless they are noted.
+    pub(crate) fn put_turns(
         &mut self,
         alloc: Global,
         known: &mut Vec<Option<Known>>,
         states: usize,
     ) -> Result<(), AllocError> {
-        for one in replace(&mut self.made, Vec::new(alloc)) {
+        for one in &self.made {
             let turn = match one.turn {
                 TurnAhead::Still => Turn::Still,
                 TurnAhead::Alone { shared, thread } => Turn::Alone {
                     shared: self.shared_number(shared),
                     thread: self.thread_number(thread),
                 },
-                TurnAhead::Heard { .. } | TurnAhead::Unknown => continue,
             };
             let new = Known {
                 shared: one.shared,
@@ -199,76 +365,84 @@ impl<S: Eq + Hash + Drop, T: Eq + Hash + Drop> Ahead<S, T> {
             };
             note(alloc, known, states, new)?;
         }
+        self.made.clear();
         Ok(())
     }
 
-    /// The place of the state to which a turn of thread n leads, which is put into the table.
+    /// The place of the new state, which is put into the table if it isn't there: those before it were taken.
+    fn put_new(&mut self, table: &mut Table<S, T>, new: usize) -> Result<u32, AllocError> {
+        if let Some(place) = self.places.get(new).copied() {
+            return Ok(place);
+        }
+        let Some(NewState { from, end, digest }) = self.new.get(new).copied() else {
+            return Err(AllocError);
+        };
+        let words = self.words.get(from as usize..end as usize).unwrap_or(&[]);
+        let place = table.put(words, digest)?;
+        self.places.push(place)?;
+        Ok(place)
+    }
+
+    /// The place of the next state, which is put into the table if it isn't there.
     fn put_onward(
-        &self,
+        &mut self,
         table: &mut Table<S, T>,
-        chain: u32,
-        n: usize,
         onward: Onward,
     ) -> Result<u32, AllocError> {
-        let row = match onward {
-            Onward::Met(place) => return Ok(place),
-            Onward::New(row) => row,
-            Onward::Alone { shared, thread } => {
-                let shared = self.shared_number(shared);
-                let thread = self.thread_number(thread);
-                let chain = table.with_thread(chain, n, thread)?;
-                Row { shared, chain }
-            }
-            Onward::Heard { shared, from, end } => {
-                let shared = self.shared_number(shared);
-                let mut chain = 0;
-                for place in (from..end).rev() {
-                    if let Some(part) = self.heard.get(place as usize) {
-                        chain = table.put_link(self.thread_number(*part), chain)?;
+        match onward {
+            Onward::Met(place) => Ok(place),
+            Onward::New(new) => self.put_new(table, new as usize),
+            Onward::Parts { end } => {
+                let from = self.words.len();
+                for place in self.taken_parts..end as usize {
+                    if let Some(part) = self.parts.get(place).copied() {
+                        let number = if place == self.taken_parts {
+                            self.shared_number(part)
+                        } else {
+                            self.thread_number(part)
+                        };
+                        self.words.push(number)?;
                     }
                 }
-                Row { shared, chain }
+                self.taken_parts = end as usize;
+                let words = self.words.get(from..self.words.len()).unwrap_or(&[]);
+                let place = table.put(words, digest_of(words))?;
+                self.words.truncate(from);
+                Ok(place)
             }
-        };
-        let place = table.put_row(row)?;
-        Ok(place.min(u32::MAX as usize) as u32)
+        }
     }
 
     /// Puts the next states of the next of the states, which is at this place, and notes the moves to them. It answers no,
     /// and puts none, where they can't be told.
-    pub(crate) fn take(
+    ///
+    /// # Errors
+    /// Where memory is refused.
+    pub fn take(
         &mut self,
-        alloc: Global,
-        met: &mut Met<S, T>,
+        table: &mut Table<S, T>,
         at: u32,
         moves: &mut Vec<Move>,
     ) -> Result<bool, AllocError> {
-        if self.taken == 0 {
-            let states = met.table.len();
-            self.put_parts(alloc, &mut met.table)?;
-            self.put_turns(alloc, &mut met.known, states)?;
-        }
         let Some(state) = self.states.get(self.taken).copied() else {
             return Ok(false);
         };
-        let from = self.from;
-        self.taken += 1;
-        self.from = state.end as usize;
         if !state.is_told {
             return Ok(false);
         }
-        for place in from..state.end as usize {
-            let Some(next) = self.next.get(place).copied() else {
+        for place in self.taken_next..state.end as usize {
+            let Some(one) = self.next.get(place).copied() else {
                 break;
             };
-            let n = next.thread as usize;
-            let place = self.put_onward(&mut met.table, state.chain, n, next.onward)?;
+            let next = self.put_onward(table, one.onward)?;
             moves.push(Move {
                 from: at,
-                thread: next.thread,
-                next: place,
+                thread: one.thread,
+                next,
             })?;
         }
+        self.taken += 1;
+        self.taken_next = state.end as usize;
         Ok(true)
     }
 }
@@ -303,31 +477,30 @@ fn heard_part<M: Moves>(
     }
 }
 
-/// What an event of thread n makes of all threads, of which others hear.
-fn heard_by<M: Moves>(
+/// The next state by an event of thread n of which others hear. It answers no where it can't be told.
+fn push_heard<M: Moves>(
     alloc: Global,
     system: &M,
     table: &Table<M::Shared, M::Thread>,
-    row: Row,
+    words: &[u32],
     n: usize,
     shared: M::Shared,
     made: &M::Effect,
     ahead: &mut Ahead<M::Shared, M::Thread>,
-) -> Result<TurnAhead, AllocError> {
-    let from = ahead.heard.len() as u32;
-    let mut rest = row.chain;
-    for m in 0..system.started(&shared) {
-        let link = table.link(rest);
-        let number = link.map(|l| l.thread);
-        let Some(part) = heard_part(alloc, system, table, made, n, m, number, ahead)? else {
-            return Ok(TurnAhead::Unknown);
-        };
-        ahead.heard.push(part)?;
-        rest = link.map_or(0, |l| l.rest);
-    }
-    let end = ahead.heard.len() as u32;
+) -> Result<bool, AllocError> {
+    let from = ahead.parts.len();
+    let count = system.started(&shared);
     let shared = ahead.shared_part(table, shared)?;
-    Ok(TurnAhead::Heard { shared, from, end })
+    ahead.parts.push(shared)?;
+    for m in 0..count {
+        let number = words.get(m + 1).copied();
+        let Some(part) = heard_part(alloc, system, table, made, n, m, number, ahead)? else {
+            return Ok(false);
+        };
+        ahead.parts.push(part)?;
+    }
+    ahead.end_parts(table, n as u32, from)?;
+    Ok(true)
 }
 
 /// Whether nobody hears of an event of thread n but itself.
@@ -349,160 +522,91 @@ fn is_quiet<M: Moves>(
     true
 }
 
-/// What comes of the event that thread n wants, made anew.
-fn made_ahead<M: Moves>(
+/// The next state by the event that thread n wants, made anew. It answers no where it can't be told.
+fn push_anew<M: Moves>(
     alloc: Global,
     system: &M,
     table: &Table<M::Shared, M::Thread>,
-    row: Row,
+    words: &[u32],
+    shared: u32,
     thread: u32,
     n: usize,
-    ahead: &mut Ahead<M::Shared, M::Thread>,
-) -> Result<TurnAhead, AllocError> {
-    let Some(old) = table.shared.get_index(row.shared as usize) else {
-        return Ok(TurnAhead::Unknown);
-    };
-    let Some(own) = table.threads.get_index(thread as usize) else {
-        return Ok(TurnAhead::Unknown);
-    };
-    let count = system.started(old);
-    let Some((new, made)) = system.event(alloc, old, own, n)? else {
-        return Ok(TurnAhead::Still);
-    };
-    if !is_quiet(system, &new, &made, n, count) {
-        return heard_by(alloc, system, table, row, n, new, &made, ahead);
-    }
-    let Some(rested) = system.after(alloc, &made, n, own, n)? else {
-        return Ok(TurnAhead::Unknown);
-    };
-    let shared = ahead.shared_part(table, new)?;
-    let thread = ahead.thread_part(table, rested)?;
-    Ok(TurnAhead::Alone { shared, thread })
-}
-
-/// What comes of the event that thread n wants: as it is known, or made anew.
-fn turn_ahead<M: Moves>(
-    alloc: Global,
-    system: &M,
-    met: &Met<M::Shared, M::Thread>,
-    row: Row,
-    thread: u32,
-    n: usize,
-    ahead: &mut Ahead<M::Shared, M::Thread>,
-) -> Result<TurnAhead, AllocError> {
-    if let Some(turn) = recall(met.known.as_slice(), row.shared, thread, n as u32) {
-        return Ok(match turn {
-            Turn::Still => TurnAhead::Still,
-            Turn::Alone { shared, thread } => TurnAhead::Alone {
-                shared: Part::Old(shared),
-                thread: Part::Old(thread),
-            },
-        });
-    }
-    if let Some(turn) = ahead.recall(row.shared, thread, n as u32) {
-        return Ok(turn);
-    }
-    let turn = made_ahead(alloc, system, &met.table, row, thread, n, ahead)?;
-    if let TurnAhead::Still | TurnAhead::Alone { .. } = turn {
-        ahead.note(Made {
-            shared: row.shared,
-            thread,
-            n: n as u32,
-            turn,
-        })?;
-    }
-    Ok(turn)
-}
-
-/// Where this row is, or is to go.
-fn onward_to<S: Eq + Hash + Drop, T: Eq + Hash + Drop>(table: &Table<S, T>, row: Row) -> Onward {
-    match table.find_row(row) {
-        Some(place) => Onward::Met(place),
-        None => Onward::New(row),
-    }
-}
-
-/// Where a turn leads by which one thread comes elsewhere.
-fn onward_alone<S: Eq + Hash + Drop, T: Eq + Hash + Drop>(
-    table: &Table<S, T>,
-    chain: u32,
-    n: usize,
-    shared: Part,
-    thread: Part,
-) -> Onward {
-    if let (Part::Old(old), Part::Old(number)) = (shared, thread) {
-        if let Some(chain) = table.find_with_thread(chain, n, number) {
-            return onward_to(table, Row { shared: old, chain });
-        }
-    }
-    Onward::Alone { shared, thread }
-}
-
-/// The chain of these threads, where it is there.
-fn chain_of<S: Eq + Hash + Drop, T: Eq + Hash + Drop>(
-    table: &Table<S, T>,
-    threads: &[Part],
-) -> Option<u32> {
-    let mut chain = 0;
-    for part in threads.iter().rev() {
-        let Part::Old(number) = *part else {
-            return None;
-        };
-        chain = table.find_link(number, chain)?;
-    }
-    Some(chain)
-}
-
-/// Where a turn leads of which others hear.
-fn onward_heard<S: Eq + Hash + Drop, T: Eq + Hash + Drop>(
-    table: &Table<S, T>,
-    heard: &[Part],
-    shared: Part,
-    from: u32,
-    end: u32,
-) -> Onward {
-    if let (Part::Old(old), Some(threads)) = (shared, heard.get(from as usize..end as usize)) {
-        if let Some(chain) = chain_of(table, threads) {
-            return onward_to(table, Row { shared: old, chain });
-        }
-    }
-    Onward::Heard { shared, from, end }
-}
-
-/// Notes the next states of the state of this row. It answers no where they can't be told.
-fn state_ahead<M: Moves>(
-    alloc: Global,
-    system: &M,
-    met: &Met<M::Shared, M::Thread>,
-    row: Row,
     ahead: &mut Ahead<M::Shared, M::Thread>,
 ) -> Result<bool, AllocError> {
-    let mut rest = row.chain;
-    let mut n: usize = 0;
-    while let Some(link) = met.table.link(rest) {
-        let turn = turn_ahead(alloc, system, met, row, link.thread, n, ahead)?;
-        let onward = match turn {
-            TurnAhead::Still => None,
-            TurnAhead::Alone { shared, thread } => {
-                Some(onward_alone(&met.table, row.chain, n, shared, thread))
-            }
-            TurnAhead::Heard { shared, from, end } => Some(onward_heard(
-                &met.table,
-                ahead.heard.as_slice(),
-                shared,
-                from,
-                end,
-            )),
-            TurnAhead::Unknown => return Ok(false),
-        };
-        if let Some(onward) = onward {
-            ahead.next.push(NextAhead {
-                thread: n as u32,
-                onward,
-            })?;
+    let Some(old) = table.shared.get_index(shared as usize) else {
+        return Ok(false);
+    };
+    let Some(own) = table.threads.get_index(thread as usize) else {
+        return Ok(false);
+    };
+    let count = system.started(old);
+    let mut turn = TurnAhead::Still;
+    if let Some((new, made)) = system.event(alloc, old, own, n)? {
+        if !is_quiet(system, &new, &made, n, count) {
+            return push_heard(alloc, system, table, words, n, new, &made, ahead);
         }
-        rest = link.rest;
-        n += 1;
+        let Some(rested) = system.after(alloc, &made, n, own, n)? else {
+            return Ok(false);
+        };
+        let shared = ahead.shared_part(table, new)?;
+        let thread = ahead.thread_part(table, rested)?;
+        turn = TurnAhead::Alone { shared, thread };
+        ahead.push_turn(table, words, n, shared, thread)?;
+    }
+    ahead.note(MadeAhead {
+        shared,
+        thread,
+        n: n as u32,
+        turn,
+    })?;
+    Ok(true)
+}
+
+/// The next state by the event that thread n wants, if it wants one. It answers no where it can't be told.
+fn push_next<M: Moves>(
+    alloc: Global,
+    system: &M,
+    met: &Met<M::Shared, M::Thread>,
+    words: &[u32],
+    shared: u32,
+    thread: u32,
+    n: usize,
+    ahead: &mut Ahead<M::Shared, M::Thread>,
+) -> Result<bool, AllocError> {
+    let table = &met.table;
+    match recall(met.known.as_slice(), shared, thread, n as u32) {
+        Some(Turn::Still) => return Ok(true),
+        Some(Turn::Alone { shared, thread }) => {
+            ahead.push_turn(table, words, n, Part::Old(shared), Part::Old(thread))?;
+            return Ok(true);
+        }
+        None => {}
+    }
+    match ahead.recall(shared, thread, n as u32) {
+        Some(TurnAhead::Still) => Ok(true),
+        Some(TurnAhead::Alone { shared, thread }) => {
+            ahead.push_turn(table, words, n, shared, thread)?;
+            Ok(true)
+        }
+        None => push_anew(alloc, system, table, words, shared, thread, n, ahead),
+    }
+}
+
+/// Notes the next states of the state of these words. It answers no where they can't be told.
+fn push_state<M: Moves>(
+    alloc: Global,
+    system: &M,
+    met: &Met<M::Shared, M::Thread>,
+    words: &[u32],
+    ahead: &mut Ahead<M::Shared, M::Thread>,
+) -> Result<bool, AllocError> {
+    let Some(shared) = words.first().copied() else {
+        return Ok(false);
+    };
+    for (n, thread) in words.iter().skip(1).enumerate() {
+        if !push_next(alloc, system, met, words, shared, *thread, n, ahead)? {
+            return Ok(false);
+        }
     }
     Ok(true)
 }
@@ -520,16 +624,9 @@ pub(crate) fn ahead_of<M: Moves>(
 ) -> Result<Ahead<M::Shared, M::Thread>, AllocError> {
     let mut ahead = Ahead::new(alloc)?;
     for k in 0..count {
-        let Some(row) = met.table.row((from as usize).saturating_add(k)) else {
-            break;
-        };
-        let is_told = state_ahead(alloc, system, met, row, &mut ahead)?;
-        let end = ahead.next.len() as u32;
-        ahead.states.push(StateAhead {
-            chain: row.chain,
-            end,
-            is_told,
-        })?;
+        let words = met.table.words((from as usize).saturating_add(k));
+        let is_told = push_state(alloc, system, met, words, &mut ahead)?;
+        ahead.end_state(is_told)?;
         if !is_told {
             break;
         }

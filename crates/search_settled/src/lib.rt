@@ -32,7 +32,8 @@ mod turns;
 
 pub use access::Access;
 pub use flat::Flat;
-pub use met::NextRow;
+pub use ahead::Ahead;
+pub use met::NextWords;
 pub use moves::Moves;
-pub use next::{row_of, threads_after, threads_of};
-pub use states::{put_rows, search_all};
+pub use next::{put_flat, put_words, threads_after, threads_of};
+pub use states::search_all;

@@ -2,7 +2,8 @@
 ghost use Rattle.std.specs.Prelude.{◌<◌, IfSome, OnOk};
 ghost use Rattle.search_settled.specs.Known.{IsNotedIn, AreFrom};
 
-use search_table::{Row, Table};
+use search_graph::Move;
+use search_table::{Table, digest_of};
 use std::alloc::{AllocError, Global};
 use std::hash::Hash;
 
@@ -24,11 +25,86 @@ pub(crate) struct Known {
     pub(crate) turn: Turn,
 }
 
-/// A next state of a state, and the thread whose event leads there.
+/// Where the words of a next state end, and the thread whose event leads there.
 #[derive(Clone, Copy)]
-pub struct NextRow {
-    pub thread: u32,
-    pub row: Row,
+struct NextEnd {
+    thread: u32,
+    end: usize,
+}
+
+/// The next states of a state: the words of each, one behind the other.
+#[derive(Drop)]
+pub struct NextWords {
+    words: Vec<u32>,
+    each: Vec<NextEnd>,
+}
+
+impl NextWords {
+    /// None.
+    pub fn new(alloc: Global) -> NextWords {
+        NextWords {
+            words: Vec::new(alloc),
+            each: Vec::new(alloc),
+        }
+    }
+
+    /// One more word of the next state that comes last.
+    pub fn push(&mut self, word: u32) -> Result<(), AllocError> {
+        self.words.push(word)?;
+        Ok(())
+    }
+
+    /// These words are those of a next state by thread n, but for what is shared and that thread.
+    pub(crate) fn push_turn(
+        &mut self,
+        words: &[u32],
+        n: usize,
+        shared: u32,
+        thread: u32,
+    ) -> Result<(), AllocError> {
+        let from = self.words.len();
+        self.words.extend_from_slice(words)?;
+        if let Some(word) = self.words.get_mut(from) {
+            *word = shared;
+        }
+        if let Some(word) = self.words.get_mut(from.saturating_add(n).saturating_add(1)) {
+            *word = thread;
+        }
+        self.end(n as u32)
+    }
+
+    /// The words of a next state end here.
+    pub fn end(&mut self, thread: u32) -> Result<(), AllocError> {
+        self.each.push(NextEnd {
+            thread,
+            end: self.words.len(),
+        })?;
+        Ok(())
+    }
+
+    /// Puts the states, and notes the moves to them from the one at this place.
+    ///
+    /// # Errors
+    /// Where memory is refused.
+    pub fn put<S: Eq + Hash + Drop, T: Eq + Hash + Drop>(
+        &self,
+        table: &mut Table<S, T>,
+        moves: &mut Vec<Move>,
+        at: u32,
+    ) -> Result<(), AllocError> {
+        let mut from = 0;
+        for one in &self.each {
+            let words = self.words.get(from..one.end).unwrap_or(&[]);
+            let next = table.put(words, digest_of(words))?;
+            moves.push(Move {
+                from: at,
+                thread: one.thread,
+                next,
+            })?;
+            from = one.end;
+        }
+        Ok(())
+    }
 }
 
 /// The states that were met, and the turns that are known: those of the last ones to whom a slot fell.

@@ -24,10 +24,10 @@ ghost use Rattle.search_settled.specs.Flat.{
   IsStuckByMove,
 };
 
-use crate::met::{Met, NextRow, Turn, recall};
+use crate::met::{Met, NextWords, Turn, recall};
 use crate::turns::{Made, made_by};
 use crate::{Flat, Moves};
-use search_table::{Row, Table};
+use search_table::{Table, digest_of};
 use std::alloc::{AllocError, Global};
 use std::hash::Hash;
 
@@ -82,7 +82,7 @@ pub fn threads_after<M: Moves>(
     Ok(Some(rested))
 }
 
-/// The threads of a chain.
+/// The threads of the state at this place.
 ///
 /// # Errors
 /// Where memory is refused, or no more states can have a thread.
@@ -90,215 +90,153 @@ pub fn threads_of<M: Moves, S: Eq + Hash + Drop>(
     alloc: Global,
     system: &M,
     table: &Table<S, M::Thread>,
-    chain: u32,
-) -> Result<Vec<M::Thread>, AllocError>
-    requires { IsOrdered table.now.links.keys }
-    ensures { IfOk result (λ v. (xs : List M.Thread) → IsChain table.now.threads.keys table.now.links.keys chain xs → v.items ≡ xs) }
-{
-    let mut all = Vec::new(alloc);
-    let mut rest = chain;
-    while let Some(link) = table.link(rest) {
-        if let Some(thread) = table.threads.get_index(link.thread as usize) {
+    at: usize,
+) -> Result<Vec<M::Thread>, AllocError> {
+    let words = table.words(at);
+    let mut all = Vec::with_capacity(alloc, words.len())?;
+    for number in words.iter().skip(1) {
+        if let Some(thread) = table.threads.get_index(*number as usize) {
             all.push(system.share(thread)?)?;
         }
-        rest = link.rest;
     }
     Ok(all)
 }
 
-/// The row of a state, whose parts are put into the table.
+/// The words of a state, whose parts are put into the table, behind those of the next states before it.
 ///
 /// # Errors
 /// Where memory is refused, or there are too many parts.
-pub fn row_of<S: Eq + Hash + Drop, T: Eq + Hash + Drop>(
+pub fn put_words<S: Eq + Hash + Drop, T: Eq + Hash + Drop>(
     table: &mut Table<S, T>,
     flat: Flat<S, T>,
-) -> Result<Row, AllocError>
-    requires { IsOrdered table.old.links.keys }
-    ensures grows { OnOk result (Grows table.old table.new) }
-    ensures ordered { OnOk result (IsOrdered table.new.links.keys) }
-    ensures row { IfOk result (IsRowOfEqual S.eq T.eq table.new flat) }
-{
-    let shared = table.put_shared(flat.shared)?;
-    let chain = table.put_threads(flat.threads)?;
-    Ok(Row { shared, chain })
-}
-
-/// The row of the state after an event of thread n of which others hear, or nothing where it can't be told.
-fn row_after<M: Moves>(
-    alloc: Global,
-    system: &M,
-    table: &mut Table<M::Shared, M::Thread>,
-    chain: u32,
-    n: usize,
-    shared: M::Shared,
-    made: &M::Effect,
-) -> Result<Option<Row>, AllocError>
-    requires ordered { IsOrdered table.old.links.keys }
-    requires chain { (xs : List M.Thread) × IsChain table.old.threads.keys table.old.links.keys chain xs
-        × MovesSomewhere (M.threads system.now) shared made.now n xs }
-    ensures grows { OnOk result (Grows table.old table.new) }
-    ensures ordered { OnOk result (IsOrdered table.new.links.keys) }
-    ensures row { IfOk result (λ o. IfSome o (λ r. (xs : List M.Thread)
-        → IsChain table.old.threads.keys table.old.links.keys chain xs
-        → IsRowAfter (M.threads system.now) M.Shared.eq M.Thread.eq table.new shared made.now n xs r)) }
-    ensures gives_up { IfOk result (λ o. o ≡ None → (xs : List M.Thread)
-        → IsChain table.old.threads.keys table.old.links.keys chain xs
-        → IsStuckByMove (M.threads system.now) (M.stuck system.now) shared made.now n xs) }
-{
-    let threads = threads_of(alloc, system, table, chain)?;
-    let Some(rested) = threads_after(alloc, system, &shared, made, n, threads.as_slice())? else {
-        return Ok(None);
-    };
-    let row = row_of(
-        table,
-        Flat {
-            shared,
-            threads: rested,
-        },
-    )?;
-    Ok(Some(row))
-}
-
-/// Puts the row of a next state by the event of thread n behind the others.
-fn put(all: &mut Vec<NextRow>, n: usize, row: Row) -> Result<(), AllocError>
-    requires { n < 2 ^ 32 }
-    ensures { OnOk result (all.new.items ≡ all.old.items ++ record { thread = n; row = row } ∷ []) }
-{
-    all.push(NextRow {
-        thread: n as u32,
-        row,
-    })?;
+    all: &mut NextWords,
+) -> Result<(), AllocError> {
+    let Flat { shared, threads } = flat;
+    all.push(table.put_shared(shared)?)?;
+    for thread in threads {
+        all.push(table.put_thread(thread)?)?;
+    }
     Ok(())
 }
 
-/// Puts the row of the next state by this turn of thread n, if it makes one, behind those of the threads before it.
-fn put_turn<M: Moves>(
-    system: &M,
-    table: &mut Table<M::Shared, M::Thread>,
-    row: Row,
-    thread: u32,
-    n: usize,
-    turn: Turn,
-    all: &mut Vec<NextRow>,
-) -> Result<(), AllocError>
-    requires ordered { IsOrdered table.old.links.keys }
-    requires at { (c : FlatState M.Shared M.Thread) × IsThreadAt (M.threads system.now) table.old row thread n c }
-    requires turn { OfNumbers (M.threads system.now) table.old row.shared thread
-        (λ g h. IsTurn (M.threads system.now) table.old g h n turn) }
-    ensures grows { OnOk result (Grows table.old table.new) }
-    ensures ordered { OnOk result (IsOrdered table.new.links.keys) }
-    ensures next { OnOk result ((c : FlatState M.Shared M.Thread)
-        → IsThreadAt (M.threads system.now) table.old row thread n c
-        → AreNextBelow (M.threads system.now) table.old c n all.old.items
-        → AreNextBelow (M.threads system.now) table.new c (n + 1) all.new.items) }
-{
-    match turn {
-        Turn::Still => Ok(()),
-        Turn::Alone { shared, thread } => {
-            let chain = table.with_thread(row.chain, n, thread)?;
-            let row = Row { shared, chain };
-            put(all, n, row)?;
-            Ok(())
-        }
+/// Puts a state into the table.
+///
+/// # Errors
+/// Where memory is refused, or there are too many parts.
+pub fn put_flat<S: Eq + Hash + Drop, T: Eq + Hash + Drop>(
+    alloc: Global,
+    table: &mut Table<S, T>,
+    flat: Flat<S, T>,
+) -> Result<(), AllocError> {
+    let Flat { shared, threads } = flat;
+    let mut words = Vec::with_capacity(alloc, threads.len())?;
+    words.push(table.put_shared(shared)?)?;
+    for thread in threads {
+        words.push(table.put_thread(thread)?)?;
     }
+    table.put(words.as_slice(), digest_of(words.as_slice()))?;
+    Ok(())
 }
 
-/// As `put_next`, where the turn of the thread is not known.
-fn put_anew<M: Moves>(
+/// The number of where thread m comes to rest after an event of thread n of which others hear: it is the one of this
+/// number, or is started. None where that can't be told.
+fn number_after<M: Moves>(
     alloc: Global,
     system: &M,
-    met: &mut Met<M::Shared, M::Thread>,
-    row: Row,
-    thread: u32,
+    table: &mut Table<M::Shared, M::Thread>,
+    made: &M::Effect,
     n: usize,
-    all: &mut Vec<NextRow>,
-) -> Result<bool, AllocError>
-    requires known { AreKnown (M.threads system.now) met.old }
-    requires at { (c : FlatState M.Shared M.Thread) × IsThreadAt (M.threads system.now) met.old.table row thread n c }
-    ensures grows { OnOk result (Grows met.old.table met.new.table) }
-    ensures known { OnOk result (AreKnown (M.threads system.now) met.new) }
-    ensures next { IfOk result (λ told. told ≡ true → (c : FlatState M.Shared M.Thread)
-        → IsThreadAt (M.threads system.now) met.old.table row thread n c
-        → AreNextBelow (M.threads system.now) met.old.table c n all.old.items
-        → AreNextBelow (M.threads system.now) met.new.table c (n + 1) all.new.items) }
-    ensures gives_up { IfOk result (λ told. told ≡ false → (c : FlatState M.Shared M.Thread)
-        → IsThreadAt (M.threads system.now) met.old.table row thread n c
-        → IsStuckAfter (M.threads system.now) (M.stuck system.now) c) }
-{
-    let turn = made_by(alloc, system, met, row.shared, thread, n)?;
-    match turn {
-        Made::Told(turn) => {
-            put_turn(system, &mut met.table, row, thread, n, turn, all)?;
-            Ok(true)
-        }
-        Made::Heard(shared, made) => {
-            let table = &mut met.table;
-            let Some(next) = row_after(alloc, system, table, row.chain, n, shared, &made)? else {
-                return Ok(false);
+    m: usize,
+    number: Option<u32>,
+) -> Result<Option<u32>, AllocError> {
+    let rested = match number {
+        Some(number) => {
+            if m != n && !system.hears(made, n, m) {
+                return Ok(Some(number));
+            }
+            let Some(thread) = table.threads.get_index(number as usize) else {
+                return Ok(None);
             };
-            put(all, n, next)?;
-            Ok(true)
+            system.after(alloc, made, n, thread, m)?
         }
-        Made::Unknown => Ok(false),
+        None => system.first_after(alloc, made, n, m)?,
+    };
+    match rested {
+        Some(rested) => Ok(Some(table.put_thread(rested)?)),
+        None => Ok(None),
     }
 }
 
-/// Puts the row of the next state by the event of thread n, if it wants one, behind those of the threads before it. It
+/// The words of the state after an event of thread n of which others hear. It answers no where that can't be told.
+fn put_heard<M: Moves>(
+    alloc: Global,
+    system: &M,
+    table: &mut Table<M::Shared, M::Thread>,
+    at: usize,
+    n: usize,
+    shared: M::Shared,
+    made: &M::Effect,
+    all: &mut NextWords,
+) -> Result<bool, AllocError> {
+    let count = system.started(&shared);
+    all.push(table.put_shared(shared)?)?;
+    for m in 0..count {
+        let number = table.words(at).get(m + 1).copied();
+        let Some(after) = number_after(alloc, system, table, made, n, m, number)? else {
+            return Ok(false);
+        };
+        all.push(after)?;
+    }
+    all.end(n as u32)?;
+    Ok(true)
+}
+
+/// The words of the next state by the event of thread n, if it wants one, behind those of the threads before it. It
 /// answers no where it cannot tell that state.
 fn put_next<M: Moves>(
     alloc: Global,
     system: &M,
     met: &mut Met<M::Shared, M::Thread>,
-    row: Row,
+    at: usize,
+    shared: u32,
     thread: u32,
     n: usize,
-    all: &mut Vec<NextRow>,
-) -> Result<bool, AllocError>
-    requires known { AreKnown (M.threads system.now) met.old }
-    requires at { (c : FlatState M.Shared M.Thread) × IsThreadAt (M.threads system.now) met.old.table row thread n c }
-    ensures grows { OnOk result (Grows met.old.table met.new.table) }
-    ensures known { OnOk result (AreKnown (M.threads system.now) met.new) }
-    ensures next { IfOk result (λ told. told ≡ true → (c : FlatState M.Shared M.Thread)
-        → IsThreadAt (M.threads system.now) met.old.table row thread n c
-        → AreNextBelow (M.threads system.now) met.old.table c n all.old.items
-        → AreNextBelow (M.threads system.now) met.new.table c (n + 1) all.new.items) }
-    ensures gives_up { IfOk result (λ told. told ≡ false → (c : FlatState M.Shared M.Thread)
-        → IsThreadAt (M.threads system.now) met.old.table row thread n c
-        → IsStuckAfter (M.threads system.now) (M.stuck system.now) c) }
-{
+    all: &mut NextWords,
+) -> Result<bool, AllocError> {
     let known = met.known.as_slice();
-    if let Some(turn) = recall(known, row.shared, thread, n as u32) {
-        put_turn(system, &mut met.table, row, thread, n, turn, all)?;
-        return Ok(true);
+    let made = match recall(known, shared, thread, n as u32) {
+        Some(turn) => Made::Told(turn),
+        None => made_by(alloc, system, met, shared, thread, n)?,
+    };
+    match made {
+        Made::Told(Turn::Still) => Ok(true),
+        Made::Told(Turn::Alone { shared, thread }) => {
+            all.push_turn(met.table.words(at), n, shared, thread)?;
+            Ok(true)
+        }
+        Made::Heard(shared, made) => {
+            put_heard(alloc, system, &mut met.table, at, n, shared, &made, all)
+        }
+        Made::Unknown => Ok(false),
     }
-    put_anew(alloc, system, met, row, thread, n, all)
 }
 
-/// The rows of the next states of the one of this row, each with the thread whose event leads there.
-pub(crate) fn next_rows<M: Moves>(
+/// The words of the next states of the one at this place, each with the thread whose event leads there.
+pub(crate) fn next_words<M: Moves>(
     alloc: Global,
     system: &M,
     met: &mut Met<M::Shared, M::Thread>,
-    row: Row,
-) -> Result<Option<Vec<NextRow>>, AllocError>
-    requires known { AreKnown (M.threads system.now) met.old }
-    requires of { IsSomeRow (M.threads system.now) met.old.table row }
-    ensures grows { OnOk result (Grows met.old.table met.new.table) }
-    ensures known { OnOk result (AreKnown (M.threads system.now) met.new) }
-    ensures next { IfOk result (λ o. IfSome o (λ v. OfRow (M.threads system.now) met.old.table row
-        (λ c. AreNextRows (M.threads system.now) met.new.table c v.items))) }
-    ensures gives_up { IfOk result (λ o. o ≡ None → OfRow (M.threads system.now) met.old.table row
-        (IsStuckAfter (M.threads system.now) (M.stuck system.now))) }
-{
-    let mut all = Vec::new(alloc);
-    let mut rest = row.chain;
+    at: usize,
+) -> Result<Option<NextWords>, AllocError> {
+    let mut all = NextWords::new(alloc);
+    let Some(shared) = met.table.words(at).first().copied() else {
+        return Ok(None);
+    };
     let mut n: usize = 0;
-    while let Some(link) = met.table.link(rest) {
-        if !put_next(alloc, system, met, row, link.thread, n, &mut all)? {
+    while let Some(thread) = met.table.words(at).get(n + 1).copied() {
+        if !put_next(alloc, system, met, at, shared, thread, n, &mut all)? {
             return Ok(None);
         }
-        rest = link.rest;
         n += 1;
     }
     Ok(Some(all))

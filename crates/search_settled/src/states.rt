@@ -14,8 +14,8 @@ ghost use Rattle.search_settled.specs.Known.{PutsRows};
 
 use crate::Moves;
 use crate::ahead::{Ahead, ahead_of};
-use crate::met::{Met, NextRow};
-use crate::next::{next_rows, row_of, threads_of};
+use crate::met::Met;
+use crate::next::{next_words, put_flat, threads_of};
 use search_graph::Move;
 use search_reach::{Crew, Ended, Follows, Meets, Order, Seeks, all_endings};
 use search_table::Table;
@@ -26,30 +26,6 @@ use std::hash::Hash;
 #[derive(Drop)]
 struct Turns<'s, M> {
     system: &'s M,
-}
-
-/// Puts the rows of the next states of the one at this place, and notes the move to each.
-///
-/// # Errors
-/// Where memory is refused.
-pub fn put_rows<S: Eq + Hash + Drop, T: Eq + Hash + Drop>(
-    table: &mut Table<S, T>,
-    moves: &mut Vec<Move>,
-    at: u32,
-    next: Vec<NextRow>,
-) -> Result<(), AllocError>
-    ensures parts { OnOk result (HasSameParts table.old table.new) }
-    ensures puts { OnOk result (PutsRows S.eq T.eq table.old table.new at next.items moves.old.items moves.new.items) }
-{
-    for one in next {
-        let place = table.put_row(one.row)?;
-        moves.push(Move {
-            from: at,
-            thread: one.thread,
-            next: place.min(u32::MAX as usize) as u32,
-        })?;
-    }
-    Ok(())
 }
 
 impl<M: Moves> Meets for Turns<'_, M> {
@@ -98,8 +74,7 @@ impl<M: Moves> Meets for Turns<'_, M> {
         let Some(flat) = self.system.first(alloc)? else {
             return Ok(false);
         };
-        let row = row_of(&mut met.table, flat)?;
-        met.table.put_row(row)?;
+        put_flat(alloc, &mut met.table, flat)?;
         Ok(true)
     }
 
@@ -110,13 +85,10 @@ impl<M: Moves> Meets for Turns<'_, M> {
         at: u32,
         moves: &mut Vec<Move>,
     ) -> Result<bool, AllocError> {
-        let Some(row) = met.table.row(at as usize) else {
+        let Some(next) = next_words(alloc, self.system, met, at as usize)? else {
             return Ok(false);
         };
-        let Some(next) = next_rows(alloc, self.system, met, row)? else {
-            return Ok(false);
-        };
-        put_rows(&mut met.table, moves, at, next)?;
+        next.put(&mut met.table, moves, at)?;
         Ok(true)
     }
 
@@ -138,7 +110,10 @@ impl<M: Moves> Meets for Turns<'_, M> {
         ahead: &mut Ahead<M::Shared, M::Thread>,
         moves: &mut Vec<Move>,
     ) -> Result<bool, AllocError> {
-        ahead.take(alloc, met, at, moves)
+        let states = met.table.len();
+        ahead.put_parts(alloc, &mut met.table)?;
+        ahead.put_turns(alloc, &mut met.known, states)?;
+        ahead.take(&mut met.table, at, moves)
     }
 
     fn ending(
@@ -147,13 +122,13 @@ impl<M: Moves> Meets for Turns<'_, M> {
         met: &Met<M::Shared, M::Thread>,
         at: usize,
     ) -> Result<Option<M::Ending>, AllocError> {
-        let Some(row) = met.table.row(at) else {
+        let Some(number) = met.table.words(at).first() else {
             return Ok(None);
         };
-        let Some(shared) = met.table.shared.get_index(row.shared as usize) else {
+        let Some(shared) = met.table.shared.get_index(*number as usize) else {
             return Ok(None);
         };
-        let threads = threads_of(alloc, self.system, &met.table, row.chain)?;
+        let threads = threads_of(alloc, self.system, &met.table, at)?;
         self.system.ending(alloc, shared, threads.as_slice())
     }
 }

@@ -116,7 +116,7 @@ pub(crate) fn made_by<M: Moves>(
 {
     let made = made_anew(alloc, system, met, shared, thread, n)?;
     if let Made::Told(turn) = made {
-        let states = met.table.rows.len();
+        let states = met.table.len();
         let n = n as u32;
         let new = Known {
             shared,

@@ -15,4 +15,4 @@
 
 mod table;
 
-pub use table::{Link, Row, Table};
+pub use table::{Table, digest_of};
