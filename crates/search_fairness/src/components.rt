@@ -1,5 +1,5 @@
 //! The strongly connected components of a graph, by Tarjan's search. It is proved to be safe and to end.
-use search_graph::{Graph, Grouped, number_at, put_at};
+use search_graph::{Graph, Grouped, put_at};
 use std::alloc::{AllocError, Global};
 
 /// The components, by numbers: each move leads to a component of no greater number.
@@ -25,14 +25,22 @@ struct Call {
     at: usize,
 }
 
+/// A state as the search has it: when it was met, from 1 on, or 0, or `CLOSED` once its component is; and the earliest one
+/// that it is known to lead to.
+#[derive(Clone, Copy)]
+struct Seen {
+    met: u32,
+    low: u32,
+}
+
+/// Its component is closed.
+const CLOSED: u32 = u32::MAX;
+
 #[derive(Drop)]
 struct Search {
-    /// When each state was met, from 1 on, or 0.
-    met: Vec<u32>,
-    /// How many were.
+    seen: Vec<Seen>,
+    /// How many were met.
     count: u32,
-    /// The earliest one that each state is known to lead to.
-    low: Vec<u32>,
     /// The states whose components are not closed.
     open: Vec<u32>,
     path: Vec<Call>,
@@ -40,18 +48,29 @@ struct Search {
 }
 
 impl Search {
+    fn met(&self, state: u32) -> u32 {
+        match self.seen.get(state as usize) {
+            Some(seen) => seen.met,
+            None => CLOSED,
+        }
+    }
+
     fn visit(&mut self, state: u32, at: usize) -> Result<(), AllocError> {
         self.count = self.count.wrapping_add(1);
-        put_at(&mut self.met, state as usize, self.count);
-        put_at(&mut self.low, state as usize, self.count);
+        if let Some(seen) = self.seen.get_mut(state as usize) {
+            *seen = Seen {
+                met: self.count,
+                low: self.count,
+            };
+        }
         self.open.push(state)?;
         self.path.push(Call { state, at })?;
         Ok(())
     }
 
     fn lower(&mut self, state: u32, low: u32) {
-        if low < number_at(&self.low, state as usize) {
-            put_at(&mut self.low, state as usize, low);
+        if let Some(seen) = self.seen.get_mut(state as usize) {
+            seen.low = seen.low.min(low);
         }
     }
 
@@ -62,6 +81,9 @@ impl Search {
                 break;
             };
             put_at(&mut self.found.of, member as usize, self.found.count);
+            if let Some(seen) = self.seen.get_mut(member as usize) {
+                seen.met = CLOSED;
+            }
             self.found.members.push(member)?;
             if member == state {
                 break;
@@ -74,11 +96,11 @@ impl Search {
     /// The state that the next move of the one at the path's end leads to, if it wasn't met yet.
     fn go_on(&mut self, graph: &Graph, from: u32, index: u32) -> Option<u32> {
         let m = graph.moves.get(index as usize)?;
-        let met = number_at(&self.met, m.next as usize);
+        let met = self.met(m.next);
         if met == 0 {
             return Some(m.next);
         }
-        if number_at(&self.found.of, m.next as usize) == NONE {
+        if met != CLOSED {
             self.lower(from, met);
         }
         None
@@ -86,8 +108,10 @@ impl Search {
 
     /// Goes back from a state whose moves are all gone along.
     fn go_back(&mut self, state: u32) -> Result<(), AllocError> {
-        let low = number_at(&self.low, state as usize);
-        if low == number_at(&self.met, state as usize) {
+        let Some(Seen { met, low }) = self.seen.get(state as usize).copied() else {
+            return Ok(());
+        };
+        if low == met {
             self.close(state)?;
         }
         if let Some(before) = self.path.last() {
@@ -124,9 +148,8 @@ pub fn find_components(
     out: &Grouped,
 ) -> Result<Components, AllocError> {
     let mut search = Search {
-        met: vec![in alloc; 0u32; graph.states]?,
+        seen: vec![in alloc; Seen { met: 0, low: 0 }; graph.states]?,
         count: 0,
-        low: vec![in alloc; 0u32; graph.states]?,
         open: Vec::new(alloc),
         path: Vec::new(alloc),
         found: Components {
@@ -142,7 +165,7 @@ pub fn find_components(
         .saturating_add(graph.moves.len());
     let mut root = 0u32;
     for _ in 0..graph.states {
-        if number_at(&search.met, root as usize) == 0 {
+        if search.met(root) == 0 {
             search.visit(root, out.start(root))?;
             for _ in 0..=most {
                 if !search.step(graph, out)? {

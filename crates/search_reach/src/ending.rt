@@ -9,8 +9,8 @@ ghost use Rattle.search_reach.specs.Levels.{HasEndsWithin, HasGoneThrough, IsLev
 ghost use Rattle.search_reach.specs.Sought.{SeeksAmong, SeeksIn};
 ghost use Rattle.search_reach.specs.Told.{Obeys, OfCount, StillObeys};
 
-use crate::liveness::judged;
-use crate::path::{paths_to, ways_in};
+use crate::liveness::{Judged, judged};
+use crate::path::paths_to;
 use crate::plain::Plain;
 use crate::{Alone, Crew, Explores, Follows, Found, Liveness, Meets, Order, Reached, Seeks, Verdict, reach};
 use indexmap::IndexSet;
@@ -134,15 +134,6 @@ pub struct Ended<E: Eq + Hash> {
     pub liveness: Option<Liveness>,
 }
 
-/// A way to each of these states, by the moves that were noted.
-fn paths_of(alloc: Global, graph: &Graph, states: &[usize]) -> Result<Vec<Vec<usize>>, AllocError>
-    ensures { IfOk result (λ paths. vec_len paths ≡ length states.now) }
-{
-    let moves = graph.moves.as_slice();
-    let ways = ways_in(alloc, graph.states, moves)?;
-    paths_to(alloc, moves, ways.as_slice(), states)
-}
-
 /// The endings of the states that a search for at most `most` states and a few met. Where it met all, it says of which
 /// states none ends, and whether every fair run ends.
 ///
@@ -189,13 +180,14 @@ pub fn conclude<T: Meets, C: Crew, Q: Seeks<T::Ending>, F: Follows>(
     let graph = Graph { states, moves };
     let (_, told) = crew.both(
         move || drop(table),
-        || -> Result<(Vec<Vec<usize>>, (Verdict, Option<Liveness>)), AllocError> {
-            let paths = paths_of(alloc, &graph, firsts.as_slice())?;
-            let judged = judged(alloc, crew, &graph, ended.as_slice(), verdict, follower)?;
-            Ok((paths, judged))
-        },
+        || judged(alloc, crew, &graph, ended.as_slice(), verdict, follower),
     );
-    let (paths, (verdict, liveness)) = told?;
+    let Judged {
+        verdict,
+        liveness,
+        ways,
+    } = told?;
+    let paths = paths_to(alloc, graph.moves.as_slice(), ways.as_slice(), firsts.as_slice())?;
     Ok(Ended {
         endings,
         paths,

@@ -70,11 +70,13 @@ fn round_of(
 }
 
 /// What is known of the fair runs of a graph.
-fn fair_runs_of(alloc: Global, graph: &Graph, ways: &[usize]) -> Result<FairRuns, AllocError>
-    requires { All (IsWithin graph.now.states) graph.now.moves.items }
-    ensures { IfOk result (SaysOfGraph graph.now) }
-{
-    match judge(alloc, graph)? {
+fn fair_runs_of(
+    alloc: Global,
+    graph: &Graph,
+    ways: &[usize],
+    fairness: Fairness,
+) -> Result<FairRuns, AllocError> {
+    match fairness {
         Fairness::AllEnd => Ok(FairRuns::AllEnd),
         Fairness::Cycle(cycle) => {
             let round = round_of(alloc, graph.moves.as_slice(), ways, cycle)?;
@@ -84,14 +86,26 @@ fn fair_runs_of(alloc: Global, graph: &Graph, ways: &[usize]) -> Result<FairRuns
     }
 }
 
-/// Ways to the states of a graph, and what is known of its fair runs.
-fn ways_and_fair_runs(
-    alloc: Global,
-    graph: &Graph,
-) -> Result<(Vec<usize>, FairRuns), AllocError> {
+/// The states from which no ending can be reached, and ways to all states.
+#[derive(Drop)]
+struct Stuck {
+    endless: Vec<usize>,
+    ways: Vec<usize>,
+}
+
+/// These.
+fn stuck_in(alloc: Global, graph: &Graph, ended: &[bool]) -> Result<Stuck, AllocError> {
+    let endless = cannot_end(alloc, graph, ended)?;
     let ways = ways_in(alloc, graph.states, graph.moves.as_slice())?;
-    let fair_runs = fair_runs_of(alloc, graph, ways.as_slice())?;
-    Ok((ways, fair_runs))
+    Ok(Stuck { endless, ways })
+}
+
+/// What is said of the states, and ways to all of them.
+#[derive(Drop)]
+pub(crate) struct Judged {
+    pub(crate) verdict: Verdict,
+    pub(crate) liveness: Option<Liveness>,
+    pub(crate) ways: Vec<usize>,
 }
 
 /// What is said of the states of a graph, of which some are marked as ended, or nothing where the follower wishes the
@@ -102,30 +116,28 @@ fn liveness_of<C: Crew, F: Follows>(
     graph: &Graph,
     ended: &[bool],
     follower: &mut F,
-) -> Result<Option<Liveness>, AllocError>
-    requires within { All (IsWithin graph.now.states) graph.now.moves.items }
-    requires marks { length ended.now ≡ graph.now.states }
-    ensures live { IfOk result (λ o. IfSome o (IsGraphLive graph.now ended.now)) }
-    ensures told { IfOk result (λ o. o ≡ None → F.wish follower.new ≡ wishes.End) }
-    ensures heard { IfOk result (λ o. (F.wish follower.old ≡ wishes.End → ⊥) → F.wish follower.new ≡ wishes.End
-        → (o ≡ None) × (graph.now.states ≡ F.told_at follower.new)) }
-{
-    let (endless, fair) = crew.both(
-        || cannot_end(alloc, graph, ended),
-        || ways_and_fair_runs(alloc, graph),
-    );
-    let endless = endless?;
+) -> Result<Judged, AllocError> {
+    let (stuck, fairness) = crew.both(|| stuck_in(alloc, graph, ended), || judge(alloc, graph));
+    let Stuck { endless, ways } = stuck?;
     if let Wish::End = follower.states(graph.states, 0) {
-        return Ok(None);
+        return Ok(Judged {
+            verdict: Verdict::Told,
+            liveness: None,
+            ways,
+        });
     }
-    let (ways, fair_runs) = fair?;
+    let fair_runs = fair_runs_of(alloc, graph, ways.as_slice(), fairness?)?;
     let first = endless.first().copied().unwrap_or(0);
     let path = path_to(alloc, graph.moves.as_slice(), ways.as_slice(), first)?;
-    Ok(Some(Liveness {
-        endless,
-        path,
-        fair_runs,
-    }))
+    Ok(Judged {
+        verdict: Verdict::All,
+        liveness: Some(Liveness {
+            endless,
+            path,
+            fair_runs,
+        }),
+        ways,
+    })
 }
 
 /// What is said of the states where all were met, and the verdict behind it: the follower is asked before each part.
@@ -136,23 +148,17 @@ pub(crate) fn judged<C: Crew, F: Follows>(
     ended: &[bool],
     verdict: Verdict,
     follower: &mut F,
-) -> Result<(Verdict, Option<Liveness>), AllocError>
-    requires within { verdict ≡ verdicts.All → All (IsWithin graph.now.states) graph.now.moves.items }
-    requires marks { length ended.now ≡ graph.now.states }
-    ensures judged { IfOk result
-        (λ r. IsJudged graph.now ended.now verdict (F.wish follower.old) r.0 (F.wish follower.new) r.1) }
-    ensures obeys { IfOk result (λ r. StillObeys
-        (λ before. Obeys before (F.wish follower.old) (F.told_at follower.old) verdict graph.now.states)
-        (F.wish follower.new) (F.told_at follower.new) r.0 graph.now.states) }
-{
-    let Verdict::All = verdict else {
-        return Ok((verdict, None));
-    };
-    if let Wish::End = follower.states(graph.states, 0) {
-        return Ok((Verdict::Told, None));
+) -> Result<Judged, AllocError> {
+    let mut verdict = verdict;
+    if let Verdict::All = verdict {
+        match follower.states(graph.states, 0) {
+            Wish::GoOn => return liveness_of(alloc, crew, graph, ended, follower),
+            Wish::End => verdict = Verdict::Told,
+        }
     }
-    match liveness_of(alloc, crew, graph, ended, follower)? {
-        Some(liveness) => Ok((Verdict::All, Some(liveness))),
-        None => Ok((Verdict::Told, None)),
-    }
+    Ok(Judged {
+        verdict,
+        liveness: None,
+        ways: ways_in(alloc, graph.states, graph.moves.as_slice())?,
+    })
 }

@@ -72,7 +72,12 @@ pub(crate) struct Progress<'a> {
     wish: Wish,
     /// Of how many states it heard last before it wished the end.
     told_at: usize,
+    /// How many times it heard of states since it last looked at the clock.
+    unlooked: u32,
 }
+
+/// How many times it hears of states before it looks at the clock.
+const STRIDE: u32 = 64;
 
 /// How many in a second, where so many took so long.
 fn in_a_second(count: u64, took: Duration) -> u64 {
@@ -114,6 +119,7 @@ impl<'a> Progress<'a> {
             is_written: false,
             wish: Wish::GoOn,
             told_at: 0,
+            unlooked: 0,
         }
     }
 
@@ -175,6 +181,12 @@ impl Follows for Progress<'_> {
         if let Wish::End = self.wish {
             return Wish::End;
         }
+        self.told_at = met;
+        self.unlooked += 1;
+        if left > 0 && self.unlooked < STRIDE {
+            return self.wish;
+        }
+        self.unlooked = 0;
         if let Some(took) = self.line_due() {
             let rate = in_a_second(met as u64, took);
             let _ = match resident(self.rt) {
@@ -186,7 +198,6 @@ impl Follows for Progress<'_> {
                 ),
             };
         }
-        self.told_at = met;
         self.wish
     }
 
