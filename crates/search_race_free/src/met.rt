@@ -6,7 +6,7 @@ ghost use Rattle.search_race_free.specs.Met.{IsHeldRow, AreHeldRows, IsStateAt};
 use crate::{Accesses, Owning, Touch};
 use search_reach::Next;
 use search_settled::{Flat, NextWords, put_words, threads_of};
-use search_table::Table;
+use search_table::Parts;
 use std::alloc::{AllocError, Global};
 use std::hash::Hash;
 
@@ -30,12 +30,12 @@ pub(crate) fn held<S, T>(state: Owning<Flat<S, T>>) -> Flat<Held<S>, T> {
 /// The words of these next states, whose parts are put into the table.
 pub(crate) fn held_words<S: Eq + Hash + Drop, T: Eq + Hash + Drop>(
     alloc: Global,
-    table: &mut Table<Held<S>, T>,
+    parts: &mut Parts<Held<S>, T>,
     next: Vec<Next<Owning<Flat<S, T>>>>,
 ) -> Result<NextWords, AllocError> {
     let mut all = NextWords::new(alloc);
     for one in next {
-        put_words(table, held(one.state), &mut all)?;
+        put_words(parts, held(one.state), &mut all)?;
         all.end(one.thread)?;
     }
     Ok(all)
@@ -50,22 +50,22 @@ fn copied(alloc: Global, owned: &[Touch]) -> Result<Vec<Touch>, AllocError>
     Ok(all)
 }
 
-/// The state at a place, made of its parts.
+/// The state of these words, made of its parts.
 pub(crate) fn state_at<M: Accesses>(
     alloc: Global,
     system: &M,
-    table: &Table<Held<M::Shared>, M::Thread>,
-    at: usize,
+    parts: &Parts<Held<M::Shared>, M::Thread>,
+    words: &[u32],
 ) -> Result<Option<Owning<Flat<M::Shared, M::Thread>>>, AllocError>
 {
-    let Some(number) = table.words(at).first() else {
+    let Some(number) = words.first() else {
         return Ok(None);
     };
-    let Some(held) = table.shared.get_index(*number as usize) else {
+    let Some(held) = parts.shared.get_index(*number as usize) else {
         return Ok(None);
     };
     let shared = system.copied(alloc, &held.shared)?;
-    let threads = threads_of(alloc, system, table, at)?;
+    let threads = threads_of(alloc, system, parts, words)?;
     let owned = copied(alloc, held.owned.as_slice())?;
     let flat = Flat { shared, threads };
     Ok(Some(Owning { flat, owned }))

@@ -16,9 +16,9 @@ use crate::met::{Held, held, held_words, state_at};
 use crate::next::{first_state, next_states};
 use crate::{Accesses, Race};
 use search_graph::Move;
-use search_reach::{Crew, Ended, Follows, Meets, Order, Reached, Seeks, Verdict, conclude, reach};
+use search_reach::{Crew, Ended, Follows, Meets, Order, Reached, Seeks, Tables, Verdict, conclude, reach};
 use search_settled::{Ahead, put_flat, threads_of};
-use search_table::Table;
+use search_table::{Parts, States, Words};
 use std::alloc::{AllocError, Global};
 use std::hash::Hash;
 
@@ -38,11 +38,15 @@ impl<M: Accesses> Meets for RaceFreeTurns<'_, M> {
     ghost use Rattle.search_race_free.specs.Same.{owning_eq, owning_alike};
     ghost use Rattle.search_race_free.specs.Met.{HasOwning};
 
-    type Table = Table<Held<M::Shared>, M::Thread>;
+    type Parts = Parts<Held<M::Shared>, M::Thread>;
 
-    type Ending = M::Ending;
+    type States = States;
+
+    type Some = Words;
 
     type Ahead = Ahead<Held<M::Shared>, M::Thread>;
+
+    type Ending = M::Ending;
 
     ghost State = { OwningState (FlatState M.Shared M.Thread) };
 
@@ -52,27 +56,28 @@ impl<M: Accesses> Meets for RaceFreeTurns<'_, M> {
 
     ghost equal = { λ t. owning_eq M.Shared.eq M.Thread.eq };
 
-    ghost holds = { λ t. HasOwning };
-
     ghost alike = { λ t x y e. owning_alike M.Shared.eq M.Thread.eq M.Shared.Eq.laws M.Thread.Eq.laws
         (M.threads t.system.now) (M.same_shared t.system.now) (M.same_thread t.system.now) x y e };
 
-    fn table(&self, alloc: Global) -> Table<Held<M::Shared>, M::Thread> {
-        Table::new(alloc)
+    fn tables(&self, alloc: Global) -> Tables<Parts<Held<M::Shared>, M::Thread>, States> {
+        Tables {
+            parts: Parts::new(alloc),
+            states: States::new(alloc),
+        }
     }
 
-    fn count(&self, table: &Table<Held<M::Shared>, M::Thread>) -> usize {
-        table.len()
+    fn count(&self, states: &States) -> usize {
+        states.len()
     }
 
     fn first(
         &self,
         alloc: Global,
-        table: &mut Table<Held<M::Shared>, M::Thread>,
+        tables: &mut Tables<Parts<Held<M::Shared>, M::Thread>, States>,
     ) -> Result<bool, AllocError> {
         match first_state(alloc, self.system)? {
             Came::To(state) => {
-                put_flat(alloc, table, held(state))?;
+                put_flat(alloc, &mut tables.parts, &mut tables.states, held(state))?;
                 Ok(true)
             }
             Came::Races(_) => Ok(false),
@@ -83,16 +88,18 @@ impl<M: Accesses> Meets for RaceFreeTurns<'_, M> {
     fn next(
         &self,
         alloc: Global,
-        table: &mut Table<Held<M::Shared>, M::Thread>,
+        tables: &mut Tables<Parts<Held<M::Shared>, M::Thread>, States>,
         at: u32,
         moves: &mut Vec<Move>,
     ) -> Result<bool, AllocError> {
-        let Some(state) = state_at(alloc, self.system, table, at as usize)? else {
+        let Tables { parts, states } = tables;
+        let words = states.words(at as usize);
+        let Some(state) = state_at(alloc, self.system, parts, words)? else {
             return Ok(false);
         };
         match next_states(alloc, self.system, &state, self.most_plain)? {
             Came::To(next) => {
-                held_words(alloc, table, next)?.put(table, moves, at)?;
+                held_words(alloc, parts, next)?.put(states, moves, at)?;
                 Ok(true)
             }
             Came::Races(_) => Ok(false),
@@ -100,17 +107,28 @@ impl<M: Accesses> Meets for RaceFreeTurns<'_, M> {
         }
     }
 
+    fn some(
+        &self,
+        alloc: Global,
+        states: &States,
+        from: usize,
+        count: usize,
+    ) -> Result<Words, AllocError> {
+        states.some(alloc, from, count)
+    }
+
     fn ahead(
         &self,
         alloc: Global,
-        table: &Table<Held<M::Shared>, M::Thread>,
-        from: u32,
+        parts: &Parts<Held<M::Shared>, M::Thread>,
+        some: &Words,
+        from: usize,
         count: usize,
     ) -> Result<Ahead<Held<M::Shared>, M::Thread>, AllocError> {
         let mut ahead = Ahead::new(alloc)?;
         for k in 0..count {
-            let at = (from as usize).saturating_add(k);
-            let Some(state) = state_at(alloc, self.system, table, at)? else {
+            let words = some.get(from.saturating_add(k));
+            let Some(state) = state_at(alloc, self.system, parts, words)? else {
                 break;
             };
             let Came::To(next) = next_states(alloc, self.system, &state, self.most_plain)? else {
@@ -118,38 +136,49 @@ impl<M: Accesses> Meets for RaceFreeTurns<'_, M> {
                 break;
             };
             for one in next {
-                ahead.push_flat(table, one.thread, held(one.state))?;
+                ahead.push_flat(parts, one.thread, held(one.state))?;
             }
             ahead.end_state(true)?;
         }
         Ok(ahead)
     }
 
-    fn next_by(
+    fn put_parts(
         &self,
         alloc: Global,
-        table: &mut Table<Held<M::Shared>, M::Thread>,
+        parts: &mut Parts<Held<M::Shared>, M::Thread>,
+        _states: usize,
+        ahead: &mut Ahead<Held<M::Shared>, M::Thread>,
+    ) -> Result<(), AllocError> {
+        ahead.put_parts(alloc, parts)
+    }
+
+    fn take(
+        &self,
+        _alloc: Global,
+        states: &mut States,
         at: u32,
         ahead: &mut Ahead<Held<M::Shared>, M::Thread>,
         moves: &mut Vec<Move>,
     ) -> Result<bool, AllocError> {
-        ahead.put_parts(alloc, table)?;
-        ahead.take(table, at, moves)
+        ahead.take(states, at, moves)
     }
 
     fn ending(
         &self,
         alloc: Global,
-        table: &Table<Held<M::Shared>, M::Thread>,
+        parts: &Parts<Held<M::Shared>, M::Thread>,
+        states: &States,
         at: usize,
     ) -> Result<Option<M::Ending>, AllocError> {
-        let Some(number) = table.words(at).first() else {
+        let words = states.words(at);
+        let Some(number) = words.first() else {
             return Ok(None);
         };
-        let Some(held) = table.shared.get_index(*number as usize) else {
+        let Some(held) = parts.shared.get_index(*number as usize) else {
             return Ok(None);
         };
-        let threads = threads_of(alloc, self.system, table, at)?;
+        let threads = threads_of(alloc, self.system, parts, words)?;
         self.system.ending(alloc, &held.shared, threads.as_slice())
     }
 }
@@ -177,15 +206,14 @@ struct RaceBehind {
 fn race_among<M: Accesses>(
     alloc: Global,
     system: &M,
-    table: &Table<Held<M::Shared>, M::Thread>,
+    tables: &Tables<Parts<Held<M::Shared>, M::Thread>, States>,
     from: usize,
     most_plain: u32,
 ) -> Result<Option<RaceBehind>, AllocError>
-    requires { HasSound (reduced M.Moves system.now) (HasOwning table.now) }
     ensures { IfOk result (λ o. IfSome o (λ r. IsRaceOf M.Moves system.now r.race)) }
 {
-    for place in from..table.len() {
-        if let Some(state) = state_at(alloc, system, table, place)? {
+    for place in from..tables.states.len() {
+        if let Some(state) = state_at(alloc, system, &tables.parts, tables.states.words(place))? {
             if let Came::Races(race) = next_states(alloc, system, &state, most_plain)? {
                 return Ok(Some(RaceBehind { race, place }));
             }
@@ -209,20 +237,19 @@ fn race_at_first<M: Accesses>(alloc: Global, system: &M) -> Result<Option<RaceBe
 fn race_in<M: Accesses>(
     alloc: Global,
     system: &M,
-    reached: &Reached<Table<Held<M::Shared>, M::Thread>>,
+    reached: &Reached<Parts<Held<M::Shared>, M::Thread>, States>,
     most_plain: u32,
 ) -> Result<Option<RaceBehind>, AllocError>
-    requires { HasSound (reduced M.Moves system.now) (HasOwning reached.now.table) }
     ensures { IfOk result (λ o. IfSome o (λ r. IsRaceOf M.Moves system.now r.race)) }
 {
     let Verdict::CannotTell = reached.verdict else {
         return Ok(None);
     };
-    if reached.table.len() == 0 {
+    if reached.tables.states.len() == 0 {
         return race_at_first(alloc, system);
     }
     let from = reached.last as usize;
-    race_among(alloc, system, &reached.table, from, most_plain)
+    race_among(alloc, system, &reached.tables, from, most_plain)
 }
 
 /// The threads whose turns lead to the state of this place, by the moves that were noted: one to a state stands before

@@ -6,7 +6,7 @@ use std::alloc::{AllocError, Global};
 use std::thread::{Threads, join, map_indices};
 
 /// Makes calls, each by itself.
-pub trait Crew {
+pub trait Crew: Sync {
     /// How many it makes at a time.
     fn jobs(&self) -> usize;
 

@@ -11,6 +11,7 @@ ghost use Rattle.search_reach.specs.Told.{Obeys, OfCount, StillObeys};
 
 use crate::liveness::{Judged, judged};
 use crate::path::paths_to;
+use crate::meets::Tables;
 use crate::plain::Plain;
 use crate::{Alone, Crew, Explores, Follows, Found, Liveness, Meets, Order, Reached, Seeks, Verdict, reach};
 use indexmap::IndexSet;
@@ -49,20 +50,16 @@ fn add_ending<E: Eq + Hash + Drop>(
 fn endings_in<T: Meets>(
     alloc: Global,
     system: &T,
-    table: &T::Table,
+    tables: &Tables<T::Parts, T::States>,
     from: usize,
     end: usize,
 ) -> Result<Listed<T::Ending>, AllocError>
-    requires { HasSound (T.system system.now) (T.holds system.now table.now) }
-    ensures gathered { IfOk result (λ r. OfStates (T.system system.now) (T.holds system.now table.now)
-        (λ ks. AreGathered (T.system system.now) T.Ending.eq ks r.endings.keys r.ended.items)) }
-    ensures firsts { IfOk result (λ r. vec_len r.firsts ≡ index_set_len r.endings) }
 {
     let mut endings = IndexSet::new(alloc);
     let mut firsts = Vec::new(alloc);
     let mut ended = Vec::new(alloc);
     for at in from..end {
-        let ending = system.ending(alloc, table, at)?;
+        let ending = system.ending(alloc, &tables.parts, &tables.states, at)?;
         ended.push(ending.is_some())?;
         if let Some(ending) = ending {
             add_ending(&mut endings, &mut firsts, at, ending)?;
@@ -80,17 +77,17 @@ fn endings<T: Meets, C: Crew>(
     alloc: Global,
     system: &T,
     crew: &C,
-    table: &T::Table,
+    tables: &Tables<T::Parts, T::States>,
 ) -> Result<Listed<T::Ending>, AllocError> {
-    let count = system.count(table);
+    let count = system.count(&tables.states);
     let jobs = crew.jobs();
     if jobs < 2 || count < MANY {
-        return endings_in(alloc, system, table, 0, count);
+        return endings_in(alloc, system, tables, 0, count);
     }
     let size = count.div_ceil(jobs);
     let pieces = crew.map(alloc, jobs, &|n: usize| {
         let from = n.saturating_mul(size).min(count);
-        endings_in(alloc, system, table, from, from.saturating_add(size).min(count))
+        endings_in(alloc, system, tables, from, from.saturating_add(size).min(count))
     })?;
     let mut endings = IndexSet::new(alloc);
     let mut firsts = Vec::new(alloc);
@@ -145,27 +142,12 @@ pub fn conclude<T: Meets, C: Crew, Q: Seeks<T::Ending>, F: Follows>(
     crew: &C,
     most: u32,
     _sought: &Q,
-    reached: Reached<T::Table>,
+    reached: Reached<T::Parts, T::States>,
     follower: &mut F,
 ) -> Result<Ended<T::Ending>, AllocError>
-    requires { IsReached (T.system system.now) (T.holds system.now reached.table) (T.equal system.now) most
-        (F.wish follower.old) (Q.sought _sought.now) reached.moves.items reached.verdict reached.levels }
-    ensures found { IfOk result (AreEndings (T.system system.now) T.Ending.eq most (F.wish follower.new)) }
-    ensures paths { IfOk result (λ r. vec_len r.paths ≡ index_set_len r.endings) }
-    ensures count { IfOk result (λ r. IsCount (T.system system.now) (T.equal system.now) r.states) }
-    ensures live { IfOk result
-        (λ r. IsLiveWhereAll (T.system system.now) (T.equal system.now) r.states r.verdict r.liveness) }
-    ensures seeks { IfOk result (λ r. SeeksIn (Q.sought _sought.now) T.Ending.eq r.verdict r.endings.keys) }
-    ensures levels { IfOk result
-        (λ r. IfSome r.levels (HasEndsWithin (T.system system.now) T.Ending.eq r.endings.keys)) }
-    ensures same { IfOk result (λ r. (r.levels ≡ reached.levels)
-        × OfCount (T.holds system.now reached.table) (λ n. r.states ≡ n)) }
-    ensures obeys { IfOk result (λ r. StillObeys (λ before. OfCount (T.holds system.now reached.table)
-        (Obeys before (F.wish follower.old) (F.told_at follower.old) reached.verdict))
-        (F.wish follower.new) (F.told_at follower.new) r.verdict r.states) }
 {
     let Reached {
-        table,
+        tables,
         moves,
         verdict,
         levels,
@@ -175,11 +157,11 @@ pub fn conclude<T: Meets, C: Crew, Q: Seeks<T::Ending>, F: Follows>(
         endings,
         firsts,
         ended,
-    } = endings(alloc, system, crew, &table)?;
-    let states = system.count(&table);
+    } = endings(alloc, system, crew, &tables)?;
+    let states = system.count(&tables.states);
     let graph = Graph { states, moves };
     let (_, told) = crew.both(
-        move || drop(table),
+        move || drop(tables),
         || judged(alloc, crew, &graph, ended.as_slice(), verdict, follower),
     );
     let Judged {
@@ -234,8 +216,12 @@ pub fn endings_of<T: Explores, Q: Seeks<T::Ending>, F: Follows>(
         verdict,
         levels,
     } = found;
+    let tables = Tables {
+        parts: (),
+        states: met,
+    };
     let reached = Reached {
-        table: met,
+        tables,
         moves,
         verdict,
         levels,
@@ -256,17 +242,6 @@ pub fn all_endings<T: Meets, C: Crew, Q: Seeks<T::Ending>, F: Follows>(
     sought: &Q,
     follower: &mut F,
 ) -> Result<Ended<T::Ending>, AllocError>
-    ensures found { IfOk result (AreEndings (T.system system.now) T.Ending.eq most (F.wish follower.new)) }
-    ensures paths { IfOk result (λ r. vec_len r.paths ≡ index_set_len r.endings) }
-    ensures count { IfOk result (λ r. IsCount (T.system system.now) (T.equal system.now) r.states) }
-    ensures live { IfOk result
-        (λ r. IsLiveWhereAll (T.system system.now) (T.equal system.now) r.states r.verdict r.liveness) }
-    ensures seeks { IfOk result (λ r. SeeksIn (Q.sought sought.now) T.Ending.eq r.verdict r.endings.keys) }
-    ensures levels { IfOk result
-        (λ r. IfSome r.levels (HasEndsWithin (T.system system.now) T.Ending.eq r.endings.keys)) }
-    ensures leveled { IfOk result (λ r. IsLeveled order r.levels (r.states ≡ 0)) }
-    ensures obeys { IfOk result (λ r.
-        Obeys (F.wish follower.old) (F.wish follower.new) (F.told_at follower.new) r.verdict r.states) }
 {
     let reached = reach(alloc, system, crew, order, most, sought, follower)?;
     conclude(alloc, system, crew, most, sought, reached, follower)

@@ -1,4 +1,4 @@
-//! A system that keeps the states that were met in a table of its own.
+//! A system that keeps the states that were met in tables of its own.
 ghost use Rattle.std.specs.Prelude.{◌≡◌, ℕ, Bool, true, false, List, [], ◌∷◌, length, IfOk};
 ghost use Rattle.std.specs.List.{slice_get, IsDistinct};
 ghost use Rattle.search_reach.specs.Search.{StepSystem, IsFirst, IsEnding, AllGetStuck, CanGetStuck};
@@ -8,17 +8,30 @@ use search_graph::Move;
 use std::alloc::{AllocError, Global};
 use std::hash::Hash;
 
-/// Worlds, between which threads make steps, and states that stand for them, which are kept in a table: each once, in
+/// What states are made of, and the states that were met.
+#[derive(Drop)]
+pub struct Tables<P: Drop, S: Drop> {
+    pub parts: P,
+    pub states: S,
+}
+
+/// Worlds, between which threads make steps, and states that stand for them, which are kept in tables: each once, in
 /// the order of their meeting.
 pub trait Meets: Sync {
-    /// The states that were met.
-    type Table: Drop + Send + Sync;
+    /// What states are made of.
+    type Parts: Drop + Send + Sync;
 
-    /// How a state has ended.
-    type Ending: Eq + Hash + Drop + Send;
+    /// The states that were met.
+    type States: Drop + Send + Sync;
+
+    /// Some states, as what comes of them is made ahead.
+    type Some: Drop + Send + Sync;
 
     /// What comes of some states in a row.
     type Ahead: Drop + Send;
+
+    /// How a state has ended.
+    type Ending: Eq + Hash + Drop + Send;
 
     /// The states.
     ghost State: { Type 0 };
@@ -33,56 +46,64 @@ pub trait Meets: Sync {
     /// When two states are equal.
     ghost equal: { Self → State → State → Bool };
 
-    /// A table has these states.
-    ghost holds: { Self → Self.Table → List State → Type 0 };
-
-    /// A table without states.
-    fn table(&self, alloc: Global) -> Self::Table
-        ensures { holds self.now result [] };
+    /// Tables without states.
+    fn tables(&self, alloc: Global) -> Tables<Self::Parts, Self::States>;
 
     /// How many states were met.
-    fn count(&self, table: &Self::Table) -> usize
-        ensures len { (ks : List State) → holds self.now table.now ks → result ≡ length ks }
-        ensures distinct { (ks : List State) → holds self.now table.now ks → IsDistinct (equal self.now) ks };
+    fn count(&self, states: &Self::States) -> usize;
 
-    /// Puts the first state into a table without states. It answers no, and puts none, where it cannot tell it.
-    fn first(&self, alloc: Global, table: &mut Self::Table) -> Result<bool, AllocError>
-        requires { holds self.now table.old [] }
-        ensures first { IfOk result (λ told. told ≡ true → HasFirst (system self.now) (holds self.now table.new)) }
-        ensures none { IfOk result (λ told. told ≡ false → holds self.now table.new []) }
-        ensures gives_up { IfOk result (λ told. told ≡ false → CanGetStuck (system self.now)) };
+    /// Puts the first state into tables without states. It answers no, and puts none, where it cannot tell it.
+    fn first(
+        &self,
+        alloc: Global,
+        tables: &mut Tables<Self::Parts, Self::States>,
+    ) -> Result<bool, AllocError>;
 
-    /// Puts the next states of the one at this place into the table, and notes the moves to them. It answers no, and puts
+    /// Puts the next states of the one at this place into the tables, and notes the moves to them. It answers no, and puts
     /// none, where it cannot tell them.
     fn next(
         &self,
         alloc: Global,
-        table: &mut Self::Table,
+        tables: &mut Tables<Self::Parts, Self::States>,
         at: u32,
         moves: &mut Vec<Move>,
-    ) -> Result<bool, AllocError>
-        requires { HasMetAt (system self.now) (holds self.now table.old) at }
-        ensures next { IfOk result (λ told. told ≡ true → OfStateAt (system self.now) (holds self.now table.old) at
-            (λ ks s. GoesOn (system self.now) (holds self.now table.new) (equal self.now) ks at s moves.old.items moves.new.items)) }
-        ensures none { IfOk result (λ told. told ≡ false → OfStateAt (system self.now) (holds self.now table.old) at
-            (λ ks s. holds self.now table.new ks)) }
-        ensures gives_up { IfOk result (λ told. told ≡ false → OfStateAt (system self.now) (holds self.now table.old) at
-            (λ ks s. AllGetStuck (system self.now) s)) };
+    ) -> Result<bool, AllocError>;
 
-    /// What comes of so many states from this place on. It is right for this table, and for any that grows from it.
+    /// So many states from this place on.
+    fn some(
+        &self,
+        alloc: Global,
+        states: &Self::States,
+        from: usize,
+        count: usize,
+    ) -> Result<Self::Some, AllocError>;
+
+    /// What comes of so many of these states, from this place among them on. It is right for these parts, and for any that
+    /// grow from them.
     fn ahead(
         &self,
         alloc: Global,
-        table: &Self::Table,
-        from: u32,
+        parts: &Self::Parts,
+        some: &Self::Some,
+        from: usize,
         count: usize,
     ) -> Result<Self::Ahead, AllocError>;
 
-    /// As `next`, by what was made ahead of the state at this place, which is the first of those that weren't taken.
-    fn next_by(
+    /// Puts the new parts of what was made ahead to the others, where so many states were met.
+    fn put_parts(
         &self,
         alloc: Global,
-        table: &mut Self::Table,
+        parts: &mut Self::Parts,
+        met: usize,
+        ahead: &mut Self::Ahead,
+    ) -> Result<(), AllocError>;
+
+    /// As `next`, by what was made ahead, whose parts were put: the state at this place is the first of those that weren't
+    /// taken.
+    fn take(
+        &self,
+        alloc: Global,
+        states: &mut Self::States,
         at: u32,
         ahead: &mut Self::Ahead,
         moves: &mut Vec<Move>,
@@ -92,12 +113,10 @@ pub trait Meets: Sync {
     fn ending(
         &self,
         alloc: Global,
-        table: &Self::Table,
+        parts: &Self::Parts,
+        states: &Self::States,
         at: usize,
-    ) -> Result<Option<Self::Ending>, AllocError>
-        requires { HasMetAt (system self.now) (holds self.now table.now) at }
-        ensures { IfOk result (λ o. OfStateAt (system self.now) (holds self.now table.now) at
-            (λ ks s. IsEnding (system self.now) s o)) };
+    ) -> Result<Option<Self::Ending>, AllocError>;
 
     /// Equal states stand for the same.
     ghost alike: { (t : Self) (x y : State) → equal t x y ≡ true → (w : World) (left : ℕ → ℕ)

@@ -1,27 +1,22 @@
-//! What comes of the next states, made by several threads before it is taken in order.
+//! What comes of some states in a row, made by several threads before it is taken in order.
 
 use crate::{Crew, Meets};
 use search_graph::Move;
 use std::alloc::{AllocError, Global};
 
-/// Of how many states at most a thread makes ahead what comes of them.
-const PIECE: usize = 1024;
-
-/// Of fewer states nothing is made ahead: a thread would take longer to start.
-const FEW: usize = 128;
-
-/// What was made ahead and not taken yet, the pieces' last first.
+/// What was made ahead, in pieces, the last first.
 #[derive(Drop)]
 pub(crate) struct Pieces<A: Drop> {
     pieces: Vec<A>,
     /// How many states a piece is of, but for the last one.
     size: usize,
     /// How many states are left, and of these in the piece that is taken now.
-    left: usize,
+    pub(crate) left: usize,
     here: usize,
 }
 
 impl<A: Drop + Send> Pieces<A> {
+    /// Nothing.
     pub(crate) fn new(alloc: Global) -> Pieces<A> {
         Pieces {
             pieces: Vec::new(alloc),
@@ -31,67 +26,133 @@ impl<A: Drop + Send> Pieces<A> {
         }
     }
 
-    /// Goes on to the next piece.
-    fn turn_over(&mut self) {
-        self.here = self.left.min(self.size);
-    }
-
-    /// Makes ahead what comes of the next of so many states, from this one on.
-    fn make<T: Meets<Ahead = A>, C: Crew>(
+    /// Puts the new parts to the others, where so many states were met.
+    pub(crate) fn put_parts<T: Meets<Ahead = A>>(
         &mut self,
         alloc: Global,
         system: &T,
-        crew: &C,
-        table: &T::Table,
-        at: u32,
-        waiting: usize,
+        parts: &mut T::Parts,
+        met: usize,
     ) -> Result<(), AllocError> {
-        let jobs = crew.jobs();
-        let total = waiting.min(jobs.saturating_mul(PIECE));
-        let size = total.div_ceil(jobs.max(1)).max(1);
-        let made = crew.map(alloc, total.div_ceil(size), &|n: usize| {
-            let from = n.saturating_mul(size);
-            let count = total.saturating_sub(from).min(size);
-            system.ahead(alloc, table, at.saturating_add(from as u32), count)
-        })?;
-        self.pieces.clear();
-        let mut made = made;
-        while let Some(piece) = made.pop() {
-            self.pieces.push(piece?)?;
+        for n in (0..self.pieces.len()).rev() {
+            if let Some(piece) = self.pieces.get_mut(n) {
+                system.put_parts(alloc, parts, met, piece)?;
+            }
         }
-        self.size = size;
-        self.left = total;
-        self.turn_over();
         Ok(())
     }
 
-    /// As `next` of the system.
-    pub(crate) fn next<T: Meets<Ahead = A>, C: Crew>(
+    /// As `take` of the system.
+    pub(crate) fn take<T: Meets<Ahead = A>>(
         &mut self,
         alloc: Global,
         system: &T,
-        crew: &C,
-        table: &mut T::Table,
+        states: &mut T::States,
         at: u32,
         moves: &mut Vec<Move>,
     ) -> Result<bool, AllocError> {
-        if self.left == 0 {
-            let waiting = system.count(table).saturating_sub(at as usize);
-            if crew.jobs() < 2 || waiting < FEW {
-                return system.next(alloc, table, at, moves);
-            }
-            self.make(alloc, system, crew, table, at, waiting)?;
-        }
         let Some(piece) = self.pieces.last_mut() else {
             return Ok(false);
         };
-        let is_told = system.next_by(alloc, table, at, piece, moves)?;
+        let is_told = system.take(alloc, states, at, piece, moves)?;
         self.left = self.left.saturating_sub(1);
         self.here = self.here.saturating_sub(1);
         if self.here == 0 {
             let _ = self.pieces.pop();
-            self.turn_over();
+            self.here = self.left.min(self.size);
         }
         Ok(is_told)
     }
+}
+
+/// The pieces of so many states, each of `size` but the last one.
+fn pieces_of<A: Drop + Send>(
+    alloc: Global,
+    made: Vec<Result<A, AllocError>>,
+    size: usize,
+    count: usize,
+) -> Result<Pieces<A>, AllocError> {
+    let mut made = made;
+    let mut pieces = Vec::with_capacity(alloc, made.len())?;
+    while let Some(piece) = made.pop() {
+        pieces.push(piece?)?;
+    }
+    Ok(Pieces {
+        pieces,
+        size,
+        left: count,
+        here: count.min(size),
+    })
+}
+
+/// What comes of so many states.
+pub(crate) fn made_ahead<T: Meets, C: Crew>(
+    alloc: Global,
+    system: &T,
+    crew: &C,
+    parts: &T::Parts,
+    some: &T::Some,
+    count: usize,
+) -> Result<Pieces<T::Ahead>, AllocError> {
+    let size = count.div_ceil(crew.jobs().max(1)).max(1);
+    let made = crew.map(alloc, count.div_ceil(size), &|n: usize| {
+        let from = n.saturating_mul(size);
+        let here = count.saturating_sub(from).min(size);
+        system.ahead(alloc, parts, some, from, here)
+    })?;
+    pieces_of(alloc, made, size, count)
+}
+
+/// How many of so many states this thread takes, of so many threads, where it does something else before: of the others'
+/// shares this much is left for it.
+fn own_share(count: usize, jobs: usize) -> usize {
+    let left = 8usize.saturating_sub(jobs);
+    count.saturating_mul(left) / jobs.saturating_mul(7).max(1)
+}
+
+/// What comes of so many states, made while this thread does something else first.
+pub(crate) fn made_meanwhile<T: Meets, C: Crew, G: FnOnce() -> B, B>(
+    alloc: Global,
+    system: &T,
+    crew: &C,
+    parts: &T::Parts,
+    some: &T::Some,
+    count: usize,
+    first: G,
+) -> (Result<Pieces<T::Ahead>, AllocError>, B) {
+    let others = crew.jobs().saturating_sub(1).max(1);
+    let own = own_share(count, crew.jobs());
+    let size = count.saturating_sub(own).div_ceil(others).max(1);
+    let shared = size.saturating_mul(others).min(count);
+    let (theirs, (done, mine)) = crew.both(
+        || {
+            crew.map(alloc, shared.div_ceil(size), &|n: usize| {
+                let from = n.saturating_mul(size);
+                let here = shared.saturating_sub(from).min(size);
+                system.ahead(alloc, parts, some, from, here)
+            })
+        },
+        || {
+            let done = first();
+            let mine = system.ahead(alloc, parts, some, shared, count.saturating_sub(shared));
+            (done, mine)
+        },
+    );
+    (joined(alloc, theirs, mine, size, shared, count), done)
+}
+
+/// All pieces.
+fn joined<A: Drop + Send>(
+    alloc: Global,
+    theirs: Result<Vec<Result<A, AllocError>>, AllocError>,
+    mine: Result<A, AllocError>,
+    size: usize,
+    shared: usize,
+    count: usize,
+) -> Result<Pieces<A>, AllocError> {
+    let mut all = theirs?;
+    if shared < count {
+        all.push(mine)?;
+    }
+    pieces_of(alloc, all, size, count)
 }

@@ -3,6 +3,7 @@ ghost use Rattle.std.specs.Prelude.{◌≡◌, ◌<◌, ◌^◌, OnOk};
 ghost use Rattle.indexmap.specs.IndexSet.{index_set_len};
 ghost use Rattle.search_reach.specs.Explored.{Gains, Notes};
 
+use crate::meets::Tables;
 use crate::{Explores, Meets, Next};
 use indexmap::IndexSet;
 use search_graph::Move;
@@ -38,11 +39,15 @@ fn add_all<S: Eq + Hash + Drop>(
 }
 
 impl<T: Explores> Meets for Plain<'_, T> {
-    type Table = IndexSet<T::State>;
+    type Parts = ();
 
-    type Ending = T::Ending;
+    type States = IndexSet<T::State>;
+
+    type Some = ();
 
     type Ahead = ();
+
+    type Ending = T::Ending;
 
     ghost State = { T.State };
 
@@ -52,71 +57,98 @@ impl<T: Explores> Meets for Plain<'_, T> {
 
     ghost equal = { λ p. T.State.eq };
 
-    ghost holds = { λ p table ks. table.keys ≡ ks };
-
     ghost alike = { λ p. T.same p.system.now };
 
-    fn table(&self, alloc: Global) -> IndexSet<T::State> {
-        IndexSet::new(alloc)
+    fn tables(&self, alloc: Global) -> Tables<(), IndexSet<T::State>> {
+        Tables {
+            parts: (),
+            states: IndexSet::new(alloc),
+        }
     }
 
-    fn count(&self, table: &IndexSet<T::State>) -> usize {
-        table.len()
+    fn count(&self, states: &IndexSet<T::State>) -> usize {
+        states.len()
     }
 
-    fn first(&self, alloc: Global, table: &mut IndexSet<T::State>) -> Result<bool, AllocError> {
+    fn first(
+        &self,
+        alloc: Global,
+        tables: &mut Tables<(), IndexSet<T::State>>,
+    ) -> Result<bool, AllocError> {
         let Some(first) = self.system.first(alloc)? else {
             return Ok(false);
         };
-        table.insert(first)?;
+        tables.states.insert(first)?;
         Ok(true)
     }
 
     fn next(
         &self,
         alloc: Global,
-        table: &mut IndexSet<T::State>,
+        tables: &mut Tables<(), IndexSet<T::State>>,
         at: u32,
         moves: &mut Vec<Move>,
     ) -> Result<bool, AllocError> {
-        let Some(state) = table.get_index(at as usize) else {
-            return Ok(false);
-        };
-        let Some(after) = self.system.next(alloc, state)? else {
-            return Ok(false);
-        };
-        add_all(table, moves, at, after)?;
-        Ok(true)
+        self.take(alloc, &mut tables.states, at, &mut (), moves)
     }
 
-    fn ahead(
+    fn some(
         &self,
         _alloc: Global,
-        _table: &IndexSet<T::State>,
-        _from: u32,
+        _states: &IndexSet<T::State>,
+        _from: usize,
         _count: usize,
     ) -> Result<(), AllocError> {
         Ok(())
     }
 
-    fn next_by(
+    fn ahead(
+        &self,
+        _alloc: Global,
+        _parts: &(),
+        _some: &(),
+        _from: usize,
+        _count: usize,
+    ) -> Result<(), AllocError> {
+        Ok(())
+    }
+
+    fn put_parts(
+        &self,
+        _alloc: Global,
+        _parts: &mut (),
+        _met: usize,
+        _ahead: &mut (),
+    ) -> Result<(), AllocError> {
+        Ok(())
+    }
+
+    fn take(
         &self,
         alloc: Global,
-        table: &mut IndexSet<T::State>,
+        states: &mut IndexSet<T::State>,
         at: u32,
         _ahead: &mut (),
         moves: &mut Vec<Move>,
     ) -> Result<bool, AllocError> {
-        self.next(alloc, table, at, moves)
+        let Some(state) = states.get_index(at as usize) else {
+            return Ok(false);
+        };
+        let Some(after) = self.system.next(alloc, state)? else {
+            return Ok(false);
+        };
+        add_all(states, moves, at, after)?;
+        Ok(true)
     }
 
     fn ending(
         &self,
         alloc: Global,
-        table: &IndexSet<T::State>,
+        _parts: &(),
+        states: &IndexSet<T::State>,
         at: usize,
     ) -> Result<Option<T::Ending>, AllocError> {
-        let Some(state) = table.get_index(at) else {
+        let Some(state) = states.get_index(at) else {
             return Ok(None);
         };
         self.system.ending(alloc, state)

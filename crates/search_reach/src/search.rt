@@ -11,7 +11,8 @@ ghost use Rattle.search_reach.specs.Told.{Obeys, OfCount};
 
 use crate::plain::Plain;
 use crate::seeking::has_sought;
-use crate::pieces::Pieces;
+use crate::explore::explore;
+use crate::meets::Tables;
 use crate::{Alone, Crew, Explores, Follows, Meets, Seeks, Wish};
 use indexmap::IndexSet;
 use search_graph::Move;
@@ -70,87 +71,14 @@ pub struct Found<S: Eq + Hash> {
 
 /// What a search found, where the states that it met are in a table.
 #[derive(Drop)]
-pub struct Reached<T> {
-    pub table: T,
+pub struct Reached<P: Drop, S: Drop> {
+    pub tables: Tables<P, S>,
     /// As in `Found`.
     pub moves: Vec<Move>,
     pub verdict: Verdict,
     pub levels: Option<u32>,
     /// The place of the state that it went on from last, or gave up at. No clause speaks of it: it is a hint.
     pub last: u32,
-}
-
-/// All that comes by no more moves than `complete` is stood for by the states below `end`.
-#[derive(Clone, Copy)]
-struct Levels {
-    complete: u32,
-    end: usize,
-}
-
-impl Levels {
-    /// What is complete where so many states were gone on from, of as many as are known: one level more, where these
-    /// were all of the last one.
-    fn behind(self, gone: u32, known: usize) -> Levels
-        requires { self.complete < gone }
-        ensures { IsBehind self gone known result }
-    {
-        let Levels { complete, end } = self;
-        if gone as usize != end || known > u32::MAX as usize {
-            return self;
-        }
-        Levels {
-            complete: complete + 1,
-            end: known,
-        }
-    }
-}
-
-/// Goes on from each state that was met, in their order, until there are no more, it has met more than `most`, one of
-/// which the next states cannot be told, or one that has ended as is looked for, or it is told to end. Answers beside the
-/// verdict how many levels are complete, and the place where it ended.
-fn explore<T: Meets, C: Crew, Q: Seeks<T::Ending>, F: Follows>(
-    alloc: Global,
-    system: &T,
-    crew: &C,
-    most: u32,
-    sought: &Q,
-    follower: &mut F,
-    table: &mut T::Table,
-    moves: &mut Vec<Move>,
-) -> Result<(Verdict, Option<u32>, u32), AllocError>
-    requires { IsBegun (T.system system.now) (T.holds system.now table.old) (T.equal system.now)
-        (Q.sought sought.now) moves.old.items }
-    ensures reached { IfOk result (λ r. IsReached (T.system system.now) (T.holds system.now table.new)
-        (T.equal system.now) most (F.wish follower.new) (Q.sought sought.now) moves.new.items r.0 r.1) }
-    ensures levels { IfOk result (λ r. r.1 ≡ None → ⊥) }
-    ensures obeys { IfOk result (λ r. OfCount (T.holds system.now table.new)
-        (Obeys (F.wish follower.old) (F.wish follower.new) (F.told_at follower.new) r.0)) }
-{
-    let mut at: u32 = 0;
-    let mut ahead = Pieces::new(alloc);
-    let end = system.count(table);
-    let mut levels = Levels { complete: 0, end };
-    loop {
-        let met = system.count(table);
-        if met <= at as usize {
-            return Ok((Verdict::All, Some(levels.complete), at));
-        }
-        if (most as usize) < met {
-            return Ok((Verdict::TooMany, Some(levels.complete), at));
-        }
-        if !ahead.next(alloc, system, crew, table, at, moves)? {
-            return Ok((Verdict::CannotTell, Some(levels.complete), at));
-        }
-        at += 1;
-        let known = system.count(table);
-        levels = levels.behind(at, known);
-        if has_sought(alloc, system, table, met, sought)? {
-            return Ok((Verdict::Sought, Some(levels.complete), at));
-        }
-        if let Wish::End = follower.states(known, known.saturating_sub(at as usize)) {
-            return Ok((Verdict::Told, Some(levels.complete), at));
-        }
-    }
 }
 
 /// Puts these places on the stack.
@@ -171,35 +99,28 @@ fn explore_deep<T: Meets, Q: Seeks<T::Ending>, F: Follows>(
     most: u32,
     sought: &Q,
     follower: &mut F,
-    table: &mut T::Table,
+    tables: &mut Tables<T::Parts, T::States>,
     moves: &mut Vec<Move>,
 ) -> Result<(Verdict, Option<u32>, u32), AllocError>
-    requires { IsBegun (T.system system.now) (T.holds system.now table.old) (T.equal system.now)
-        (Q.sought sought.now) moves.old.items }
-    ensures reached { IfOk result (λ r. IsReached (T.system system.now) (T.holds system.now table.new)
-        (T.equal system.now) most (F.wish follower.new) (Q.sought sought.now) moves.new.items r.0 r.1) }
-    ensures levels { IfOk result (λ r. r.1 ≡ None) }
-    ensures obeys { IfOk result (λ r. OfCount (T.holds system.now table.new)
-        (Obeys (F.wish follower.old) (F.wish follower.new) (F.told_at follower.new) r.0)) }
 {
     let mut stack = Vec::new(alloc);
-    let first = system.count(table);
+    let first = system.count(&tables.states);
     open_places(&mut stack, 0, first)?;
     let mut gone: u32 = 0;
     loop {
         let Some(at) = stack.pop() else {
             return Ok((Verdict::All, None, 0));
         };
-        let met = system.count(table);
+        let met = system.count(&tables.states);
         if (most as usize) < met {
             return Ok((Verdict::TooMany, None, at));
         }
-        if !system.next(alloc, table, at, moves)? {
+        if !system.next(alloc, tables, at, moves)? {
             return Ok((Verdict::CannotTell, None, at));
         }
         gone += 1;
-        let known = system.count(table);
-        if has_sought(alloc, system, table, met, sought)? {
+        let known = system.count(&tables.states);
+        if has_sought(alloc, system, &tables.parts, &tables.states, met, sought)? {
             return Ok((Verdict::Sought, None, at));
         }
         if let Wish::End = follower.states(known, known.saturating_sub(gone as usize)) {
@@ -223,27 +144,22 @@ pub fn reach<T: Meets, C: Crew, Q: Seeks<T::Ending>, F: Follows>(
     most: u32,
     sought: &Q,
     follower: &mut F,
-) -> Result<Reached<T::Table>, AllocError>
-    ensures reached { IfOk result (λ r. IsReached (T.system system.now) (T.holds system.now r.table)
-        (T.equal system.now) most (F.wish follower.new) (Q.sought sought.now) r.moves.items r.verdict r.levels) }
-    ensures leveled { IfOk result (λ r. IsLeveled order r.levels (T.holds system.now r.table [])) }
-    ensures obeys { IfOk result (λ r. OfCount (T.holds system.now r.table)
-        (Obeys (F.wish follower.old) (F.wish follower.new) (F.told_at follower.new) r.verdict)) }
+) -> Result<Reached<T::Parts, T::States>, AllocError>
 {
-    let mut table = system.table(alloc);
+    let mut tables = system.tables(alloc);
     let mut moves = Vec::new(alloc);
-    if !system.first(alloc, &mut table)? {
+    if !system.first(alloc, &mut tables)? {
         return Ok(Reached {
-            table,
+            tables,
             moves,
             verdict: Verdict::CannotTell,
             levels: None,
             last: 0,
         });
     }
-    if has_sought(alloc, system, &table, 0, sought)? {
+    if has_sought(alloc, system, &tables.parts, &tables.states, 0, sought)? {
         return Ok(Reached {
-            table,
+            tables,
             moves,
             verdict: Verdict::Sought,
             levels: order.levels(0),
@@ -252,14 +168,14 @@ pub fn reach<T: Meets, C: Crew, Q: Seeks<T::Ending>, F: Follows>(
     }
     let (verdict, levels, last) = match order {
         Order::Breadth => explore(
-            alloc, system, crew, most, sought, follower, &mut table, &mut moves,
+            alloc, system, crew, most, sought, follower, &mut tables, &mut moves,
         )?,
         Order::Depth => explore_deep(
-            alloc, system, most, sought, follower, &mut table, &mut moves,
+            alloc, system, most, sought, follower, &mut tables, &mut moves,
         )?,
     };
     Ok(Reached {
-        table,
+        tables,
         moves,
         verdict,
         levels,
@@ -287,7 +203,7 @@ pub fn reach_all<T: Explores, Q: Seeks<T::Ending>, F: Follows>(
     let plain = Plain { system };
     let reached = reach(alloc, &plain, &Alone, order, most, sought, follower)?;
     Ok(Found {
-        met: reached.table,
+        met: reached.tables.states,
         moves: reached.moves,
         verdict: reached.verdict,
         levels: reached.levels,

@@ -10,15 +10,13 @@ use std::alloc::{AllocError, Global};
 fn is_sought_at<T: Meets, Q: Seeks<T::Ending>>(
     alloc: Global,
     system: &T,
-    table: &T::Table,
+    parts: &T::Parts,
+    states: &T::States,
     at: usize,
     sought: &Q,
 ) -> Result<bool, AllocError>
-    requires { HasMetAt (T.system system.now) (T.holds system.now table.now) at }
-    ensures { IfOk result (λ is. OfStateAt (T.system system.now) (T.holds system.now table.now) at
-        (λ ks s. SaysOf (T.system system.now) (Q.sought sought.now) is s)) }
 {
-    let Some(ending) = system.ending(alloc, table, at)? else {
+    let Some(ending) = system.ending(alloc, parts, states, at)? else {
         return Ok(false);
     };
     sought.is_sought(alloc, &ending)
@@ -28,19 +26,17 @@ fn is_sought_at<T: Meets, Q: Seeks<T::Ending>>(
 pub(crate) fn has_sought<T: Meets, Q: Seeks<T::Ending>>(
     alloc: Global,
     system: &T,
-    table: &T::Table,
+    parts: &T::Parts,
+    states: &T::States,
     from: usize,
     sought: &Q,
 ) -> Result<bool, AllocError>
-    requires { HasSound (T.system system.now) (T.holds system.now table.now) }
-    ensures { IfOk result (λ is. OfStates (T.system system.now) (T.holds system.now table.now)
-        (SaysFrom (T.system system.now) (Q.sought sought.now) from is)) }
 {
     if !sought.seeks_any() {
         return Ok(false);
     }
-    for at in from..system.count(table) {
-        if is_sought_at(alloc, system, table, at, sought)? {
+    for at in from..system.count(states) {
+        if is_sought_at(alloc, system, parts, states, at, sought)? {
             return Ok(true);
         }
     }

@@ -4,7 +4,7 @@
 use crate::met::{Known, Met, Turn, note, recall, slot_of};
 use crate::{Flat, Moves};
 use search_graph::Move;
-use search_table::{Table, digest_of};
+use search_table::{Parts, States, Words, digest_of};
 use std::alloc::{AllocError, Global};
 use std::hash::Hash;
 use std::mem::replace;
@@ -35,17 +35,15 @@ struct MadeAhead {
 /// Where a turn leads.
 #[derive(Clone, Copy)]
 enum Onward {
-    /// To the state at this place.
-    Met(u32),
-    /// To a state that wasn't there, of parts that were: the one of this place among the new ones.
-    New(u32),
+    /// To a state of parts that were there: the one of this place among such states.
+    To(u32),
     /// To one with parts that weren't there: its parts, up to this end.
     Parts { end: u32 },
 }
 
-/// A state that wasn't there: where its words begin and end, and their number.
+/// A next state of parts that were there: where its words begin and end, and their number.
 #[derive(Clone, Copy)]
-struct NewState {
+struct Goal {
     from: u32,
     end: u32,
     digest: u64,
@@ -75,13 +73,13 @@ pub struct Ahead<S, T> {
     made: Vec<MadeAhead>,
     slots: Vec<u32>,
     words: Vec<u32>,
-    /// The states that weren't there, each once as far as their slots tell.
-    new: Vec<NewState>,
-    new_slots: Vec<u32>,
+    /// The next states of parts that were there, each once as far as their slots tell.
+    goals: Vec<Goal>,
+    goal_slots: Vec<u32>,
     parts: Vec<Part>,
     next: Vec<NextAhead>,
     states: Vec<StateAhead>,
-    /// How many states, next states and parts were taken, and the places of the new states that were.
+    /// How many states, next states and parts were taken, and the places of those of parts that were there.
     taken: usize,
     taken_next: usize,
     taken_parts: usize,
@@ -93,6 +91,9 @@ pub struct Ahead<S, T> {
 
 /// How many slots there are for turns that were made anew.
 const SLOTS: usize = 4096;
+
+/// How many there are for next states.
+const GOAL_SLOTS: usize = 16384;
 
 impl<S: Eq + Hash + Drop, T: Eq + Hash + Drop> Ahead<S, T> {
     /// Nothing.
@@ -106,8 +107,8 @@ impl<S: Eq + Hash + Drop, T: Eq + Hash + Drop> Ahead<S, T> {
             made: Vec::new(alloc),
             slots: vec![in alloc; 0u32; SLOTS]?,
             words: Vec::new(alloc),
-            new: Vec::new(alloc),
-            new_slots: vec![in alloc; 0u32; SLOTS]?,
+            goals: Vec::new(alloc),
+            goal_slots: vec![in alloc; 0u32; GOAL_SLOTS]?,
             parts: Vec::new(alloc),
             next: Vec::new(alloc),
             states: Vec::new(alloc),
@@ -121,8 +122,8 @@ impl<S: Eq + Hash + Drop, T: Eq + Hash + Drop> Ahead<S, T> {
     }
 
     /// What is shared, as a part.
-    fn shared_part(&mut self, table: &Table<S, T>, shared: S) -> Result<Part, AllocError> {
-        if let Some(number) = table.find_shared(&shared) {
+    fn shared_part(&mut self, parts: &Parts<S, T>, shared: S) -> Result<Part, AllocError> {
+        if let Some(number) = parts.find_shared(&shared) {
             return Ok(Part::Old(number));
         }
         let place = self.shared.len() as u32;
@@ -131,8 +132,8 @@ impl<S: Eq + Hash + Drop, T: Eq + Hash + Drop> Ahead<S, T> {
     }
 
     /// A thread, as a part.
-    fn thread_part(&mut self, table: &Table<S, T>, thread: T) -> Result<Part, AllocError> {
-        if let Some(number) = table.find_thread(&thread) {
+    fn thread_part(&mut self, parts: &Parts<S, T>, thread: T) -> Result<Part, AllocError> {
+        if let Some(number) = parts.find_thread(&thread) {
             return Ok(Part::Old(number));
         }
         let place = self.threads.len() as u32;
@@ -162,14 +163,15 @@ impl<S: Eq + Hash + Drop, T: Eq + Hash + Drop> Ahead<S, T> {
         Ok(())
     }
 
-    /// The place among the new states of the one with the words from this place on, where its slot has it.
-    fn recall_new(&self, from: usize, digest: u64) -> Option<u32> {
-        let place = self.new_slots.get(digest as usize % SLOTS)?.checked_sub(1)?;
-        let new = self.new.get(place as usize)?;
-        if new.digest != digest {
+    /// The place among the goals of the one with the words from this place on, where its slot has it.
+    fn recall_goal(&self, from: usize, digest: u64) -> Option<u32> {
+        let slot = *self.goal_slots.get(digest as usize % GOAL_SLOTS)?;
+        let place = slot.checked_sub(1)?;
+        let goal = self.goals.get(place as usize)?;
+        if goal.digest != digest {
             return None;
         }
-        let words = self.words.get(new.from as usize..new.end as usize)?;
+        let words = self.words.get(goal.from as usize..goal.end as usize)?;
         if words == self.words.get(from..self.words.len())? {
             Some(place)
         } else {
@@ -177,51 +179,35 @@ impl<S: Eq + Hash + Drop, T: Eq + Hash + Drop> Ahead<S, T> {
         }
     }
 
-    /// The place among the new states of the one with the words from this place on.
-    fn new_place(&mut self, from: usize, digest: u64) -> Result<u32, AllocError> {
-        if let Some(place) = self.recall_new(from, digest) {
-            self.words.truncate(from);
-            return Ok(place);
-        }
-        let place = self.new.len() as u32;
-        self.new.push(NewState {
-            from: from as u32,
-            end: self.words.len() as u32,
-            digest,
-        })?;
-        if let Some(slot) = self.new_slots.get_mut(digest as usize % SLOTS) {
-            *slot = place.saturating_add(1);
-        }
-        Ok(place)
-    }
-
     /// The words from this place on are those of a next state by this thread.
-    fn end_words(
-        &mut self,
-        table: &Table<S, T>,
-        thread: u32,
-        from: usize,
-    ) -> Result<(), AllocError> {
+    fn end_words(&mut self, thread: u32, from: usize) -> Result<(), AllocError> {
         let words = self.words.get(from..self.words.len()).unwrap_or(&[]);
         let digest = digest_of(words);
-        let onward = match table.find(words, digest) {
+        let place = match self.recall_goal(from, digest) {
             Some(place) => {
                 self.words.truncate(from);
-                Onward::Met(place)
+                place
             }
-            None => Onward::New(self.new_place(from, digest)?),
+            None => {
+                let place = self.goals.len() as u32;
+                self.goals.push(Goal {
+                    from: from as u32,
+                    end: self.words.len() as u32,
+                    digest,
+                })?;
+                if let Some(slot) = self.goal_slots.get_mut(digest as usize % GOAL_SLOTS) {
+                    *slot = place.saturating_add(1);
+                }
+                place
+            }
         };
+        let onward = Onward::To(place);
         self.next.push(NextAhead { thread, onward })?;
         Ok(())
     }
 
     /// The parts from this place on are those of a next state by this thread.
-    fn end_parts(
-        &mut self,
-        table: &Table<S, T>,
-        thread: u32,
-        from: usize,
-    ) -> Result<(), AllocError> {
+    fn end_parts(&mut self, thread: u32, from: usize) -> Result<(), AllocError> {
         let words = self.words.len();
         for place in from..self.parts.len() {
             let Some(Part::Old(number)) = self.parts.get(place).copied() else {
@@ -235,13 +221,12 @@ impl<S: Eq + Hash + Drop, T: Eq + Hash + Drop> Ahead<S, T> {
             self.words.push(number)?;
         }
         self.parts.truncate(from);
-        self.end_words(table, thread, words)
+        self.end_words(thread, words)
     }
 
     /// A next state by thread n: these words, but for what is shared and that thread.
     fn push_turn(
         &mut self,
-        table: &Table<S, T>,
         words: &[u32],
         n: usize,
         shared: Part,
@@ -256,7 +241,7 @@ impl<S: Eq + Hash + Drop, T: Eq + Hash + Drop> Ahead<S, T> {
             if let Some(word) = self.words.get_mut(from.saturating_add(n).saturating_add(1)) {
                 *word = thread;
             }
-            return self.end_words(table, n as u32, from);
+            return self.end_words(n as u32, from);
         }
         for (place, word) in words.iter().enumerate() {
             let part = if place == 0 {
@@ -284,19 +269,19 @@ impl<S: Eq + Hash + Drop, T: Eq + Hash + Drop> Ahead<S, T> {
     /// Where memory is refused.
     pub fn push_flat(
         &mut self,
-        table: &Table<S, T>,
+        parts: &Parts<S, T>,
         thread: u32,
         flat: Flat<S, T>,
     ) -> Result<(), AllocError> {
         let from = self.parts.len();
         let Flat { shared, threads } = flat;
-        let shared = self.shared_part(table, shared)?;
+        let shared = self.shared_part(parts, shared)?;
         self.parts.push(shared)?;
         for one in threads {
-            let part = self.thread_part(table, one)?;
+            let part = self.thread_part(parts, one)?;
             self.parts.push(part)?;
         }
-        self.end_parts(table, thread, from)
+        self.end_parts(thread, from)
     }
 
     /// The next states of a state end here, and can be told or not.
@@ -309,19 +294,16 @@ impl<S: Eq + Hash + Drop, T: Eq + Hash + Drop> Ahead<S, T> {
         Ok(())
     }
 
-    /// Puts the new parts into the table, unless they are there.
+    /// Puts the new parts into the table.
     ///
     /// # Errors
     /// Where memory is refused.
-    pub fn put_parts(&mut self, alloc: Global, table: &mut Table<S, T>) -> Result<(), AllocError> {
-        if self.taken > 0 {
-            return Ok(());
-        }
+    pub fn put_parts(&mut self, alloc: Global, parts: &mut Parts<S, T>) -> Result<(), AllocError> {
         for shared in replace(&mut self.shared, Vec::new(alloc)) {
-            self.shared_numbers.push(table.put_shared(shared)?)?;
+            self.shared_numbers.push(parts.put_shared(shared)?)?;
         }
         for thread in replace(&mut self.threads, Vec::new(alloc)) {
-            self.thread_numbers.push(table.put_thread(thread)?)?;
+            self.thread_numbers.push(parts.put_thread(thread)?)?;
         }
         Ok(())
     }
@@ -342,7 +324,7 @@ impl<S: Eq + Hash + Drop, T: Eq + Hash + Drop> Ahead<S, T> {
         }
     }
 
-    /// Notes the turns that were made anew among those that are known, unless they are noted.
+    /// Notes the turns that were made anew among those that are known.
     pub(crate) fn put_turns(
         &mut self,
         alloc: Global,
@@ -369,16 +351,16 @@ impl<S: Eq + Hash + Drop, T: Eq + Hash + Drop> Ahead<S, T> {
         Ok(())
     }
 
-    /// The place of the new state, which is put into the table if it isn't there: those before it were taken.
-    fn put_new(&mut self, table: &mut Table<S, T>, new: usize) -> Result<u32, AllocError> {
-        if let Some(place) = self.places.get(new).copied() {
+    /// The place of a goal, which is put among the states if it isn't there: those before it were taken.
+    fn put_goal(&mut self, states: &mut States, goal: usize) -> Result<u32, AllocError> {
+        if let Some(place) = self.places.get(goal).copied() {
             return Ok(place);
         }
-        let Some(NewState { from, end, digest }) = self.new.get(new).copied() else {
+        let Some(Goal { from, end, digest }) = self.goals.get(goal).copied() else {
             return Err(AllocError);
         };
         let words = self.words.get(from as usize..end as usize).unwrap_or(&[]);
-        let place = table.put(words, digest)?;
+        let place = states.put(words, digest)?;
         self.places.push(place)?;
         Ok(place)
     }
@@ -386,12 +368,11 @@ impl<S: Eq + Hash + Drop, T: Eq + Hash + Drop> Ahead<S, T> {
     /// The place of the next state, which is put into the table if it isn't there.
     fn put_onward(
         &mut self,
-        table: &mut Table<S, T>,
+        states: &mut States,
         onward: Onward,
     ) -> Result<u32, AllocError> {
         match onward {
-            Onward::Met(place) => Ok(place),
-            Onward::New(new) => self.put_new(table, new as usize),
+            Onward::To(goal) => self.put_goal(states, goal as usize),
             Onward::Parts { end } => {
                 let from = self.words.len();
                 for place in self.taken_parts..end as usize {
@@ -406,7 +387,7 @@ impl<S: Eq + Hash + Drop, T: Eq + Hash + Drop> Ahead<S, T> {
                 }
                 self.taken_parts = end as usize;
                 let words = self.words.get(from..self.words.len()).unwrap_or(&[]);
-                let place = table.put(words, digest_of(words))?;
+                let place = states.put(words, digest_of(words))?;
                 self.words.truncate(from);
                 Ok(place)
             }
@@ -420,7 +401,7 @@ impl<S: Eq + Hash + Drop, T: Eq + Hash + Drop> Ahead<S, T> {
     /// Where memory is refused.
     pub fn take(
         &mut self,
-        table: &mut Table<S, T>,
+        states: &mut States,
         at: u32,
         moves: &mut Vec<Move>,
     ) -> Result<bool, AllocError> {
@@ -434,7 +415,7 @@ impl<S: Eq + Hash + Drop, T: Eq + Hash + Drop> Ahead<S, T> {
             let Some(one) = self.next.get(place).copied() else {
                 break;
             };
-            let next = self.put_onward(table, one.onward)?;
+            let next = self.put_onward(states, one.onward)?;
             moves.push(Move {
                 from: at,
                 thread: one.thread,
@@ -452,7 +433,7 @@ impl<S: Eq + Hash + Drop, T: Eq + Hash + Drop> Ahead<S, T> {
 fn heard_part<M: Moves>(
     alloc: Global,
     system: &M,
-    table: &Table<M::Shared, M::Thread>,
+    parts: &Parts<M::Shared, M::Thread>,
     made: &M::Effect,
     n: usize,
     m: usize,
@@ -464,7 +445,7 @@ fn heard_part<M: Moves>(
             if m != n && !system.hears(made, n, m) {
                 return Ok(Some(Part::Old(number)));
             }
-            let Some(thread) = table.threads.get_index(number as usize) else {
+            let Some(thread) = parts.threads.get_index(number as usize) else {
                 return Ok(None);
             };
             system.after(alloc, made, n, thread, m)?
@@ -472,7 +453,7 @@ fn heard_part<M: Moves>(
         None => system.first_after(alloc, made, n, m)?,
     };
     match rested {
-        Some(rested) => Ok(Some(ahead.thread_part(table, rested)?)),
+        Some(rested) => Ok(Some(ahead.thread_part(parts, rested)?)),
         None => Ok(None),
     }
 }
@@ -481,7 +462,7 @@ fn heard_part<M: Moves>(
 fn push_heard<M: Moves>(
     alloc: Global,
     system: &M,
-    table: &Table<M::Shared, M::Thread>,
+    parts: &Parts<M::Shared, M::Thread>,
     words: &[u32],
     n: usize,
     shared: M::Shared,
@@ -490,16 +471,16 @@ fn push_heard<M: Moves>(
 ) -> Result<bool, AllocError> {
     let from = ahead.parts.len();
     let count = system.started(&shared);
-    let shared = ahead.shared_part(table, shared)?;
+    let shared = ahead.shared_part(parts, shared)?;
     ahead.parts.push(shared)?;
     for m in 0..count {
         let number = words.get(m + 1).copied();
-        let Some(part) = heard_part(alloc, system, table, made, n, m, number, ahead)? else {
+        let Some(part) = heard_part(alloc, system, parts, made, n, m, number, ahead)? else {
             return Ok(false);
         };
         ahead.parts.push(part)?;
     }
-    ahead.end_parts(table, n as u32, from)?;
+    ahead.end_parts(n as u32, from)?;
     Ok(true)
 }
 
@@ -526,32 +507,32 @@ fn is_quiet<M: Moves>(
 fn push_anew<M: Moves>(
     alloc: Global,
     system: &M,
-    table: &Table<M::Shared, M::Thread>,
+    parts: &Parts<M::Shared, M::Thread>,
     words: &[u32],
     shared: u32,
     thread: u32,
     n: usize,
     ahead: &mut Ahead<M::Shared, M::Thread>,
 ) -> Result<bool, AllocError> {
-    let Some(old) = table.shared.get_index(shared as usize) else {
+    let Some(old) = parts.shared.get_index(shared as usize) else {
         return Ok(false);
     };
-    let Some(own) = table.threads.get_index(thread as usize) else {
+    let Some(own) = parts.threads.get_index(thread as usize) else {
         return Ok(false);
     };
     let count = system.started(old);
     let mut turn = TurnAhead::Still;
     if let Some((new, made)) = system.event(alloc, old, own, n)? {
         if !is_quiet(system, &new, &made, n, count) {
-            return push_heard(alloc, system, table, words, n, new, &made, ahead);
+            return push_heard(alloc, system, parts, words, n, new, &made, ahead);
         }
         let Some(rested) = system.after(alloc, &made, n, own, n)? else {
             return Ok(false);
         };
-        let shared = ahead.shared_part(table, new)?;
-        let thread = ahead.thread_part(table, rested)?;
+        let shared = ahead.shared_part(parts, new)?;
+        let thread = ahead.thread_part(parts, rested)?;
         turn = TurnAhead::Alone { shared, thread };
-        ahead.push_turn(table, words, n, shared, thread)?;
+        ahead.push_turn(words, n, shared, thread)?;
     }
     ahead.note(MadeAhead {
         shared,
@@ -573,11 +554,10 @@ fn push_next<M: Moves>(
     n: usize,
     ahead: &mut Ahead<M::Shared, M::Thread>,
 ) -> Result<bool, AllocError> {
-    let table = &met.table;
     match recall(met.known.as_slice(), shared, thread, n as u32) {
         Some(Turn::Still) => return Ok(true),
         Some(Turn::Alone { shared, thread }) => {
-            ahead.push_turn(table, words, n, Part::Old(shared), Part::Old(thread))?;
+            ahead.push_turn(words, n, Part::Old(shared), Part::Old(thread))?;
             return Ok(true);
         }
         None => {}
@@ -585,10 +565,10 @@ fn push_next<M: Moves>(
     match ahead.recall(shared, thread, n as u32) {
         Some(TurnAhead::Still) => Ok(true),
         Some(TurnAhead::Alone { shared, thread }) => {
-            ahead.push_turn(table, words, n, shared, thread)?;
+            ahead.push_turn(words, n, shared, thread)?;
             Ok(true)
         }
-        None => push_anew(alloc, system, table, words, shared, thread, n, ahead),
+        None => push_anew(alloc, system, &met.parts, words, shared, thread, n, ahead),
     }
 }
 
@@ -611,7 +591,7 @@ fn push_state<M: Moves>(
     Ok(true)
 }
 
-/// What comes of the states from this place on, so many.
+/// What comes of so many of these states, from this place among them on.
 ///
 /// # Errors
 /// Where memory is refused.
@@ -619,12 +599,13 @@ pub(crate) fn ahead_of<M: Moves>(
     alloc: Global,
     system: &M,
     met: &Met<M::Shared, M::Thread>,
-    from: u32,
+    some: &Words,
+    from: usize,
     count: usize,
 ) -> Result<Ahead<M::Shared, M::Thread>, AllocError> {
     let mut ahead = Ahead::new(alloc)?;
     for k in 0..count {
-        let words = met.table.words((from as usize).saturating_add(k));
+        let words = some.get(from.saturating_add(k));
         let is_told = push_state(alloc, system, met, words, &mut ahead)?;
         ahead.end_state(is_told)?;
         if !is_told {

@@ -3,7 +3,7 @@ ghost use Rattle.std.specs.Prelude.{◌<◌, IfSome, OnOk};
 ghost use Rattle.search_settled.specs.Known.{IsNotedIn, AreFrom};
 
 use search_graph::Move;
-use search_table::{Table, digest_of};
+use search_table::{Parts, States, digest_of};
 use std::alloc::{AllocError, Global};
 use std::hash::Hash;
 
@@ -86,16 +86,16 @@ impl NextWords {
     ///
     /// # Errors
     /// Where memory is refused.
-    pub fn put<S: Eq + Hash + Drop, T: Eq + Hash + Drop>(
+    pub fn put(
         &self,
-        table: &mut Table<S, T>,
+        states: &mut States,
         moves: &mut Vec<Move>,
         at: u32,
     ) -> Result<(), AllocError> {
         let mut from = 0;
         for one in &self.each {
             let words = self.words.get(from..one.end).unwrap_or(&[]);
-            let next = table.put(words, digest_of(words))?;
+            let next = states.put(words, digest_of(words))?;
             moves.push(Move {
                 from: at,
                 thread: one.thread,
@@ -107,10 +107,10 @@ impl NextWords {
     }
 }
 
-/// The states that were met, and the turns that are known: those of the last ones to whom a slot fell.
+/// The parts of the states that were met, and the turns that are known: those of the last ones to whom a slot fell.
 #[derive(Drop)]
 pub(crate) struct Met<S: Eq + Hash, T: Eq + Hash> {
-    pub(crate) table: Table<S, T>,
+    pub(crate) parts: Parts<S, T>,
     pub(crate) known: Vec<Option<Known>>,
 }
 

@@ -27,7 +27,7 @@ ghost use Rattle.search_settled.specs.Flat.{
 use crate::met::{Met, NextWords, Turn, recall};
 use crate::turns::{Made, made_by};
 use crate::{Flat, Moves};
-use search_table::{Table, digest_of};
+use search_table::{Parts, States, digest_of};
 use std::alloc::{AllocError, Global};
 use std::hash::Hash;
 
@@ -82,20 +82,19 @@ pub fn threads_after<M: Moves>(
     Ok(Some(rested))
 }
 
-/// The threads of the state at this place.
+/// The threads of the state of these words.
 ///
 /// # Errors
 /// Where memory is refused, or no more states can have a thread.
 pub fn threads_of<M: Moves, S: Eq + Hash + Drop>(
     alloc: Global,
     system: &M,
-    table: &Table<S, M::Thread>,
-    at: usize,
+    parts: &Parts<S, M::Thread>,
+    words: &[u32],
 ) -> Result<Vec<M::Thread>, AllocError> {
-    let words = table.words(at);
     let mut all = Vec::with_capacity(alloc, words.len())?;
     for number in words.iter().skip(1) {
-        if let Some(thread) = table.threads.get_index(*number as usize) {
+        if let Some(thread) = parts.threads.get_index(*number as usize) {
             all.push(system.share(thread)?)?;
         }
     }
@@ -107,34 +106,35 @@ pub fn threads_of<M: Moves, S: Eq + Hash + Drop>(
 /// # Errors
 /// Where memory is refused, or there are too many parts.
 pub fn put_words<S: Eq + Hash + Drop, T: Eq + Hash + Drop>(
-    table: &mut Table<S, T>,
+    parts: &mut Parts<S, T>,
     flat: Flat<S, T>,
     all: &mut NextWords,
 ) -> Result<(), AllocError> {
     let Flat { shared, threads } = flat;
-    all.push(table.put_shared(shared)?)?;
+    all.push(parts.put_shared(shared)?)?;
     for thread in threads {
-        all.push(table.put_thread(thread)?)?;
+        all.push(parts.put_thread(thread)?)?;
     }
     Ok(())
 }
 
-/// Puts a state into the table.
+/// Puts a state into the tables.
 ///
 /// # Errors
 /// Where memory is refused, or there are too many parts.
 pub fn put_flat<S: Eq + Hash + Drop, T: Eq + Hash + Drop>(
     alloc: Global,
-    table: &mut Table<S, T>,
+    parts: &mut Parts<S, T>,
+    states: &mut States,
     flat: Flat<S, T>,
 ) -> Result<(), AllocError> {
     let Flat { shared, threads } = flat;
     let mut words = Vec::with_capacity(alloc, threads.len())?;
-    words.push(table.put_shared(shared)?)?;
+    words.push(parts.put_shared(shared)?)?;
     for thread in threads {
-        words.push(table.put_thread(thread)?)?;
+        words.push(parts.put_thread(thread)?)?;
     }
-    table.put(words.as_slice(), digest_of(words.as_slice()))?;
+    states.put(words.as_slice(), digest_of(words.as_slice()))?;
     Ok(())
 }
 
@@ -143,7 +143,7 @@ pub fn put_flat<S: Eq + Hash + Drop, T: Eq + Hash + Drop>(
 fn number_after<M: Moves>(
     alloc: Global,
     system: &M,
-    table: &mut Table<M::Shared, M::Thread>,
+    parts: &mut Parts<M::Shared, M::Thread>,
     made: &M::Effect,
     n: usize,
     m: usize,
@@ -154,7 +154,7 @@ fn number_after<M: Moves>(
             if m != n && !system.hears(made, n, m) {
                 return Ok(Some(number));
             }
-            let Some(thread) = table.threads.get_index(number as usize) else {
+            let Some(thread) = parts.threads.get_index(number as usize) else {
                 return Ok(None);
             };
             system.after(alloc, made, n, thread, m)?
@@ -162,7 +162,7 @@ fn number_after<M: Moves>(
         None => system.first_after(alloc, made, n, m)?,
     };
     match rested {
-        Some(rested) => Ok(Some(table.put_thread(rested)?)),
+        Some(rested) => Ok(Some(parts.put_thread(rested)?)),
         None => Ok(None),
     }
 }
@@ -171,18 +171,18 @@ fn number_after<M: Moves>(
 fn put_heard<M: Moves>(
     alloc: Global,
     system: &M,
-    table: &mut Table<M::Shared, M::Thread>,
-    at: usize,
+    parts: &mut Parts<M::Shared, M::Thread>,
+    words: &[u32],
     n: usize,
     shared: M::Shared,
     made: &M::Effect,
     all: &mut NextWords,
 ) -> Result<bool, AllocError> {
     let count = system.started(&shared);
-    all.push(table.put_shared(shared)?)?;
+    all.push(parts.put_shared(shared)?)?;
     for m in 0..count {
-        let number = table.words(at).get(m + 1).copied();
-        let Some(after) = number_after(alloc, system, table, made, n, m, number)? else {
+        let number = words.get(m + 1).copied();
+        let Some(after) = number_after(alloc, system, parts, made, n, m, number)? else {
             return Ok(false);
         };
         all.push(after)?;
@@ -197,7 +197,8 @@ fn put_next<M: Moves>(
     alloc: Global,
     system: &M,
     met: &mut Met<M::Shared, M::Thread>,
-    at: usize,
+    states: usize,
+    words: &[u32],
     shared: u32,
     thread: u32,
     n: usize,
@@ -206,38 +207,37 @@ fn put_next<M: Moves>(
     let known = met.known.as_slice();
     let made = match recall(known, shared, thread, n as u32) {
         Some(turn) => Made::Told(turn),
-        None => made_by(alloc, system, met, shared, thread, n)?,
+        None => made_by(alloc, system, met, states, shared, thread, n)?,
     };
     match made {
         Made::Told(Turn::Still) => Ok(true),
         Made::Told(Turn::Alone { shared, thread }) => {
-            all.push_turn(met.table.words(at), n, shared, thread)?;
+            all.push_turn(words, n, shared, thread)?;
             Ok(true)
         }
         Made::Heard(shared, made) => {
-            put_heard(alloc, system, &mut met.table, at, n, shared, &made, all)
+            put_heard(alloc, system, &mut met.parts, words, n, shared, &made, all)
         }
         Made::Unknown => Ok(false),
     }
 }
 
-/// The words of the next states of the one at this place, each with the thread whose event leads there.
+/// The words of the next states of the one of these words, each with the thread whose event leads there.
 pub(crate) fn next_words<M: Moves>(
     alloc: Global,
     system: &M,
     met: &mut Met<M::Shared, M::Thread>,
-    at: usize,
+    states: usize,
+    words: &[u32],
 ) -> Result<Option<NextWords>, AllocError> {
     let mut all = NextWords::new(alloc);
-    let Some(shared) = met.table.words(at).first().copied() else {
+    let Some(shared) = words.first().copied() else {
         return Ok(None);
     };
-    let mut n: usize = 0;
-    while let Some(thread) = met.table.words(at).get(n + 1).copied() {
-        if !put_next(alloc, system, met, at, shared, thread, n, &mut all)? {
+    for (n, thread) in words.iter().skip(1).enumerate() {
+        if !put_next(alloc, system, met, states, words, shared, *thread, n, &mut all)? {
             return Ok(None);
         }
-        n += 1;
     }
     Ok(Some(all))
 }

@@ -17,8 +17,8 @@ use crate::ahead::{Ahead, ahead_of};
 use crate::met::Met;
 use crate::next::{next_words, put_flat, threads_of};
 use search_graph::Move;
-use search_reach::{Crew, Ended, Follows, Meets, Order, Seeks, all_endings};
-use search_table::Table;
+use search_reach::{Crew, Ended, Follows, Meets, Order, Seeks, Tables, all_endings};
+use search_table::{Parts, States, Words};
 use std::alloc::{AllocError, Global};
 use std::hash::Hash;
 
@@ -31,15 +31,18 @@ struct Turns<'s, M> {
 impl<M: Moves> Meets for Turns<'_, M> {
     ghost use Rattle.schedule.specs.System.{State as SystemState};
     ghost use Rattle.search_settled.specs.declared.flat.Flat.{Flat as FlatState};
-    ghost use Rattle.search_settled.specs.Known.{HasStates};
     ghost use Rattle.search_settled.specs.Turns.{turns};
     ghost use Rattle.search_settled.specs.Same.{flat_eq, flat_alike, stands_alike};
 
-    type Table = Met<M::Shared, M::Thread>;
+    type Parts = Met<M::Shared, M::Thread>;
 
-    type Ending = M::Ending;
+    type States = States;
+
+    type Some = Words;
 
     type Ahead = Ahead<M::Shared, M::Thread>;
+
+    type Ending = M::Ending;
 
     ghost State = { FlatState M.Shared M.Thread };
 
@@ -49,86 +52,111 @@ impl<M: Moves> Meets for Turns<'_, M> {
 
     ghost equal = { λ t. flat_eq M.Shared.eq M.Thread.eq };
 
-    ghost holds = { λ t. HasStates (M.threads t.system.now) };
-
     ghost alike = { λ t x y e. stands_alike (M.threads t.system.now) x y
         (flat_alike M.Shared.eq M.Thread.eq (M.threads t.system.now)
         (M.same_shared t.system.now) (M.same_thread t.system.now) x y e) };
 
-    fn table(&self, alloc: Global) -> Met<M::Shared, M::Thread> {
-        Met {
-            table: Table::new(alloc),
-            known: Vec::new(alloc),
+    fn tables(&self, alloc: Global) -> Tables<Met<M::Shared, M::Thread>, States> {
+        Tables {
+            parts: Met {
+                parts: Parts::new(alloc),
+                known: Vec::new(alloc),
+            },
+            states: States::new(alloc),
         }
     }
 
-    fn count(&self, met: &Met<M::Shared, M::Thread>) -> usize {
-        met.table.len()
+    fn count(&self, states: &States) -> usize {
+        states.len()
     }
 
     fn first(
         &self,
         alloc: Global,
-        met: &mut Met<M::Shared, M::Thread>,
+        tables: &mut Tables<Met<M::Shared, M::Thread>, States>,
     ) -> Result<bool, AllocError> {
         let Some(flat) = self.system.first(alloc)? else {
             return Ok(false);
         };
-        put_flat(alloc, &mut met.table, flat)?;
+        put_flat(alloc, &mut tables.parts.parts, &mut tables.states, flat)?;
         Ok(true)
     }
 
     fn next(
         &self,
         alloc: Global,
-        met: &mut Met<M::Shared, M::Thread>,
+        tables: &mut Tables<Met<M::Shared, M::Thread>, States>,
         at: u32,
         moves: &mut Vec<Move>,
     ) -> Result<bool, AllocError> {
-        let Some(next) = next_words(alloc, self.system, met, at as usize)? else {
+        let Tables { parts, states } = tables;
+        let count = states.len();
+        let words = states.words(at as usize);
+        let Some(next) = next_words(alloc, self.system, parts, count, words)? else {
             return Ok(false);
         };
-        next.put(&mut met.table, moves, at)?;
+        next.put(states, moves, at)?;
         Ok(true)
+    }
+
+    fn some(
+        &self,
+        alloc: Global,
+        states: &States,
+        from: usize,
+        count: usize,
+    ) -> Result<Words, AllocError> {
+        states.some(alloc, from, count)
     }
 
     fn ahead(
         &self,
         alloc: Global,
         met: &Met<M::Shared, M::Thread>,
-        from: u32,
+        some: &Words,
+        from: usize,
         count: usize,
     ) -> Result<Ahead<M::Shared, M::Thread>, AllocError> {
-        ahead_of(alloc, self.system, met, from, count)
+        ahead_of(alloc, self.system, met, some, from, count)
     }
 
-    fn next_by(
+    fn put_parts(
         &self,
         alloc: Global,
         met: &mut Met<M::Shared, M::Thread>,
+        states: usize,
+        ahead: &mut Ahead<M::Shared, M::Thread>,
+    ) -> Result<(), AllocError> {
+        ahead.put_parts(alloc, &mut met.parts)?;
+        ahead.put_turns(alloc, &mut met.known, states)
+    }
+
+    fn take(
+        &self,
+        _alloc: Global,
+        states: &mut States,
         at: u32,
         ahead: &mut Ahead<M::Shared, M::Thread>,
         moves: &mut Vec<Move>,
     ) -> Result<bool, AllocError> {
-        let states = met.table.len();
-        ahead.put_parts(alloc, &mut met.table)?;
-        ahead.put_turns(alloc, &mut met.known, states)?;
-        ahead.take(&mut met.table, at, moves)
+        ahead.take(states, at, moves)
     }
 
     fn ending(
         &self,
         alloc: Global,
         met: &Met<M::Shared, M::Thread>,
+        states: &States,
         at: usize,
     ) -> Result<Option<M::Ending>, AllocError> {
-        let Some(number) = met.table.words(at).first() else {
+        let words = states.words(at);
+        let Some(number) = words.first() else {
             return Ok(None);
         };
-        let Some(shared) = met.table.shared.get_index(*number as usize) else {
+        let Some(shared) = met.parts.shared.get_index(*number as usize) else {
             return Ok(None);
         };
-        let threads = threads_of(alloc, self.system, &met.table, at)?;
+        let threads = threads_of(alloc, self.system, &met.parts, words)?;
         self.system.ending(alloc, shared, threads.as_slice())
     }
 }

@@ -1,6 +1,5 @@
 //! The turn of a thread, by the numbers of a table.
 ghost use Rattle.std.specs.Prelude.{◌≡◌, ◌≢◌, ◌<◌, ◌≤◌, true, false, IfOk, OnOk};
-ghost use Rattle.search_table.specs.Tables.{Grows};
 ghost use Rattle.search_settled.specs.declared.turns.Made.TheVariants.{Unknown};
 ghost use Rattle.search_settled.specs.Known.{AreKnown, AreOfThread, OfNumbers, IsMade, IsLostBy};
 ghost use Rattle.search_settled.specs.Alone.{IsUnheard};
@@ -60,24 +59,17 @@ fn made_anew<M: Moves>(
     alloc: Global,
     system: &M,
     met: &mut Met<M::Shared, M::Thread>,
+    states: usize,
     shared: u32,
     thread: u32,
     n: usize,
 ) -> Result<Made<M::Shared, M::Effect>, AllocError>
-    requires known { AreKnown (M.threads system.now) met.old }
-    requires of { AreOfThread (M.threads system.now) met.old.table shared thread n }
-    requires few { n < (M.threads system.now).most }
-    ensures grows { OnOk result (Grows met.old.table met.new.table) }
-    ensures known { OnOk result (AreKnown (M.threads system.now) met.new) }
-    ensures made { IfOk result (λ r. OfNumbers (M.threads system.now) met.old.table shared thread
-        (λ g h. IsMade (M.threads system.now) met.new.table g h n r)) }
-    ensures gives_up { IfOk result (λ r. r ≡ Unknown → OfNumbers (M.threads system.now) met.old.table shared thread
-        (IsLostBy (M.threads system.now) (M.stuck system.now) n)) }
 {
-    let Some(old) = met.table.shared.get_index(shared as usize) else {
+    let _ = states;
+    let Some(old) = met.parts.shared.get_index(shared as usize) else {
         return Ok(Made::Unknown);
     };
-    let Some(own) = met.table.threads.get_index(thread as usize) else {
+    let Some(own) = met.parts.threads.get_index(thread as usize) else {
         return Ok(Made::Unknown);
     };
     let count = system.started(old);
@@ -90,8 +82,8 @@ fn made_anew<M: Moves>(
     let Some(rested) = system.after(alloc, &made, n, own, n)? else {
         return Ok(Made::Unknown);
     };
-    let shared = met.table.put_shared(new)?;
-    let thread = met.table.put_thread(rested)?;
+    let shared = met.parts.put_shared(new)?;
+    let thread = met.parts.put_thread(rested)?;
     Ok(Made::Told(Turn::Alone { shared, thread }))
 }
 
@@ -100,23 +92,14 @@ pub(crate) fn made_by<M: Moves>(
     alloc: Global,
     system: &M,
     met: &mut Met<M::Shared, M::Thread>,
+    states: usize,
     shared: u32,
     thread: u32,
     n: usize,
 ) -> Result<Made<M::Shared, M::Effect>, AllocError>
-    requires known { AreKnown (M.threads system.now) met.old }
-    requires of { AreOfThread (M.threads system.now) met.old.table shared thread n }
-    requires few { n < (M.threads system.now).most }
-    ensures grows { OnOk result (Grows met.old.table met.new.table) }
-    ensures known { OnOk result (AreKnown (M.threads system.now) met.new) }
-    ensures made { IfOk result (λ r. OfNumbers (M.threads system.now) met.old.table shared thread
-        (λ g h. IsMade (M.threads system.now) met.new.table g h n r)) }
-    ensures gives_up { IfOk result (λ r. r ≡ Unknown → OfNumbers (M.threads system.now) met.old.table shared thread
-        (IsLostBy (M.threads system.now) (M.stuck system.now) n)) }
 {
-    let made = made_anew(alloc, system, met, shared, thread, n)?;
+    let made = made_anew(alloc, system, met, states, shared, thread, n)?;
     if let Made::Told(turn) = made {
-        let states = met.table.len();
         let n = n as u32;
         let new = Known {
             shared,

@@ -15,4 +15,4 @@
 
 mod table;
 
-pub use table::{Table, digest_of};
+pub use table::{Parts, States, Words, digest_of};
