@@ -125,7 +125,7 @@ impl<M: Accesses> Meets for RaceFreeTurns<'_, M> {
         from: usize,
         count: usize,
     ) -> Result<Ahead<Held<M::Shared>, M::Thread>, AllocError> {
-        let mut ahead = Ahead::new(alloc)?;
+        let mut ahead = Ahead::new(alloc, count)?;
         for k in 0..count {
             let words = some.get(from.saturating_add(k));
             let Some(state) = state_at(alloc, self.system, parts, words)? else {

@@ -96,26 +96,27 @@ const SLOTS: usize = 4096;
 const GOAL_SLOTS: usize = 16384;
 
 impl<S: Eq + Hash + Drop, T: Eq + Hash + Drop> Ahead<S, T> {
-    /// Nothing.
+    /// Nothing yet, of so many states.
     ///
     /// # Errors
     /// Where memory is refused.
-    pub fn new(alloc: Global) -> Result<Ahead<S, T>, AllocError> {
+    pub fn new(alloc: Global, count: usize) -> Result<Ahead<S, T>, AllocError> {
+        let moves = count.saturating_mul(4);
         Ok(Ahead {
             shared: Vec::new(alloc),
             threads: Vec::new(alloc),
             made: Vec::new(alloc),
             slots: vec![in alloc; 0u32; SLOTS]?,
-            words: Vec::new(alloc),
-            goals: Vec::new(alloc),
+            words: Vec::with_capacity(alloc, moves.saturating_mul(4))?,
+            goals: Vec::with_capacity(alloc, moves)?,
             goal_slots: vec![in alloc; 0u32; GOAL_SLOTS]?,
             parts: Vec::new(alloc),
-            next: Vec::new(alloc),
-            states: Vec::new(alloc),
+            next: Vec::with_capacity(alloc, moves)?,
+            states: Vec::with_capacity(alloc, count)?,
             taken: 0,
             taken_next: 0,
             taken_parts: 0,
-            places: Vec::new(alloc),
+            places: Vec::with_capacity(alloc, moves)?,
             shared_numbers: Vec::new(alloc),
             thread_numbers: Vec::new(alloc),
         })
@@ -603,7 +604,7 @@ pub(crate) fn ahead_of<M: Moves>(
     from: usize,
     count: usize,
 ) -> Result<Ahead<M::Shared, M::Thread>, AllocError> {
-    let mut ahead = Ahead::new(alloc)?;
+    let mut ahead = Ahead::new(alloc, count)?;
     for k in 0..count {
         let words = some.get(from.saturating_add(k));
         let is_told = push_state(alloc, system, met, words, &mut ahead)?;

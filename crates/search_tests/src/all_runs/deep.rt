@@ -4,7 +4,7 @@ use crate::all_runs::rows::{DUMP, Gone, MODULES, MOST, call_of, gone_in, gone_th
 use crate::runs::{LIMIT, load};
 use search_endings::Ending;
 use search_finds::run_to;
-use search_modules::all_endings;
+use search_modules::{Alone, all_endings};
 use search_reach::{Ended, Order, Seeks, Verdict};
 use spawn_host::Request;
 use std::alloc::{AllocError, Global};
@@ -95,7 +95,7 @@ fn until_one_ends<R: Abort>(
     order: Order,
 ) -> Result<usize, Fail> {
     let request = Request::new(valid, call_of(gone))?;
-    let found = all_endings(alloc, &request, order, MOST, DUMP as usize, &Any, &mut ())?;
+    let found = all_endings(alloc, &request, &Alone, order, MOST, DUMP as usize, &Any, &mut ())?;
     assert_eq!(rt; found.verdict, Verdict::Sought);
     assert_eq!(rt; found.endings.len(), 1);
     check_paths(rt, alloc, valid, gone, &found)?;

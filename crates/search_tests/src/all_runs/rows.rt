@@ -6,7 +6,7 @@ ghost use Rattle.types.specs.declared.limits.TheConstants.{MOST_FUEL};
 use crate::all_runs::examples::{BROKEN, EXCHANGE, MUTEX, PETERSON, SEQLOCK, TICKETS, WAKEUP};
 use crate::runs::FUEL;
 use search_endings::Ending;
-use search_modules::all_endings;
+use search_modules::{Alone, all_endings};
 use search_reach::{Ended, Order};
 use spawn_host::{Call, Request};
 use std::alloc::Global;
@@ -151,5 +151,5 @@ pub(crate) fn gone_in(
     most: u32,
 ) -> Result<Ended<Ending>, Fail> {
     let request = Request::new(valid, call_of(gone))?;
-    Ok(all_endings(alloc, &request, order, most, DUMP as usize, &(), &mut ())?)
+    Ok(all_endings(alloc, &request, &Alone, order, most, DUMP as usize, &(), &mut ())?)
 }

@@ -2,7 +2,7 @@
 
 use crate::all_runs::rows::{DUMP, Gone, MODULES, MOST, call_of};
 use crate::runs::load;
-use search_modules::all_endings;
+use search_modules::{Alone, all_endings};
 use search_reach::{Follows, Order, Verdict, Wish};
 use spawn_host::Request;
 use std::alloc::Global;
@@ -49,7 +49,7 @@ fn check_told<R: Abort>(rt: &R, alloc: Global, gone: &Gone, order: Order) -> Res
         told_at: 0,
     };
     let request = Request::new(&valid, call_of(gone))?;
-    let all = all_endings(alloc, &request, order, MOST, DUMP as usize, &(), &mut few)?;
+    let all = all_endings(alloc, &request, &Alone, order, MOST, DUMP as usize, &(), &mut few)?;
     assert_eq!(rt; all.verdict, Verdict::Told);
     assert!(rt; 10 <= all.states && all.states < gone.states as usize);
     assert_eq!(rt; all.states, few.told_at);
