@@ -9,7 +9,7 @@ use search_graph::Move;
 use std::alloc::{AllocError, Global};
 
 /// Of fewer states nothing is made ahead: a thread would take longer to start.
-const FEW: usize = 128;
+const FEW: usize = 256;
 
 /// Of how many states at most a thread makes ahead what comes of them.
 const PIECE: usize = 1024;

@@ -89,11 +89,15 @@ pub struct Ahead<S, T> {
     thread_numbers: Vec<u32>,
 }
 
-/// How many slots there are for turns that were made anew.
-const SLOTS: usize = 4096;
+/// How many slots there are for turns that were made anew, of so many states.
+fn slots_for(count: usize) -> usize {
+    count.saturating_mul(4).max(64).min(4096)
+}
 
 /// How many there are for next states.
-const GOAL_SLOTS: usize = 16384;
+fn goal_slots_for(count: usize) -> usize {
+    count.saturating_mul(16).max(256).min(16384)
+}
 
 impl<S: Eq + Hash + Drop, T: Eq + Hash + Drop> Ahead<S, T> {
     /// Nothing yet, of so many states.
@@ -106,10 +110,10 @@ impl<S: Eq + Hash + Drop, T: Eq + Hash + Drop> Ahead<S, T> {
             shared: Vec::new(alloc),
             threads: Vec::new(alloc),
             made: Vec::new(alloc),
-            slots: vec![in alloc; 0u32; SLOTS]?,
+            slots: vec![in alloc; 0u32; slots_for(count)]?,
             words: Vec::with_capacity(alloc, moves.saturating_mul(4))?,
             goals: Vec::with_capacity(alloc, moves)?,
-            goal_slots: vec![in alloc; 0u32; GOAL_SLOTS]?,
+            goal_slots: vec![in alloc; 0u32; goal_slots_for(count)]?,
             parts: Vec::new(alloc),
             next: Vec::with_capacity(alloc, moves)?,
             states: Vec::with_capacity(alloc, count)?,
@@ -144,7 +148,8 @@ impl<S: Eq + Hash + Drop, T: Eq + Hash + Drop> Ahead<S, T> {
 
     /// A turn that was made anew here, if it was and its slot has it.
     fn recall(&self, shared: u32, thread: u32, n: u32) -> Option<TurnAhead> {
-        let place = *self.slots.get(slot_of(shared, thread, n, SLOTS))?;
+        let slot = slot_of(shared, thread, n, self.slots.len());
+        let place = *self.slots.get(slot)?;
         let made = self.made.get((place as usize).checked_sub(1)?)?;
         if made.shared == shared && made.thread == thread && made.n == n {
             Some(made.turn)
@@ -157,17 +162,22 @@ impl<S: Eq + Hash + Drop, T: Eq + Hash + Drop> Ahead<S, T> {
     fn note(&mut self, made: MadeAhead) -> Result<(), AllocError> {
         self.made.push(made)?;
         let place = self.made.len() as u32;
-        let slot = slot_of(made.shared, made.thread, made.n, SLOTS);
+        let slot = slot_of(made.shared, made.thread, made.n, self.slots.len());
         if let Some(slot) = self.slots.get_mut(slot) {
             *slot = place;
         }
         Ok(())
     }
 
+    /// The slot of a goal of this number.
+    fn goal_slot(&self, digest: u64) -> usize {
+        digest as usize % self.goal_slots.len().max(1)
+    }
+
     /// The place among the goals of the one with the words from this place on, where its slot has it.
     fn recall_goal(&self, from: usize, digest: u64) -> Option<u32> {
-        let slot = *self.goal_slots.get(digest as usize % GOAL_SLOTS)?;
-        let place = slot.checked_sub(1)?;
+        let slot = self.goal_slot(digest);
+        let place = self.goal_slots.get(slot)?.checked_sub(1)?;
         let goal = self.goals.get(place as usize)?;
         if goal.digest != digest {
             return None;
@@ -196,7 +206,8 @@ impl<S: Eq + Hash + Drop, T: Eq + Hash + Drop> Ahead<S, T> {
                     end: self.words.len() as u32,
                     digest,
                 })?;
-                if let Some(slot) = self.goal_slots.get_mut(digest as usize % GOAL_SLOTS) {
+                let slot = self.goal_slot(digest);
+                if let Some(slot) = self.goal_slots.get_mut(slot) {
                     *slot = place.saturating_add(1);
                 }
                 place
