@@ -28,4 +28,4 @@ pub use all::all_endings;
 pub use race_free::{race_choices, race_free_endings, turn_choices};
 pub use returned::what_runs_return_is_reached;
 pub use search_race_free::{Race, RaceFree};
-pub use search_reach::{Alone, Crew, Hands, Ended, FairCycle, FairRuns, Liveness, Verdict};
+pub use search_reach::{Alone, Crew, Ended, FairCycle, FairRuns, Hands, Liveness, Verdict};

@@ -56,8 +56,7 @@ pub(crate) fn state_at<M: Accesses>(
     system: &M,
     parts: &Parts<Held<M::Shared>, M::Thread>,
     words: &[u32],
-) -> Result<Option<Owning<Flat<M::Shared, M::Thread>>>, AllocError>
-{
+) -> Result<Option<Owning<Flat<M::Shared, M::Thread>>>, AllocError> {
     let Some(number) = words.first() else {
         return Ok(None);
     };

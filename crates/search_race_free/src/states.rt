@@ -16,7 +16,9 @@ use crate::met::{Held, held, held_words, state_at};
 use crate::next::{first_state, next_states};
 use crate::{Accesses, Race};
 use search_graph::Move;
-use search_reach::{Crew, Ended, Follows, Meets, Order, Reached, Seeks, Tables, Verdict, conclude, reach};
+use search_reach::{
+    Crew, Ended, Follows, Meets, Order, Reached, Seeks, Tables, Verdict, conclude, reach,
+};
 use search_settled::{Ahead, put_flat, threads_of};
 use search_table::{Parts, States, Words};
 use std::alloc::{AllocError, Global};

@@ -10,10 +10,12 @@ ghost use Rattle.search_reach.specs.Sought.{SeeksAmong, SeeksIn};
 ghost use Rattle.search_reach.specs.Told.{Obeys, OfCount, StillObeys};
 
 use crate::liveness::{Judged, judged};
-use crate::path::paths_to;
 use crate::meets::Tables;
+use crate::path::paths_to;
 use crate::plain::Plain;
-use crate::{Alone, Crew, Explores, Follows, Found, Liveness, Meets, Order, Reached, Seeks, Verdict, reach};
+use crate::{
+    Alone, Crew, Explores, Follows, Found, Liveness, Meets, Order, Reached, Seeks, Verdict, reach,
+};
 use indexmap::IndexSet;
 use search_graph::Graph;
 use std::alloc::{AllocError, Global};
@@ -53,8 +55,7 @@ fn endings_in<T: Meets>(
     tables: &Tables<T::Parts, T::States>,
     from: usize,
     end: usize,
-) -> Result<Listed<T::Ending>, AllocError>
-{
+) -> Result<Listed<T::Ending>, AllocError> {
     let mut endings = IndexSet::new(alloc);
     let mut firsts = Vec::new(alloc);
     let mut ended = Vec::new(alloc);
@@ -85,17 +86,31 @@ fn endings<T: Meets, C: Crew>(
         return endings_in(alloc, system, tables, 0, count);
     }
     let size = count.div_ceil(jobs);
-    let pieces = crew.map(alloc, jobs, &|n: usize| {
-        let from = n.saturating_mul(size).min(count);
-        endings_in(alloc, system, tables, from, from.saturating_add(size).min(count))
-    })?;
+    let pieces = crew.map(
+        alloc,
+        jobs,
+        &|n: usize| {
+            let from = n.saturating_mul(size).min(count);
+            endings_in(
+                alloc,
+                system,
+                tables,
+                from,
+                from.saturating_add(size).min(count),
+            )
+        },
+    )?;
     let mut endings = IndexSet::new(alloc);
     let mut firsts = Vec::new(alloc);
     let mut ended = Vec::with_capacity(alloc, count)?;
     for piece in pieces {
         let mut piece = piece?;
         ended.append(&mut piece.ended)?;
-        let Listed { endings: own, firsts: places, .. } = piece;
+        let Listed {
+            endings: own,
+            firsts: places,
+            ..
+        } = piece;
         for (place, ending) in own.into_iter().enumerate() {
             if let Some(at) = places.get(place) {
                 add_ending(&mut endings, &mut firsts, *at, ending)?;
@@ -144,8 +159,7 @@ pub fn conclude<T: Meets, C: Crew, Q: Seeks<T::Ending>, F: Follows>(
     _sought: &Q,
     reached: Reached<T::Parts, T::States>,
     follower: &mut F,
-) -> Result<Ended<T::Ending>, AllocError>
-{
+) -> Result<Ended<T::Ending>, AllocError> {
     let Reached {
         tables,
         moves,
@@ -169,7 +183,12 @@ pub fn conclude<T: Meets, C: Crew, Q: Seeks<T::Ending>, F: Follows>(
         liveness,
         ways,
     } = told?;
-    let paths = paths_to(alloc, graph.moves.as_slice(), ways.as_slice(), firsts.as_slice())?;
+    let paths = paths_to(
+        alloc,
+        graph.moves.as_slice(),
+        ways.as_slice(),
+        firsts.as_slice(),
+    )?;
     Ok(Ended {
         endings,
         paths,
@@ -241,8 +260,7 @@ pub fn all_endings<T: Meets, C: Crew, Q: Seeks<T::Ending>, F: Follows>(
     most: u32,
     sought: &Q,
     follower: &mut F,
-) -> Result<Ended<T::Ending>, AllocError>
-{
+) -> Result<Ended<T::Ending>, AllocError> {
     let reached = reach(alloc, system, crew, order, most, sought, follower)?;
     conclude(alloc, system, crew, most, sought, reached, follower)
 }

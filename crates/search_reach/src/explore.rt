@@ -122,7 +122,15 @@ pub(crate) fn explore<T: Meets, C: Crew, Q: Seeks<T::Ending>, F: Follows>(
             let Tables { parts, states } = &mut *tables;
             if count < FEW {
                 take_all(
-                    alloc, system, most, sought, follower, parts, states, moves, &mut course,
+                    alloc,
+                    system,
+                    most,
+                    sought,
+                    follower,
+                    parts,
+                    states,
+                    moves,
+                    &mut course,
                     &mut pieces,
                 )?
             } else {
@@ -130,7 +138,15 @@ pub(crate) fn explore<T: Meets, C: Crew, Q: Seeks<T::Ending>, F: Follows>(
                 let parts = &*parts;
                 let (next, end) = made_meanwhile(alloc, system, crew, parts, &some, count, || {
                     take_all(
-                        alloc, system, most, sought, follower, parts, states, moves, &mut course,
+                        alloc,
+                        system,
+                        most,
+                        sought,
+                        follower,
+                        parts,
+                        states,
+                        moves,
+                        &mut course,
                         &mut pieces,
                     )
                 });

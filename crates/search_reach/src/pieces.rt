@@ -95,11 +95,15 @@ pub(crate) fn made_ahead<T: Meets, C: Crew>(
     count: usize,
 ) -> Result<Pieces<T::Ahead>, AllocError> {
     let size = count.div_ceil(crew.jobs().max(1)).max(1);
-    let made = crew.map(alloc, count.div_ceil(size), &|n: usize| {
-        let from = n.saturating_mul(size);
-        let here = count.saturating_sub(from).min(size);
-        system.ahead(alloc, parts, some, from, here)
-    })?;
+    let made = crew.map(
+        alloc,
+        count.div_ceil(size),
+        &|n: usize| {
+            let from = n.saturating_mul(size);
+            let here = count.saturating_sub(from).min(size);
+            system.ahead(alloc, parts, some, from, here)
+        },
+    )?;
     pieces_of(alloc, made, size, count)
 }
 
@@ -126,11 +130,15 @@ pub(crate) fn made_meanwhile<T: Meets, C: Crew, G: FnOnce() -> B, B>(
     let shared = size.saturating_mul(others).min(count);
     let (theirs, (done, mine)) = crew.both(
         || {
-            crew.map(alloc, shared.div_ceil(size), &|n: usize| {
-                let from = n.saturating_mul(size);
-                let here = shared.saturating_sub(from).min(size);
-                system.ahead(alloc, parts, some, from, here)
-            })
+            crew.map(
+                alloc,
+                shared.div_ceil(size),
+                &|n: usize| {
+                    let from = n.saturating_mul(size);
+                    let here = shared.saturating_sub(from).min(size);
+                    system.ahead(alloc, parts, some, from, here)
+                },
+            )
         },
         || {
             let done = first();

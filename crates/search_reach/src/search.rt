@@ -9,10 +9,10 @@ ghost use Rattle.search_reach.specs.Sought.{SeeksAmong};
 ghost use Rattle.search_reach.specs.Stack.{IsOpened};
 ghost use Rattle.search_reach.specs.Told.{Obeys, OfCount};
 
-use crate::plain::Plain;
-use crate::seeking::has_sought;
 use crate::explore::explore;
 use crate::meets::Tables;
+use crate::plain::Plain;
+use crate::seeking::has_sought;
 use crate::{Alone, Crew, Explores, Follows, Meets, Seeks, Wish};
 use indexmap::IndexSet;
 use search_graph::Move;
@@ -101,8 +101,7 @@ fn explore_deep<T: Meets, Q: Seeks<T::Ending>, F: Follows>(
     follower: &mut F,
     tables: &mut Tables<T::Parts, T::States>,
     moves: &mut Vec<Move>,
-) -> Result<(Verdict, Option<u32>, u32), AllocError>
-{
+) -> Result<(Verdict, Option<u32>, u32), AllocError> {
     let mut stack = Vec::new(alloc);
     let first = system.count(&tables.states);
     open_places(&mut stack, 0, first)?;
@@ -144,8 +143,7 @@ pub fn reach<T: Meets, C: Crew, Q: Seeks<T::Ending>, F: Follows>(
     most: u32,
     sought: &Q,
     follower: &mut F,
-) -> Result<Reached<T::Parts, T::States>, AllocError>
-{
+) -> Result<Reached<T::Parts, T::States>, AllocError> {
     let mut tables = system.tables(alloc);
     let mut moves = Vec::new(alloc);
     if !system.first(alloc, &mut tables)? {
@@ -168,10 +166,23 @@ pub fn reach<T: Meets, C: Crew, Q: Seeks<T::Ending>, F: Follows>(
     }
     let (verdict, levels, last) = match order {
         Order::Breadth => explore(
-            alloc, system, crew, most, sought, follower, &mut tables, &mut moves,
+            alloc,
+            system,
+            crew,
+            most,
+            sought,
+            follower,
+            &mut tables,
+            &mut moves,
         )?,
         Order::Depth => explore_deep(
-            alloc, system, most, sought, follower, &mut tables, &mut moves,
+            alloc,
+            system,
+            most,
+            sought,
+            follower,
+            &mut tables,
+            &mut moves,
         )?,
     };
     Ok(Reached {

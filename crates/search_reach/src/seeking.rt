@@ -14,8 +14,7 @@ fn is_sought_at<T: Meets, Q: Seeks<T::Ending>>(
     states: &T::States,
     at: usize,
     sought: &Q,
-) -> Result<bool, AllocError>
-{
+) -> Result<bool, AllocError> {
     let Some(ending) = system.ending(alloc, parts, states, at)? else {
         return Ok(false);
     };
@@ -30,8 +29,7 @@ pub(crate) fn has_sought<T: Meets, Q: Seeks<T::Ending>>(
     states: &T::States,
     from: usize,
     sought: &Q,
-) -> Result<bool, AllocError>
-{
+) -> Result<bool, AllocError> {
     if !sought.seeks_any() {
         return Ok(false);
     }

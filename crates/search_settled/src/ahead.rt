@@ -324,7 +324,11 @@ impl<S: Eq + Hash + Drop, T: Eq + Hash + Drop> Ahead<S, T> {
     fn shared_number(&self, part: Part) -> u32 {
         match part {
             Part::Old(number) => number,
-            Part::New(place) => self.shared_numbers.get(place as usize).copied().unwrap_or(0),
+            Part::New(place) => self
+                .shared_numbers
+                .get(place as usize)
+                .copied()
+                .unwrap_or(0),
         }
     }
 
@@ -332,7 +336,11 @@ impl<S: Eq + Hash + Drop, T: Eq + Hash + Drop> Ahead<S, T> {
     fn thread_number(&self, part: Part) -> u32 {
         match part {
             Part::Old(number) => number,
-            Part::New(place) => self.thread_numbers.get(place as usize).copied().unwrap_or(0),
+            Part::New(place) => self
+                .thread_numbers
+                .get(place as usize)
+                .copied()
+                .unwrap_or(0),
         }
     }
 
@@ -378,11 +386,7 @@ impl<S: Eq + Hash + Drop, T: Eq + Hash + Drop> Ahead<S, T> {
     }
 
     /// The place of the next state, which is put into the table if it isn't there.
-    fn put_onward(
-        &mut self,
-        states: &mut States,
-        onward: Onward,
-    ) -> Result<u32, AllocError> {
+    fn put_onward(&mut self, states: &mut States, onward: Onward) -> Result<u32, AllocError> {
         match onward {
             Onward::To(goal) => self.put_goal(states, goal as usize),
             Onward::Parts { end } => {

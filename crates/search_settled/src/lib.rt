@@ -31,8 +31,8 @@ mod states;
 mod turns;
 
 pub use access::Access;
-pub use flat::Flat;
 pub use ahead::Ahead;
+pub use flat::Flat;
 pub use met::NextWords;
 pub use moves::Moves;
 pub use next::{put_flat, put_words, threads_after, threads_of};

@@ -235,7 +235,9 @@ pub(crate) fn next_words<M: Moves>(
         return Ok(None);
     };
     for (n, thread) in words.iter().skip(1).enumerate() {
-        if !put_next(alloc, system, met, states, words, shared, *thread, n, &mut all)? {
+        if !put_next(
+            alloc, system, met, states, words, shared, *thread, n, &mut all,
+        )? {
             return Ok(None);
         }
     }

@@ -63,8 +63,7 @@ fn made_anew<M: Moves>(
     shared: u32,
     thread: u32,
     n: usize,
-) -> Result<Made<M::Shared, M::Effect>, AllocError>
-{
+) -> Result<Made<M::Shared, M::Effect>, AllocError> {
     let _ = states;
     let Some(old) = met.parts.shared.get_index(shared as usize) else {
         return Ok(Made::Unknown);
@@ -96,8 +95,7 @@ pub(crate) fn made_by<M: Moves>(
     shared: u32,
     thread: u32,
     n: usize,
-) -> Result<Made<M::Shared, M::Effect>, AllocError>
-{
+) -> Result<Made<M::Shared, M::Effect>, AllocError> {
     let made = made_anew(alloc, system, met, states, shared, thread, n)?;
     if let Made::Told(turn) = made {
         let n = n as u32;

@@ -95,7 +95,16 @@ fn until_one_ends<R: Abort>(
     order: Order,
 ) -> Result<usize, Fail> {
     let request = Request::new(valid, call_of(gone))?;
-    let found = all_endings(alloc, &request, &Alone, order, MOST, DUMP as usize, &Any, &mut ())?;
+    let found = all_endings(
+        alloc,
+        &request,
+        &Alone,
+        order,
+        MOST,
+        DUMP as usize,
+        &Any,
+        &mut (),
+    )?;
     assert_eq!(rt; found.verdict, Verdict::Sought);
     assert_eq!(rt; found.endings.len(), 1);
     check_paths(rt, alloc, valid, gone, &found)?;

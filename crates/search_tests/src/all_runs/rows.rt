@@ -151,5 +151,14 @@ pub(crate) fn gone_in(
     most: u32,
 ) -> Result<Ended<Ending>, Fail> {
     let request = Request::new(valid, call_of(gone))?;
-    Ok(all_endings(alloc, &request, &Alone, order, most, DUMP as usize, &(), &mut ())?)
+    Ok(all_endings(
+        alloc,
+        &request,
+        &Alone,
+        order,
+        most,
+        DUMP as usize,
+        &(),
+        &mut (),
+    )?)
 }

@@ -49,7 +49,16 @@ fn check_told<R: Abort>(rt: &R, alloc: Global, gone: &Gone, order: Order) -> Res
         told_at: 0,
     };
     let request = Request::new(&valid, call_of(gone))?;
-    let all = all_endings(alloc, &request, &Alone, order, MOST, DUMP as usize, &(), &mut few)?;
+    let all = all_endings(
+        alloc,
+        &request,
+        &Alone,
+        order,
+        MOST,
+        DUMP as usize,
+        &(),
+        &mut few,
+    )?;
     assert_eq!(rt; all.verdict, Verdict::Told);
     assert!(rt; 10 <= all.states && all.states < gone.states as usize);
     assert_eq!(rt; all.states, few.told_at);
