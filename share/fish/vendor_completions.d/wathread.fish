@@ -30,7 +30,7 @@ complete -c wathread -n '__fish_seen_subcommand_from replay' -l no-explain -d 'S
 complete -c wathread -n '__fish_seen_subcommand_from replay' -l help -s h -d 'Print help'
 complete -c wathread -n '__fish_seen_subcommand_from show' -l lines -x -d 'Only the entries on these lines of the record; A- goes to its end'
 complete -c wathread -n '__fish_seen_subcommand_from show' -l thread -x -d 'Only the entries of these threads, 0 to 63, as 2 or t2'
-complete -c wathread -n '__fish_seen_subcommand_from show' -l addr -x -d 'Only the entries at these addresses, decimal or behind 0x, or at the data of this name, as queue.head'
+complete -c wathread -n '__fish_seen_subcommand_from show' -l addr -x -d 'Only the entries at these addresses, decimal or behind 0x, or at the data of these names, as queue.head'
 complete -c wathread -n '__fish_seen_subcommand_from show' -l unfold -d 'A row for each entry, also for rounds that a thread makes again and again, and for answers'
 complete -c wathread -n '__fish_seen_subcommand_from show' -l names -r -d 'Names and lines of source from a build of the same code, as one with -g'
 complete -c wathread -n '__fish_seen_subcommand_from show' -l source -x -d 'Show what stands in each line of source, of the files below this folder'
