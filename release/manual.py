@@ -100,6 +100,13 @@ def roff(text):
     return "\\&" + text if text[:1] in (".", "'") else text
 
 
+def behind(lines):
+    """What stands behind the options: lines that begin with a space stay as they are, below each other."""
+    apart = [line for line in lines if line.startswith(" ")]
+    text = [roff(line) for line in lines if not line.startswith(" ")]
+    return text + ([".PP", ".nf"] + [roff(line.strip()) for line in apart] + [".fi"] if apart else [])
+
+
 def manual(about, commands):
     out = ['.\\" Made by release/manual.py out of what the program says of itself.', '.TH WATHREAD 1 "" "wathread" "User Commands"']
     out += [".SH NAME", "wathread \\- " + roff(about[0].lower() + about[1:]), ".SH SYNOPSIS"]
@@ -120,7 +127,7 @@ def manual(about, commands):
             names = ", ".join(filter(None, [option.short, option.long]))
             value = f" \\fI{roff(option.value)}\\fR" if option.value else ""
             out += [".TP", f"\\fB{roff(names)}\\fR{value}", roff(option.text) + "."]
-        out += [".PP"] + [roff(line) for line in it.behind] if it.behind else []
+        out += [".PP"] + behind(it.behind) if it.behind else []
     out += [".SH EXIT STATUS"]
     for number, text in STATUSES:
         out += [".TP", f".B {number}", roff(text)]
