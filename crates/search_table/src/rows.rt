@@ -1,0 +1,74 @@
+//! Rows of words, one behind the other.
+ghost use Rattle.std.specs.Prelude.{◌≡◌, ◌<◌, ◌∷◌, [], ◌++◌, length, OnOk, slice_get, option_copied};
+ghost use Rattle.search_table.specs.Tables.{AreRows, rows_of, start_at};
+
+use std::alloc::{AllocError, Global};
+
+/// Rows of words: all words, one row's behind the other's, and where those of each end.
+#[derive(Drop)]
+pub struct Rows {
+    pub words: Vec<u32>,
+    pub ends: Vec<usize>,
+}
+
+/// Where the words of a row begin.
+fn start_of(ends: &[usize], place: usize) -> usize
+    requires { place < length ends.now }
+    ensures { result ≡ start_at 0 ends.now place }
+{
+    if place == 0 {
+        return 0;
+    }
+    ends[place - 1]
+}
+
+/// Where they end.
+fn end_of(ends: &[usize], place: usize) -> Option<usize>
+    ensures { result ≡ slice_get ends.now place }
+{
+    ends.get(place).copied()
+}
+
+impl Rows {
+    /// None.
+    pub fn new(alloc: Global) -> Rows
+        ensures rows { rows_of result ≡ [] }
+        ensures are { AreRows result }
+    {
+        Rows {
+            words: Vec::new(alloc),
+            ends: Vec::new(alloc),
+        }
+    }
+
+    /// How many there are.
+    pub fn len(&self) -> usize
+        ensures { result ≡ length (rows_of self.now) }
+    {
+        self.ends.len()
+    }
+
+    /// The words of the row at this place.
+    pub fn get(&self, place: usize) -> Option<&[u32]>
+        requires { AreRows self.now }
+        ensures { option_copied result ≡ slice_get (rows_of self.now) place }
+    {
+        let end = end_of(self.ends.as_slice(), place)?;
+        let from = start_of(self.ends.as_slice(), place);
+        Some(&self.words[from..end])
+    }
+
+    /// Puts a row behind the others.
+    ///
+    /// # Errors
+    /// Where memory is refused.
+    pub fn push(&mut self, row: &[u32]) -> Result<(), AllocError>
+        requires { AreRows self.old }
+        ensures rows { OnOk result (rows_of self.new ≡ rows_of self.old ++ row.now ∷ []) }
+        ensures are { OnOk result (AreRows self.new) }
+    {
+        self.words.extend_from_slice(row)?;
+        self.ends.push(self.words.len())?;
+        Ok(())
+    }
+}
