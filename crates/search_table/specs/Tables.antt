@@ -1,5 +1,5 @@
 -- What numbers of parts stand for, and what tables of rows have. Types: G for what is shared, and H for threads.
-use Rattle.std.specs.Prelude.{ℕ, zero, suc, ◌≡◌, ◌+◌, ◌*◌, ◌/◌, ◌%◌, ◌^◌, ◌<◌, ◌≤◌, Bool, true, List, [], ◌∷◌, length, Some, nat_eq, bit_xor, slice_range}
+use Rattle.std.specs.Prelude.{ℕ, zero, suc, ◌≡◌, ◌+◌, ◌*◌, ◌/◌, ◌%◌, ◌^◌, ◌<◌, ◌≤◌, Bool, true, false, List, [], ◌∷◌, length, get_or, Option, Some, None, nat_eq, bit_xor, slice_range}
 use Rattle.std.specs.List.{slice_get, IsDistinct, AllZip, fold}
 use Rattle.std.specs.Cmp.Lexicographic.{pointwise}
 use Rattle.indexmap.specs.IndexSet.{insert_key}
@@ -51,8 +51,7 @@ cut words from (end ∷ ends) = slice_range words from end ∷ cut words end end
 -- Where a row begins.
 abbrev pub start_at : ℕ → List ℕ → ℕ → ℕ
 start_at from ends zero = from
-start_at from [] (suc i) = from
-start_at from (end ∷ ends) (suc i) = start_at end ends i
+start_at from ends (suc i) = get_or ends i from
 
 -- They end one behind the other, and the last one at the end of all.
 abbrev pub EndAt : ℕ → ℕ → List ℕ → Type 0
@@ -72,6 +71,11 @@ states_of s = rows_of s.rows
 
 abbrev pub words_eq : List ℕ → List ℕ → Bool
 words_eq = pointwise nat_eq
+
+-- Whether this row stands there.
+abbrev pub is_row : Option (List ℕ) → List ℕ → Bool
+is_row None row = false
+is_row (Some there) row = words_eq there row
 
 -- The rows with this one, which comes last where it wasn't there.
 abbrev pub with_row : List (List ℕ) → List ℕ → List (List ℕ)

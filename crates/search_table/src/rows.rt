@@ -1,5 +1,5 @@
 //! Rows of words, one behind the other.
-ghost use Rattle.std.specs.Prelude.{◌≡◌, ◌<◌, ◌∷◌, [], ◌++◌, length, OnOk, slice_get, option_copied};
+ghost use Rattle.std.specs.Prelude.{◌≡◌, ◌≤◌, ◌∷◌, [], ◌++◌, length, OnOk, slice_get, slice_range, option_copied};
 ghost use Rattle.search_table.specs.Tables.{AreRows, rows_of, start_at};
 
 use std::alloc::{AllocError, Global};
@@ -11,22 +11,30 @@ pub struct Rows {
     pub ends: Vec<usize>,
 }
 
-/// Where the words of a row begin.
+/// Where the words of a row end.
+fn end_of(ends: &[usize], place: usize) -> Option<usize>
+    ensures { result ≡ slice_get ends.now place }
+{
+    ends.get(place).copied()
+}
+
+/// Where they begin.
 fn start_of(ends: &[usize], place: usize) -> usize
-    requires { place < length ends.now }
     ensures { result ≡ start_at 0 ends.now place }
 {
     if place == 0 {
         return 0;
     }
-    ends[place - 1]
+    end_of(ends, place - 1).unwrap_or(0)
 }
 
-/// Where they end.
-fn end_of(ends: &[usize], place: usize) -> Option<usize>
-    ensures { result ≡ slice_get ends.now place }
+/// The words from one place up to another.
+fn words_between(words: &[u32], from: usize, to: usize) -> &[u32]
+    requires in_order { from ≤ to }
+    requires within { to ≤ length words.now }
+    ensures { result.now ≡ slice_range words.now from to }
 {
-    ends.get(place).copied()
+    &words[from..to]
 }
 
 impl Rows {
@@ -53,9 +61,13 @@ impl Rows {
         requires { AreRows self.now }
         ensures { option_copied result ≡ slice_get (rows_of self.now) place }
     {
-        let end = end_of(self.ends.as_slice(), place)?;
-        let from = start_of(self.ends.as_slice(), place);
-        Some(&self.words[from..end])
+        let words = self.words.as_slice();
+        let ends = self.ends.as_slice();
+        let Some(end) = end_of(ends, place) else {
+            return None;
+        };
+        let from = start_of(ends, place);
+        Some(words_between(words, from, end))
     }
 
     /// Puts a row behind the others.
@@ -68,7 +80,8 @@ impl Rows {
         ensures are { OnOk result (AreRows self.new) }
     {
         self.words.extend_from_slice(row)?;
-        self.ends.push(self.words.len())?;
+        let end = self.words.len();
+        self.ends.push(end)?;
         Ok(())
     }
 }

@@ -1,6 +1,6 @@
 //! The states that were met.
-ghost use Rattle.std.specs.Prelude.{◌≡◌, ◌∷◌, [], ◌++◌, true, false, length, Some, None, IfOk, IfSome, OnOk, slice_get, option_copied};
-ghost use Rattle.search_table.specs.Tables.{AreStates, IsFree, IsPlace, row_digest, mix, states_of, with_row};
+ghost use Rattle.std.specs.Prelude.{◌≡◌, ◌+◌, ◌%◌, ◌^◌, ◌∷◌, [], ◌++◌, length, Some, IfOk, IfSome, OnOk, slice_get, option_copied};
+ghost use Rattle.search_table.specs.Tables.{AreStates, IsFree, IsPlace, is_row, mix, row_digest, states_of, with_row, words_eq};
 
 use crate::rows::Rows;
 use indexmap::IndexSet;
@@ -15,7 +15,7 @@ pub struct States {
     pub digests: IndexSet<u64>,
 }
 
-/// Where a row is looked for.
+/// Where a row was found, or isn't.
 #[derive(Clone, Copy)]
 enum Place {
     /// It is there.
@@ -41,6 +41,20 @@ fn digest_of(row: &[u32]) -> u64
         digest = mixed(digest, *word);
     }
     digest
+}
+
+/// The number behind one.
+fn number_behind(number: u64) -> u64
+    ensures { result ≡ (number + 1) % 2 ^ 64 }
+{
+    number.wrapping_add(1)
+}
+
+/// Whether two rows have the same words.
+fn are_same(row: &[u32], other: &[u32]) -> bool
+    ensures { result ≡ words_eq row.now other.now }
+{
+    row == other
 }
 
 impl States {
@@ -73,11 +87,10 @@ impl States {
     /// Whether this is the row of the state at this place.
     fn is_at(&self, place: usize, row: &[u32]) -> bool
         requires { AreStates self.now }
-        ensures is { result ≡ true → slice_get (states_of self.now) place ≡ Some row.now }
-        ensures not { result ≡ false → slice_get (states_of self.now) place ≡ Some row.now → ⊥ }
+        ensures { result ≡ is_row (slice_get (states_of self.now) place) row.now }
     {
         match self.row(place) {
-            Some(there) => there == row,
+            Some(there) => are_same(there, row),
             None => false,
         }
     }
@@ -97,7 +110,8 @@ impl States {
             if self.is_at(place, row) {
                 return Some(Place::Known(place));
             }
-            number = number.wrapping_add(1);
+            let behind = number_behind(number);
+            number = behind;
         }
         None
     }
@@ -126,10 +140,12 @@ impl States {
         ensures states { OnOk result (states_of self.new ≡ with_row (states_of self.old) row.now) }
         ensures place { IfOk result (λ place. slice_get (states_of self.new) place ≡ Some row.now) }
     {
-        match self.place_of(row) {
-            Some(Place::Known(place)) => Ok(place),
-            Some(Place::Free(number)) => self.push(row, number),
-            None => Err(AllocError),
+        let Some(found) = self.place_of(row) else {
+            return Err(AllocError);
+        };
+        match found {
+            Place::Known(place) => Ok(place),
+            Place::Free(number) => self.push(row, number),
         }
     }
 }
