@@ -43,6 +43,13 @@ with_parts c g xs few = record {
   };
 }
 
+-- a row in which one of the numbers behind the first is replaced
+pub set-behind : (first : ℕ) (numbers row : List ℕ) (n at number : ℕ) → at ≡ n + 1 → row ≡ first ∷ numbers
+    → slice_set row at number ≡ first ∷ slice_set numbers n number
+set-behind first numbers row n at number is are =
+    let next : at ≡ suc n = omega (arith, is) in
+    ap (λ (i : ℕ). slice_set row i number) next ∙ ap (λ l. slice_set l (suc n) number) are
+
 -- two lists beside each other, in each of which one is replaced
 zip-set : {A B : Type 0} (P : A → B → Type 0) (xs : List A) (ys : List B) → AllZip P xs ys → (n : ℕ) (x : A) (y : B) → P x y
     → AllZip P (slice_set xs n x) (slice_set ys n y)

@@ -1,5 +1,5 @@
 //! The next states: of each thread that wants an event, what comes of it.
-ghost use Rattle.std.specs.Prelude.{◌≡◌, ◌+◌, ◌^◌, ◌<◌, List, [], ◌∷◌, ◌++◌, length, slice_set, true, false, None, IfOk, IfSome, OnOk};
+ghost use Rattle.std.specs.Prelude.{◌≡◌, ◌+◌, ◌^◌, ◌<◌, List, [], ◌∷◌, ◌++◌, length, slice_get, slice_set, true, false, Some, None, IfOk, IfSome, OnOk};
 ghost use Rattle.search_table.specs.Tables.{Grows};
 ghost use Rattle.search_settled.specs.declared.flat.Flat.{Flat as FlatState};
 ghost use Rattle.search_settled.specs.Next.{IsStuckAfter};
@@ -83,6 +83,14 @@ pub fn threads_after<M: Moves>(
     Ok(Some(rested))
 }
 
+/// The number at a place.
+fn number_at(numbers: &[u32], n: usize) -> u32
+    requires { n < length numbers.now }
+    ensures { slice_get numbers.now n ≡ Some result }
+{
+    numbers[n]
+}
+
 /// The threads of these numbers.
 ///
 /// # Errors
@@ -97,7 +105,8 @@ pub fn threads_of<M: Moves, S: Eq + Hash + Drop>(
 {
     let mut all = Vec::with_capacity(alloc, numbers.len())?;
     for n in 0..numbers.len() {
-        if let Some(thread) = parts.threads.get_index(numbers[n] as usize) {
+        let number = number_at(numbers, n);
+        if let Some(thread) = parts.threads.get_index(number as usize) {
             all.push(system.share(thread)?)?;
         }
     }
@@ -116,10 +125,13 @@ pub fn row_of<S: Eq + Hash + Drop, T: Eq + Hash + Drop>(
     ensures grows { OnOk result (Grows parts.old parts.new) }
     ensures row { IfOk result (λ row. IsRowOfEqual S.eq T.eq parts.new flat row.items) }
 {
-    let mut row = Vec::with_capacity(alloc, flat.threads.len().saturating_add(1))?;
-    row.push(parts.put_shared(flat.shared)?)?;
-    for thread in flat.threads {
-        row.push(parts.put_thread(thread)?)?;
+    let Flat { shared, threads } = flat;
+    let mut row = Vec::with_capacity(alloc, threads.len().saturating_add(1))?;
+    let first = parts.put_shared(shared)?;
+    row.push(first)?;
+    for thread in threads {
+        let number = parts.put_thread(thread)?;
+        row.push(number)?;
     }
     Ok(row)
 }
@@ -170,9 +182,8 @@ fn row_alone(
 {
     let mut row = Vec::with_capacity(alloc, numbers.len().saturating_add(1))?;
     row.push(shared)?;
-    row.extend_from_slice(&numbers[..n])?;
-    row.push(thread)?;
-    row.extend_from_slice(&numbers[n + 1..])?;
+    row.extend_from_slice(numbers)?;
+    row[n + 1] = thread;
     Ok(row)
 }
 
@@ -313,7 +324,7 @@ pub(crate) fn next_rows<M: Moves>(
 {
     let mut all = Vec::new(alloc);
     for n in 0..threads.len() {
-        let thread = threads[n];
+        let thread = number_at(threads, n);
         let of = ThreadOf {
             shared,
             threads,

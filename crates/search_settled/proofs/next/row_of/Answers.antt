@@ -1,0 +1,33 @@
+use Rattle.std.proofs.Common.{[], ◌∷◌, ◌++◌, ap, ◌∙◌}
+use Rattle.search_settled.proofs.Rows.{grows-self, grows-then}
+use Rattle.search_settled.proofs.Nexting.{row-first, row-more, row-done}
+use Rattle.search_settled.proofs.next.row_of.Goals as goal
+
+pub loop-thread-init : goal.loop-thread-init
+loop-thread-init g c =
+    let u = c.put_shared-first.new.self in
+    record {
+      grows = c.in_ok-first.ensures.grows;
+      later = grows-self u;
+      row = row-first g.T.PartialEq.eq u c.in_ok-first.first c.push.new.self.items
+          (c.in_ok-push.ensures.items ∙ ap (λ l. l ++ c.in_ok-first.first ∷ []) c.in_ok-row.ensures.items);
+    }
+
+pub loop-thread-preserved : goal.loop-thread-preserved
+loop-thread-preserved g c =
+    let so = c.loop-thread.invariant in
+    let t = c.loop-thread.parts in
+    let u = c.put_thread-number.new.self in
+    let one = c.in_ok-number.ensures in
+    record {
+      grows = grows-then c.args.parts.now t u so.grows one.grows;
+      later = grows-then c.put_shared-first.new.self t u so.later one.grows;
+      row = row-more g.T.PartialEq.eq t u one.grows c.in_ok-first.first c.loop-thread.yielded c.loop-thread.row.items c.push-2.new.self.items
+          c.in-Some.thread c.in_ok-number.number so.row one.number c.in_ok-push-2.ensures.items;
+    }
+
+pub returns-clause-row : goal.returns-clause-row
+returns-clause-row g c =
+    let so = c.loop-thread.invariant in
+    row-done g.S.PartialEq.eq g.T.PartialEq.eq c.put_shared-first.new.self c.loop-thread.parts so.later c.args.flat c.in_ok-first.first
+    c.in_ok-first.ensures.number c.loop-thread.row.items so.row
