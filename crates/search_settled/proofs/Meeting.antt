@@ -87,6 +87,12 @@ module _ {X T E V A G H M O : Type 0} (k : ThreadSystem X T E V A G H M) (ends :
       let r = beside-back (IsOf (m.met).parts) (states_of m.states) met.0 (met.2).are at met.1 met.3 in
       absurd (cc (r.1, none))
 
+  -- which has a number
+  pub met-empty : (tame : AreTame k.system k.first k.most) (m : Tables G H) (at : ℕ) → HasMetAt (turn_steps k ends stuck) (HasStates k m) at → (row : List ℕ)
+      → slice_get (states_of m.states) at ≡ Some row → length row ≡ 0 → ⊥
+  met-empty tame m at met [] is none = let some = row-met tame m at met [] is in some.1
+  met-empty tame m at met (n ∷ ns) is none = absurd (cc none)
+
   module _ (tame : AreTame k.system k.first k.most) (m : Tables G H) (at : ℕ) (row : List ℕ) (is : slice_get (states_of m.states) at ≡ Some row) where
     -- what is so of the state of the row
     of-row : (so : Flat G H → Type 0) → OfRow k (m.met).parts row so

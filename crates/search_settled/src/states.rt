@@ -115,7 +115,6 @@ impl<M: Moves> Meets for Turns<'_, M> {
         at: u32,
         moves: &mut Vec<Move>,
     ) -> Result<bool, AllocError> {
-        make_room(alloc, &mut tables.met.known, tables.states.len())?;
         let Some(row) = tables.states.row(at as usize) else {
             return Ok(false);
         };
@@ -126,6 +125,8 @@ impl<M: Moves> Meets for Turns<'_, M> {
             return Ok(false);
         };
         put_rows(&tables.met.parts, &mut tables.states, moves, at, next)?;
+        let count = tables.states.len();
+        make_room(alloc, &mut tables.met.known, count)?;
         Ok(true)
     }
 
