@@ -12,13 +12,13 @@ ghost use Rattle.search_race_free.specs.Same.{owning_eq};
 ghost use Rattle.search_race_free.specs.Met.{HasOwning};
 
 use crate::alone::Came;
-use crate::met::{Held, held_row, held_rows, state_at};
+use crate::met::{Table, held_row, held_rows, state_at};
 use crate::next::{first_state, next_states};
 use crate::{Accesses, Race};
 use search_graph::Move;
 use search_reach::{Ended, Follows, Meets, Order, Reached, Seeks, Verdict, conclude, reach};
 use search_settled::{put_rows, threads_of};
-use search_table::Table;
+use search_table::{Parts, States};
 use std::alloc::{AllocError, Global};
 use std::hash::Hash;
 
@@ -38,7 +38,7 @@ impl<M: Accesses> Meets for RaceFreeTurns<'_, M> {
     ghost use Rattle.search_race_free.specs.Same.{owning_eq, owning_alike};
     ghost use Rattle.search_race_free.specs.Met.{HasOwning};
 
-    type Table = Table<Held<M::Shared>, M::Thread>;
+    type Table = Table<M::Shared, M::Thread>;
 
     type Ending = M::Ending;
 
@@ -55,23 +55,28 @@ impl<M: Accesses> Meets for RaceFreeTurns<'_, M> {
     ghost alike = { λ t x y e. owning_alike M.Shared.eq M.Thread.eq M.Shared.Eq.laws M.Thread.Eq.laws
         (M.threads t.system.now) (M.same_shared t.system.now) (M.same_thread t.system.now) x y e };
 
-    fn table(&self, alloc: Global) -> Table<Held<M::Shared>, M::Thread> {
-        Table::new(alloc)
+    fn table(&self, alloc: Global) -> Table<M::Shared, M::Thread> {
+        Table {
+            parts: Parts::new(alloc),
+            states: States::new(alloc),
+        }
     }
 
-    fn count(&self, table: &Table<Held<M::Shared>, M::Thread>) -> usize {
-        table.len()
+    fn count(&self, table: &Table<M::Shared, M::Thread>) -> usize {
+        // No two parts are equal, as they say where they are asked for their number.
+        let _ = table.parts.len();
+        table.states.len()
     }
 
     fn first(
         &self,
         alloc: Global,
-        table: &mut Table<Held<M::Shared>, M::Thread>,
+        table: &mut Table<M::Shared, M::Thread>,
     ) -> Result<bool, AllocError> {
         match first_state(alloc, self.system)? {
             Came::To(state) => {
-                let row = held_row(table, state)?;
-                table.put_row(row)?;
+                let row = held_row(alloc, &mut table.parts, state)?;
+                table.states.put(row.as_slice())?;
                 Ok(true)
             }
             Came::Races(_) => Ok(false),
@@ -82,7 +87,7 @@ impl<M: Accesses> Meets for RaceFreeTurns<'_, M> {
     fn next(
         &self,
         alloc: Global,
-        table: &mut Table<Held<M::Shared>, M::Thread>,
+        table: &mut Table<M::Shared, M::Thread>,
         at: u32,
         moves: &mut Vec<Move>,
     ) -> Result<bool, AllocError> {
@@ -91,8 +96,8 @@ impl<M: Accesses> Meets for RaceFreeTurns<'_, M> {
         };
         match next_states(alloc, self.system, &state, self.most_plain)? {
             Came::To(next) => {
-                let rows = held_rows(alloc, table, next)?;
-                put_rows(table, moves, at, rows)?;
+                let rows = held_rows(alloc, &mut table.parts, next)?;
+                put_rows(&table.parts, &mut table.states, moves, at, rows)?;
                 Ok(true)
             }
             Came::Races(_) => Ok(false),
@@ -103,16 +108,19 @@ impl<M: Accesses> Meets for RaceFreeTurns<'_, M> {
     fn ending(
         &self,
         alloc: Global,
-        table: &Table<Held<M::Shared>, M::Thread>,
+        table: &Table<M::Shared, M::Thread>,
         at: usize,
     ) -> Result<Option<M::Ending>, AllocError> {
-        let Some(row) = table.row(at) else {
+        let Some(row) = table.states.row(at) else {
             return Ok(None);
         };
-        let Some(held) = table.shared.get_index(row.shared as usize) else {
+        let Some((number, numbers)) = row.split_first() else {
             return Ok(None);
         };
-        let threads = threads_of(alloc, self.system, table, row.chain)?;
+        let Some(held) = table.parts.shared.get_index(*number as usize) else {
+            return Ok(None);
+        };
+        let threads = threads_of(alloc, self.system, &table.parts, numbers)?;
         self.system.ending(alloc, &held.shared, threads.as_slice())
     }
 }
@@ -140,14 +148,14 @@ struct RaceBehind {
 fn race_among<M: Accesses>(
     alloc: Global,
     system: &M,
-    table: &Table<Held<M::Shared>, M::Thread>,
+    table: &Table<M::Shared, M::Thread>,
     from: usize,
     most_plain: u32,
 ) -> Result<Option<RaceBehind>, AllocError>
     requires { HasSound (reduced M.Moves system.now) (HasOwning table.now) }
     ensures { IfOk result (λ o. IfSome o (λ r. IsRaceOf M.Moves system.now r.race)) }
 {
-    for place in from..table.len() {
+    for place in from..table.states.len() {
         if let Some(state) = state_at(alloc, system, table, place)? {
             if let Came::Races(race) = next_states(alloc, system, &state, most_plain)? {
                 return Ok(Some(RaceBehind { race, place }));
@@ -172,7 +180,7 @@ fn race_at_first<M: Accesses>(alloc: Global, system: &M) -> Result<Option<RaceBe
 fn race_in<M: Accesses>(
     alloc: Global,
     system: &M,
-    reached: &Reached<Table<Held<M::Shared>, M::Thread>>,
+    reached: &Reached<Table<M::Shared, M::Thread>>,
     most_plain: u32,
 ) -> Result<Option<RaceBehind>, AllocError>
     requires { HasSound (reduced M.Moves system.now) (HasOwning reached.now.table) }
@@ -181,7 +189,7 @@ fn race_in<M: Accesses>(
     let Verdict::CannotTell = reached.verdict else {
         return Ok(None);
     };
-    if reached.table.len() == 0 {
+    if reached.table.states.len() == 0 {
         return race_at_first(alloc, system);
     }
     let from = reached.last as usize;

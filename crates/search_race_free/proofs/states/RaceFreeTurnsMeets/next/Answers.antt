@@ -8,7 +8,10 @@ use Rattle.search_race_free.proofs.Reducing.{next-are}
 use Rattle.search_race_free.proofs.states.RaceFreeTurnsMeets.next.Goals as goal
 
 pub state_at-requires : goal.state_at-requires
-state_at-requires g c = let met = c.requires in met.2.ordered
+state_at-requires g c = let met = c.requires in met.2.table
+
+pub put_rows-requires : goal.put_rows-requires
+put_rows-requires g c = let met = c.requires in met.2.table
 
 pub returns-in_default-clause-gives_up : goal.returns-in_default-clause-gives_up
 returns-in_default-clause-gives_up g c _ ks s has there is =
@@ -34,10 +37,10 @@ returns-in-To-clause-next g c _ =
     let put = c.in_ok-put_rows-in-To.ensures in
     next-put k (g.M.Moves.ends m) (g.M.Moves.stuck m) g.M.Shared.PartialEq.eq g.M.Thread.PartialEq.eq
     (owning_alike g.M.Shared.PartialEq.eq g.M.Thread.PartialEq.eq g.met.M.Shared.Eq.laws g.met.M.Thread.Eq.laws k (g.met.M.Moves.same_shared m) (g.met.M.Moves.same_thread m))
-    c.args.table.now c.held_rows.new.table c.put_rows.new.table c.args.at c.in_ok-state.field-0 c.in_ok-state.ensures copy c.in-Some.is c.in-To.next.items
+    c.args.table.now (record { parts = c.held_rows.new.parts; states = c.put_rows.new.states }) c.args.at c.in_ok-state.field-0 c.in_ok-state.ensures copy c.in-Some.is c.in-To.next.items
     (next-are k (g.M.Moves.ends m) (g.M.Moves.stuck m) (g.met.M.Moves.tame m) (g.met.M.Accesses.plain m) (g.met.M.Accesses.beyond m) copy c.in-To.next.items
     (subst (IsCame k (g.M.Moves.stuck m) copy.flat (λ v. HasReduced k copy v.items)) c.in-To.is c.in_ok-next.ensures))
-    rows.grows rows.ordered put.parts c.in_ok-rows-in-To.rows.items rows.rows c.args.moves.now.items c.put_rows.new.moves.items put.puts
+    rows.grows put.are c.in_ok-rows-in-To.rows.items rows.rows c.args.moves.now.items c.put_rows.new.moves.items put.puts
 
 pub returns-in-Races-clause-gives_up : goal.returns-in-Races-clause-gives_up
 returns-in-Races-clause-gives_up g c _ ks s has there met =
