@@ -74,9 +74,9 @@ module _ {X T E V A G H M O : Type 0} (k : ThreadSystem X T E V A G H M) (ends :
     known-copy s copy is met = known-met k tame plain ends stuck beyond copy (met-copy s copy is met)
 
     -- how a state has ended, of which these are the parts
-    pub ended-at : NobodyGoesOn k.system k.accesses ends → (t : Table G H) (at : ℕ) (row : List ℕ) → slice_get (states_of t.states) at ≡ Some row
-        → (h : Held G) → slice_get t.shared.keys row.shared ≡ Some h → (each : List H)
-        → ((xs : List H) → IsChain t.threads.keys t.links.keys row.chain xs → each ≡ xs)
+    pub ended-at : NobodyGoesOn k.system k.accesses ends → (t : Table G H) (at number : ℕ) (numbers : List ℕ)
+        → slice_get (states_of t.states) at ≡ Some (number ∷ numbers) → (h : Held G) → slice_get t.parts.shared.keys number ≡ Some h → (each : List H)
+        → ((xs : List H) → AreThreads t.parts numbers xs → each ≡ xs)
         → (o : Option O) → ((c : Flat G H) → HasParts h.shared each c → HasEnded k ends c o)
         → OfStateAt (reduced_steps k ends stuck) (HasOwning t) at (λ ks s. IsEnding (reduced_steps k ends stuck) s o)
     ended-at finished t at number numbers is h h_at each all o ended ks s has there met =

@@ -1,11 +1,10 @@
 //! The next states: of each thread that wants an event, what comes of it.
 ghost use Rattle.std.specs.Prelude.{◌≡◌, ◌+◌, ◌^◌, ◌<◌, List, [], ◌∷◌, ◌++◌, length, slice_get, slice_set, true, false, Some, None, IfOk, IfSome, OnOk};
-ghost use Rattle.search_table.specs.Tables.{Grows};
+ghost use Rattle.search_table.specs.Tables.{AreThreads, Grows};
 ghost use Rattle.search_settled.specs.declared.flat.Flat.{Flat as FlatState};
 ghost use Rattle.search_settled.specs.Next.{IsStuckAfter};
 ghost use Rattle.search_settled.specs.Known.{
   AreKnown,
-  AreThreads,
   IsRowOfEqual,
   IsRowAfter,
   IsThreadAt,

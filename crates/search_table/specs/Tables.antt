@@ -82,9 +82,11 @@ abbrev pub with_row : List (List ℕ) → List ℕ → List (List ℕ)
 with_row = insert_key words_eq
 
 -- A digest and one word more, and the digest of a row.
+abbrev pub fold_high : ℕ → ℕ
+fold_high spread = bit_xor spread (spread / 2 ^ 29)
+
 abbrev pub mix : ℕ → ℕ → ℕ
-mix digest word =
-    bit_xor ((bit_xor digest word * 11400714819323198485) % 2 ^ 64) ((bit_xor digest word * 11400714819323198485) % 2 ^ 64 / 2 ^ 29)
+mix digest word = fold_high ((bit_xor digest word * 0x9E37_79B9_7F4A_7C15) % 2 ^ 64)
 
 abbrev pub row_digest : List ℕ → ℕ
 row_digest row = fold mix (length row) row

@@ -36,7 +36,7 @@ impl<S: Eq + Hash + Drop, T: Eq + Hash + Drop> Parts<S, T> {
 
     /// How many there are.
     pub fn len(&self) -> usize
-        ensures distinct { ArePartsDistinct S.eq T.eq self.now }
+        ensures { ArePartsDistinct S.eq T.eq self.now }
     {
         // No two of one list are equal, as each list says where it is asked for its length.
         self.shared.len().saturating_add(self.threads.len())

@@ -1,6 +1,6 @@
-use Rattle.std.proofs.Common.{[], ◌∷◌, ◌++◌, ap, ◌∙◌}
+use Rattle.std.proofs.Common.{◌≡◌, [], ◌∷◌, ◌++◌, rules, ap, subst, ◌∙◌}
 use Rattle.search_settled.proofs.Rows.{grows-self, grows-then}
-use Rattle.search_settled.proofs.Nexting.{row-first, row-more, row-done}
+use Rattle.search_settled.proofs.Nexting.{RowSoFar, row-first, row-more, row-done}
 use Rattle.search_settled.proofs.next.row_of.Goals as goal
 
 pub loop-thread-init : goal.loop-thread-init
@@ -29,5 +29,7 @@ loop-thread-preserved g c =
 pub returns-clause-row : goal.returns-clause-row
 returns-clause-row g c =
     let so = c.loop-thread.invariant in
+    let all : c.loop-thread.yielded ≡ c.args.flat.threads.items = search rules in
     row-done g.S.PartialEq.eq g.T.PartialEq.eq c.put_shared-first.new.self c.loop-thread.parts so.later c.args.flat c.in_ok-first.first
-    c.in_ok-first.ensures.number c.loop-thread.row.items so.row
+    c.in_ok-first.ensures.number c.loop-thread.row.items
+    (subst (λ l. RowSoFar g.T.PartialEq.eq c.loop-thread.parts c.in_ok-first.first l c.loop-thread.row.items) all so.row)
