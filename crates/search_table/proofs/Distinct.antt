@@ -29,8 +29,8 @@ module _ {A : Type 0} (eq : A → A → Bool) where
   -- what isn't in a list equals none of its keys
   pub none-equal : ((x y : A) → eq x y ≡ true → x ≡ y) → (xs : List A) (y : A) → ((i : ℕ) → slice_get xs i ≡ Some y → ⊥) → list_any (eq y) xs ≡ false
   none-equal exact [] y none = refl
-  none-equal exact (x ∷ xs) y none = by (eq y x) refl
+  none-equal exact (x ∷ xs) y none = by (none-equal exact xs y (λ i at. none (suc i) at)) (eq y x) refl
     where
-      by : (b : Bool) → eq y x ≡ b → list_any (eq y) (x ∷ xs) ≡ false
-      by true e = absurd (none 0 (ap (λ v. Some v) (sym (exact y x e))))
-      by false e = ap (λ b. b || list_any (eq y) xs) e ∙ none-equal exact xs y (λ i at. none (suc i) at)
+      by : list_any (eq y) xs ≡ false → (b : Bool) → eq y x ≡ b → list_any (eq y) (x ∷ xs) ≡ false
+      by rest true e = absurd (none 0 (ap (λ v. Some v) (sym (exact y x e))))
+      by rest false e = ap (λ b. b || list_any (eq y) xs) e ∙ rest

@@ -57,7 +57,7 @@ at-number numbers n place is =
 
 -- whether a row stands there
 pub row-there : (rows : List (List ℕ)) (place : ℕ) (row : List ℕ) (b : Bool) → b ≡ is_row (slice_get rows place) row → b ≡ true → slice_get rows place ≡ Some row
-row-there rows place row b is yes = by (slice_get rows place) (sym is ∙ yes)
+row-there rows place row b is holds = by (slice_get rows place) (sym is ∙ holds)
   where
     by : (o : Option (List ℕ)) → is_row o row ≡ true → o ≡ Some row
     by None e = absurd (true≢false (sym e))
@@ -65,8 +65,8 @@ row-there rows place row b is yes = by (slice_get rows place) (sym is ∙ yes)
 
 pub row-not-there : (rows : List (List ℕ)) (place : ℕ) (row : List ℕ) (b : Bool) → b ≡ is_row (slice_get rows place) row → b ≡ false
     → slice_get rows place ≡ Some row → ⊥
-row-not-there rows place row b is no at =
-    true≢false (sym (words-self row) ∙ (ap (λ o. is_row o row) (sym at) ∙ (sym is ∙ no)))
+row-not-there rows place row b is fails at =
+    true≢false (sym (words-self row) ∙ (ap (λ o. is_row o row) (sym at) ∙ (sym is ∙ fails)))
 
 -- a table without states
 pub no-states : (s : States) → AreRows s.rows → rows_of s.rows ≡ [] → s.digests.keys ≡ [] → AreStates s
