@@ -277,10 +277,7 @@ pub record RowSoFar {G H : Type 0} (eq : H → H → Bool) (t : Parts G H) (firs
   pub same : pointwise eq all equal ≡ true
   pub threads : AreThreads t numbers equal
 
-module _ {G H : Type 0} (eq : H → H → Bool) where
-  pub row-first : (t : Parts G H) (first : ℕ) (row : List ℕ) → row ≡ first ∷ [] → RowSoFar eq t first [] row
-  row-first t first row is = record { numbers = []; equal = []; are = is; same = refl; threads = tt }
-
+module _ {H : Type 0} (eq : H → H → Bool) where
   pointwise-more : (xs ys : List H) (x y : H) → pointwise eq xs ys ≡ true → eq x y ≡ true → pointwise eq (xs ++ x ∷ []) (ys ++ y ∷ []) ≡ true
   pointwise-more [] [] x y e is = ap (λ b. b && true) is
   pointwise-more [] (d ∷ ys) x y e is = absurd (true≢false (sym e))
@@ -289,13 +286,17 @@ module _ {G H : Type 0} (eq : H → H → Bool) where
       ap (λ b. b && pointwise eq (xs ++ x ∷ []) (ys ++ y ∷ [])) (first_so (eq c d) (pointwise eq xs ys) e)
       ∙ pointwise-more xs ys x y (second_so (eq c d) (pointwise eq xs ys) e) is
 
+module _ {G H : Type 0} (eq : H → H → Bool) where
+  pub row-first : (t : Parts G H) (first : ℕ) (row : List ℕ) → row ≡ first ∷ [] → RowSoFar eq t first [] row
+  row-first t first row is = record { numbers = []; equal = []; are = is; same = refl; threads = tt }
+
   pub row-more : (t u : Parts G H) → Grows t u → (first : ℕ) (threads : List H) (row after : List ℕ) (thread : H) (number : ℕ) → RowSoFar eq t first threads row
       → HasEqual eq u.threads.keys number thread → after ≡ row ++ number ∷ [] → RowSoFar eq u first (threads ++ thread ∷ []) after
   row-more t u grows first threads row after thread number so has pushed = record {
     numbers = so.numbers ++ number ∷ [];
     equal = so.equal ++ has.key ∷ [];
     are = pushed ∙ ap (λ l. l ++ number ∷ []) so.are;
-    same = pointwise-more threads so.equal thread has.key so.same has.is;
+    same = pointwise-more eq threads so.equal thread has.key so.same has.is;
     threads = all_zipped_more (λ m y. slice_get u.threads.keys m ≡ Some y) so.numbers so.equal number has.key
         (threads-grow t u grows so.numbers so.equal so.threads) has.at;
   }

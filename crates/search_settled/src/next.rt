@@ -198,11 +198,10 @@ fn put(all: &mut Vec<NextRow>, n: usize, row: Vec<u32>) -> Result<(), AllocError
     Ok(())
 }
 
-/// A thread of a state, by the numbers of what is shared and of the threads.
+/// Thread n of a state, by the numbers of what is shared and of that thread.
 #[derive(Clone, Copy)]
-struct ThreadOf<'r> {
+struct ThreadOf {
     shared: u32,
-    threads: &'r [u32],
     n: usize,
     thread: u32,
 }
@@ -212,23 +211,24 @@ fn put_turn<M: Moves>(
     alloc: Global,
     system: &M,
     parts: &Parts<M::Shared, M::Thread>,
-    of: ThreadOf<'_>,
+    threads: &[u32],
+    of: ThreadOf,
     turn: Turn,
     all: &mut Vec<NextRow>,
 ) -> Result<(), AllocError>
     requires at { (c : FlatState M.Shared M.Thread)
-        × IsThreadAt (M.threads system.now) parts.now (of.shared ∷ of.threads.now) of.thread of.n c }
+        × IsThreadAt (M.threads system.now) parts.now (of.shared ∷ threads.now) of.thread of.n c }
     requires turn { OfNumbers (M.threads system.now) parts.now of.shared of.thread
         (λ g h. IsTurn (M.threads system.now) parts.now g h of.n turn) }
     ensures { OnOk result ((c : FlatState M.Shared M.Thread)
-        → IsThreadAt (M.threads system.now) parts.now (of.shared ∷ of.threads.now) of.thread of.n c
+        → IsThreadAt (M.threads system.now) parts.now (of.shared ∷ threads.now) of.thread of.n c
         → AreNextBelow (M.threads system.now) parts.now c of.n all.old.items
         → AreNextBelow (M.threads system.now) parts.now c (of.n + 1) all.new.items) }
 {
     match turn {
         Turn::Still => Ok(()),
         Turn::Alone { shared, thread } => {
-            let next = row_alone(alloc, of.threads, of.n, shared, thread)?;
+            let next = row_alone(alloc, threads, of.n, shared, thread)?;
             put(all, of.n, next)?;
             Ok(())
         }
@@ -240,31 +240,32 @@ fn put_anew<M: Moves>(
     alloc: Global,
     system: &M,
     met: &mut Met<M::Shared, M::Thread>,
-    of: ThreadOf<'_>,
+    threads: &[u32],
+    of: ThreadOf,
     all: &mut Vec<NextRow>,
 ) -> Result<bool, AllocError>
     requires known { AreKnown (M.threads system.now) met.old }
     requires at { (c : FlatState M.Shared M.Thread)
-        × IsThreadAt (M.threads system.now) met.old.parts (of.shared ∷ of.threads.now) of.thread of.n c }
+        × IsThreadAt (M.threads system.now) met.old.parts (of.shared ∷ threads.now) of.thread of.n c }
     ensures grows { OnOk result (Grows met.old.parts met.new.parts) }
     ensures known { OnOk result (AreKnown (M.threads system.now) met.new) }
     ensures next { IfOk result (λ told. told ≡ true → (c : FlatState M.Shared M.Thread)
-        → IsThreadAt (M.threads system.now) met.old.parts (of.shared ∷ of.threads.now) of.thread of.n c
+        → IsThreadAt (M.threads system.now) met.old.parts (of.shared ∷ threads.now) of.thread of.n c
         → AreNextBelow (M.threads system.now) met.old.parts c of.n all.old.items
         → AreNextBelow (M.threads system.now) met.new.parts c (of.n + 1) all.new.items) }
     ensures gives_up { IfOk result (λ told. told ≡ false → (c : FlatState M.Shared M.Thread)
-        → IsThreadAt (M.threads system.now) met.old.parts (of.shared ∷ of.threads.now) of.thread of.n c
+        → IsThreadAt (M.threads system.now) met.old.parts (of.shared ∷ threads.now) of.thread of.n c
         → IsStuckAfter (M.threads system.now) (M.stuck system.now) c) }
 {
     let turn = made_by(alloc, system, met, of.shared, of.thread, of.n)?;
     match turn {
         Made::Told(turn) => {
-            put_turn(alloc, system, &met.parts, of, turn, all)?;
+            put_turn(alloc, system, &met.parts, threads, of, turn, all)?;
             Ok(true)
         }
         Made::Heard(shared, made) => {
             let parts = &mut met.parts;
-            let Some(next) = row_after(alloc, system, parts, of.threads, of.n, shared, &made)? else {
+            let Some(next) = row_after(alloc, system, parts, threads, of.n, shared, &made)? else {
                 return Ok(false);
             };
             put(all, of.n, next)?;
@@ -280,28 +281,29 @@ fn put_next<M: Moves>(
     alloc: Global,
     system: &M,
     met: &mut Met<M::Shared, M::Thread>,
-    of: ThreadOf<'_>,
+    threads: &[u32],
+    of: ThreadOf,
     all: &mut Vec<NextRow>,
 ) -> Result<bool, AllocError>
     requires known { AreKnown (M.threads system.now) met.old }
     requires at { (c : FlatState M.Shared M.Thread)
-        × IsThreadAt (M.threads system.now) met.old.parts (of.shared ∷ of.threads.now) of.thread of.n c }
+        × IsThreadAt (M.threads system.now) met.old.parts (of.shared ∷ threads.now) of.thread of.n c }
     ensures grows { OnOk result (Grows met.old.parts met.new.parts) }
     ensures known { OnOk result (AreKnown (M.threads system.now) met.new) }
     ensures next { IfOk result (λ told. told ≡ true → (c : FlatState M.Shared M.Thread)
-        → IsThreadAt (M.threads system.now) met.old.parts (of.shared ∷ of.threads.now) of.thread of.n c
+        → IsThreadAt (M.threads system.now) met.old.parts (of.shared ∷ threads.now) of.thread of.n c
         → AreNextBelow (M.threads system.now) met.old.parts c of.n all.old.items
         → AreNextBelow (M.threads system.now) met.new.parts c (of.n + 1) all.new.items) }
     ensures gives_up { IfOk result (λ told. told ≡ false → (c : FlatState M.Shared M.Thread)
-        → IsThreadAt (M.threads system.now) met.old.parts (of.shared ∷ of.threads.now) of.thread of.n c
+        → IsThreadAt (M.threads system.now) met.old.parts (of.shared ∷ threads.now) of.thread of.n c
         → IsStuckAfter (M.threads system.now) (M.stuck system.now) c) }
 {
     let known = met.known.as_slice();
     if let Some(turn) = recall(known, of.shared, of.thread, of.n as u32) {
-        put_turn(alloc, system, &met.parts, of, turn, all)?;
+        put_turn(alloc, system, &met.parts, threads, of, turn, all)?;
         return Ok(true);
     }
-    put_anew(alloc, system, met, of, all)
+    put_anew(alloc, system, met, threads, of, all)
 }
 
 /// The rows of the next states of the one of these numbers, each with the thread whose event leads there.
@@ -326,11 +328,10 @@ pub(crate) fn next_rows<M: Moves>(
         let thread = number_at(threads, n);
         let of = ThreadOf {
             shared,
-            threads,
             n,
             thread,
         };
-        if !put_next(alloc, system, met, of, &mut all)? {
+        if !put_next(alloc, system, met, threads, of, &mut all)? {
             return Ok(None);
         }
     }

@@ -8,10 +8,10 @@ use Rattle.search_race_free.proofs.Reducing.{next-are}
 use Rattle.search_race_free.proofs.states.RaceFreeTurnsMeets.next.Goals as goal
 
 pub state_at-requires : goal.state_at-requires
-state_at-requires g c = let met = c.requires in met.2.table
+state_at-requires g c = let met = c.requires.at in met.2.table
 
 pub put_rows-requires : goal.put_rows-requires
-put_rows-requires g c = let met = c.requires in met.2.table
+put_rows-requires g c = let met = c.requires.at in met.2.table
 
 pub returns-in_default-clause-gives_up : goal.returns-in_default-clause-gives_up
 returns-in_default-clause-gives_up g c _ ks s has there is =
@@ -23,7 +23,7 @@ pub next_states-requires : goal.next_states-requires
 next_states-requires g c =
     let m = c.args.self.now.system.now in
     let k = g.M.Moves.threads m in
-    let met = c.requires in
+    let met = c.requires.at in
     let copy = c.in-Some.state in
     known-copy k (g.M.Moves.ends m) (g.M.Moves.stuck m) (g.met.M.Moves.tame m) (g.met.M.Accesses.plain m) (g.met.M.Accesses.beyond m) met.1 copy
     (copy-at k (g.M.Moves.ends m) (g.M.Moves.stuck m) c.args.table.now c.args.at c.in_ok-state.field-0 c.in_ok-state.ensures copy c.in-Some.is met.0 met.1 met.2 met.3) met.4

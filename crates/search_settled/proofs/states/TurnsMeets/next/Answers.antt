@@ -6,27 +6,27 @@ use Rattle.search_settled.proofs.Meeting.{row-met, met-row, met-empty, stuck-at,
 use Rattle.search_settled.proofs.states.TurnsMeets.next.Goals as goal
 
 pub row-requires : goal.row-requires
-row-requires g c = let met = c.requires in met.2.table
+row-requires g c = let met = c.requires.at in met.2.table
 
 pub next_rows-requires-clause-known : goal.next_rows-requires-clause-known
-next_rows-requires-clause-known g c = let met = c.requires in met.2.known
+next_rows-requires-clause-known g c = let met = c.requires.at in met.2.known
 
 pub next_rows-requires-clause-of : goal.next_rows-requires-clause-of
 next_rows-requires-clause-of g c =
     let m = c.args.self.now.system.now in
-    row-met (g.M.Moves.threads m) (g.M.Moves.ends m) (g.M.Moves.stuck m) (g.met.M.Moves.tame m) c.args.tables.now c.args.at c.requires
+    row-met (g.M.Moves.threads m) (g.M.Moves.ends m) (g.M.Moves.stuck m) (g.met.M.Moves.tame m) c.args.tables.now c.args.at c.requires.at
     (c.in-Some-split_first.shared.now ∷ c.in-Some-split_first.threads.now)
     (sym c.in-Some.ensures ∙ ap (λ l. Some l) c.in-Some-split_first.ensures.cases.0)
 
 pub returns-in_default-clause-gives_up : goal.returns-in_default-clause-gives_up
 returns-in_default-clause-gives_up g c _ ks s held there is =
     let m = c.args.self.now.system.now in
-    absurd (met-row (g.M.Moves.threads m) (g.M.Moves.ends m) (g.M.Moves.stuck m) c.args.tables.now c.args.at c.requires (sym c.in_default.ensures))
+    absurd (met-row (g.M.Moves.threads m) (g.M.Moves.ends m) (g.M.Moves.stuck m) c.args.tables.now c.args.at c.requires.at (sym c.in_default.ensures))
 
 pub returns-in_default-split_first-clause-gives_up : goal.returns-in_default-split_first-clause-gives_up
 returns-in_default-split_first-clause-gives_up g c _ ks s held there is =
     let m = c.args.self.now.system.now in
-    absurd (met-empty (g.M.Moves.threads m) (g.M.Moves.ends m) (g.M.Moves.stuck m) (g.met.M.Moves.tame m) c.args.tables.now c.args.at c.requires
+    absurd (met-empty (g.M.Moves.threads m) (g.M.Moves.ends m) (g.M.Moves.stuck m) (g.met.M.Moves.tame m) c.args.tables.now c.args.at c.requires.at
     c.in-Some.row.now (sym c.in-Some.ensures) c.in_default-split_first.ensures.cases)
 
 pub returns-in_default-2-clause-none : goal.returns-in_default-2-clause-none
@@ -47,7 +47,7 @@ returns-in_default-2-clause-gives_up g c _ =
     (c.in_ok-next.ensures.gives_up c.in_default-2.is)
 
 pub put_rows-requires : goal.put_rows-requires
-put_rows-requires g c = let met = c.requires in met.2.table
+put_rows-requires g c = let met = c.requires.at in met.2.table
 
 pub returns-clause-next : goal.returns-clause-next
 returns-clause-next g c _ =
