@@ -25,11 +25,11 @@ fn worker_of(valid: &ValidModule) -> Option<usize>
 ///
 /// # Errors
 /// Where memory is refused.
-pub(crate) fn searched<'m, 'a>(
+pub(crate) fn searched<'s>(
     alloc: Global,
-    request: &Request<'m, 'a>,
+    request: &'s Request<'_, '_>,
     dump: usize,
-) -> Result<Searched<'m, 'a>, AllocError>
+) -> Result<Searched<'s>, AllocError>
     ensures call { IfOk result (λ s. IsCall request.now.parts request.now.name request.now.args (called s)) }
     ensures worker { IfOk result (λ s. IsWorkerOf request.now.parts s.worker) }
     ensures dump { IfOk result (λ s. s.dump ≡ dump) }

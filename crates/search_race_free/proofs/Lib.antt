@@ -15,3 +15,4 @@ pub mod Following
 pub mod Beginning
 mod Held
 mod Keeping
+mod Ahead

@@ -12,14 +12,14 @@ use std::hash::Hash;
 
 /// What is shared, and what the threads own.
 #[derive(Drop, PartialEq, Eq, Hash)]
-pub(crate) struct Held<S> {
+pub struct Held<S> {
     pub(crate) shared: S,
     pub(crate) owned: Vec<Touch>,
 }
 
 /// The states that were met, and their parts.
 #[derive(Drop)]
-pub(crate) struct Table<S: Eq + Hash, T: Eq + Hash> {
+pub struct Table<S: Eq + Hash, T: Eq + Hash> {
     pub(crate) parts: Parts<Held<S>, T>,
     pub(crate) states: States,
 }

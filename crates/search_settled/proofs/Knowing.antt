@@ -8,7 +8,6 @@ use Rattle.std.proofs.lemmas.Option.{none-some, slice_get_within}
 use Rattle.schedule.specs.System.{State}
 use Rattle.search_table.specs.declared.parts.Parts.{Parts}
 use Rattle.search_table.specs.Tables.{Keeps, Grows}
-use Rattle.search_settled.specs.declared.flat.Flat.{Flat}
 use Rattle.search_settled.specs.declared.met.Known.{Known}
 use Rattle.search_settled.specs.declared.met.Met.{Met}
 use Rattle.search_settled.specs.declared.met.Turn.{Turn}

@@ -5,13 +5,10 @@ use Rattle.std.specs.Cmp.Lexicographic.{pointwise}
 use Rattle.std.proofs.lemmas.Option.{none-some}
 use Rattle.schedule.specs.System.{State}
 use Rattle.search_graph.specs.declared.graph.Move.{Move}
-use Rattle.search_table.specs.declared.parts.Parts.{Parts}
-use Rattle.search_table.specs.declared.states.States.{States}
 use Rattle.search_table.specs.Tables.{AreThreads, Grows, AreStates, states_of, with_row}
 use Rattle.search_reach.specs.Search.{IsEnding, AllGetStuck}
 use Rattle.search_reach.specs.Meeting.{HasMetAt, OfStateAt, HasFirst, GoesOn}
 use Rattle.search_settled.specs.declared.flat.Flat.{Flat}
-use Rattle.search_settled.specs.declared.met.Met.{Met}
 use Rattle.search_settled.specs.declared.met.NextRow.{NextRow}
 use Rattle.search_settled.specs.declared.met.Tables.{Tables}
 use Rattle.search_settled.specs.Settled.{AreTame}

@@ -105,9 +105,10 @@ pub fn threads_of<M: Moves, S: Eq + Hash + Drop>(
     let mut all = Vec::with_capacity(alloc, numbers.len())?;
     for n in 0..numbers.len() {
         let number = number_at(numbers, n);
-        if let Some(thread) = parts.threads.get_index(number as usize) {
-            all.push(system.share(thread)?)?;
-        }
+        let Some(thread) = parts.threads.get_index(number as usize) else {
+            continue;
+        };
+        all.push(system.share(thread)?)?;
     }
     Ok(all)
 }

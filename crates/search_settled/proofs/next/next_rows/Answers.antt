@@ -1,4 +1,4 @@
-use Rattle.std.proofs.Common.{◌∷◌, arith, sym, subst, ◌∙◌}
+use Rattle.std.proofs.Common.{◌∷◌, arith, sym, subst}
 use Rattle.search_settled.specs.Known.{AreNextBelow}
 use Rattle.search_settled.proofs.Rows.{grows-self, grows-then, row-grows}
 use Rattle.search_settled.proofs.Nexting.{below-first, thread-at, below-done}

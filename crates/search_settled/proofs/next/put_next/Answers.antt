@@ -1,7 +1,6 @@
 use Rattle.std.proofs.Common.{subst}
 use Rattle.search_settled.specs.Known.{IsNotedIn}
 use Rattle.search_settled.proofs.Knowing.{recalled}
-use Rattle.search_settled.proofs.Rows.{grows-self}
 use Rattle.search_settled.proofs.next.put_next.Goals as goal
 
 pub put_turn-requires-clause-turn : goal.put_turn-requires-clause-turn

@@ -1,8 +1,7 @@
-use Rattle.std.proofs.Common.{◌+◌, arith, sym, subst}
-use Rattle.std.proofs.lemmas.Option.{slice_get_within}
+use Rattle.std.proofs.Common.{◌+◌, refl, arith, sym, subst}
 use Rattle.search_settled.specs.declared.met.Turn.{Turn}
 use Rattle.search_settled.specs.Known.{OfNumbers, IsTurn, AreNextBelow}
-use Rattle.search_settled.proofs.Rows.{grows-self, zip-length}
+use Rattle.search_settled.proofs.Rows.{grows-self}
 use Rattle.search_settled.proofs.Nexting.{low-at, within-at, more-still, more-alone}
 use Rattle.search_settled.proofs.next.put_turn.Goals as goal
 

@@ -1,4 +1,4 @@
-use Rattle.search_table.specs.Tables.{HasEqual, Grows}
+use Rattle.search_table.specs.Tables.{Grows}
 use Rattle.search_settled.proofs.Nexting.{RowSoFar}
 use Rattle.search_settled.proofs.next.row_of.Given as goal
 

@@ -1,5 +1,5 @@
 use Rattle.std.proofs.Common.{arith, ap, ◌∙◌}
-use Rattle.std.specs.Prelude.{Some, slice_get}
+use Rattle.std.specs.Prelude.{Some}
 use Rattle.search_table.specs.Tables.{states_of, with_row}
 use Rattle.search_settled.proofs.Putting.{puts-none, puts-more}
 use Rattle.search_settled.proofs.states.put_rows.Goals as goal

@@ -4,10 +4,11 @@ use Rattle.search_race_free.specs.Same.{owning_alike}
 use Rattle.search_race_free.specs.Search.{IsCameFirst}
 use Rattle.search_race_free.proofs.Beginning.{begun-first, race-first, stuck-first}
 use Rattle.search_race_free.proofs.Keeping.{first-put}
+use Rattle.search_race_free.proofs.Ahead.{none-yet, first-ahead}
 use Rattle.search_race_free.proofs.states.RaceFreeTurnsMeets.first.Goals as goal
 
 pub put-requires : goal.put-requires
-put-requires g c = c.requires.table
+put-requires g c = (c.requires.owning).table
 
 pub returns-in_ok-put-in-To-clause-first : goal.returns-in_ok-put-in-To-clause-first
 returns-in_ok-put-in-To-clause-first g c _ =
@@ -15,12 +16,16 @@ returns-in_ok-put-in-To-clause-first g c _ =
     let k = g.M.Moves.threads m in
     let row = c.in_ok-row-in-To.ensures in
     let put = c.in_ok-put-in-To.ensures in
-    first-put k (g.M.Moves.ends m) (g.M.Moves.stuck m) g.M.Shared.PartialEq.eq g.M.Thread.PartialEq.eq
+    let t = c.args.tables.now in
+    let met = record { parts = c.held_row.new.parts; states = c.put.new.self } in
+    first-ahead k (g.M.Moves.ends m) (g.M.Moves.stuck m) (record { met = met; ahead = t.ahead })
+    (none-yet k (g.M.Moves.ends m) (g.M.Moves.stuck m) t c.requires)
+    (first-put k (g.M.Moves.ends m) (g.M.Moves.stuck m) g.M.Shared.PartialEq.eq g.M.Thread.PartialEq.eq
     (owning_alike g.M.Shared.PartialEq.eq g.M.Thread.PartialEq.eq g.met.M.Shared.Eq.laws g.met.M.Thread.Eq.laws k (g.met.M.Moves.same_shared m) (g.met.M.Moves.same_thread m))
-    c.args.table.now (record { parts = c.held_row.new.parts; states = c.put.new.self }) c.requires put.are c.in_ok-row-in-To.row.items
-    (put.states ∙ ap (with_row (states_of c.args.table.now.states)) c.as_slice.ensures.value) c.in-To.state
+    t.met met c.requires.owning put.are c.in_ok-row-in-To.row.items
+    (put.states ∙ ap (with_row (states_of t.met.states)) c.as_slice.ensures.value) c.in-To.state
     (begun-first k (g.met.M.Moves.tame m) (g.met.M.Accesses.plain m) (g.M.Moves.ends m) (g.M.Moves.stuck m) c.in-To.state
-    (subst (IsCameFirst k (g.M.Moves.stuck m)) c.in-To.is c.in_ok-state.ensures)) row.row
+    (subst (IsCameFirst k (g.M.Moves.stuck m)) c.in-To.is c.in_ok-state.ensures)) row.row)
 
 pub returns-in-Races-clause-gives_up : goal.returns-in-Races-clause-gives_up
 returns-in-Races-clause-gives_up g c _ =
