@@ -15,8 +15,11 @@ pub struct Hands<'r, R> {
 
 impl<R: Threads + Sync> Crew<Searched<'_>> for Hands<'_, R> {
     ghost use denote.Param.Send.{IsSync};
+    ghost use Rattle.search_race_free.proofs.Crossing.{sync-fact};
 
     ghost ready = { λ h. IsSync R.row };
+
+    ghost fact = { λ h ready. sync-fact ready };
 
     fn ahead(
         &self,

@@ -15,4 +15,5 @@ pub mod Following
 pub mod Beginning
 mod Held
 mod Keeping
-mod Ahead
+mod Pieces
+pub mod Crossing

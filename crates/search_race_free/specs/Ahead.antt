@@ -35,8 +35,8 @@ module _ {X T E V A G H M : Type 0} (k : ThreadSystem X T E V A G H M) (stuck : 
     pub ahead : IsAhead t.met t.ahead
 
   -- Each of these that there is.
-  abbrev pub AreAhead : Table G H → List (Result (Ahead G H) AllocError) → Type 0
-  AreAhead t pieces = (i : ℕ) (piece : Result (Ahead G H) AllocError) → slice_get pieces i ≡ Some piece → IfOk piece (IsAhead t)
+  abbrev pub AreAhead : {F : Type 0} → Table G H → List (Result (Ahead G H) F) → Type 0
+  AreAhead {F} t pieces = (i : ℕ) (piece : Result (Ahead G H) F) → slice_get pieces i ≡ Some piece → IfOk piece (IsAhead t)
 
 -- They come behind these, where they are of the states just before.
 abbrev pub ArePut : {G H : Type 0} → Ahead G H → Ahead G H → Ahead G H → Type 0

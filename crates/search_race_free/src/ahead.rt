@@ -36,6 +36,9 @@ pub trait Crew<M: Accesses> {
     /// What its threads need.
     ghost ready: { Self → Type 0 };
 
+    /// That is a fact, of which there is one proof.
+    ghost fact: { (c : Self) → ∥ ready c ∥₁ → ready c };
+
     /// What comes of some states from this place on, or of none.
     ///
     /// # Errors
@@ -58,9 +61,9 @@ pub trait Crew<M: Accesses> {
 pub struct Alone;
 
 impl<M: Accesses> Crew<M> for Alone {
-    ghost use Rattle.std.specs.Prelude.{Unit};
-
     ghost ready = { λ a. Unit {0} };
+
+    ghost fact = { λ a t. tt };
 
     fn ahead(
         &self,
@@ -86,17 +89,25 @@ impl<S: Drop, T: Drop> Ahead<S, T> {
         }
     }
 
-    /// What comes of the state at this place, if that is the next one.
+    /// The place of the first of these states.
+    fn start(&self) -> Option<usize>
+        ensures { IfSome result (λ start. start + length self.now.came.items ≡ self.now.end) }
+    {
+        self.end.checked_sub(self.came.len())
+    }
+
+    /// What comes of the state at this place, if that is the first one.
     pub(crate) fn take(&mut self, at: usize) -> Option<Came<Vec<Next<Owning<Flat<S, T>>>>>>
         ensures end { self.new.end ≡ self.old.end }
         ensures none { result ≡ None → self.new.came.items ≡ self.old.came.items }
         ensures took { IfSome result (λ came. (self.old.came.items ≡ self.new.came.items ++ came ∷ [])
             × (at + length self.old.came.items ≡ self.old.end)) }
     {
-        if at.saturating_add(self.came.len()) != self.end {
+        if self.start()? != at {
             return None;
         }
-        self.came.pop()
+        let came = self.came.pop()?;
+        Some(came)
     }
 
     /// Puts what comes of states just before these behind it; or nothing, where they are others.
@@ -104,10 +115,11 @@ impl<S: Drop, T: Drop> Ahead<S, T> {
         ensures end { self.new.end ≡ self.old.end }
         ensures put { OnOk result (ArePut self.old before self.new) }
     {
-        let mut before = before;
-        if before.end.saturating_add(self.came.len()) == self.end {
-            self.came.append(&mut before.came)?;
+        let Ahead { mut came, end } = before;
+        if self.start() != Some(end) {
+            return Ok(());
         }
+        self.came.append(&mut came)?;
         Ok(())
     }
 }
@@ -204,6 +216,8 @@ pub fn made_ahead<R: Threads + Sync, M: Accesses + Sync>(
 where
     M::Shared: Send + Sync,
     M::Thread: Send + Sync,
+    M::Effect: Send,
+    M::Ending: Send,
     requires { HasSound (reduced M.Moves system.now) (HasOwning table.now) }
     ensures { IfOk result (IsAhead (M.threads system.now) (M.stuck system.now) table.now) }
 {
@@ -222,7 +236,7 @@ where
         alloc,
         jobs,
         &|job: usize| -> Result<Ahead<M::Shared, M::Thread>, AllocError>
-            requires { HasSound (reduced M.Moves met.now.system.now) (HasOwning met.now.table.now) }
+            requires { HasSound (reduced M.Moves met.system.now) (HasOwning met.table.now) }
             ensures { IfOk result (IsAhead (M.threads met.entry.system.now) (M.stuck met.entry.system.now) met.entry.table.now) }
         {
             let first = from.saturating_add(count.saturating_mul(job));

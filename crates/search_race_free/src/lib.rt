@@ -20,7 +20,7 @@
 //!   state has ended, and that there is no race where all states were met.
 //! - `specs/Met.antt`: the states of a table, by their parts. `proofs/Held.antt`: such a state stands for the same.
 //!   `proofs/Keeping.antt`: a table of them is what a search asks for.
-//! - `specs/Ahead.antt`: what a crew of threads makes ahead of states in a row. `proofs/Ahead.antt`: it stays right where
+//! - `specs/Ahead.antt`: what a crew of threads makes ahead of states in a row. `proofs/Pieces.antt`: it stays right where
 //!   the table grows.
 #![tactic(auto)]
 

@@ -30,10 +30,26 @@ struct RaceFreeTurns<'s, M: Accesses, C: Crew<M>> {
     system: &'s M,
     crew: &'s C,
     most_plain: u32,
-    ghost ready: { C.ready crew.now },
+    ghost ready: { ∥ C.ready crew.now ∥₁ },
 }
 
 impl<M: Accesses, C: Crew<M>> RaceFreeTurns<'_, M, C> {
+    /// What comes of some states from this place on; or of none, where memory for that is refused.
+    fn ahead_from(
+        &self,
+        alloc: Global,
+        table: &Table<M::Shared, M::Thread>,
+        at: usize,
+    ) -> Ahead<M::Shared, M::Thread>
+        requires { HasSound (reduced M.Moves self.now.system.now) (HasOwning table.now) }
+        ensures { IsAhead (M.threads self.now.system.now) (M.stuck self.now.system.now) table.now result }
+    {
+        match self.crew.ahead(alloc, self.system, table, at, self.most_plain) {
+            Ok(ahead) => ahead,
+            Err(_) => Ahead::new(alloc),
+        }
+    }
+
     /// What comes of the state at this place: it was made ahead, or is made now, and what comes of others ahead.
     fn came(
         &self,
@@ -54,9 +70,7 @@ impl<M: Accesses, C: Crew<M>> RaceFreeTurns<'_, M, C> {
         if let Some(came) = tables.ahead.take(at) {
             return Ok(came);
         }
-        if let Ok(ahead) = self.crew.ahead(alloc, self.system, &tables.met, at, self.most_plain) {
-            tables.ahead = ahead;
-        }
+        tables.ahead = self.ahead_from(alloc, &tables.met, at);
         if let Some(came) = tables.ahead.take(at) {
             return Ok(came);
         }
@@ -65,7 +79,8 @@ impl<M: Accesses, C: Crew<M>> RaceFreeTurns<'_, M, C> {
             table: &tables.met,
             most_plain: self.most_plain,
         };
-        met.coming(alloc, at)
+        let came = met.coming(alloc, at)?;
+        Ok(came)
     }
 }
 

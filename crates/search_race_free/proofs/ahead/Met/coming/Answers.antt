@@ -1,7 +1,10 @@
 use Rattle.std.proofs.Common.{subst}
 use Rattle.std.proofs.lemmas.Result.{IfOk-weaker}
 use Rattle.search_race_free.proofs.Keeping.{copy-at, copy-none, known-copy}
+use Rattle.search_race_free.specs.Reduced.{HasReduced}
+use Rattle.search_race_free.specs.Search.{IsCame}
 use Rattle.search_race_free.specs.Met.{IsStateAt}
+use Rattle.search_race_free.specs.Ahead.{ComesOfPlace}
 use Rattle.search_race_free.proofs.ahead.Met.coming.Goals as goal
 
 pub state_at-requires : goal.state_at-requires
@@ -27,8 +30,12 @@ next_states-requires g c =
 pub returns : goal.returns
 returns g c =
     let m = c.args.self.now.system.now in
-    IfOk-weaker _ _ _ (λ came is. record {
-      copy = c.in-Some.state;
-      of = subst (IsStateAt (g.M.Moves.threads m) c.args.self.now.table.now c.args.at) c.in-Some.is c.in_ok-state.ensures;
+    let k = g.M.Moves.threads m in
+    let stuck = g.M.Moves.stuck m in
+    let t = c.args.self.now.table.now in
+    let copy = c.in-Some.state in
+    IfOk-weaker c.next_states.result (IsCame k stuck copy.flat (λ v. HasReduced k copy v.items)) (ComesOfPlace k stuck t c.args.at) (λ came is. record {
+      copy = copy;
+      of = subst (IsStateAt k t c.args.at) c.in-Some.is c.in_ok-state.ensures;
       is = is;
     }) c.next_states.ensures

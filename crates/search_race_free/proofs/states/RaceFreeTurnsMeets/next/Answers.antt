@@ -3,6 +3,7 @@ use Rattle.std.specs.Prelude.{Some}
 use Rattle.search_table.specs.Tables.{AreStates, Grows}
 use Rattle.search_settled.specs.Known.{PutsRows}
 use Rattle.search_race_free.specs.Reduced.{HasReduced}
+use Rattle.search_race_free.specs.declared.met.Table.{Table}
 use Rattle.search_race_free.specs.Same.{owning_alike}
 use Rattle.search_race_free.specs.Search.{IsCame}
 use Rattle.search_race_free.specs.Met.{held_eq, HasOwning}
@@ -10,7 +11,7 @@ use Rattle.search_race_free.specs.Ahead.{IsAhead}
 use Rattle.search_race_free.proofs.Beginning.{race-stuck, lost-stuck}
 use Rattle.search_race_free.proofs.Keeping.{copy-at, stuck-copy, next-put}
 use Rattle.search_race_free.proofs.Reducing.{next-are}
-use Rattle.search_race_free.proofs.Ahead.{owning-at, owning-sound, goes-ahead}
+use Rattle.search_race_free.proofs.Pieces.{owning-at, owning-sound, goes-ahead}
 use Rattle.search_race_free.proofs.states.RaceFreeTurnsMeets.next.Goals as goal
 
 pub came-requires-clause-at : goal.came-requires-clause-at
@@ -31,8 +32,8 @@ put_rows-requires g c =
     let met = c.requires.at in
     subst (λ t. AreStates t.states) (sym c.in_ok-next.ensures.met) (met.2.owning).table
 
-pub returns-in-To-clause-next : goal.returns-in-To-clause-next
-returns-in-To-clause-next g c _ =
+pub returns-in_ok-put_rows-in-To-clause-next : goal.returns-in_ok-put_rows-in-To-clause-next
+returns-in_ok-put_rows-in-To-clause-next g c _ =
     let m = c.args.self.now.system.now in
     let k = g.M.Moves.threads m in
     let eq_shared = g.M.Shared.PartialEq.eq in
@@ -44,7 +45,7 @@ returns-in-To-clause-next g c _ =
     let put = c.in_ok-put_rows-in-To.ensures in
     let parts = c.held_rows.new.parts in
     let states = c.put_rows.new.states in
-    let met = record { parts = parts; states = states } in
+    let met : Table g.row.M-Shared.Denot g.row.M-Thread.Denot = record { parts = parts; states = states } in
     let grows = subst (λ w. Grows w.parts parts) made.met rows.grows in
     goes-ahead k (g.M.Moves.ends m) (g.M.Moves.stuck m) eq_shared eq_thread t (record { met = met; ahead = c.came.new.tables.ahead }) c.args.at
     c.args.moves.now.items c.put_rows.new.moves.items grows made.ahead
@@ -76,8 +77,8 @@ returns-in-Races-clause-gives_up g c _ ks s has there met =
     (race-stuck k (g.met.M.Moves.tame m) (g.met.M.Accesses.plain m) (g.M.Moves.ends m) (g.M.Moves.stuck m) came.copy c.in-Races.field-0
     (subst (IsCame k (g.M.Moves.stuck m) came.copy.flat (λ v. HasReduced k came.copy v.items)) c.in-Races.is came.is))
 
-pub returns-clause-none : goal.returns-clause-none
-returns-clause-none g c _ ks s has there met =
+pub returns-in-Unknown-clause-none : goal.returns-in-Unknown-clause-none
+returns-in-Unknown-clause-none g c _ ks s has there met =
     let m = c.args.self.now.system.now in
     let made = c.in_ok-next.ensures in
     record {
@@ -85,8 +86,8 @@ returns-clause-none g c _ ks s has there met =
       ahead = subst (λ t. IsAhead (g.M.Moves.threads m) (g.M.Moves.stuck m) t c.came.new.tables.ahead) (sym made.met) made.ahead;
     }
 
-pub returns-clause-gives_up : goal.returns-clause-gives_up
-returns-clause-gives_up g c _ ks s has there met =
+pub returns-in-Unknown-clause-gives_up : goal.returns-in-Unknown-clause-gives_up
+returns-in-Unknown-clause-gives_up g c _ ks s has there met =
     let m = c.args.self.now.system.now in
     let k = g.M.Moves.threads m in
     let came = c.in_ok-next.ensures.came in

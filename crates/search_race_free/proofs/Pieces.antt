@@ -148,6 +148,17 @@ module _ {X T E V A G H M : Type 0} (k : ThreadSystem X T E V A G H M) where
       }
     ]
 
+    -- the last one of some, and the others
+    pub last-piece : {F : Type 0} (t : Table G H) (all rest : List (Result (Ahead G H) F)) (last : Result (Ahead G H) F) → all ≡ rest ++ last ∷ []
+        → AreAhead k stuck t all → IfOk last (IsAhead k stuck t)
+    last-piece t all rest last is are =
+        are (length rest) last (subst (λ l. slice_get l (length rest) ≡ Some last) (sym is) (get-last rest last))
+
+    pub other-pieces : {F : Type 0} (t : Table G H) (all rest : List (Result (Ahead G H) F)) (last : Result (Ahead G H) F) → all ≡ rest ++ last ∷ []
+        → AreAhead k stuck t all → AreAhead k stuck t rest
+    other-pieces t all rest last is are i piece at =
+        are i piece (subst (λ l. slice_get l i ≡ Some piece) (sym is) (keeps-longer rest (last ∷ []) i piece at))
+
     pub grown-ahead : (t new : Table G H) → Grows t.parts new.parts → (ks ls more : List (Owning (Flat G H))) → HasOwning t ks → HasOwning new ls → ls ≡ ks ++ more
         → (a : Ahead G H) → IsAhead k stuck t a → IsAhead k stuck new a
     grown-ahead t new grows ks ls more was are longer a so =
