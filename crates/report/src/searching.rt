@@ -126,7 +126,11 @@ fn search_orders<R: Threads + Sync, F: Hears, W: Write, S: Write>(
     ensures unwanted { is_some asked.entry.search.now.save ≡ false → Stays save.old save.new }
     ensures trouble { IfErr result IsOfSystem }
 {
-    let jobs = if asked.search.deep { 1 } else { jobs_of(rt, asked.search) };
+    let jobs = if asked.search.deep {
+        1
+    } else {
+        jobs_of(rt, asked.search)
+    };
     let hands = Hands { rt, jobs };
     match asked.search.form {
         Form::Lines => search_all_orders(alloc, request, &hands, asked, most, follower, out, save),

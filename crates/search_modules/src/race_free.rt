@@ -12,7 +12,9 @@ ghost use Rattle.search_modules.specs.Races.{CanRaceSo, NeverRaces, race_free_cl
 use crate::called::Searched;
 use crate::calling::searched;
 use search_endings::Ending;
-use search_race_free::{Crew, RaceFree, all_choices, race_choices as choices_to_race, search_race_free};
+use search_race_free::{
+    Crew, RaceFree, all_choices, race_choices as choices_to_race, search_race_free,
+};
 use search_reach::{Follows, Order, Seeks};
 use spawn_host::Request;
 use std::alloc::{AllocError, Global};

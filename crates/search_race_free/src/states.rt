@@ -44,7 +44,10 @@ impl<M: Accesses, C: Crew<M>> RaceFreeTurns<'_, M, C> {
         requires { HasSound (reduced M.Moves self.now.system.now) (HasOwning table.now) }
         ensures { IsAhead (M.threads self.now.system.now) (M.stuck self.now.system.now) table.now result }
     {
-        match self.crew.ahead(alloc, self.system, table, at, self.most_plain) {
+        match self
+            .crew
+            .ahead(alloc, self.system, table, at, self.most_plain)
+        {
             Ok(ahead) => ahead,
             Err(_) => Ahead::new(alloc),
         }

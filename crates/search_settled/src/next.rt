@@ -327,11 +327,7 @@ pub(crate) fn next_rows<M: Moves>(
     let mut all = Vec::new(alloc);
     for n in 0..threads.len() {
         let thread = number_at(threads, n);
-        let of = ThreadOf {
-            shared,
-            n,
-            thread,
-        };
+        let of = ThreadOf { shared, n, thread };
         if !put_next(alloc, system, met, threads, of, &mut all)? {
             return Ok(None);
         }

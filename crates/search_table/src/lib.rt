@@ -15,9 +15,7 @@
 #![tactic(auto)]
 
 mod parts;
-
 mod rows;
-
 mod states;
 
 pub use parts::Parts;

@@ -41,7 +41,16 @@ fn gone_freely(
     order: Order,
 ) -> Result<RaceFree<Ending>, Fail> {
     let request = Request::new(valid, call_of(gone))?;
-    Ok(race_free_endings(alloc, &request, &Alone, order, MOST, DUMP as usize, &(), &mut ())?)
+    Ok(race_free_endings(
+        alloc,
+        &request,
+        &Alone,
+        order,
+        MOST,
+        DUMP as usize,
+        &(),
+        &mut (),
+    )?)
 }
 
 /// They are the endings of every order.
