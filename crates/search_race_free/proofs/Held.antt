@@ -5,7 +5,7 @@ use Rattle.std.specs.List.{slice_get, AllZip, AllByRecursion, IsDistinct, Contai
 use Rattle.std.specs.Cmp.{first_so, second_so}
 use Rattle.std.specs.Cmp.Lexicographic.{pointwise}
 use Rattle.std.proofs.lemmas.List.{map-append, length-map}
-use Rattle.std.proofs.lemmas.Option.{none-some, slice_get-map, slice_get-get_or}
+use Rattle.std.proofs.lemmas.Option.{slice_get-map, slice_get-get_or}
 use Rattle.std.proofs.lemmas.Slice.Zip.{all_zipped_more}
 use Rattle.search_graph.specs.declared.graph.Move.{Move}
 use Rattle.search_table.specs.declared.parts.Parts.{Parts}

@@ -5,7 +5,6 @@ use Rattle.std.proofs.lemmas.List.{length-map, nil_from_length}
 use Rattle.std.proofs.lemmas.Option.{none-some}
 use Rattle.schedule.specs.System.{State}
 use Rattle.search_graph.specs.declared.graph.Move.{Move}
-use Rattle.search_table.specs.declared.parts.Parts.{Parts}
 use Rattle.search_table.specs.Tables.{AreThreads, Grows, AreStates, states_of, with_row}
 use Rattle.search_reach.specs.declared.explores.Next.{Next}
 use Rattle.search_reach.specs.Search.{IsFirst, IsMet, IsEnding, AreNext, AllGetStuck}

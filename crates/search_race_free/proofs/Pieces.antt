@@ -1,24 +1,23 @@
 -- What was made ahead is taken, put together, and stays right where the table grows.
-use Rattle.std.proofs.Common.{◌≡◌, ◌↔◌, Bool, ℕ, zero, suc, ◌+◌, ◌-◌, ◌<◌, ◌≤◌, ◌⊎◌, List, [], ◌∷◌, ◌++◌, length, map, inl, inr, Some, refl, sym, ◌∙◌, ap, subst, arith}
+use Rattle.std.proofs.Common.{◌≡◌, ◌↔◌, Bool, ℕ, zero, suc, ◌+◌, ◌<◌, ◌≤◌, ◌⊎◌, List, [], ◌∷◌, ◌++◌, length, map, inl, inr, Some, refl, sym, ◌∙◌, ap, subst, arith}
 use Rattle.std.specs.Prelude.{IfOk, Result}
 use Rattle.std.specs.Global.{Vec}
-use Rattle.std.specs.List.{slice_get, AllZip}
+use Rattle.std.specs.List.{slice_get}
 use Rattle.std.proofs.lemmas.List.{length-append, length-map}
-use Rattle.std.proofs.lemmas.Option.{none-some, slice_get_within}
+use Rattle.std.proofs.lemmas.Option.{none-some}
 use Rattle.schedule.specs.System.{State}
 use Rattle.search_graph.specs.declared.graph.Move.{Move}
 use Rattle.search_table.specs.declared.parts.Parts.{Parts}
 use Rattle.search_table.specs.Tables.{AreThreads, Grows, states_of}
 use Rattle.search_table.proofs.Keeping.{keeps-longer, get-last}
 use Rattle.search_reach.specs.declared.explores.Next.{Next}
-use Rattle.search_reach.specs.Explored.{Gains}
 use Rattle.search_reach.specs.Meeting.{HasMetAt, HasSound, HasFirst, OfStateAt, GoesOn}
 use Rattle.search_reach.proofs.Meeting.{at-some}
 use Rattle.search_reach.proofs.Searching.{here}
 use Rattle.search_settled.specs.Threads.{ThreadSystem}
 use Rattle.search_settled.specs.declared.flat.Flat.{Flat}
 use Rattle.search_settled.specs.Known.{IsOf, AreOf}
-use Rattle.search_settled.proofs.Rows.{row-grows, zip-length}
+use Rattle.search_settled.proofs.Rows.{zip-length}
 use Rattle.search_race_free.specs.declared.owning.Owning.{Owning}
 use Rattle.search_race_free.specs.declared.alone.Came.{Came}
 use Rattle.search_race_free.specs.declared.met.Held.{Held}

@@ -1,4 +1,4 @@
-use Rattle.std.proofs.Common.{◌≡◌, ◌↔◌, ◌∷◌, refl, sym, ◌∙◌, ap, subst}
+use Rattle.std.proofs.Common.{◌≡◌, ◌↔◌, refl, sym, ◌∙◌, ap, subst}
 use Rattle.search_settled.specs.Known.{IsOf}
 use Rattle.search_race_free.specs.Met.{held}
 use Rattle.search_race_free.proofs.Held.{row-at, some-number}

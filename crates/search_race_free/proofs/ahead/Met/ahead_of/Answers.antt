@@ -1,4 +1,4 @@
-use Rattle.std.proofs.Common.{◌+◌, ◌-◌, [], ◌∷◌, refl, ap, subst, ◌∙◌, arith, length}
+use Rattle.std.proofs.Common.{[], ◌∷◌, refl, ap, subst, ◌∙◌, arith, length}
 use Rattle.std.proofs.lemmas.List.{length-append}
 use Rattle.search_race_free.specs.Ahead.{ComesOfPlace}
 use Rattle.search_race_free.proofs.Pieces.{more-ahead, met-place}
