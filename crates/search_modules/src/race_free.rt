@@ -38,9 +38,9 @@ const MOST_PLAIN: u32 = 10_000;
 ///
 /// # Errors
 /// Where memory is refused.
-pub fn race_free_endings<'s, C: Crew<Searched<'s>>, Q: Seeks<Ending>, F: Follows>(
+pub fn race_free_endings<'m, C: Crew<Searched<'m>>, Q: Seeks<Ending>, F: Follows>(
     alloc: Global,
-    request: &'s Request<'_, '_>,
+    request: &Request<'m, '_>,
     crew: &C,
     order: Order,
     most_states: u32,
