@@ -1,5 +1,5 @@
-use Rattle.std.proofs.Common.{◌≡◌, ◌∙◌, refl, sym, ap, subst}
-use Rattle.std.specs.Prelude.{Result, Ok, Err, IfErr, IsErrAnd, is_some}
+use Rattle.std.proofs.Common.{◌≡◌, ◌∙◌, Result, Ok, Err, refl, sym, ap, subst}
+use Rattle.std.specs.Prelude.{IfErr, IsErrAnd, is_some}
 use Rattle.report.specs.Searches.{IsOfSystem}
 use Rattle.report_jobs.specs.Prints.{change}
 use Rattle.report.proofs.Kept.{found_kept}
