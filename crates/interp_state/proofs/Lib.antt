@@ -2,7 +2,6 @@ pub mod Words
 pub mod Views
 pub mod Events
 pub mod Places
-pub mod Props
 pub mod Cuts
 pub mod Codes
 pub mod Blocks
