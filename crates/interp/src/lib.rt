@@ -11,6 +11,7 @@ mod kept;
 mod opening;
 mod place;
 mod thread;
+mod trying;
 
 pub use kept::Kept;
 pub use place::CodePlace;
