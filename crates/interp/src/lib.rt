@@ -7,6 +7,7 @@
 mod called;
 mod dispatch;
 mod entry;
+mod going;
 mod kept;
 mod opening;
 mod place;
