@@ -32,7 +32,7 @@ pub fn wanted(state: &State, access: Access) -> Result<Event, Trap>
 
 /// The reply to the event of an access is taken. After `wait` and `notify` the answer is due.
 #[inline(always)]
-pub fn replied(state: &mut State, access: Access, number: u64)
+pub fn access_replied(state: &mut State, access: Access, number: u64)
     requires { Wanting state.old (instr_of access) }
     ensures { IsReplied state.old number state.new }
 {

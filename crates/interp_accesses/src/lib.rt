@@ -21,6 +21,6 @@ mod requests;
 mod steps;
 mod stores;
 
-pub use accesses::{Access, replied, wanted};
+pub use accesses::{Access, access_replied, wanted};
 pub use answers::hear;
 pub use pages::{memory_grow, memory_grow_replied, memory_size, memory_size_replied};
