@@ -19,9 +19,11 @@ mod replies;
 mod requests;
 mod steps;
 mod stores;
+mod tried;
 
 pub use answers::hear;
 pub use loads::{load, load_replied};
 pub use pages::{memory_grow, memory_grow_replied, memory_size, memory_size_replied};
 pub use steps::{atomic, atomic_replied};
 pub use stores::{store, store_replied};
+pub use tried::{Tried, atomic_at, load_at, store_at};

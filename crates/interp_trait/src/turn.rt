@@ -6,6 +6,7 @@ ghost use Rattle.interp_trait.specs.Turns.{MayRun};
 ghost use Rattle.interp_trait.specs.Calls.{MakesOwnTurns};
 
 use crate::gate::Gate;
+use shared_memory::SharedMemory;
 use types::{Answer, Event, Outcome, Reply, Value};
 
 /// What a turn is given.
@@ -50,6 +51,13 @@ pub trait TakesTurns {
         requires { MayRun (meaning self.old) }
         ensures stays { StaysAs (meaning self.old) (meaning self.new) }
         ensures turned { MakesOwnTurns G.sees name (meaning self.old) result (meaning self.new) gate.old gate.new };
+
+    fn turns_at<M: SharedMemory, G: Gate>(
+        &mut self,
+        memory: &M,
+        seat: &mut M::Seat,
+        gate: &mut G,
+    ) -> Turn;
 
     /// Replaces the arguments before the first turn.
     fn set_args(&mut self, args: &[Value])
