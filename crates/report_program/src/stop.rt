@@ -1,7 +1,6 @@
 //! Why a job isn't done.
-ghost use Rattle.std.specs.Prelude.{◌≡◌, Some, None};
+ghost use Rattle.std.specs.Prelude.{◌≡◌};
 ghost use Rattle.std.specs.IoError.{error_kind};
-ghost use Rattle.report_json.specs.declared.refusals.Failure.TheVariants as failures;
 ghost use Rattle.report_program.specs.Messages.{stop_by, unread_by, TellsStop, IsStopStatus};
 ghost use Rattle.report_program.specs.declared.stop.Stop.TheVariants as stops;
 

@@ -1,8 +1,8 @@
 //! A job with its files and streams.
-ghost use Rattle.std.specs.Prelude.{◌≡◌, IfSome, IfOk, IfErr, MatchOption, None, Some};
+ghost use Rattle.std.specs.Prelude.{◌≡◌, IfSome, IfOk, IfErr, MatchOption, None};
 ghost use Rattle.std.specs.IoError.{error_kind};
 ghost use Rattle.report_jobs.specs.Trapped.{Tells};
-ghost use Rattle.report_program.specs.Messages.{file_text, memory_path, path_text, record_path, stop_by, why_if};
+ghost use Rattle.report_program.specs.Messages.{file_text, memory_path, path_text, record_path, why_if};
 ghost use Rattle.report_program.specs.Messages.{MayReplace, TellsLost};
 ghost use Rattle.report_command.specs.declared.command_line.Job.TheVariants as jobs;
 
