@@ -172,32 +172,79 @@ impl<M: Accesses> Met<'_, M> {
         Ok(Ahead { came, end })
     }
 
-    /// All pieces in one, where they lie one behind the other.
+    /// What comes of the pieces of one thread, in their order.
+    fn pieces_of(
+        &self,
+        alloc: Global,
+        share: Share,
+        job: usize,
+    ) -> Result<Vec<Ahead<M::Shared, M::Thread>>, AllocError>
+        requires { HasSound (reduced M.Moves self.now.system.now) (HasOwning self.now.table.now) }
+        ensures { IfOk result (λ v. ArePieces (M.threads self.now.system.now) (M.stuck self.now.system.now)
+            self.now.table.now v.items) }
+    {
+        let mut pieces = Vec::with_capacity(alloc, share.rounds)?;
+        for round in 0..share.rounds {
+            let from = share.start(round, job);
+            let piece = self.ahead_of(alloc, from, from.saturating_add(PIECE))?;
+            pieces.push(piece)?;
+        }
+        Ok(pieces)
+    }
+
+    /// All pieces in one.
     fn joined(
         &self,
         alloc: Global,
-        pieces: Vec<Result<Ahead<M::Shared, M::Thread>, AllocError>>,
+        share: Share,
+        made: Vec<Result<Vec<Ahead<M::Shared, M::Thread>>, AllocError>>,
     ) -> Result<Ahead<M::Shared, M::Thread>, AllocError>
-        requires { AreAhead (M.threads self.now.system.now) (M.stuck self.now.system.now) self.now.table.now pieces.items }
+        requires { AreMadeBy (M.threads self.now.system.now) (M.stuck self.now.system.now) self.now.table.now made.items }
         ensures { IfOk result (IsAhead (M.threads self.now.system.now) (M.stuck self.now.system.now) self.now.table.now) }
     {
-        let mut pieces = pieces;
-        let Some(last) = pieces.pop() else {
-            return Ok(Ahead::new(alloc));
+        let mut lists = Vec::with_capacity(alloc, made.len())?;
+        for list in made {
+            lists.push(list?)?;
+        }
+        let mut all = Ahead {
+            came: Vec::new(alloc),
+            end: self.table.states.len().min(share.start(share.rounds, 0)),
         };
-        let mut all = last?;
-        while let Some(piece) = pieces.pop() {
-            all.put(piece?)?;
+        for _ in 0..share.rounds {
+            for job in (0..lists.len()).rev() {
+                if let Some(list) = lists.get_mut(job) {
+                    if let Some(piece) = list.pop() {
+                        all.put(piece)?;
+                    }
+                }
+            }
         }
         Ok(all)
+    }
+}
+
+/// How states that wait are shared out: in rounds, in each of which each thread has a piece.
+#[derive(Clone, Copy)]
+struct Share {
+    from: usize,
+    jobs: usize,
+    rounds: usize,
+}
+
+impl Share {
+    /// Where the piece of a thread begins in a round.
+    fn start(self, round: usize, job: usize) -> usize {
+        self.from
+            .saturating_add(round.saturating_mul(self.jobs).saturating_add(job).saturating_mul(PIECE))
     }
 }
 
 /// Of fewer states that wait nothing is made ahead: threads would take longer to start.
 const FEW: usize = 64;
 
-/// Of how many states at most a thread makes ahead what comes of them.
-const PIECE: usize = 1024;
+/// How many states a piece is of, and how many rounds there are at most.
+const PIECE: usize = 8;
+const MOST_ROUNDS: usize = 128;
 
 /// What comes of states from this place on: each of so many threads goes on from as many of those that wait. Where few
 /// wait, it is of none.
@@ -225,7 +272,11 @@ where
     if jobs < 2 || waiting < FEW {
         return Ok(Ahead::new(alloc));
     }
-    let count = waiting.div_ceil(jobs).min(PIECE);
+    let share = Share {
+        from,
+        jobs,
+        rounds: waiting.div_ceil(jobs.saturating_mul(PIECE).max(1)).min(MOST_ROUNDS),
+    };
     let met = Met {
         system,
         table,
@@ -235,13 +286,11 @@ where
         rt,
         alloc,
         jobs,
-        &|job: usize| -> Result<Ahead<M::Shared, M::Thread>, AllocError>
+        &|job: usize| -> Result<Vec<Ahead<M::Shared, M::Thread>>, AllocError>
             requires { HasSound (reduced M.Moves met.system.now) (HasOwning met.table.now) }
-            ensures { IfOk result (IsAhead (M.threads met.entry.system.now) (M.stuck met.entry.system.now) met.entry.table.now) }
-        {
-            let first = from.saturating_add(count.saturating_mul(job));
-            met.ahead_of(alloc, first, first.saturating_add(count))
-        },
+            ensures { IfOk result (λ v. ArePieces (M.threads met.entry.system.now) (M.stuck met.entry.system.now)
+                met.entry.table.now v.items) }
+        { met.pieces_of(alloc, share, job) },
     )?;
-    met.joined(alloc, pieces)
+    met.joined(alloc, share, pieces)
 }
