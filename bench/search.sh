@@ -2,7 +2,8 @@
 # How many runs a second and core `search` makes of a lock that isn't one, with two threads and five rounds, beside a loop of processes
 # that run it. The first counts the processor's time of one job, user and system; the second has malloc keep what is given back.
 # And how long `search --all` takes to go through every order of some locks, and how much memory it takes a state: wanted within a
-# minute and 2 GiB each; and how many states it needs of programs in which nothing races, beside every order.
+# minute and 2 GiB each; how many states it needs of programs in which nothing races, beside every order; and how long that takes by one
+# thread, by two and by four.
 #
 # search.sh strategies: instead, how many runs each strategy makes until it finds the bug of each program of examples/bugs, the median of
 # SEEDS seeds, and how the mix stands to the best of the others; a search that finds nothing in MOST runs counts as more than MOST.
@@ -80,6 +81,23 @@ if command -v clang >/dev/null && command -v wasm-ld >/dev/null; then
     "$top/c/wathread-cc" -O0 "$top/examples/c/mutex.c" -o "$work/mutex-O0.wasm"
     looked_through "$work/mutex-O0.wasm" "mutex at -O0"
 fi
+# Where nothing races, by one thread, two and four: by the clock, the least of TIMES, and whether the same is printed.
+by_jobs() {
+    local jobs took least line="$(basename "$1" .wasm):"
+    for jobs in 1 2 4; do
+        least=
+        for _ in $(seq "${TIMES:-3}"); do
+            took=$( { TIMEFORMAT=%R; time "$program" search "$1" --invoke main --all --states 1000000000 --jobs "$jobs" > "$work/by$jobs"; } 2>&1 )
+            least=$(awk -v a="$took" -v b="${least:-$took}" 'BEGIN { print (a < b ? a : b) }')
+        done
+        line+=" $jobs jobs $least s;"
+        cmp -s "$work/by1" "$work/by$jobs" || line+=" OTHER LINES;"
+    done
+    echo "${line%;}"
+}
+for name in bounded_queue philosophers ticket_lock counter; do
+    by_jobs "$top/examples/c/$name.wasm"
+done
 gone_through peterson 20
 gone_through mutex 3 3
 gone_through tickets 3 4

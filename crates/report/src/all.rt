@@ -23,11 +23,12 @@ use report_jobs::{Trouble, keep, print};
 use report_lines::{write_for_ever, write_found_ending, write_no_end, write_without_run};
 use search_endings::Ending;
 use search_finds::{Hears, entries_leading, is_looked_for, run_round, run_to};
-use search_modules::turn_choices;
+use search_modules::{Hands, turn_choices};
 use search_reach::{FairRuns, Liveness};
 use spawn_host::Request;
 use std::alloc::{AllocError, Global};
 use std::io::{self, Write};
+use std::thread::Threads;
 
 /// An ending of the list that is looked for: its number from 1 on, and the choices by which it was met.
 #[derive(Clone, Copy)]
@@ -416,9 +417,10 @@ fn tell_behind<F: Hears, W: Write, S: Write>(
 /// Goes through all runs of a call: where no threads race by the orders that matter then, and else through every order
 /// of their entries. Tells a race that it found, prints the endings, whether these are all, what is known of races, and
 /// what never ends; then what is told behind that. Answers the status.
-pub fn search_all_orders<F: Hears, W: Write, S: Write>(
+pub fn search_all_orders<R: Threads + Sync, F: Hears, W: Write, S: Write>(
     alloc: Global,
     request: &Request,
+    hands: &Hands<'_, R>,
     asked: Asked,
     most: u32,
     follower: &mut F,
@@ -437,7 +439,7 @@ pub fn search_all_orders<F: Hears, W: Write, S: Write>(
     ensures trouble { IfErr result IsOfSystem }
 {
     let search = asked.search;
-    let look = first_look(alloc, request, search, most, follower)?;
+    let look = first_look(alloc, request, hands, search, most, follower)?;
     follower.end();
     tell_race(alloc, request, asked, &look, out, save)?;
     let whole = whole_of(alloc, request, search, most, look, follower)?;

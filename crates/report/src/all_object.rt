@@ -21,7 +21,7 @@ use report_jobs::{Trouble, keep};
 use report_json::{Complete, Found, RacingThreads, RunEnd, RunRaces, write_complete};
 use report_looks::{CodeBytes, pair_of};
 use search_finds::{Hears, run_round};
-use search_modules::{Race, race_choices};
+use search_modules::{Hands, Race, race_choices};
 use search_races::watched;
 use search_scheduled::MadeRun;
 use show_races::races_shown;
@@ -29,6 +29,7 @@ use show_rows::{CodeMap, Shown, Story};
 use spawn_host::Request;
 use std::alloc::Global;
 use std::io::Write;
+use std::thread::Threads;
 use validate_module::ValidModule;
 
 /// What is told of every order, but for races.
@@ -263,9 +264,10 @@ fn keep_found<S: Write>(
 
 /// Goes through all runs of a call, as `search_all_orders` does, writes the object of what is found, and then the
 /// record, where one is wanted. Answers the status.
-pub fn write_all_orders<F: Hears, W: Write, S: Write>(
+pub fn write_all_orders<R: Threads + Sync, F: Hears, W: Write, S: Write>(
     alloc: Global,
     request: &Request,
+    hands: &Hands<'_, R>,
     asked: Asked,
     most: u32,
     follower: &mut F,
@@ -284,7 +286,7 @@ pub fn write_all_orders<F: Hears, W: Write, S: Write>(
     ensures trouble { IfErr result IsOfSystem }
 {
     let search = asked.search;
-    let look = first_look(alloc, request, search, most, follower)?;
+    let look = first_look(alloc, request, hands, search, most, follower)?;
     follower.end();
     let raced = run_of_race(alloc, request, search, &look)?;
     let whole = whole_of(alloc, request, search, most, look, follower)?;

@@ -35,7 +35,7 @@ pub fn no_memory(_fault: SearchFault) -> Trouble
     Trouble::NoMemory
 }
 
-/// How many threads make runs: as many as are asked for, or as there are processors.
+/// How many threads make runs, or go on from states: as many as are asked for, or as there are processors.
 pub fn jobs_of<R: Threads>(rt: &R, search: &Search) -> usize {
     match search.jobs {
         Some(jobs) => jobs as usize,

@@ -11,7 +11,7 @@ ghost use Rattle.report.specs.Silent.{IfRefusedCall};
 
 use crate::all::search_all_orders;
 use crate::all_object::write_all_orders;
-use crate::asked::Asked;
+use crate::asked::{Asked, jobs_of};
 use crate::drawn::search_drawn;
 use crate::drawn_object::write_drawn_runs;
 use crate::drawn_races::search_drawn_races;
@@ -19,6 +19,7 @@ use crate::racy_object::write_drawn_races;
 use report_command::{Form, Search};
 use report_jobs::{Trouble, args_of, request_of};
 use search_finds::Hears;
+use search_modules::Hands;
 use spawn_host::Request;
 use std::alloc::Global;
 use std::io::Write;
@@ -105,7 +106,8 @@ fn search_runs<R: Threads + Sync, F: Hears, W: Write, S: Write>(
 }
 
 /// Goes through every order of entries, and prints what comes of that in the form that is asked for.
-fn search_orders<F: Hears, W: Write, S: Write>(
+fn search_orders<R: Threads + Sync, F: Hears, W: Write, S: Write>(
+    rt: &R,
     alloc: Global,
     request: &Request,
     asked: Asked,
@@ -124,9 +126,15 @@ fn search_orders<F: Hears, W: Write, S: Write>(
     ensures unwanted { is_some asked.entry.search.now.save ≡ false → Stays save.old save.new }
     ensures trouble { IfErr result IsOfSystem }
 {
+    let jobs = if asked.search.deep {
+        1
+    } else {
+        jobs_of(rt, asked.search)
+    };
+    let hands = Hands { rt, jobs };
     match asked.search.form {
-        Form::Lines => search_all_orders(alloc, request, asked, most, follower, out, save),
-        Form::Json => write_all_orders(alloc, request, asked, most, follower, out, save),
+        Form::Lines => search_all_orders(alloc, request, &hands, asked, most, follower, out, save),
+        Form::Json => write_all_orders(alloc, request, &hands, asked, most, follower, out, save),
     }
 }
 
@@ -158,7 +166,7 @@ pub fn search_module<R: Threads + Sync, F: Hears, W: Write, S: Write>(
     let args = args_of(alloc, module, &search.call)?;
     let request = request_of(module, &search.call, &args);
     match search.all {
-        Some(most) => search_orders(alloc, &request, asked, most, follower, out, save),
+        Some(most) => search_orders(rt, alloc, &request, asked, most, follower, out, save),
         None => search_runs(rt, alloc, &request, asked, follower, out, save),
     }
 }

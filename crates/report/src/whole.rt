@@ -17,10 +17,11 @@ use crate::early::early_of;
 use report_command::Search;
 use report_jobs::Trouble;
 use search_endings::Ending;
-use search_modules::{Race, RaceFree, all_endings, race_free_endings};
+use search_modules::{Hands, Race, RaceFree, all_endings, race_free_endings};
 use search_reach::{Follows, Order, Verdict};
 use spawn_host::Request;
 use std::alloc::Global;
+use std::thread::Threads;
 
 /// What is known of the races of all runs.
 #[derive(Clone, Copy)]
@@ -104,9 +105,10 @@ fn order_of(search: &Search) -> Order
 
 /// The endings of a call by the orders that matter where no threads race. It ends at an ending that is looked for, where
 /// it says so.
-fn free_of<F: Follows>(
+fn free_of<R: Threads + Sync, F: Follows>(
     alloc: Global,
     request: &Request,
+    hands: &Hands<'_, R>,
     search: &Search,
     most: u32,
     follower: &mut F,
@@ -122,7 +124,7 @@ fn free_of<F: Follows>(
     let early = early_of(search);
     let dump = search.sought.dump as usize;
     let order = order_of(search);
-    let mut free = race_free_endings(alloc, request, order, most, dump, &early, follower)?;
+    let mut free = race_free_endings(alloc, request, hands, order, most, dump, &early, follower)?;
     free.ended.levels = None;
     Ok(free)
 }
@@ -152,9 +154,10 @@ fn look_of(free: RaceFree<Ending>) -> FirstLook
 }
 
 /// Looks at all runs of a call by the orders that matter where no threads race, unless every order is asked for.
-pub fn first_look<F: Follows>(
+pub fn first_look<R: Threads + Sync, F: Follows>(
     alloc: Global,
     request: &Request,
+    hands: &Hands<'_, R>,
     search: &Search,
     most: u32,
     follower: &mut F,
@@ -168,7 +171,7 @@ pub fn first_look<F: Follows>(
             way: Vec::new(alloc),
         });
     }
-    let free = free_of(alloc, request, search, most, follower)?;
+    let free = free_of(alloc, request, hands, search, most, follower)?;
     Ok(look_of(free))
 }
 

@@ -148,8 +148,8 @@ AsksColor f Auto =
 
 -- The values of an argument, one for each of its texts; none where it isn't given.
 abbrev pub AsksEach : {T : Type 0} → (List ℕ → T → Type 0) → Found → List ℕ → List T → Type 0
-AsksEach Spells f name values = (texts : List (Bor (List ℕ))) × HasTexts f name texts
-    × AllZip (λ text value. Spells text.now value) texts values
+AsksEach Parses f name values = (texts : List (Bor (List ℕ))) × HasTexts f name texts
+    × AllZip (λ text value. Parses text.now value) texts values
 
 -- Which entries of a record are shown, how, and what is made of it. Bytes may be given by their addresses, or by words.
 pub record AsksLook (f : Found) (how : ShowLook) : Type 0 where

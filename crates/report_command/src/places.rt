@@ -154,68 +154,68 @@ fn thread_in(text: &str) -> Option<u32>
     }
 }
 
-/// A kind of value that texts spell: a type without values, which says how one text is read.
-pub(crate) trait Spelling<'a> {
+/// A parser of values: a type without values, which says how one text is read.
+pub(crate) trait Parser<'a> {
     type Value: Drop;
 
-    /// When a text spells a value.
-    ghost spells: { List ℕ → Self.Value → Type 0 };
+    /// Which value a text has.
+    ghost parses: { List ℕ → Self.Value → Type 0 };
 
-    /// The value that a text spells, if it spells one.
-    fn read(text: &'a str) -> Option<Self::Value>
-        ensures { IfSome result (spells text.now) };
+    /// The value of a text, if it has one.
+    fn parse(text: &'a str) -> Option<Self::Value>
+        ensures { IfSome result (parses text.now) };
 }
 
 /// Lines of a record.
-pub(crate) struct LineSpelling;
+pub(crate) struct LineParser;
 
-impl<'a> Spelling<'a> for LineSpelling {
+impl<'a> Parser<'a> for LineParser {
     type Value = Span;
 
-    ghost spells = { IsSpan };
+    ghost parses = { IsSpan };
 
-    fn read(text: &'a str) -> Option<Span> {
+    fn parse(text: &'a str) -> Option<Span> {
         span_in(text)
     }
 }
 
 /// A thread.
-pub(crate) struct ThreadSpelling;
+pub(crate) struct ThreadParser;
 
-impl<'a> Spelling<'a> for ThreadSpelling {
+impl<'a> Parser<'a> for ThreadParser {
     type Value = u32;
 
-    ghost spells = { IsThread };
+    ghost parses = { IsThread };
 
-    fn read(text: &'a str) -> Option<u32> {
+    fn parse(text: &'a str) -> Option<u32> {
         thread_in(text)
     }
 }
 
 /// Bytes of the memory.
-pub(crate) struct DataSpelling;
+pub(crate) struct DataParser;
 
-impl<'a> Spelling<'a> for DataSpelling {
+impl<'a> Parser<'a> for DataParser {
     type Value = Data<'a>;
 
-    ghost spells = { IsData IsSpan };
+    ghost parses = { IsData IsSpan };
 
-    fn read(text: &'a str) -> Option<Data<'a>> {
+    fn parse(text: &'a str) -> Option<Data<'a>> {
         data_in(text)
     }
 }
 
-/// The values that these texts spell, one for each; `None` where one spells none.
+/// The values of these texts, one for each; `None` where one has none.
 #[tactic(auto, using(crate::proofs::Zipped::zip_next))]
-pub(crate) fn values_in<'a, S: Spelling<'a>>(
+pub(crate) fn values_in<'a, P: Parser<'a>>(
     alloc: Global,
     texts: &[&'a str],
-) -> Result<Option<Vec<S::Value>>, AllocError>
-    ensures { IfOk result (λ read. IfSome read (λ all. AllZip (λ text v. S.spells text.now v) texts.now all.items)) }
+) -> Result<Option<Vec<P::Value>>, AllocError>
+    ensures { IfOk result (λ read. IfSome read (λ all. AllZip (λ text v. P.parses text.now v) texts.now all.items)) }
 {
     let mut values = Vec::new(alloc);
     for at in 0..texts.len() {
-        let Some(value) = S::read(texts[at]) else {
+        let Some(value) = P::parse(texts[at]) else {
             return Ok(None);
         };
         values.push(value)?;

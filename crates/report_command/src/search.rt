@@ -110,11 +110,12 @@ const STRATEGY: Argument = Argument {
     ..OPTION
 };
 
-/// How many threads make runs.
+/// How many threads make runs, or go on from states.
 const JOBS: Argument = Argument {
     name: "jobs",
     value: "N",
-    help: "How many threads make runs, 1 to 256; without it as many as there are processors",
+    help: "How many threads make runs, or go on from states with --all, 1 to 256; without it as many as there are \
+           processors",
     parser: ValueParser::Signed(1, MOST_JOBS as i64),
     ..OPTION
 };
@@ -129,7 +130,7 @@ const ALL_HELP: &str =
 const ALL: Argument = Argument {
     name: "all",
     help: ALL_HELP,
-    conflicts: &["runs", "from", "seed", "strategy", "jobs"],
+    conflicts: &["runs", "from", "seed", "strategy"],
     ..FLAG
 };
 

@@ -17,8 +17,8 @@ use crate::explain::{EXPLAIN, NO_EXPLAIN};
 use crate::form::{Form, JSON, form_of};
 use crate::limits::{DEFAULT_WIDTH, MOST_DUMP, NARROWEST, WIDEST};
 use crate::places::{
-    Data, DataSpelling, LineSpelling, Spelling, ThreadSpelling, When, bytes_in, moment_in,
-    target_in, values_in,
+    Data, DataParser, LineParser, Parser, ThreadParser, When, bytes_in, moment_in, target_in,
+    values_in,
 };
 use crate::words::{short_of, texts_of};
 use clap::ArgMatches;
@@ -285,15 +285,15 @@ fn text_misread(matches: &ArgMatches) -> Option<Misuse> {
 }
 
 /// The values of an argument that has a list of them; `None` where one can't be read.
-fn listed<'a, S: Spelling<'a>>(
+fn listed<'a, P: Parser<'a>>(
     alloc: Global,
     matches: &ArgMatches<'a>,
     name: &str,
-) -> Result<Option<Vec<S::Value>>, AllocError>
-    ensures { IfOk result (λ read. IfSome read (λ all. AsksEach S.spells (found_of matches.now) name.now all.items)) }
+) -> Result<Option<Vec<P::Value>>, AllocError>
+    ensures { IfOk result (λ read. IfSome read (λ all. AsksEach P.parses (found_of matches.now) name.now all.items)) }
 {
     let texts = texts_of(alloc, matches, name)?;
-    values_in::<S>(alloc, texts.as_slice())
+    values_in::<P>(alloc, texts.as_slice())
 }
 
 /// Which of the arguments of `show` can't be read, if one can't.
@@ -301,13 +301,13 @@ pub(crate) fn show_misread(
     alloc: Global,
     matches: &ArgMatches,
 ) -> Result<Option<Misuse>, AllocError> {
-    if listed::<LineSpelling>(alloc, matches, "lines")?.is_none() {
+    if listed::<LineParser>(alloc, matches, "lines")?.is_none() {
         return Ok(Some(Misuse::NoLines));
     }
-    if listed::<ThreadSpelling>(alloc, matches, "thread")?.is_none() {
+    if listed::<ThreadParser>(alloc, matches, "thread")?.is_none() {
         return Ok(Some(Misuse::NoThreads));
     }
-    if listed::<DataSpelling>(alloc, matches, "addr")?.is_none() {
+    if listed::<DataParser>(alloc, matches, "addr")?.is_none() {
         return Ok(Some(Misuse::NoAddresses));
     }
     Ok(text_misread(matches))
@@ -345,13 +345,13 @@ fn look_of<'a>(alloc: Global, matches: &ArgMatches<'a>) -> Result<Option<ShowLoo
     let (Some(view), Some(width)) = (view_of(matches), width_of(matches)) else {
         return Ok(None);
     };
-    let Some(lines) = listed::<LineSpelling>(alloc, matches, "lines")? else {
+    let Some(lines) = listed::<LineParser>(alloc, matches, "lines")? else {
         return Ok(None);
     };
-    let Some(threads) = listed::<ThreadSpelling>(alloc, matches, "thread")? else {
+    let Some(threads) = listed::<ThreadParser>(alloc, matches, "thread")? else {
         return Ok(None);
     };
-    let Some(bytes) = listed::<DataSpelling>(alloc, matches, "addr")? else {
+    let Some(bytes) = listed::<DataParser>(alloc, matches, "addr")? else {
         return Ok(None);
     };
     Ok(Some(ShowLook {

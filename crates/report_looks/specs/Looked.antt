@@ -21,6 +21,7 @@ use Rattle.report_command.specs.declared.places.Data.{Data}
 use Rattle.report_command.specs.declared.places.Data.TheVariants.{At, Named}
 use Rattle.report_command.specs.declared.places.When.{When}
 use Rattle.report_command.specs.declared.places.When.TheVariants.{Line, End, Trap}
+use Rattle.report_command.specs.declared.show.At as At
 use Rattle.report_command.specs.declared.show.ShowLook.{ShowLook}
 use Rattle.report_command.specs.declared.show.View.{View}
 use Rattle.report_command.specs.declared.show.View.TheVariants as views
@@ -79,11 +80,24 @@ AreAddresses map (At addrs) span = span ≡ addrs
 AreAddresses map (Named words) span = (place : Place) × IsWithinOne map.spans.items.items place
     × (span ≡ span_of place.start place.size)
 
+abbrev pub is_end : When → Bool
+is_end (Line line) = false
+is_end End = true
+is_end Trap = false
+
+-- The moment that is asked for, with its place in this record.
+pub record IsHere (r : RecordParts) (at : At.At) (here : Here) : Type 0 where
+  pub place : place_in r at.when ≡ Some here.place
+  pub end : here.is_end ≡ is_end at.when
+  pub addr : here.bytes.addr ≡ at.addr
+  pub count : here.bytes.count ≡ at.count
+  pub raw : here.is_raw ≡ at.is_raw
+
 -- What is wanted of a view, with addresses and places of this record.
 abbrev pub IsWanted : RecordParts → DataMap → View → Wanted → Type 0
 IsWanted r map (views.Write write) w = (addrs : Span) × (before : ℕ) × (w ≡ wanted.Write addrs before)
     × AreAddresses map write.bytes addrs × (place_in r write.before ≡ Some before)
-IsWanted r map (views.Moment at) w = (here : Here) × (w ≡ wanted.Moment here) × (place_in r at.when ≡ Some here.place)
+IsWanted r map (views.Moment at) w = (here : Here) × (w ≡ wanted.Moment here) × IsHere r at here
 IsWanted r map view w = w ≡ wanted.Entries view
 
 -- The look that is asked for, at these addresses.

@@ -29,11 +29,12 @@ pub record IsMomentOf (m : Parts) (r : RecordParts) (at : ℕ) (bytes : Bytes) (
   pub came : WalkCame meaning_in run (take at r.log) walk
   pub round : IsRound moment walk
 
--- There is no such moment behind the record's last entry.
+-- The same of a place that the record has.
 abbrev pub IsMomentIn : Parts → RecordParts → ℕ → Bytes → Moment → Type 0
 IsMomentIn m r at bytes moment = at ≤ length r.log → IsMomentOf m r at bytes moment
 
--- A moment is shown of this record and this module, by this debug section; and whether all words are, as they are.
+-- A moment is shown of this record and this module, by this debug section; and whether locals and operands are shown as the
+-- module has them.
 pub record IsViewOf (m : Parts) (shown : Shown) (map : DataMap) (is_raw : Bool) (view : MomentView) : Type 0 where
   pub of_record : view.shown ≡ shown
   pub of_module : view.valid.now.parts ≡ m

@@ -168,7 +168,7 @@ fn moment_of<'a>(parts: &RecordParts, at: At) -> Result<Wanted<'a>, Unshown>
     };
     Ok(Wanted::Moment(Here {
         place,
-        is_end: at.when == When::End,
+        is_end: matches!(at.when, When::End),
         bytes: Bytes {
             addr: at.addr,
             count: at.count,

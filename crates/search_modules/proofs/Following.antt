@@ -26,7 +26,7 @@ module _ (s : Searched) (made : Effect) (n m : ℕ) where
       → IsRested s.valid.now (called s) standing (z.threads m) → IsAfter s.valid.now s.worker made n standing m (called s) z e
   is_after standing z e by is = record {
     of = refl;
-    workers = workers s.valid.now.parts s.opening.items s.max s.main s.args.now s.worker s.callable;
+    workers = workers s.valid.now.parts s.opening.items s.max s.main s.args.items s.worker s.callable;
     reached = by.reached;
     calls = by.wants;
     makes = by.is;

@@ -21,7 +21,7 @@ use Rattle.search_modules.specs.declared.called.Searched.{Searched}
 
 -- What is called.
 abbrev pub called : Searched → Called
-called s = called_of s.valid.now.parts s.opening.items s.max s.main s.args.now s.worker
+called s = called_of s.valid.now.parts s.opening.items s.max s.main s.args.items s.worker
 
 -- Its threads, and what stands for them.
 abbrev pub threads : Searched → ThreadSystem Shared Thread Event Reply Answer Common HashedThread Effect

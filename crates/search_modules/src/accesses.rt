@@ -6,7 +6,7 @@ use search_race_free::Accesses;
 use search_settled::Access;
 use std::alloc::{AllocError, Global};
 
-impl Accesses for Searched<'_, '_> {
+impl Accesses for Searched<'_> {
     ghost use Rattle.search_modules.specs.Moved.{called};
     ghost use Rattle.search_runs.proofs.Accessing.{plain, beyond, finished};
 

@@ -22,7 +22,13 @@ pub(crate) fn first_flat(
     ensures first { IfOk result (λ o. IfSome o (IsBeginning (threads searched.now))) }
     ensures gives_up { IfOk result (λ o. o ≡ None → IsStuck searched.now (threads searched.now).first) }
 {
-    let Some(main) = begin(alloc, searched.valid, searched.main, searched.args)? else {
+    let Some(main) = begin(
+        alloc,
+        searched.valid,
+        searched.main,
+        searched.args.as_slice(),
+    )?
+    else {
         return Ok(None);
     };
     let shared = first_common(alloc, searched.opening.as_slice(), searched.max)?;

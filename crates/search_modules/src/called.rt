@@ -8,16 +8,16 @@ use validate_module::ValidModule;
 
 /// A call of a function of a module, and how many first bytes of the memory are looked at in the end.
 #[derive(Drop)]
-pub struct Searched<'m, 'a> {
+pub struct Searched<'m> {
     pub valid: &'m ValidModule,
     /// The opening memory: its bytes, and how many pages it may have.
     pub opening: Vec<u8>,
     pub max: u32,
     /// The number of the function that thread 0 calls, from 0 without the imported ones, and its arguments.
     pub main: usize,
-    pub args: &'a [Value],
+    pub args: Vec<Value>,
     /// The number of the function that spawned threads call.
     pub worker: Option<usize>,
     pub dump: usize,
-    ghost callable: { is_callable valid.now.parts opening.items max main args.now worker ≡ true },
+    ghost callable: { is_callable valid.now.parts opening.items max main args.items worker ≡ true },
 }

@@ -9,6 +9,7 @@ ghost use Rattle.search_modules.specs.Moved.{called};
 use crate::called::Searched;
 use spawn_host::{Request, thread_start};
 use std::alloc::{AllocError, Global};
+use types::Value;
 use validate_module::ValidModule;
 
 /// The number of the function that spawned threads call, where the module can start some.
@@ -21,15 +22,24 @@ fn worker_of(valid: &ValidModule) -> Option<usize>
     Some(thread_start(valid))
 }
 
+/// A copy.
+fn copied(alloc: Global, args: &[Value]) -> Result<Vec<Value>, AllocError>
+    ensures { IfOk result (λ v. v.items ≡ args.now) }
+{
+    let mut all = Vec::with_capacity(alloc, args.len())?;
+    all.extend_from_slice(args)?;
+    Ok(all)
+}
+
 /// What is searched: the call that is requested, of which so many first bytes are looked at in the end.
 ///
 /// # Errors
 /// Where memory is refused.
-pub(crate) fn searched<'m, 'a>(
+pub(crate) fn searched<'m>(
     alloc: Global,
-    request: &Request<'m, 'a>,
+    request: &Request<'m, '_>,
     dump: usize,
-) -> Result<Searched<'m, 'a>, AllocError>
+) -> Result<Searched<'m>, AllocError>
     ensures call { IfOk result (λ s. IsCall request.now.parts request.now.name request.now.args (called s)) }
     ensures worker { IfOk result (λ s. IsWorkerOf request.now.parts s.worker) }
     ensures dump { IfOk result (λ s. s.dump ≡ dump) }
@@ -38,12 +48,13 @@ pub(crate) fn searched<'m, 'a>(
     let valid = request.module();
     let _parts = valid.parts();
     let opening = valid.image(alloc)?;
+    let args = copied(alloc, request.call().args)?;
     Ok(Searched {
         valid,
         opening,
         max: valid.pages_max(),
         main: request.number(),
-        args: request.call().args,
+        args,
         worker: worker_of(valid),
         dump,
     })

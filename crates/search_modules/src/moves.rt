@@ -8,7 +8,7 @@ use search_parts::{Common, Effect, SharedWalker, ending_at, is_untouched, make_e
 use search_settled::{Flat, Moves};
 use std::alloc::{AllocError, Global};
 
-impl Moves for Searched<'_, '_> {
+impl Moves for Searched<'_> {
     ghost use Rattle.types.specs.declared.event.Event.{Event};
     ghost use Rattle.types.specs.declared.event.Reply.{Reply};
     ghost use Rattle.types.specs.declared.event.Answer.{Answer};

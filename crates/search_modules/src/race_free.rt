@@ -9,9 +9,12 @@ ghost use Rattle.search_modules.specs.Endings.{HasSought};
 ghost use Rattle.search_modules.specs.Liveness.{CountsOwned, SaysWhereAllFree};
 ghost use Rattle.search_modules.specs.Races.{CanRaceSo, NeverRaces, race_free_claims_of};
 
+use crate::called::Searched;
 use crate::calling::searched;
 use search_endings::Ending;
-use search_race_free::{RaceFree, all_choices, race_choices as choices_to_race, search_race_free};
+use search_race_free::{
+    Crew, RaceFree, all_choices, race_choices as choices_to_race, search_race_free,
+};
 use search_reach::{Follows, Order, Seeks};
 use spawn_host::Request;
 use std::alloc::{AllocError, Global};
@@ -31,19 +34,21 @@ const MOST_PLAIN: u32 = 10_000;
 ///
 /// All else is as of `all_endings`, which ends at an ending that is looked for too, but `states` counts states with what
 /// each thread owns: what it has read and written since it last made anything but loads and stores that aren't atomic.
-/// Of `levels` nothing is said.
+/// Of `levels` nothing is said. A crew (`Hands`) may make ahead what comes of states: nothing that is said depends on it.
 ///
 /// # Errors
 /// Where memory is refused.
-pub fn race_free_endings<Q: Seeks<Ending>, F: Follows>(
+pub fn race_free_endings<'m, C: Crew<Searched<'m>>, Q: Seeks<Ending>, F: Follows>(
     alloc: Global,
-    request: &Request,
+    request: &Request<'m, '_>,
+    crew: &C,
     order: Order,
     most_states: u32,
     dump: usize,
     sought: &Q,
     follower: &mut F,
 ) -> Result<RaceFree<Ending>, AllocError>
+    requires { C.ready crew.now }
     ensures found { IfOk result
         (λ r. AreListed (race_free_claims_of request.now dump) most_states (F.wish follower.new) r.ended) }
     ensures paths { IfOk result (λ r. vec_len r.ended.paths ≡ index_set_len r.ended.endings) }
@@ -62,6 +67,7 @@ pub fn race_free_endings<Q: Seeks<Ending>, F: Follows>(
     search_race_free(
         alloc,
         &searched,
+        crew,
         order,
         most_states,
         MOST_PLAIN,

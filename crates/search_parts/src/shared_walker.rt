@@ -7,12 +7,12 @@ use search_walkers::RestingThread;
 use std::alloc::{AllocError, Global};
 use std::hash::{Hash, Hasher};
 use std::marker::Model;
-use std::rc::Rc;
+use std::sync::Arc;
 
 /// A thread at rest, kept once for all states to which nothing happened to it from one to the next.
 #[derive(Drop)]
 pub struct SharedWalker {
-    walker: Rc<HashedThread, Global>,
+    walker: Arc<HashedThread, Global>,
 }
 
 impl Model for SharedWalker {
@@ -31,7 +31,7 @@ impl SharedWalker {
     pub fn new(alloc: Global, standing: RestingThread) -> Result<SharedWalker, AllocError>
         ensures { IfOk result (λ t. t.standing ≡ standing) }
     {
-        let walker = Rc::new(alloc, HashedThread::new(standing))?;
+        let walker = Arc::new(alloc, HashedThread::new(standing))?;
         Ok(SharedWalker { walker })
     }
 
@@ -50,7 +50,7 @@ impl SharedWalker {
     pub fn walker(&self) -> &HashedThread
         ensures { result.now ≡ self.now }
     {
-        self.walker.as_ref()
+        &*self.walker
     }
 }
 

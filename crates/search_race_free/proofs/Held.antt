@@ -5,12 +5,11 @@ use Rattle.std.specs.List.{slice_get, AllZip, AllByRecursion, IsDistinct, Contai
 use Rattle.std.specs.Cmp.{first_so, second_so}
 use Rattle.std.specs.Cmp.Lexicographic.{pointwise}
 use Rattle.std.proofs.lemmas.List.{map-append, length-map}
-use Rattle.std.proofs.lemmas.Option.{none-some, slice_get-map, slice_get-get_or}
+use Rattle.std.proofs.lemmas.Option.{slice_get-map, slice_get-get_or}
 use Rattle.std.proofs.lemmas.Slice.Zip.{all_zipped_more}
 use Rattle.search_graph.specs.declared.graph.Move.{Move}
-use Rattle.search_table.specs.declared.table.Row.{Row}
-use Rattle.search_table.specs.declared.table.Table.{Table}
-use Rattle.search_table.specs.Tables.{Grows, AreDistinct, IsEmptyTable}
+use Rattle.search_table.specs.declared.parts.Parts.{Parts}
+use Rattle.search_table.specs.Tables.{Grows, ArePartsDistinct, AreStates, states_of}
 use Rattle.schedule.specs.System.{State}
 use Rattle.search_reach.specs.declared.explores.Next.{Next}
 use Rattle.search_reach.specs.Search.{StepSystem, HasOf, LeadsOn, ComesBy, AreNext}
@@ -25,6 +24,7 @@ use Rattle.search_settled.proofs.Rows.{beside, beside-back, zip-length, next-gro
 use Rattle.search_settled.proofs.Nexting.{with_parts}
 use Rattle.search_race_free.specs.declared.owning.Owning.{Owning}
 use Rattle.search_race_free.specs.declared.met.Held.{Held}
+use Rattle.search_race_free.specs.declared.met.Table.{Table}
 use Rattle.search_race_free.specs.contracts.owning.TouchPartialEq.TheImpl as touches
 use Rattle.search_race_free.specs.Same.{owning_eq, same_touches, stands-there}
 use Rattle.search_race_free.specs.Reduced.{StandsBefore}
@@ -179,7 +179,7 @@ module _ {S W E : Type 0} (k : StepSystem S W E) where
 -- Rows of states, as they are put.
 module _ {G H : Type 0} (eq_shared : G → G → Bool) (eq_thread : H → H → Bool) where
   -- the state of the row
-  pub row-state : (t : Table (Held G) H) (s : Owning (Flat G H)) (r : Row) → IsHeldRow eq_shared eq_thread t s r
+  pub row-state : (t : Parts (Held G) H) (s : Owning (Flat G H)) (r : List ℕ) → IsHeldRow eq_shared eq_thread t s r
       → (y : Flat (Held G) H) × IsOf t r y × (owning_eq eq_shared eq_thread s (parted y) ≡ true)
   unfolding with_parts
   row-state t s r w =
@@ -192,14 +192,14 @@ module _ {G H : Type 0} (eq_shared : G → G → Bool) (eq_thread : H → H → 
       ap (λ b. b && pointwise eq_thread (c.threads).items w.threads) w.shared_equal ∙ w.threads_equal in
       (y, w.of, sym (same-eq eq_shared eq_thread s (parted y)) ∙ equal)
 
-  pub rows-none : (t : Table (Held G) H) (rs : List NextRow) → rs ≡ [] → AreHeldRows eq_shared eq_thread t [] rs
+  pub rows-none : (t : Parts (Held G) H) (rs : List NextRow) → rs ≡ [] → AreHeldRows eq_shared eq_thread t [] rs
   rows-none t rs none = record { next = []; are = subst (λ l. AllZip (IsNextRow t) l []) (sym none) tt; equal = tt }
 
-  pub rows-more : (t u : Table (Held G) H) → Grows t u → (xs : List (Next (Owning (Flat G H)))) (rs after : List NextRow) (x : Next (Owning (Flat G H))) (r : NextRow)
-      → AreHeldRows eq_shared eq_thread t xs rs → r.thread ≡ x.thread → IsHeldRow eq_shared eq_thread u x.state r.row → after ≡ rs ++ r ∷ []
+  pub rows-more : (t u : Parts (Held G) H) → Grows t u → (xs : List (Next (Owning (Flat G H)))) (rs after : List NextRow) (x : Next (Owning (Flat G H))) (r : NextRow)
+      → AreHeldRows eq_shared eq_thread t xs rs → r.thread ≡ x.thread → IsHeldRow eq_shared eq_thread u x.state r.row.items → after ≡ rs ++ r ∷ []
       → AreHeldRows eq_shared eq_thread u (xs ++ x ∷ []) after
   rows-more t u grows xs rs after x r so thread row pushed =
-      let y = row-state u x.state r.row row in
+      let y = row-state u x.state r.row.items row in
       let new : Next (Flat (Held G) H) = record { thread = x.thread; state = y.0 } in
       record {
         next = so.next ++ new ∷ [];
@@ -211,10 +211,10 @@ module _ {G H : Type 0} (eq_shared : G → G → Bool) (eq_thread : H → H → 
 
   -- no two of the states of a table are equal
   pub owning-distinct : ((x y : G) → eq_shared x y ≡ true → eq_shared y x ≡ true) → ((x y : H) → eq_thread x y ≡ true → eq_thread y x ≡ true)
-      → (t : Table (Held G) H) → AreDistinct (held_eq eq_shared) eq_thread t → (ks : List (Owning (Flat G H))) → HasOwning t ks
+      → (t : Table G H) → ArePartsDistinct (held_eq eq_shared) eq_thread t.parts → (ks : List (Owning (Flat G H))) → HasOwning t ks
       → IsDistinct (owning_eq eq_shared eq_thread) ks
   owning-distinct shared thread t distinct ks has =
-      distinct-held eq_shared eq_thread ks (states-distinct (held_eq eq_shared) eq_thread held-back thread t distinct (map held ks) has.are)
+      distinct-held eq_shared eq_thread ks (states-distinct (held_eq eq_shared) eq_thread held-back thread t.parts distinct t.states has.table (map held ks) has.are)
     where
       held-back : (x y : Held G) → held_eq eq_shared x y ≡ true → held_eq eq_shared y x ≡ true
       held-back x y e =
@@ -225,19 +225,22 @@ module _ {G H : Type 0} (eq_shared : G → G → Bool) (eq_thread : H → H → 
           ∙ subst (λ l. pointwise touches.eq-value.it l x.owned.items ≡ true) p (subst (λ l. pointwise touches.eq-value.it x.owned.items l ≡ true) (sym p) o)
 
 module _ {G H : Type 0} where
-  pub owning-none : (t : Table (Held G) H) → IsEmptyTable t → HasOwning t []
-  owning-none t empty = record {
-    ordered = λ p l at. absurd (none-some l (subst (λ ls. slice_get ls p ≡ Some l) empty.links at));
-    are = subst (λ rs. AllZip (IsOf t) rs []) (sym empty.rows) tt;
-  }
+  pub owning-none : (t : Table G H) → AreStates t.states → states_of t.states ≡ [] → HasOwning t []
+  owning-none t are empty = record { table = are; are = subst (λ rs. AllZip (IsOf t.parts) rs []) (sym empty) tt }
 
-  pub owning-count : (t : Table (Held G) H) (ks : List (Owning (Flat G H))) → HasOwning t ks → (count : ℕ) → count ≡ length t.rows.keys → count ≡ length ks
-  owning-count t ks has count is = is ∙ (sym (zip-length (IsOf t) t.rows.keys (map held ks) has.are) ∙ length-map ks held)
+  pub owning-count : (t : Table G H) (ks : List (Owning (Flat G H))) → HasOwning t ks → (count : ℕ) → count ≡ length (states_of t.states) → count ≡ length ks
+  owning-count t ks has count is = is ∙ (sym (zip-length (IsOf t.parts) (states_of t.states) (map held ks) has.are) ∙ length-map ks held)
 
   -- the row of a state
-  pub row-at : (t : Table (Held G) H) (ks : List (Owning (Flat G H))) → AreOf t (map held ks) → (at : ℕ) (s : Owning (Flat G H)) → slice_get ks at ≡ Some s
-      → (r : Row) × (slice_get t.rows.keys at ≡ Some r) × IsOf t r (held s)
-  row-at t ks are at s is = beside-back (IsOf t) t.rows.keys (map held ks) are at (held s) (slice_get-map held ks at ∙ ap (option_map held) is)
+  pub row-at : (t : Table G H) (ks : List (Owning (Flat G H))) → AreOf t.parts t.states (map held ks) → (at : ℕ) (s : Owning (Flat G H)) → slice_get ks at ≡ Some s
+      → (r : List ℕ) × (slice_get (states_of t.states) at ≡ Some r) × IsOf t.parts r (held s)
+  row-at t ks are at s is =
+      beside-back (IsOf t.parts) (states_of t.states) (map held ks) are at (held s) (slice_get-map held ks at ∙ ap (option_map held) is)
+
+  -- which has a number
+  pub some-number : (t : Parts (Held G) H) (r : List ℕ) (c : Flat (Held G) H) → IsOf t r c → length r ≡ 0 → ⊥
+  some-number t [] c of none = of
+  some-number t (n ∷ ns) c of none = absurd (cc none)
 
 -- A copy stands for the same.
 module _ {X T E V A G H M : Type 0} (k : ThreadSystem X T E V A G H M) where

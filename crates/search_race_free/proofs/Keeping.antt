@@ -5,9 +5,7 @@ use Rattle.std.proofs.lemmas.List.{length-map, nil_from_length}
 use Rattle.std.proofs.lemmas.Option.{none-some}
 use Rattle.schedule.specs.System.{State}
 use Rattle.search_graph.specs.declared.graph.Move.{Move}
-use Rattle.search_table.specs.declared.table.Row.{Row}
-use Rattle.search_table.specs.declared.table.Table.{Table}
-use Rattle.search_table.specs.Tables.{IsOrdered, IsChain, Grows, HasSameParts, with_row}
+use Rattle.search_table.specs.Tables.{AreThreads, Grows, AreStates, states_of, with_row}
 use Rattle.search_reach.specs.declared.explores.Next.{Next}
 use Rattle.search_reach.specs.Search.{IsFirst, IsMet, IsEnding, AreNext, AllGetStuck}
 use Rattle.search_reach.specs.Meeting.{HasMetAt, OfStateAt, HasFirst, GoesOn}
@@ -18,9 +16,10 @@ use Rattle.search_settled.specs.declared.met.NextRow.{NextRow}
 use Rattle.search_settled.specs.Parts.{HasParts}
 use Rattle.search_settled.specs.Next.{HasEnded}
 use Rattle.search_settled.specs.Known.{IsOf, AreOf, PutsRows}
-use Rattle.search_settled.proofs.Rows.{row-same, states-grow, zip-length}
+use Rattle.search_settled.proofs.Rows.{states-grow, zip-length}
 use Rattle.search_race_free.specs.declared.owning.Owning.{Owning}
 use Rattle.search_race_free.specs.declared.met.Held.{Held}
+use Rattle.search_race_free.specs.declared.met.Table.{Table}
 use Rattle.search_race_free.specs.Same.{owning_eq}
 use Rattle.search_race_free.specs.Wanted.{ArePlain}
 use Rattle.search_race_free.specs.Reduced.{reduced_steps}
@@ -41,7 +40,7 @@ module _ {X T E V A G H M O : Type 0} (k : ThreadSystem X T E V A G H M) (ends :
   pub stuck-copy : (s copy : Owning (Flat G H)) → IsCopy k s copy → AllGetStuck (reduced_steps k ends stuck) copy → AllGetStuck (reduced_steps k ends stuck) s
   stuck-copy s copy is all w stands = all w (stands.0, copy-stands k s copy is w stands.0 stands.1)
 
-  pub copy-at : (t : Table (Held G) H) (at : ℕ) (o : Option (Owning (Flat G H))) → IsStateAt k t at o → (copy : Owning (Flat G H)) → o ≡ Some copy
+  pub copy-at : (t : Table G H) (at : ℕ) (o : Option (Owning (Flat G H))) → IsStateAt k t at o → (copy : Owning (Flat G H)) → o ≡ Some copy
       → (ks : List (Owning (Flat G H))) (s : Owning (Flat G H)) → HasOwning t ks → slice_get ks at ≡ Some s → IsCopy k s copy
   copy-at t at o so copy is ks s has there =
       let c = so ks s has.are there in
@@ -49,20 +48,20 @@ module _ {X T E V A G H M O : Type 0} (k : ThreadSystem X T E V A G H M) (ends :
       subst (IsCopy k s) same c.2
 
   -- the row of a state that was met
-  pub row-met : (t : Table (Held G) H) (at : ℕ) → HasMetAt (reduced_steps k ends stuck) (HasOwning t) at → (row : Row) → slice_get t.rows.keys at ≡ Some row
-      → (s : Owning (Flat G H)) × IsOf t row (held s) × IsMet (reduced_steps k ends stuck) s
+  pub row-met : (t : Table G H) (at : ℕ) → HasMetAt (reduced_steps k ends stuck) (HasOwning t) at → (row : List ℕ) → slice_get (states_of t.states) at ≡ Some row
+      → (s : Owning (Flat G H)) × IsOf t.parts row (held s) × IsMet (reduced_steps k ends stuck) s
   row-met t at met row is =
       let r = row-at t met.0 (met.2).are at met.1 met.3 in
       let same : r.0 ≡ row = cc (r.1, is) in
-      (met.1, subst (λ v. IsOf t v (held met.1)) same r.2, met.4)
+      (met.1, subst (λ v. IsOf t.parts v (held met.1)) same r.2, met.4)
 
-  pub met-row : (t : Table (Held G) H) (at : ℕ) → HasMetAt (reduced_steps k ends stuck) (HasOwning t) at → slice_get t.rows.keys at ≡ None → ⊥
+  pub met-row : (t : Table G H) (at : ℕ) → HasMetAt (reduced_steps k ends stuck) (HasOwning t) at → slice_get (states_of t.states) at ≡ None → ⊥
   met-row t at met none =
       let r = row-at t met.0 (met.2).are at met.1 met.3 in
       absurd (cc (r.1, none))
 
   -- no copy, where there is no state
-  pub copy-none : (t : Table (Held G) H) (at : ℕ) (o : Option (Owning (Flat G H))) → IsStateAt k t at o → o ≡ None
+  pub copy-none : (t : Table G H) (at : ℕ) (o : Option (Owning (Flat G H))) → IsStateAt k t at o → o ≡ None
       → (ks : List (Owning (Flat G H))) (s : Owning (Flat G H)) → HasOwning t ks → slice_get ks at ≡ Some s → ⊥
   copy-none t at o so none ks s has there =
       let c = so ks s has.are there in
@@ -74,15 +73,15 @@ module _ {X T E V A G H M O : Type 0} (k : ThreadSystem X T E V A G H M) (ends :
     known-copy s copy is met = known-met k tame plain ends stuck beyond copy (met-copy s copy is met)
 
     -- how a state has ended, of which these are the parts
-    pub ended-at : NobodyGoesOn k.system k.accesses ends → (t : Table (Held G) H) (at : ℕ) (row : Row) → slice_get t.rows.keys at ≡ Some row
-        → (h : Held G) → slice_get t.shared.keys row.shared ≡ Some h → (each : List H)
-        → ((xs : List H) → IsChain t.threads.keys t.links.keys row.chain xs → each ≡ xs)
+    pub ended-at : NobodyGoesOn k.system k.accesses ends → (t : Table G H) (at number : ℕ) (numbers : List ℕ)
+        → slice_get (states_of t.states) at ≡ Some (number ∷ numbers) → (h : Held G) → slice_get t.parts.shared.keys number ≡ Some h → (each : List H)
+        → ((xs : List H) → AreThreads t.parts numbers xs → each ≡ xs)
         → (o : Option O) → ((c : Flat G H) → HasParts h.shared each c → HasEnded k ends c o)
         → OfStateAt (reduced_steps k ends stuck) (HasOwning t) at (λ ks s. IsEnding (reduced_steps k ends stuck) s o)
-    ended-at finished t at row is h h_at each all o ended ks s has there met =
+    ended-at finished t at number numbers is h h_at each all o ended ks s has there met =
         let r = row-at t ks has.are at s there in
-        let same : r.0 ≡ row = cc (r.1, is) in
-        let of = subst (λ v. IsOf t v (held s)) same r.2 in
+        let same : r.0 ≡ number ∷ numbers = cc (r.1, is) in
+        let of = subst (λ v. IsOf t.parts v (held s)) same r.2 in
         let shared : (held s).shared ≡ h = cc (of.0, h_at) in
         ending-is k tame plain ends stuck beyond finished s o (ended s.flat (ap (λ x. x.shared) shared, sym (all s.flat.threads.items of.1)))
 
@@ -90,13 +89,13 @@ module _ {X T E V A G H M O : Type 0} (k : ThreadSystem X T E V A G H M) (ends :
 module _ {X T E V A G H M O : Type 0} (k : ThreadSystem X T E V A G H M) (ends : State X T → O → Type 0) (stuck : State X T → Type 0)
     (eq_shared : G → G → Bool) (eq_thread : H → H → Bool)
     (alike : (x y : Owning (Flat G H)) → owning_eq eq_shared eq_thread x y ≡ true → StandsAlike (reduced_steps k ends stuck) x y) where
-  pub first-put : (t u new : Table (Held G) H) → HasOwning t [] → Grows t u → IsOrdered u.links.keys → HasSameParts u new → (r : Row)
-      → new.rows.keys ≡ with_row u.rows.keys r → (s : Owning (Flat G H)) → IsFirst (reduced_steps k ends stuck) s → IsHeldRow eq_shared eq_thread u s r
-      → HasFirst (reduced_steps k ends stuck) (HasOwning new)
-  first-put t u new has grows ordered parts r put s first row =
-      let y = row-state eq_shared eq_thread u s r row in
-      let none : u.rows.keys ≡ [] = grows.rows ∙ nil_from_length t.rows.keys (sym (zip-length (IsOf t) t.rows.keys [] has.are)) in
-      let one : new.rows.keys ≡ r ∷ [] = put ∙ ap (λ rs. with_row rs r) none in
+  pub first-put : (t new : Table G H) → HasOwning t [] → AreStates new.states → (r : List ℕ)
+      → states_of new.states ≡ with_row (states_of t.states) r → (s : Owning (Flat G H)) → IsFirst (reduced_steps k ends stuck) s
+      → IsHeldRow eq_shared eq_thread new.parts s r → HasFirst (reduced_steps k ends stuck) (HasOwning new)
+  first-put t new has table r put s first row =
+      let y = row-state eq_shared eq_thread new.parts s r row in
+      let none : states_of t.states ≡ [] = nil_from_length (states_of t.states) (sym (zip-length (IsOf t.parts) (states_of t.states) [] has.are)) in
+      let one : states_of new.states ≡ r ∷ [] = put ∙ ap (λ rs. with_row rs r) none in
       record {
         state = parted y.0;
         is = record {
@@ -104,10 +103,7 @@ module _ {X T E V A G H M O : Type 0} (k : ThreadSystem X T E V A G H M) (ends :
           one = first.one;
           begun = first.begun;
         };
-        held = record {
-          ordered = subst IsOrdered (sym parts.links) ordered;
-          are = subst (λ rs. AllZip (IsOf new) rs (y.0 ∷ [])) (sym one) (row-same u new parts r (y.0).shared (y.0).threads.items y.1, tt);
-        };
+        held = record { table = table; are = subst (λ rs. AllZip (IsOf new.parts) rs (y.0 ∷ [])) (sym one) (y.1, tt) };
       }
 
   like-all : (xs : List (Next (Owning (Flat G H)))) (ys : List (Next (Flat (Held G) H)))
@@ -118,24 +114,21 @@ module _ {X T E V A G H M O : Type 0} (k : ThreadSystem X T E V A G H M) (ends :
   like-all (x ∷ xs) [] h = absurd h
   like-all (x ∷ xs) (y ∷ ys) h = (record { thread = (h.0).0; state = alike x.state (parted y.state) (h.0).1 }, like-all xs ys h.1)
 
-  pub next-put : (t middle new : Table (Held G) H) (at : ℕ) (o : Option (Owning (Flat G H))) → IsStateAt k t at o → (copy : Owning (Flat G H)) → o ≡ Some copy
+  pub next-put : (t new : Table G H) (at : ℕ) (o : Option (Owning (Flat G H))) → IsStateAt k t at o → (copy : Owning (Flat G H)) → o ≡ Some copy
       → (xs : List (Next (Owning (Flat G H)))) → AreNext (reduced_steps k ends stuck) copy xs
-      → Grows t middle → IsOrdered middle.links.keys → HasSameParts middle new → (rs : List NextRow) → AreHeldRows eq_shared eq_thread middle xs rs
-      → (before after : List Move) → PutsRows (held_eq eq_shared) eq_thread middle new at rs before after
+      → Grows t.parts new.parts → AreStates new.states → (rs : List NextRow) → AreHeldRows eq_shared eq_thread new.parts xs rs
+      → (before after : List Move) → PutsRows (held_eq eq_shared) eq_thread new.parts t.states new.states at rs before after
       → OfStateAt (reduced_steps k ends stuck) (HasOwning t) at
       (λ ks s. GoesOn (reduced_steps k ends stuck) (HasOwning new) (owning_eq eq_shared eq_thread) ks at s before after)
-  next-put t middle new at o so copy is xs next grows ordered parts rs rows before after puts ks s has there met =
+  next-put t new at o so copy is xs next grows table rs rows before after puts ks s has there met =
       let c = copy-at k ends stuck t at o so copy is ks s has there in
-      let p = puts (map held ks) rows.next (states-grow t middle grows (map held ks) has.are) rows.are in
+      let p = puts (map held ks) rows.next (states-grow t.parts new.parts grows t.states (map held ks) has.are) rows.are in
       record {
         next = map next_parted rows.next;
         are = next-like (reduced_steps k ends stuck) s copy (copy-stands k s copy c) (stands-copy k s copy c) xs (map next_parted rows.next)
             (like-all xs rows.next rows.equal) next;
         states = map parted p.0;
-        held = record {
-          ordered = subst IsOrdered (sym parts.links) ordered;
-          are = subst (AreOf new) (sym (held-all p.0)) p.1;
-        };
+        held = record { table = table; are = subst (AreOf new.parts new.states) (sym (held-all p.0)) p.1 };
         gains = gains-held eq_shared eq_thread ks rows.next p.0 p.2;
         noted = λ few. notes-held eq_shared eq_thread p.0 at rows.next before after (p.3 (subst (λ n. n < 2 ^ 32) (length-map p.0 parted) few));
       }

@@ -15,3 +15,5 @@ pub mod Following
 pub mod Beginning
 mod Held
 mod Keeping
+mod Pieces
+pub mod Crossing

@@ -9,3 +9,4 @@ pub mod Turns
 pub mod Same
 pub mod Laws
 pub mod Met
+pub mod Ahead

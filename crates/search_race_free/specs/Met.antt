@@ -2,9 +2,8 @@
 use Rattle.std.specs.Prelude.{ℕ, ◌≡◌, ◌↔◌, ◌&&◌, Bool, true, List, map, Option, Some}
 use Rattle.std.specs.List.{slice_get, AllZip}
 use Rattle.std.specs.Cmp.Lexicographic.{pointwise}
-use Rattle.search_table.specs.declared.table.Row.{Row}
-use Rattle.search_table.specs.declared.table.Table.{Table}
-use Rattle.search_table.specs.Tables.{IsOrdered}
+use Rattle.search_table.specs.declared.parts.Parts.{Parts}
+use Rattle.search_table.specs.Tables.{AreStates}
 use Rattle.search_reach.specs.declared.explores.Next.{Next}
 use Rattle.search_settled.specs.Threads.{ThreadSystem}
 use Rattle.search_settled.specs.declared.flat.Flat.{Flat}
@@ -13,6 +12,7 @@ use Rattle.search_settled.specs.Known.{AreOf, IsNextRow, IsRowOfEqual}
 use Rattle.search_race_free.specs.contracts.owning.TouchPartialEq.TheImpl as touches
 use Rattle.search_race_free.specs.declared.owning.Owning.{Owning}
 use Rattle.search_race_free.specs.declared.met.Held.{Held}
+use Rattle.search_race_free.specs.declared.met.Table.{Table}
 use Rattle.search_race_free.specs.Same.{owning_eq}
 
 -- What is owned is taken with what is shared, and the other way round.
@@ -26,13 +26,13 @@ abbrev pub held_eq : {G : Type 0} → (G → G → Bool) → Held G → Held G �
 held_eq eq_shared x y = eq_shared x.shared y.shared && pointwise touches.eq-value.it x.owned.items y.owned.items
 
 -- The table has these states.
-pub record HasOwning {G H : Type 0} (t : Table (Held G) H) (ks : List (Owning (Flat G H))) : Type 0 where
-  pub ordered : IsOrdered t.links.keys
-  pub are : AreOf t (map held ks)
+pub record HasOwning {G H : Type 0} (t : Table G H) (ks : List (Owning (Flat G H))) : Type 0 where
+  pub table : AreStates t.states
+  pub are : AreOf t.parts t.states (map held ks)
 
-module _ {G H : Type 0} (eq_shared : G → G → Bool) (eq_thread : H → H → Bool) (t : Table (Held G) H) where
+module _ {G H : Type 0} (eq_shared : G → G → Bool) (eq_thread : H → H → Bool) (t : Parts (Held G) H) where
   -- The row is of a state that equals this one.
-  abbrev pub IsHeldRow : Owning (Flat G H) → Row → Type 0
+  abbrev pub IsHeldRow : Owning (Flat G H) → List ℕ → Type 0
   IsHeldRow s r = IsRowOfEqual (held_eq eq_shared) eq_thread t (held s) r
 
   -- The rows are of states that equal these.
@@ -49,6 +49,6 @@ module _ {X T E V A G H M : Type 0} (k : ThreadSystem X T E V A G H M) where
     pub owned : copy.owned.items ≡ s.owned.items
 
   -- It is a copy of the state at this place.
-  abbrev pub IsStateAt : Table (Held G) H → ℕ → Option (Owning (Flat G H)) → Type 0
-  IsStateAt t at o = (ks : List (Owning (Flat G H))) (s : Owning (Flat G H)) → AreOf t (map held ks) → slice_get ks at ≡ Some s
+  abbrev pub IsStateAt : Table G H → ℕ → Option (Owning (Flat G H)) → Type 0
+  IsStateAt t at o = (ks : List (Owning (Flat G H))) (s : Owning (Flat G H)) → AreOf t.parts t.states (map held ks) → slice_get ks at ≡ Some s
       → (copy : Owning (Flat G H)) × (o ≡ Some copy) × IsCopy s copy

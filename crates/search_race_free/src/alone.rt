@@ -99,7 +99,7 @@ pub(crate) fn turn_alone<M: Accesses>(
 
 /// Where threads came.
 #[derive(Drop)]
-pub(crate) enum Came<S> {
+pub enum Came<S> {
     /// There.
     To(S),
     /// These threads race.

@@ -20,9 +20,12 @@
 //!   state has ended, and that there is no race where all states were met.
 //! - `specs/Met.antt`: the states of a table, by their parts. `proofs/Held.antt`: such a state stands for the same.
 //!   `proofs/Keeping.antt`: a table of them is what a search asks for.
+//! - `specs/Ahead.antt`: what a crew of threads makes ahead of states in a row. `proofs/Pieces.antt`: it stays right where
+//!   the table grows.
 #![tactic(auto)]
 
 mod accesses;
+mod ahead;
 mod alone;
 mod laws;
 mod met;
@@ -35,7 +38,9 @@ mod touches;
 mod trace;
 
 pub use accesses::Accesses;
+pub use ahead::{Ahead, Alone, Crew, made_ahead};
 pub use laws::races_meet;
+pub use met::Table;
 pub use owning::{Owning, Touch};
 pub use race::Race;
 pub use states::{RaceFree, search_race_free};

@@ -1,36 +1,43 @@
 //! The states that were met, in a table: each by what is shared with what is owned, and by its threads.
 ghost use Rattle.std.specs.Prelude.{◌≡◌, IfOk, OnOk};
-ghost use Rattle.search_table.specs.Tables.{IsOrdered, Grows};
+ghost use Rattle.search_table.specs.Tables.{AreStates, Grows};
 ghost use Rattle.search_race_free.specs.Met.{IsHeldRow, AreHeldRows, IsStateAt};
 
 use crate::{Accesses, Owning, Touch};
 use search_reach::Next;
 use search_settled::{Flat, NextRow, row_of, threads_of};
-use search_table::{Row, Table};
+use search_table::{Parts, States};
 use std::alloc::{AllocError, Global};
 use std::hash::Hash;
 
 /// What is shared, and what the threads own.
 #[derive(Drop, PartialEq, Eq, Hash)]
-pub(crate) struct Held<S> {
+pub struct Held<S> {
     pub(crate) shared: S,
     pub(crate) owned: Vec<Touch>,
 }
 
+/// The states that were met, and their parts.
+#[derive(Drop)]
+pub struct Table<S: Eq + Hash, T: Eq + Hash> {
+    pub(crate) parts: Parts<Held<S>, T>,
+    pub(crate) states: States,
+}
+
 /// The row of a state, whose parts are put into the table.
 pub(crate) fn held_row<S: Eq + Hash + Drop, T: Eq + Hash + Drop>(
-    table: &mut Table<Held<S>, T>,
+    alloc: Global,
+    parts: &mut Parts<Held<S>, T>,
     state: Owning<Flat<S, T>>,
-) -> Result<Row, AllocError>
-    requires { IsOrdered table.old.links.keys }
-    ensures grows { OnOk result (Grows table.old table.new) }
-    ensures ordered { OnOk result (IsOrdered table.new.links.keys) }
-    ensures row { IfOk result (IsHeldRow S.eq T.eq table.new state) }
+) -> Result<Vec<u32>, AllocError>
+    ensures grows { OnOk result (Grows parts.old parts.new) }
+    ensures row { IfOk result (λ row. IsHeldRow S.eq T.eq parts.new state row.items) }
 {
     let Owning { flat, owned } = state;
     let Flat { shared, threads } = flat;
     row_of(
-        table,
+        alloc,
+        parts,
         Flat {
             shared: Held { shared, owned },
             threads,
@@ -41,17 +48,15 @@ pub(crate) fn held_row<S: Eq + Hash + Drop, T: Eq + Hash + Drop>(
 /// The rows of these next states, whose parts are put into the table.
 pub(crate) fn held_rows<S: Eq + Hash + Drop, T: Eq + Hash + Drop>(
     alloc: Global,
-    table: &mut Table<Held<S>, T>,
+    parts: &mut Parts<Held<S>, T>,
     next: Vec<Next<Owning<Flat<S, T>>>>,
 ) -> Result<Vec<NextRow>, AllocError>
-    requires { IsOrdered table.old.links.keys }
-    ensures grows { OnOk result (Grows table.old table.new) }
-    ensures ordered { OnOk result (IsOrdered table.new.links.keys) }
-    ensures rows { IfOk result (λ v. AreHeldRows S.eq T.eq table.new next.items v.items) }
+    ensures grows { OnOk result (Grows parts.old parts.new) }
+    ensures rows { IfOk result (λ v. AreHeldRows S.eq T.eq parts.new next.items v.items) }
 {
     let mut rows = Vec::new(alloc);
     for one in next {
-        let row = held_row(table, one.state)?;
+        let row = held_row(alloc, parts, one.state)?;
         rows.push(NextRow {
             thread: one.thread,
             row,
@@ -73,20 +78,23 @@ fn copied(alloc: Global, owned: &[Touch]) -> Result<Vec<Touch>, AllocError>
 pub(crate) fn state_at<M: Accesses>(
     alloc: Global,
     system: &M,
-    table: &Table<Held<M::Shared>, M::Thread>,
+    table: &Table<M::Shared, M::Thread>,
     at: usize,
 ) -> Result<Option<Owning<Flat<M::Shared, M::Thread>>>, AllocError>
-    requires { IsOrdered table.now.links.keys }
+    requires { AreStates table.now.states }
     ensures { IfOk result (IsStateAt (M.threads system.now) table.now at) }
 {
-    let Some(row) = table.row(at) else {
+    let Some(row) = table.states.row(at) else {
         return Ok(None);
     };
-    let Some(held) = table.shared.get_index(row.shared as usize) else {
+    let Some((number, numbers)) = row.split_first() else {
+        return Ok(None);
+    };
+    let Some(held) = table.parts.shared.get_index(*number as usize) else {
         return Ok(None);
     };
     let shared = system.copied(alloc, &held.shared)?;
-    let threads = threads_of(alloc, system, table, row.chain)?;
+    let threads = threads_of(alloc, system, &table.parts, numbers)?;
     let owned = copied(alloc, held.owned.as_slice())?;
     let flat = Flat { shared, threads };
     Ok(Some(Owning { flat, owned }))

@@ -1,7 +1,7 @@
 //! All endings of threads of which none race, and races of those of which some do.
-ghost use Rattle.std.specs.Prelude.{◌≡◌, IfOk, IfSome, option_map, vec_len};
+ghost use Rattle.std.specs.Prelude.{◌≡◌, IfOk, IfSome, OnOk, option_map, vec_len};
 ghost use Rattle.indexmap.specs.IndexSet.{index_set_len};
-ghost use Rattle.search_reach.specs.Meeting.{HasSound};
+ghost use Rattle.search_reach.specs.Meeting.{HasMetAt, HasSound};
 ghost use Rattle.search_reach.specs.Found.{AreEndings};
 ghost use Rattle.search_reach.specs.Liveness.{IsCount, IsLiveWhereAll};
 ghost use Rattle.search_reach.specs.Sought.{SeeksIn};
@@ -10,35 +10,93 @@ ghost use Rattle.search_reach.specs.declared.search.Verdict.TheVariants as verdi
 ghost use Rattle.search_race_free.specs.Turns.{reduced, IsRaceOf, HasNoRace};
 ghost use Rattle.search_race_free.specs.Same.{owning_eq};
 ghost use Rattle.search_race_free.specs.Met.{HasOwning};
+ghost use Rattle.search_race_free.specs.Ahead.{ComesOfPlace, IsAhead};
 
+use crate::ahead::{Ahead, Crew, Met, Tables};
 use crate::alone::Came;
-use crate::met::{Held, held_row, held_rows, state_at};
+use crate::met::{Table, held_row, held_rows, state_at};
 use crate::next::{first_state, next_states};
-use crate::{Accesses, Race};
+use crate::{Accesses, Owning, Race};
 use search_graph::Move;
-use search_reach::{Ended, Follows, Meets, Order, Reached, Seeks, Verdict, conclude, reach};
-use search_settled::{put_rows, threads_of};
-use search_table::Table;
+use search_reach::{Ended, Follows, Meets, Next, Order, Reached, Seeks, Verdict, conclude, reach};
+use search_settled::{Flat, put_rows, threads_of};
+use search_table::{Parts, States};
 use std::alloc::{AllocError, Global};
 use std::hash::Hash;
 
 /// The turns of threads that do not race, in any order.
 #[derive(Drop)]
-struct RaceFreeTurns<'s, M> {
+struct RaceFreeTurns<'s, M: Accesses, C: Crew<M>> {
     system: &'s M,
+    crew: &'s C,
     most_plain: u32,
+    ghost ready: { ∥ C.ready crew.now ∥₁ },
 }
 
-impl<M: Accesses> Meets for RaceFreeTurns<'_, M> {
+impl<M: Accesses, C: Crew<M>> RaceFreeTurns<'_, M, C> {
+    /// What comes of some states from this place on; or of none, where memory for that is refused.
+    fn ahead_from(
+        &self,
+        alloc: Global,
+        table: &Table<M::Shared, M::Thread>,
+        at: usize,
+    ) -> Ahead<M::Shared, M::Thread>
+        requires { HasSound (reduced M.Moves self.now.system.now) (HasOwning table.now) }
+        ensures { IsAhead (M.threads self.now.system.now) (M.stuck self.now.system.now) table.now result }
+    {
+        match self
+            .crew
+            .ahead(alloc, self.system, table, at, self.most_plain)
+        {
+            Ok(ahead) => ahead,
+            Err(_) => Ahead::new(alloc),
+        }
+    }
+
+    /// What comes of the state at this place: it was made ahead, or is made now, and what comes of others ahead.
+    fn came(
+        &self,
+        alloc: Global,
+        tables: &mut Tables<M::Shared, M::Thread>,
+        at: usize,
+    ) -> Result<Came<Vec<Next<Owning<Flat<M::Shared, M::Thread>>>>>, AllocError>
+        requires at { HasMetAt (reduced M.Moves self.now.system.now) (HasOwning tables.old.met) at }
+        requires sound { HasSound (reduced M.Moves self.now.system.now) (HasOwning tables.old.met) }
+        requires ahead { IsAhead (M.threads self.now.system.now) (M.stuck self.now.system.now)
+            tables.old.met tables.old.ahead }
+        ensures came { IfOk result (ComesOfPlace (M.threads self.now.system.now) (M.stuck self.now.system.now)
+            tables.old.met at) }
+        ensures met { OnOk result (tables.new.met ≡ tables.old.met) }
+        ensures ahead { OnOk result (IsAhead (M.threads self.now.system.now) (M.stuck self.now.system.now)
+            tables.old.met tables.new.ahead) }
+    {
+        if let Some(came) = tables.ahead.take(at) {
+            return Ok(came);
+        }
+        tables.ahead = self.ahead_from(alloc, &tables.met, at);
+        if let Some(came) = tables.ahead.take(at) {
+            return Ok(came);
+        }
+        let met = Met {
+            system: self.system,
+            table: &tables.met,
+            most_plain: self.most_plain,
+        };
+        let came = met.coming(alloc, at)?;
+        Ok(came)
+    }
+}
+
+impl<M: Accesses, C: Crew<M>> Meets for RaceFreeTurns<'_, M, C> {
     ghost use Rattle.schedule.specs.System.{State as SystemState};
     ghost use Rattle.search_settled.specs.declared.flat.Flat.{Flat as FlatState};
     ghost use Rattle.search_settled.specs.Same.{flat_alike};
     ghost use Rattle.search_race_free.specs.declared.owning.Owning.{Owning as OwningState};
     ghost use Rattle.search_race_free.specs.Turns.{reduced};
     ghost use Rattle.search_race_free.specs.Same.{owning_eq, owning_alike};
-    ghost use Rattle.search_race_free.specs.Met.{HasOwning};
+    ghost use Rattle.search_race_free.specs.Ahead.{HasAhead};
 
-    type Table = Table<Held<M::Shared>, M::Thread>;
+    type Table = Tables<M::Shared, M::Thread>;
 
     type Ending = M::Ending;
 
@@ -50,28 +108,36 @@ impl<M: Accesses> Meets for RaceFreeTurns<'_, M> {
 
     ghost equal = { λ t. owning_eq M.Shared.eq M.Thread.eq };
 
-    ghost holds = { λ t. HasOwning };
+    ghost holds = { λ t. HasAhead (M.threads t.system.now) (M.stuck t.system.now) };
 
     ghost alike = { λ t x y e. owning_alike M.Shared.eq M.Thread.eq M.Shared.Eq.laws M.Thread.Eq.laws
         (M.threads t.system.now) (M.same_shared t.system.now) (M.same_thread t.system.now) x y e };
 
-    fn table(&self, alloc: Global) -> Table<Held<M::Shared>, M::Thread> {
-        Table::new(alloc)
+    fn table(&self, alloc: Global) -> Tables<M::Shared, M::Thread> {
+        Tables {
+            met: Table {
+                parts: Parts::new(alloc),
+                states: States::new(alloc),
+            },
+            ahead: Ahead::new(alloc),
+        }
     }
 
-    fn count(&self, table: &Table<Held<M::Shared>, M::Thread>) -> usize {
-        table.len()
+    fn count(&self, tables: &Tables<M::Shared, M::Thread>) -> usize {
+        // No two parts are equal, as they say where they are asked for their number.
+        let _ = tables.met.parts.len();
+        tables.met.states.len()
     }
 
     fn first(
         &self,
         alloc: Global,
-        table: &mut Table<Held<M::Shared>, M::Thread>,
+        tables: &mut Tables<M::Shared, M::Thread>,
     ) -> Result<bool, AllocError> {
         match first_state(alloc, self.system)? {
             Came::To(state) => {
-                let row = held_row(table, state)?;
-                table.put_row(row)?;
+                let row = held_row(alloc, &mut tables.met.parts, state)?;
+                tables.met.states.put(row.as_slice())?;
                 Ok(true)
             }
             Came::Races(_) => Ok(false),
@@ -82,17 +148,14 @@ impl<M: Accesses> Meets for RaceFreeTurns<'_, M> {
     fn next(
         &self,
         alloc: Global,
-        table: &mut Table<Held<M::Shared>, M::Thread>,
+        tables: &mut Tables<M::Shared, M::Thread>,
         at: u32,
         moves: &mut Vec<Move>,
     ) -> Result<bool, AllocError> {
-        let Some(state) = state_at(alloc, self.system, table, at as usize)? else {
-            return Ok(false);
-        };
-        match next_states(alloc, self.system, &state, self.most_plain)? {
+        match self.came(alloc, tables, at as usize)? {
             Came::To(next) => {
-                let rows = held_rows(alloc, table, next)?;
-                put_rows(table, moves, at, rows)?;
+                let rows = held_rows(alloc, &mut tables.met.parts, next)?;
+                put_rows(&tables.met.parts, &mut tables.met.states, moves, at, rows)?;
                 Ok(true)
             }
             Came::Races(_) => Ok(false),
@@ -103,16 +166,19 @@ impl<M: Accesses> Meets for RaceFreeTurns<'_, M> {
     fn ending(
         &self,
         alloc: Global,
-        table: &Table<Held<M::Shared>, M::Thread>,
+        tables: &Tables<M::Shared, M::Thread>,
         at: usize,
     ) -> Result<Option<M::Ending>, AllocError> {
-        let Some(row) = table.row(at) else {
+        let Some(row) = tables.met.states.row(at) else {
             return Ok(None);
         };
-        let Some(held) = table.shared.get_index(row.shared as usize) else {
+        let Some((number, numbers)) = row.split_first() else {
             return Ok(None);
         };
-        let threads = threads_of(alloc, self.system, table, row.chain)?;
+        let Some(held) = tables.met.parts.shared.get_index(*number as usize) else {
+            return Ok(None);
+        };
+        let threads = threads_of(alloc, self.system, &tables.met.parts, numbers)?;
         self.system.ending(alloc, &held.shared, threads.as_slice())
     }
 }
@@ -140,14 +206,14 @@ struct RaceBehind {
 fn race_among<M: Accesses>(
     alloc: Global,
     system: &M,
-    table: &Table<Held<M::Shared>, M::Thread>,
+    table: &Table<M::Shared, M::Thread>,
     from: usize,
     most_plain: u32,
 ) -> Result<Option<RaceBehind>, AllocError>
     requires { HasSound (reduced M.Moves system.now) (HasOwning table.now) }
     ensures { IfOk result (λ o. IfSome o (λ r. IsRaceOf M.Moves system.now r.race)) }
 {
-    for place in from..table.len() {
+    for place in from..table.states.len() {
         if let Some(state) = state_at(alloc, system, table, place)? {
             if let Came::Races(race) = next_states(alloc, system, &state, most_plain)? {
                 return Ok(Some(RaceBehind { race, place }));
@@ -172,20 +238,21 @@ fn race_at_first<M: Accesses>(alloc: Global, system: &M) -> Result<Option<RaceBe
 fn race_in<M: Accesses>(
     alloc: Global,
     system: &M,
-    reached: &Reached<Table<Held<M::Shared>, M::Thread>>,
+    reached: &Reached<Tables<M::Shared, M::Thread>>,
     most_plain: u32,
 ) -> Result<Option<RaceBehind>, AllocError>
-    requires { HasSound (reduced M.Moves system.now) (HasOwning reached.now.table) }
+    requires { HasSound (reduced M.Moves system.now) (HasOwning reached.now.table.met) }
     ensures { IfOk result (λ o. IfSome o (λ r. IsRaceOf M.Moves system.now r.race)) }
 {
     let Verdict::CannotTell = reached.verdict else {
         return Ok(None);
     };
-    if reached.table.len() == 0 {
+    let table = &reached.table.met;
+    if table.states.len() == 0 {
         return race_at_first(alloc, system);
     }
     let from = reached.last as usize;
-    race_among(alloc, system, &reached.table, from, most_plain)
+    race_among(alloc, system, table, from, most_plain)
 }
 
 /// The threads whose turns lead to the state of this place, by the moves that were noted: one to a state stands before
@@ -229,22 +296,25 @@ fn racing(behind: Option<RaceBehind>) -> Option<Race>
 /// The endings of all runs of threads, whatever the order of their turns, where no threads race in any run: at
 /// `Verdict::All` none do. It meets no more than `most` states and a few, those before an ending that is looked for, and
 /// those before it is told to end. At `Verdict::CannotTell` there may be a race, which is then given. A thread makes at
-/// most `most_plain` plain turns in a row before others have theirs, whatever comes of it.
+/// most `most_plain` plain turns in a row before others have theirs, whatever comes of it. The crew may make ahead what
+/// comes of states: whoever it is, all that is said is said.
 ///
 /// Where it met all, it says of which states no run ends, and whether every fair run ends, as
 /// `search_settled::search_all` does of its own.
 ///
 /// # Errors
 /// Where memory is refused.
-pub fn search_race_free<M: Accesses, Q: Seeks<M::Ending>, F: Follows>(
+pub fn search_race_free<M: Accesses, C: Crew<M>, Q: Seeks<M::Ending>, F: Follows>(
     alloc: Global,
     system: &M,
+    crew: &C,
     order: Order,
     most: u32,
     most_plain: u32,
     sought: &Q,
     follower: &mut F,
 ) -> Result<RaceFree<M::Ending>, AllocError>
+    requires { C.ready crew.now }
     ensures found { IfOk result
         (λ r. AreEndings (reduced M.Moves system.now) M.Ending.eq most (F.wish follower.new) r.ended) }
     ensures paths { IfOk result (λ r. vec_len r.ended.paths ≡ index_set_len r.ended.endings) }
@@ -259,7 +329,11 @@ pub fn search_race_free<M: Accesses, Q: Seeks<M::Ending>, F: Follows>(
     ensures none { IfOk result (λ r. r.ended.verdict ≡ verdicts.All → HasNoRace M.Moves system.now) }
     ensures race { IfOk result (λ r. IfSome r.race (IsRaceOf M.Moves system.now)) }
 {
-    let turns = RaceFreeTurns { system, most_plain };
+    let turns = RaceFreeTurns {
+        system,
+        crew,
+        most_plain,
+    };
     let reached = reach(alloc, &turns, order, most, sought, follower)?;
     let behind = race_in(alloc, system, &reached, most_plain)?;
     let way = way_behind(alloc, reached.moves.as_slice(), behind)?;

@@ -2,7 +2,7 @@
 ghost use Rattle.std.specs.Prelude.{◌≡◌, ℕ, Bool, true, false, List, [], ◌∷◌, length, IfOk};
 ghost use Rattle.std.specs.List.{slice_get, IsDistinct};
 ghost use Rattle.search_reach.specs.Search.{StepSystem, IsFirst, IsEnding, AllGetStuck, CanGetStuck};
-ghost use Rattle.search_reach.specs.Meeting.{HasMetAt, OfStateAt, HasFirst, GoesOn};
+ghost use Rattle.search_reach.specs.Meeting.{HasMetAt, OfStateAt, HasFirst, HasSound, GoesOn};
 
 use search_graph::Move;
 use std::alloc::{AllocError, Global};
@@ -49,8 +49,8 @@ pub trait Meets {
         ensures none { IfOk result (λ told. told ≡ false → holds self.now table.new []) }
         ensures gives_up { IfOk result (λ told. told ≡ false → CanGetStuck (system self.now)) };
 
-    /// Puts the next states of the one at this place into the table, and notes the moves to them. It answers no, and puts
-    /// none, where it cannot tell them.
+    /// Puts the next states of the one at this place into the table, of which each state can be met, and notes the moves
+    /// to them. It answers no, and puts none, where it cannot tell them.
     fn next(
         &self,
         alloc: Global,
@@ -58,7 +58,8 @@ pub trait Meets {
         at: u32,
         moves: &mut Vec<Move>,
     ) -> Result<bool, AllocError>
-        requires { HasMetAt (system self.now) (holds self.now table.old) at }
+        requires at { HasMetAt (system self.now) (holds self.now table.old) at }
+        requires sound { HasSound (system self.now) (holds self.now table.old) }
         ensures next { IfOk result (λ told. told ≡ true → OfStateAt (system self.now) (holds self.now table.old) at
             (λ ks s. GoesOn (system self.now) (holds self.now table.new) (equal self.now) ks at s moves.old.items moves.new.items)) }
         ensures none { IfOk result (λ told. told ≡ false → OfStateAt (system self.now) (holds self.now table.old) at

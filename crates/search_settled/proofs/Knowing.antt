@@ -6,9 +6,8 @@ use Rattle.std.proofs.lemmas.Bool.{cases_lt}
 use Rattle.std.proofs.lemmas.List.{length-set}
 use Rattle.std.proofs.lemmas.Option.{none-some, slice_get_within}
 use Rattle.schedule.specs.System.{State}
-use Rattle.search_table.specs.declared.table.Table.{Table}
-use Rattle.search_table.specs.Tables.{Keeps, IsOrdered, Grows, HasSameParts}
-use Rattle.search_settled.specs.declared.flat.Flat.{Flat}
+use Rattle.search_table.specs.declared.parts.Parts.{Parts}
+use Rattle.search_table.specs.Tables.{Keeps, Grows}
 use Rattle.search_settled.specs.declared.met.Known.{Known}
 use Rattle.search_settled.specs.declared.met.Met.{Met}
 use Rattle.search_settled.specs.declared.met.Turn.{Turn}
@@ -16,8 +15,7 @@ use Rattle.search_settled.specs.declared.met.Turn.TheVariants.{Still, Alone}
 use Rattle.search_settled.specs.Threads.{ThreadSystem}
 use Rattle.search_settled.specs.Flat.{AreBounded, IsThreadOf, IsEventOf, IsEventAt, RestsAfter, ComesAfter, IsBeforeSome, IsStuckBy}
 use Rattle.search_settled.specs.Alone.{IsUnheard}
-use Rattle.search_settled.specs.Known.{IsNotedIn, AreFrom, GoesAlone, IsTurn, IsRight, AreOfThread, OfNumbers, IsLostBy, AreKnown, HasStates}
-use Rattle.search_settled.proofs.Rows.{states-grow}
+use Rattle.search_settled.specs.Known.{IsNotedIn, AreFrom, GoesAlone, IsTurn, IsRight, AreOfThread, OfNumbers, IsLostBy, AreKnown, HasNoOther}
 
 -- what stands in a list in which one was replaced
 pub set-at : {A : Type 0} (xs : List A) (n : ℕ) (y : A) (m : ℕ) (x : A) → slice_get (slice_set xs n y) m ≡ Some x
@@ -32,7 +30,7 @@ set-at (z ∷ xs) (suc n) y (suc m) x at = elim (set-at xs n y m x at) [
 ]
 
 module _ {X T E V A G H M : Type 0} (k : ThreadSystem X T E V A G H M) where
-  module _ (t u : Table G H) (shared : Keeps t.shared.keys u.shared.keys) (threads : Keeps t.threads.keys u.threads.keys) where
+  module _ (t u : Parts G H) (shared : Keeps t.shared.keys u.shared.keys) (threads : Keeps t.threads.keys u.threads.keys) where
     turn-stays : (g : G) (h : H) (n : ℕ) (turn : Turn) → IsTurn k t g h n turn → IsTurn k u g h n turn
     turn-stays g h n Still is = is
     turn-stays g h n (Alone s r) is = (is.0, is.1, shared s is.0 is.2, threads r is.1 is.3, is.4)
@@ -47,53 +45,37 @@ module _ {X T E V A G H M : Type 0} (k : ThreadSystem X T E V A G H M) where
     }
 
     -- what is known stays so
-    pub known-stays : IsOrdered u.links.keys → (ks ls : List (Option Known)) → ls ≡ ks
+    pub known-stays : (ks ls : List (Option Known)) → ls ≡ ks
         → ((slot : ℕ) (known : Known) → slice_get ks slot ≡ Some (Some known) → IsRight k t known)
         → (slot : ℕ) (known : Known) → slice_get ls slot ≡ Some (Some known) → IsRight k u known
-    known-stays ordered ks ls same so slot known at = right-stays known (so slot known (ap (λ l. slice_get l slot) (sym same) ∙ at))
+    known-stays ks ls same so slot known at = right-stays known (so slot known (ap (λ l. slice_get l slot) (sym same) ∙ at))
 
-  pub turn-grows : (t u : Table G H) → Grows t u → (g : G) (h : H) (n : ℕ) (turn : Turn) → IsTurn k t g h n turn → IsTurn k u g h n turn
+  pub turn-grows : (t u : Parts G H) → Grows t u → (g : G) (h : H) (n : ℕ) (turn : Turn) → IsTurn k t g h n turn → IsTurn k u g h n turn
   turn-grows t u grows = turn-stays t u grows.shared grows.threads
 
-  pub known-grows : (m : Met G H) (new : Met G H) → AreKnown k m → Grows m.table new.table → IsOrdered new.table.links.keys
-      → new.known.items ≡ m.known.items → AreKnown k new
-  known-grows m new so grows ordered same = record {
-    ordered = ordered;
-    right = known-stays m.table new.table grows.shared grows.threads ordered m.known.items new.known.items same so.right;
-  }
+  pub known-grows : (m : Met G H) (new : Met G H) → AreKnown k m → Grows m.parts new.parts → new.known.items ≡ m.known.items → AreKnown k new
+  known-grows m new so grows same = known-stays m.parts new.parts grows.shared grows.threads m.known.items new.known.items same so
 
-  -- and where a row is put
-  pub known-same : (m : Met G H) (new : Met G H) → AreKnown k m → HasSameParts m.table new.table → new.known.items ≡ m.known.items → AreKnown k new
-  known-same m new so parts same =
-      let ordered = subst IsOrdered (sym parts.links) so.ordered in
-      record {
-        ordered = ordered;
-        right = known-stays m.table new.table (λ i x at. ap (λ l. slice_get l i) parts.shared ∙ at) (λ i x at. ap (λ l. slice_get l i) parts.threads ∙ at)
-            ordered m.known.items new.known.items same so.right;
-      }
+  pub known-noted : (m : Met G H) (new : Met G H) (one : Known) → AreKnown k m → new.parts ≡ m.parts → AreFrom m.known.items one new.known.items
+      → IsRight k m.parts one → AreKnown k new
+  known-noted m new one so same from right = λ slot known at. subst (λ (t : Parts G H). IsRight k t known) (sym same) (elim (from slot known at) [
+    | inl is ↦ subst (IsRight k m.parts) (sym is) right
+    | inr was ↦ so was.0 known was.1
+  ])
 
-  pub known-noted : (m : Met G H) (new : Met G H) (one : Known) → AreKnown k m → new.table ≡ m.table → AreFrom m.known.items one new.known.items
-      → IsRight k m.table one → AreKnown k new
-  known-noted m new one so same from right = record {
-    ordered = subst (λ (t : Table G H). IsOrdered t.links.keys) (sym same) so.ordered;
-    right = λ slot known at. subst (λ (t : Table G H). IsRight k t known) (sym same) (elim (from slot known at) [
-      | inl is ↦ subst (IsRight k m.table) (sym is) right
-      | inr was ↦ so.right was.0 known was.1
-    ]);
-  }
+  -- and where some are forgotten
+  pub known-fewer : (m : Met G H) (new : Met G H) → AreKnown k m → new.parts ≡ m.parts → HasNoOther m.known.items new.known.items → AreKnown k new
+  known-fewer m new so same no-other = λ slot known at. (let was = no-other slot known at in
+      subst (λ (t : Parts G H). IsRight k t known) (sym same) (so was.0 known was.1))
 
   -- what was noted of a turn
   pub recalled : (m : Met G H) → AreKnown k m → (shared thread n : ℕ) (turn : Turn) → IsNotedIn m.known.items shared thread n turn
-      → OfNumbers k m.table shared thread (λ g h. IsTurn k m.table g h n turn)
+      → OfNumbers k m.parts shared thread (λ g h. IsTurn k m.parts g h n turn)
   recalled m so shared thread n turn noted g h shared_at thread_at =
-      let right = so.right noted.0 (record { shared = shared; thread = thread; n = n; turn = turn }) noted.1 in
+      let right = so noted.0 (record { shared = shared; thread = thread; n = n; turn = turn }) noted.1 in
       let same : right.shared_is ≡ g = cc (right.shared_at, shared_at) in
       let is : right.thread_is ≡ h = cc (right.thread_at, thread_at) in
-      subst (λ v. IsTurn k m.table g v n turn) is (subst (λ v. IsTurn k m.table v right.thread_is n turn) same right.so)
-
-  -- the states that a table has, as it grows
-  pub states-known : (m new : Met G H) → (cs : List (Flat G H)) → HasStates k m cs → Grows m.table new.table → AreKnown k new → HasStates k new cs
-  states-known m new cs so grows known = record { known = known; are = states-grow m.table new.table grows cs so.are }
+      subst (λ v. IsTurn k m.parts g v n turn) is (subst (λ v. IsTurn k m.parts v right.thread_is n turn) same right.so)
 
   pub unheard-none : (made : M) (n : ℕ) → IsUnheard k made n 0
   unheard-none made n m low = absurd (omega (arith, low))
@@ -106,7 +88,7 @@ module _ {X T E V A G H M : Type 0} (k : ThreadSystem X T E V A G H M) where
   ]
 
   -- what has these numbers
-  pub of-read : (t : Table G H) (shared thread n : ℕ) → AreOfThread k t shared thread n → (g : G) (h : H) → slice_get t.shared.keys shared ≡ Some g
+  pub of-read : (t : Parts G H) (shared thread n : ℕ) → AreOfThread k t shared thread n → (g : G) (h : H) → slice_get t.shared.keys shared ≡ Some g
       → slice_get t.threads.keys thread ≡ Some h → (z : State X T) × IsThreadOf k g h n z
   of-read t shared thread n of g h shared_at thread_at =
       let same : of.shared_is ≡ g = cc (of.shared_at, shared_at) in
@@ -123,7 +105,7 @@ module _ {X T E V A G H M : Type 0} (k : ThreadSystem X T E V A G H M) where
       let same = is z.shared of.1 in
       omega (arith, few, same)
 
-  pub of-numbers : (t : Table G H) (shared thread : ℕ) (P : G → H → Type 0) (g : G) (h : H) → slice_get t.shared.keys shared ≡ Some g
+  pub of-numbers : (t : Parts G H) (shared thread : ℕ) (P : G → H → Type 0) (g : G) (h : H) → slice_get t.shared.keys shared ≡ Some g
       → slice_get t.threads.keys thread ≡ Some h → P g h → OfNumbers k t shared thread P
   of-numbers t shared thread P g h shared_at thread_at so x y at there =
       let same : g ≡ x = cc (shared_at, at) in

@@ -1,18 +1,16 @@
 -- The rows of the next states, of one thread after the other.
-use Rattle.std.proofs.Common.{◌≡◌, inl, inr, ℕ, zero, suc, ◌+◌, ◌^◌, ◌<◌, ◌&&◌, Bool, true, List, [], ◌∷◌, ◌++◌, length, Some, None, refl, sym, ◌∙◌, ap, subst, arith, length-append, append_assoc}
-use Rattle.std.specs.Prelude.{slice_set}
-use Rattle.std.specs.List.{slice_get}
+use Rattle.std.proofs.Common.{◌≡◌, inl, inr, ℕ, zero, suc, ◌+◌, ◌^◌, ◌<◌, ◌≤◌, ◌&&◌, Bool, true, List, [], ◌∷◌, ◌++◌, length, Some, None, refl, sym, ◌∙◌, ap, subst, arith, true≢false}
+use Rattle.std.specs.Prelude.{slice_set, take}
+use Rattle.std.specs.Cmp.{first_so, second_so}
+use Rattle.std.specs.List.{slice_get, AllZip}
 use Rattle.std.specs.Cmp.Lexicographic.{pointwise}
-use Rattle.std.proofs.lemmas.List.{length-set, append-nil}
+use Rattle.std.proofs.lemmas.List.{length-set, take_more, take_all}
 use Rattle.std.proofs.lemmas.List.Elements.{Contains-push, Contains-push_cases, Contains-append_left}
-use Rattle.std.proofs.lemmas.Option.{slice_get_within}
+use Rattle.std.proofs.lemmas.Option.{slice_get_within, get_or_from_slice_get}
 use Rattle.std.proofs.lemmas.Slice.Zip.{all_zipped_more}
 use Rattle.schedule.specs.System.{State}
-use Rattle.search_table.specs.declared.table.Link.{Link}
-use Rattle.search_table.specs.declared.table.Row.{Row}
-use Rattle.search_table.specs.declared.table.Table.{Table}
-use Rattle.search_table.specs.Tables.{IsChain, Grows, place_of}
-use Rattle.search_table.proofs.Chains.{chain-grows, opened, is-empty}
+use Rattle.search_table.specs.declared.parts.Parts.{Parts}
+use Rattle.search_table.specs.Tables.{AreThreads, IsRow, HasEqual, Grows}
 use Rattle.search_reach.specs.declared.explores.Next.{Next}
 use Rattle.search_settled.specs.declared.flat.Flat.{Flat}
 use Rattle.search_settled.specs.declared.met.NextRow.{NextRow}
@@ -25,8 +23,8 @@ use Rattle.search_settled.specs.Threads.{ThreadSystem, IsFlat}
 use Rattle.search_settled.specs.Next.{IsAt, IsSomewhere, IsNextBy, IsNextOf, IsStuckAfter}
 use Rattle.search_settled.specs.Flat.{AreBounded, IsThreadOf, IsEventAt, HasNextBelow}
 use Rattle.search_settled.specs.Same.{same_length, flat_eq, flat_alike}
-use Rattle.search_settled.specs.Known.{IsOf, IsNextRow, IsTurn, IsMade, OfNumbers, AreOfThread, IsThreadAt, AreNextBelow, AreNextRows, IsRowAfter, IsLostBy}
-use Rattle.search_settled.proofs.Rows.{grows-then, next-grow, row-grows}
+use Rattle.search_settled.specs.Known.{IsOf, IsNextRow, IsTurn, IsMade, OfNumbers, AreOfThread, IsThreadAt, AreNextBelow, AreNextRows, IsRowAfter, IsRowOfEqual, IsLostBy}
+use Rattle.search_settled.proofs.Rows.{grows-then, next-grow, row-grows, threads-grow, beside, zip-length}
 use Rattle.search_settled.proofs.Knowing.{of-numbers}
 use Rattle.search_settled.proofs.Following.{come-from, below-none, below-same, below-more, below-all}
 
@@ -45,11 +43,21 @@ with_parts c g xs few = record {
   };
 }
 
-get-behind : {A : Type 0} (xs : List A) (x : A) (ys : List A) (n : ℕ) → length xs ≡ n → slice_get (xs ++ x ∷ ys) n ≡ Some x
-get-behind [] x ys zero long = refl
-get-behind [] x ys (suc n) long = absurd (cc long)
-get-behind (z ∷ xs) x ys zero long = absurd (cc long)
-get-behind (z ∷ xs) x ys (suc n) long = get-behind xs x ys n (cc long)
+-- a row in which one of the numbers behind the first is replaced
+pub set-behind : (first : ℕ) (numbers row : List ℕ) (n at number : ℕ) → at ≡ n + 1 → row ≡ first ∷ numbers
+    → slice_set row at number ≡ first ∷ slice_set numbers n number
+set-behind first numbers row n at number is are =
+    let next : at ≡ suc n = omega (arith, is) in
+    ap (λ (i : ℕ). slice_set row i number) next ∙ ap (λ l. slice_set l (suc n) number) are
+
+-- two lists beside each other, in each of which one is replaced
+zip-set : {A B : Type 0} (P : A → B → Type 0) (xs : List A) (ys : List B) → AllZip P xs ys → (n : ℕ) (x : A) (y : B) → P x y
+    → AllZip P (slice_set xs n x) (slice_set ys n y)
+zip-set P [] [] are n x y is = tt
+zip-set P [] (d ∷ ys) are n x y is = absurd are
+zip-set P (c ∷ xs) [] are n x y is = absurd are
+zip-set P (c ∷ xs) (d ∷ ys) are zero x y is = (is, are.1)
+zip-set P (c ∷ xs) (d ∷ ys) are (suc n) x y is = (are.0, zip-set P xs ys are.1 n x y is)
 
 module _ {X T E V A G H M : Type 0} (k : ThreadSystem X T E V A G H M) where
   few-threads : AreBounded k.system k.first k.count k.most → (c : Flat G H) → IsSomewhere k c → length c.threads.items < 2 ^ 63
@@ -60,13 +68,13 @@ module _ {X T E V A G H M : Type 0} (k : ThreadSystem X T E V A G H M) where
       let low = bounded.numbered in
       omega (arith, len, few, low)
 
-  pub of-state : (t : Table G H) (r : Row) (thread n : ℕ) (c : Flat G H) → (a : IsThreadAt k t r thread n c) → (z : State X T) → IsAt k c z
+  pub of-state : (t : Parts G H) (shared : ℕ) (numbers : List ℕ) (thread n : ℕ) (c : Flat G H) → (a : IsThreadAt k t (shared ∷ numbers) thread n c) → (z : State X T) → IsAt k c z
       → IsThreadOf k c.shared a.thread_is n z
-  of-state t r thread n c a z at = (at.reached, (at.settled_is).shared, (at.settled_is).each n a.thread_is a.among)
+  of-state t shared numbers thread n c a z at = (at.reached, (at.settled_is).shared, (at.settled_is).each n a.thread_is a.among)
 
   -- its number
-  pub low-at : AreBounded k.system k.first k.count k.most → (t : Table G H) (r : Row) (thread n : ℕ) (c : Flat G H) → IsThreadAt k t r thread n c → n < k.most
-  low-at bounded t r thread n c a =
+  pub low-at : AreBounded k.system k.first k.count k.most → (t : Parts G H) (shared : ℕ) (numbers : List ℕ) (thread n : ℕ) (c : Flat G H) → IsThreadAt k t (shared ∷ numbers) thread n c → n < k.most
+  low-at bounded t shared numbers thread n c a =
       let at = a.somewhere in
       let is = at.1.settled_is in
       let len = is.len in
@@ -74,8 +82,16 @@ module _ {X T E V A G H M : Type 0} (k : ThreadSystem X T E V A G H M) where
       let within = slice_get_within c.threads.items n a.thread_is a.among in
       omega (arith, len, few, within)
 
-  pub of-thread : (t : Table G H) (r : Row) (thread n : ℕ) (c : Flat G H) → IsThreadAt k t r thread n c → AreOfThread k t r.shared thread n
-  of-thread t r thread n c a =
+  -- so many numbers there are
+  pub within-at : (t : Parts G H) (shared : ℕ) (numbers : List ℕ) (thread n : ℕ) (c : Flat G H) → IsThreadAt k t (shared ∷ numbers) thread n c
+      → n < length numbers
+  within-at t shared numbers thread n c a =
+      let long = zip-length (λ m x. slice_get t.threads.keys m ≡ Some x) numbers c.threads.items (a.of).1 in
+      let low = slice_get_within c.threads.items n a.thread_is a.among in
+      omega (arith, long, low)
+
+  pub of-thread : (t : Parts G H) (shared : ℕ) (numbers : List ℕ) (thread n : ℕ) (c : Flat G H) → IsThreadAt k t (shared ∷ numbers) thread n c → AreOfThread k t shared thread n
+  of-thread t shared numbers thread n c a =
       let at = a.somewhere in
       record {
         shared_is = c.shared;
@@ -83,7 +99,7 @@ module _ {X T E V A G H M : Type 0} (k : ThreadSystem X T E V A G H M) where
         shared_at = (a.of).0;
         thread_at = a.thread_at;
         state = at.0;
-        of = of-state t r thread n c a at.0 at.1;
+        of = of-state t shared numbers thread n c a at.0 at.1;
       }
 
   -- the same next state by another name
@@ -111,50 +127,48 @@ module _ {X T E V A G H M : Type 0} (k : ThreadSystem X T E V A G H M) where
       new = record { thread = n; state = y }
 
   -- as the table grows
-  pub at-grows : (t u : Table G H) → Grows t u → (r : Row) (thread n : ℕ) (c : Flat G H) → IsThreadAt k t r thread n c → IsThreadAt k u r thread n c
-  at-grows t u grows r thread n c a = record {
-    of = row-grows t u grows r c.shared c.threads.items a.of;
+  pub at-grows : (t u : Parts G H) → Grows t u → (shared : ℕ) (numbers : List ℕ) (thread n : ℕ) (c : Flat G H) → IsThreadAt k t (shared ∷ numbers) thread n c → IsThreadAt k u (shared ∷ numbers) thread n c
+  at-grows t u grows shared numbers thread n c a = record {
+    of = row-grows t u grows (shared ∷ numbers) c.shared c.threads.items a.of;
     somewhere = a.somewhere;
     thread_is = a.thread_is;
     thread_at = grows.threads thread a.thread_is a.thread_at;
     among = a.among;
   }
 
-  pub below-grows : (t u : Table G H) → Grows t u → (c : Flat G H) (n : ℕ) (rs : List NextRow) → AreNextBelow k t c n rs → AreNextBelow k u c n rs
+  pub below-grows : (t u : Parts G H) → Grows t u → (c : Flat G H) (n : ℕ) (rs : List NextRow) → AreNextBelow k t c n rs → AreNextBelow k u c n rs
   below-grows t u grows c n rs so = record { next = so.next; below = so.below; are = next-grow t u grows rs so.next so.are }
 
   -- the turn that it is told to be
-  pub told-of : (t u : Table G H) → Grows t u → (row : Row) (thread n : ℕ) (c : Flat G H) → IsThreadAt k t row thread n c → (m : Made G M) (turn : Turn)
-      → m ≡ Told turn → OfNumbers k t row.shared thread (λ g h. IsMade k u g h n m) → OfNumbers k u row.shared thread (λ g h. IsTurn k u g h n turn)
+  pub told-of : (t u : Parts G H) → Grows t u → (shared : ℕ) (numbers : List ℕ) (thread n : ℕ) (c : Flat G H) → IsThreadAt k t (shared ∷ numbers) thread n c → (m : Made G M) (turn : Turn)
+      → m ≡ Told turn → OfNumbers k t shared thread (λ g h. IsMade k u g h n m) → OfNumbers k u shared thread (λ g h. IsTurn k u g h n turn)
   unfolding at-grows
-  told-of t u grows row thread n c a m turn is so =
-      let b = at-grows t u grows row thread n c a in
-      of-numbers k u row.shared thread (λ g h. IsTurn k u g h n turn) c.shared a.thread_is (b.of).0 b.thread_at
+  told-of t u grows shared numbers thread n c a m turn is so =
+      let b = at-grows t u grows shared numbers thread n c a in
+      of-numbers k u shared thread (λ g h. IsTurn k u g h n turn) c.shared a.thread_is (b.of).0 b.thread_at
       (subst (λ (x : Made G M). IsMade k u c.shared a.thread_is n x) is (so c.shared a.thread_is (a.of).0 a.thread_at))
 
-  pub heard-of : (t u : Table G H) (shared thread n : ℕ) (m : Made G M) (after : G) (made : M) → m ≡ Heard after made
+  pub heard-of : (t u : Parts G H) (shared thread n : ℕ) (m : Made G M) (after : G) (made : M) → m ≡ Heard after made
       → OfNumbers k t shared thread (λ g h. IsMade k u g h n m) → OfNumbers k t shared thread (λ g h. IsEventAt k g h n (Some (after, made)))
   heard-of t u shared thread n m after made is so g h a b = subst (λ (x : Made G M). IsMade k u g h n x) is (so g h a b)
 
   -- what put_next adds
-  module _ (tame : AreTame k.system k.first k.most) (bounded : AreBounded k.system k.first k.count k.most) (t u v : Table G H) (first : Grows t u) (second : Grows u v)
-      (row : Row) (thread n : ℕ) (c : Flat G H) (at : IsThreadAt k t row thread n c) (rs : List NextRow) (so : AreNextBelow k t c n rs) where
+  module _ (tame : AreTame k.system k.first k.most) (bounded : AreBounded k.system k.first k.count k.most) (t u v : Parts G H) (first : Grows t u) (second : Grows u v)
+      (shared : ℕ) (numbers : List ℕ) (thread n : ℕ) (c : Flat G H) (at : IsThreadAt k t (shared ∷ numbers) thread n c) (rs : List NextRow) (so : AreNextBelow k t c n rs) where
     both : Grows t v
     both = grows-then t u v first second
 
-    pub more-still : OfNumbers k t row.shared thread (λ g h. IsTurn k u g h n Still) → AreNextBelow k u c (n + 1) rs
+    pub more-still : OfNumbers k t shared thread (λ g h. IsTurn k u g h n Still) → AreNextBelow k u c (n + 1) rs
     more-still turn = record {
       next = so.next;
       below = below-same k c n so.next at.thread_is so.below at.among (turn c.shared at.thread_is (at.of).0 at.thread_at);
       are = next-grow t u first rs so.next so.are;
     }
 
-    pub more-alone : (s r : ℕ) → OfNumbers k t row.shared thread (λ g h. IsTurn k u g h n (Alone s r)) → (chain : ℕ)
-        → ((x : H) (xs : List H) → slice_get u.threads.keys r ≡ Some x → IsChain u.threads.keys u.links.keys row.chain xs
-        → IsChain v.threads.keys v.links.keys chain (slice_set xs n x))
-        → AreNextBelow k v c (n + 1) (rs ++ record { thread = n; row = record { shared = s; chain = chain } } ∷ [])
+    pub more-alone : (s r : ℕ) → OfNumbers k t shared thread (λ g h. IsTurn k u g h n (Alone s r)) → (next : NextRow) → next.thread ≡ n
+        → next.row.items ≡ s ∷ slice_set numbers n r → AreNextBelow k v c (n + 1) (rs ++ next ∷ [])
     unfolding with_parts
-    more-alone s r turn chain made =
+    more-alone s r turn next by made =
         let a = turn c.shared at.thread_is (at.of).0 at.thread_at in
         let alone = a.4 in
         let few = few-threads bounded c at.somewhere in
@@ -164,14 +178,14 @@ module _ {X T E V A G H M : Type 0} (k : ThreadSystem X T E V A G H M) where
           next = so.next ++ record { thread = n; state = y } ∷ [];
           below = below-more k tame bounded c n so.next at.thread_is (a.0, alone.made) y (slice_set c.threads.items n a.1) so.below at.among alone.event
               (alone.come c refl at.among) refl refl;
-          are = all_zipped_more (IsNextRow v) rs so.next (record { thread = n; row = record { shared = s; chain = chain } }) (record { thread = n; state = y })
+          are = all_zipped_more (IsNextRow v) rs so.next next (record { thread = n; state = y })
               (next-grow t v both rs so.next so.are)
               (record {
-                thread = refl;
-                of = (
+                thread = sym by;
+                of = subst (λ l. IsOf v l y) (sym made) (
                   second.shared s a.0 a.2,
-                  made a.1 c.threads.items a.3
-                      (chain-grows t.threads.keys u.threads.keys t.links.keys u.links.keys first.threads first.links row.chain c.threads.items (at.of).1),
+                  zip-set (λ m x. slice_get v.threads.keys m ≡ Some x) numbers c.threads.items (threads-grow t v both numbers c.threads.items (at.of).1)
+                      n r a.1 (second.threads r a.1 a.3),
                 );
               });
         }
@@ -179,10 +193,10 @@ module _ {X T E V A G H M : Type 0} (k : ThreadSystem X T E V A G H M) where
     module _ (eq_shared : G → G → Bool) (eq_thread : H → H → Bool)
         (same_shared : (x y : G) → eq_shared x y ≡ true → (w : X) → k.shares x w → k.shares y w)
         (same_thread : (x y : H) → eq_thread x y ≡ true → (w : T) → k.is_thread x w → k.is_thread y w) where
-      pub more-heard : (after : G) (made : M) (r : Row) → IsEventAt k c.shared at.thread_is n (Some (after, made))
-          → IsRowAfter k eq_shared eq_thread v after made n c.threads.items r → AreNextBelow k v c (n + 1) (rs ++ record { thread = n; row = r } ∷ [])
+      pub more-heard : (after : G) (made : M) (r : NextRow) → r.thread ≡ n → IsEventAt k c.shared at.thread_is n (Some (after, made))
+          → IsRowAfter k eq_shared eq_thread v after made n c.threads.items r.row.items → AreNextBelow k v c (n + 1) (rs ++ r ∷ [])
       unfolding with_parts
-      more-heard after made r event is =
+      more-heard after made r by event is =
           let f = is.state in
           let w = is.row in
           let ok = (f.threads).ok in
@@ -196,105 +210,103 @@ module _ {X T E V A G H M : Type 0} (k : ThreadSystem X T E V A G H M) where
             below = below-alike c (n + 1) n so.next f y (flat_alike eq_shared eq_thread k same_shared same_thread f y equal)
                 (below-more k tame bounded c n so.next at.thread_is (after, made) f (f.threads).items so.below at.among event
                 (come-from k c after made n (f.threads).items is.come) is.shared refl);
-            are = all_zipped_more (IsNextRow v) rs so.next (record { thread = n; row = r }) (record { thread = n; state = y })
-                (next-grow t v both rs so.next so.are) (record { thread = refl; of = w.of });
+            are = all_zipped_more (IsNextRow v) rs so.next r (record { thread = n; state = y })
+                (next-grow t v both rs so.next so.are) (record { thread = sym by; of = w.of });
           }
 
-  pub stuck-lost : (stuck : State X T → Type 0) (t : Table G H) (row : Row) (thread n : ℕ) (c : Flat G H) → IsThreadAt k t row thread n c
-      → OfNumbers k t row.shared thread (IsLostBy k stuck n) → IsStuckAfter k stuck c
-  stuck-lost stuck t row thread n c at lost z is =
-      let l = lost c.shared at.thread_is (at.of).0 at.thread_at z (of-state t row thread n c at z is) in
+  pub stuck-lost : (stuck : State X T → Type 0) (t : Parts G H) (shared : ℕ) (numbers : List ℕ) (thread n : ℕ) (c : Flat G H) → IsThreadAt k t (shared ∷ numbers) thread n c
+      → OfNumbers k t shared thread (IsLostBy k stuck n) → IsStuckAfter k stuck c
+  stuck-lost stuck t shared numbers thread n c at lost z is =
+      let l = lost c.shared at.thread_is (at.of).0 at.thread_at z (of-state t shared numbers thread n c at z is) in
       (n, l.0, l.1, l.2)
 
   -- from thread to thread
-  pub record Walks (t : Table G H) (c : Flat G H) (n chain : ℕ) (rs : List NextRow) : Type 0 where
-    pub before : List H
-    pub left : List H
-    pub are : c.threads.items ≡ before ++ left
-    pub count : length before ≡ n
-    pub chained : IsChain t.threads.keys t.links.keys chain left
-    pub so : AreNextBelow k t c n rs
+  pub below-first : (t : Parts G H) (c : Flat G H) → AreNextBelow k t c 0 []
+  below-first t c = record { next = []; below = below-none k c; are = tt }
 
-  pub walks-first : (t : Table G H) (row : Row) (c : Flat G H) → IsOf t row c → Walks t c 0 row.chain []
-  walks-first t row c of = record {
-    before = [];
-    left = c.threads.items;
-    are = refl;
-    count = refl;
-    chained = of.1;
-    so = record { next = []; below = below-none k c; are = tt };
+  pub thread-at : (t : Parts G H) (shared : ℕ) (numbers : List ℕ) (c : Flat G H) → IsOf t (shared ∷ numbers) c → IsSomewhere k c → (n thread : ℕ)
+      → slice_get numbers n ≡ Some thread → IsThreadAt k t (shared ∷ numbers) thread n c
+  thread-at t shared numbers c of at n thread is =
+      let b = beside (λ m x. slice_get t.threads.keys m ≡ Some x) numbers c.threads.items of.1 n thread is in
+      record { of = of; somewhere = at; thread_is = b.0; thread_at = b.2; among = b.1 }
+
+  pub below-done : (t u : Parts G H) (shared : ℕ) (numbers : List ℕ) (c : Flat G H) → IsOf t (shared ∷ numbers) c → (n : ℕ) → length numbers ≤ n
+      → (rs : List NextRow) → AreNextBelow k u c n rs → AreNextRows k u c rs
+  below-done t u shared numbers c of n past rs so =
+      let long = zip-length (λ m x. slice_get t.threads.keys m ≡ Some x) numbers c.threads.items of.1 in
+      record { next = so.next; has = below-all k c n so.next so.below (omega (arith, long, past)); are = so.are }
+
+-- the threads of numbers, of which so many were read
+unfoldable pub Read : {G H : Type 0} → Parts G H → List ℕ → ℕ → List H → Type 0
+Read {G} {H} t numbers n read = (xs : List H) → AreThreads t numbers xs → read ≡ take n xs
+
+pub read-first : {G H : Type 0} (t : Parts G H) (numbers : List ℕ) → Read t numbers 0 []
+unfolding Read
+read-first t numbers xs are = refl
+
+pub read-more : {G H : Type 0} (t : Parts G H) (numbers : List ℕ) (n number : ℕ) (read : List H) (x : H) → slice_get numbers n ≡ Some number
+    → slice_get t.threads.keys number ≡ Some x → Read t numbers n read → Read t numbers (n + 1) (read ++ x ∷ [])
+unfolding Read
+read-more t numbers n number read x at is so xs are =
+    let b = beside (λ m y. slice_get t.threads.keys m ≡ Some y) numbers xs are n number at in
+    let same : b.0 ≡ x = cc (b.2, is) in
+    let within = slice_get_within xs n b.0 b.1 in
+    let one = get_or_from_slice_get xs n b.0 x b.1 in
+    ap (λ l. l ++ x ∷ []) (so xs are) ∙ (ap (λ y. take n xs ++ y ∷ []) (sym (one ∙ same)) ∙ sym (take_more xs n x within))
+
+-- a number that stands for no thread is in no state
+pub read-none : {G H : Type 0} (t : Parts G H) (numbers : List ℕ) (n number : ℕ) (read : List H) → slice_get numbers n ≡ Some number
+    → slice_get t.threads.keys number ≡ None → Read t numbers n read → Read t numbers (n + 1) read
+unfolding Read
+read-none t numbers n number read at none so xs are =
+    let b = beside (λ m y. slice_get t.threads.keys m ≡ Some y) numbers xs are n number at in
+    absurd (cc (b.2, none))
+
+pub read-all : {G H : Type 0} (t : Parts G H) (numbers : List ℕ) (n : ℕ) (read : List H) → length numbers ≤ n → Read t numbers n read
+    → (xs : List H) → AreThreads t numbers xs → read ≡ xs
+unfolding Read
+read-all t numbers n read past so xs are =
+    let long = zip-length (λ m y. slice_get t.threads.keys m ≡ Some y) numbers xs are in
+    so xs are ∙ take_all n xs (omega (arith, long, past))
+
+-- a row with the numbers of these threads
+pub record RowSoFar {G H : Type 0} (eq : H → H → Bool) (t : Parts G H) (first : ℕ) (all : List H) (row : List ℕ) : Type 0 where
+  pub numbers : List ℕ
+  pub equal : List H
+  pub are : row ≡ first ∷ numbers
+  pub same : pointwise eq all equal ≡ true
+  pub threads : AreThreads t numbers equal
+
+module _ {H : Type 0} (eq : H → H → Bool) where
+  pointwise-more : (xs ys : List H) (x y : H) → pointwise eq xs ys ≡ true → eq x y ≡ true → pointwise eq (xs ++ x ∷ []) (ys ++ y ∷ []) ≡ true
+  pointwise-more [] [] x y e is = ap (λ b. b && true) is
+  pointwise-more [] (d ∷ ys) x y e is = absurd (true≢false (sym e))
+  pointwise-more (c ∷ xs) [] x y e is = absurd (true≢false (sym e))
+  pointwise-more (c ∷ xs) (d ∷ ys) x y e is =
+      ap (λ b. b && pointwise eq (xs ++ x ∷ []) (ys ++ y ∷ [])) (first_so (eq c d) (pointwise eq xs ys) e)
+      ∙ pointwise-more xs ys x y (second_so (eq c d) (pointwise eq xs ys) e) is
+
+module _ {G H : Type 0} (eq : H → H → Bool) where
+  pub row-first : (t : Parts G H) (first : ℕ) (row : List ℕ) → row ≡ first ∷ [] → RowSoFar eq t first [] row
+  row-first t first row is = record { numbers = []; equal = []; are = is; same = refl; threads = tt }
+
+  pub row-more : (t u : Parts G H) → Grows t u → (first : ℕ) (threads : List H) (row after : List ℕ) (thread : H) (number : ℕ) → RowSoFar eq t first threads row
+      → HasEqual eq u.threads.keys number thread → after ≡ row ++ number ∷ [] → RowSoFar eq u first (threads ++ thread ∷ []) after
+  row-more t u grows first threads row after thread number so has pushed = record {
+    numbers = so.numbers ++ number ∷ [];
+    equal = so.equal ++ has.key ∷ [];
+    are = pushed ∙ ap (λ l. l ++ number ∷ []) so.are;
+    same = pointwise-more eq threads so.equal thread has.key so.same has.is;
+    threads = all_zipped_more (λ m y. slice_get u.threads.keys m ≡ Some y) so.numbers so.equal number has.key
+        (threads-grow t u grows so.numbers so.equal so.threads) has.at;
   }
 
-  pub walks-at : (t : Table G H) (row : Row) (c : Flat G H) → IsOf t row c → IsSomewhere k c → (n chain : ℕ) (rs : List NextRow) → Walks t c n chain rs
-      → (l : Link) → place_of t.links.keys chain ≡ Some l → IsThreadAt k t row l.thread n c
-  walks-at t row c of at n chain rs walks l is =
-      let o = opened t.threads.keys t.links.keys chain walks.left l is walks.chained in
-      record {
-        of = of;
-        somewhere = at;
-        thread_is = o.first;
-        thread_at = o.thread;
-        among = ap (λ xs. slice_get xs n) (walks.are ∙ ap (λ ys. walks.before ++ ys) o.are) ∙ get-behind walks.before o.first o.others n walks.count;
-      }
-
-  pub walks-more : (t u : Table G H) → Grows t u → (c : Flat G H) (n chain : ℕ) (rs more : List NextRow) → Walks t c n chain rs
-      → (l : Link) → place_of t.links.keys chain ≡ Some l → (AreNextBelow k t c n rs → AreNextBelow k u c (n + 1) more) → Walks u c (n + 1) l.rest more
-  walks-more t u grows c n chain rs more walks l is next =
-      let o = opened t.threads.keys t.links.keys chain walks.left l is walks.chained in
-      let count = walks.count in
-      let long = length-append walks.before (o.first ∷ []) in
-      record {
-        before = walks.before ++ o.first ∷ [];
-        left = o.others;
-        are = walks.are ∙ (ap (λ ys. walks.before ++ ys) o.are ∙ sym (append_assoc walks.before (o.first ∷ []) o.others));
-        count = omega (arith, count, long);
-        chained = chain-grows t.threads.keys u.threads.keys t.links.keys u.links.keys grows.threads grows.links l.rest o.others o.rest;
-        so = next walks.so;
-      }
-
-  pub walks-done : (t : Table G H) (c : Flat G H) (n chain : ℕ) (rs : List NextRow) → Walks t c n chain rs → place_of t.links.keys chain ≡ None
-      → AreNextRows k t c rs
-  walks-done t c n chain rs walks none =
-      let empty = is-empty t.threads.keys t.links.keys chain walks.left walks.chained none in
-      let all = walks.are ∙ (ap (λ ys. walks.before ++ ys) empty ∙ append-nil walks.before) in
-      let long = ap length all in
-      let count = walks.count in
-      record {
-        next = (walks.so).next;
-        has = below-all k c n (walks.so).next (walks.so).below (omega (arith, long, count));
-        are = (walks.so).are;
-      }
-
--- the threads of a chain, of which these were read
-unfoldable pub Left : {H : Type 0} → List H → List Link → ℕ → ℕ → List H → Type 0
-Left {H} ts ls chain rest read = (xs : List H) → IsChain ts ls chain xs → (ys : List H) × IsChain ts ls rest ys × (xs ≡ read ++ ys)
-
-pub left-first : {H : Type 0} (ts : List H) (ls : List Link) (chain : ℕ) → Left ts ls chain chain []
-unfolding Left
-left-first ts ls chain xs is = (xs, is, refl)
-
-pub left-more : {H : Type 0} (ts : List H) (ls : List Link) (chain rest : ℕ) (read : List H) (l : Link) (x : H) → place_of ls rest ≡ Some l
-    → slice_get ts l.thread ≡ Some x → Left ts ls chain rest read → Left ts ls chain l.rest (read ++ x ∷ [])
-unfolding Left
-left-more ts ls chain rest read l x at is so xs chained =
-    let r = so xs chained in
-    let o = opened ts ls rest r.0 l at r.1 in
-    let same : o.first ≡ x = cc (o.thread, is) in
-    (o.others, o.rest, r.2 ∙ (ap (λ ys. read ++ ys) (o.are ∙ ap (λ y. y ∷ o.others) same) ∙ sym (append_assoc read (x ∷ []) o.others)))
-
--- a link that stands for no thread is in no chain
-pub left-none : {H : Type 0} (ts : List H) (ls : List Link) (chain rest : ℕ) (read : List H) (l : Link) → place_of ls rest ≡ Some l
-    → slice_get ts l.thread ≡ None → Left ts ls chain rest read → Left ts ls chain l.rest read
-unfolding Left
-left-none ts ls chain rest read l at none so xs chained =
-    let r = so xs chained in
-    let o = opened ts ls rest r.0 l at r.1 in
-    absurd (cc (o.thread, none))
-
-pub left-done : {H : Type 0} (ts : List H) (ls : List Link) (chain rest : ℕ) (read : List H) → place_of ls rest ≡ None → Left ts ls chain rest read
-    → (xs : List H) → IsChain ts ls chain xs → read ≡ xs
-unfolding Left
-left-done ts ls chain rest read none so xs chained =
-    let r = so xs chained in
-    let empty = is-empty ts ls rest r.0 r.1 none in
-    sym (r.2 ∙ (ap (λ ys. read ++ ys) empty ∙ append-nil read))
+pub row-done : {G H : Type 0} (eq_shared : G → G → Bool) (eq_thread : H → H → Bool) (t u : Parts G H) → Grows t u → (c : Flat G H) (first : ℕ)
+    → HasEqual eq_shared t.shared.keys first c.shared → (row : List ℕ) → RowSoFar eq_thread u first c.threads.items row → IsRowOfEqual eq_shared eq_thread u c row
+row-done eq_shared eq_thread t u grows c first has row so = record {
+  shared = has.key;
+  threads = so.equal;
+  of = subst (λ r. IsRow u r has.key so.equal) (sym so.are) (grows.shared first has.key has.at, so.threads);
+  shared_equal = has.is;
+  threads_equal = so.same;
+}

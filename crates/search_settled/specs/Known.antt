@@ -4,9 +4,9 @@ use Rattle.std.specs.List.{slice_get, AllZip}
 use Rattle.std.specs.Cmp.Lexicographic.{pointwise}
 use Rattle.schedule.specs.System.{Want.Calls, State}
 use Rattle.schedule.specs.Scheduled.{after_event}
-use Rattle.search_table.specs.declared.table.Row.{Row}
-use Rattle.search_table.specs.declared.table.Table.{Table}
-use Rattle.search_table.specs.Tables.{IsOrdered, IsRow}
+use Rattle.search_table.specs.declared.parts.Parts.{Parts}
+use Rattle.search_table.specs.declared.states.States.{States}
+use Rattle.search_table.specs.Tables.{IsRow, AreStates, states_of}
 use Rattle.search_graph.specs.declared.graph.Move.{Move}
 use Rattle.search_reach.specs.declared.explores.Next.{Next}
 use Rattle.search_reach.specs.Explored.{Gains, Notes}
@@ -15,6 +15,7 @@ use Rattle.search_settled.specs.declared.flat.Flat.{Flat}
 use Rattle.search_settled.specs.declared.met.Known.{Known}
 use Rattle.search_settled.specs.declared.met.Met.{Met}
 use Rattle.search_settled.specs.declared.met.NextRow.{NextRow}
+use Rattle.search_settled.specs.declared.met.Tables.{Tables}
 use Rattle.search_settled.specs.declared.met.Turn.{Turn}
 use Rattle.search_settled.specs.declared.met.Turn.TheVariants.{Still, Alone}
 use Rattle.search_settled.specs.declared.turns.Made.{Made}
@@ -34,23 +35,28 @@ AreFrom before new after =
     (slot : ℕ) (k : Known) → slice_get after slot ≡ Some (Some k)
     → (k ≡ new) ⊎ ((was : ℕ) × (slice_get before was ≡ Some (Some k)))
 
-module _ {G H : Type 0} (t : Table G H) where
+-- Each was there before.
+abbrev pub HasNoOther : List (Option Known) → List (Option Known) → Type 0
+HasNoOther before after =
+    (slot : ℕ) (k : Known) → slice_get after slot ≡ Some (Some k) → (was : ℕ) × (slice_get before was ≡ Some (Some k))
+
+module _ {G H : Type 0} (t : Parts G H) where
   -- The row is of that state.
-  abbrev pub IsOf : Row → Flat G H → Type 0
+  abbrev pub IsOf : List ℕ → Flat G H → Type 0
   IsOf r c = IsRow t r c.shared c.threads.items
 
-  -- The rows are of these states.
-  abbrev pub AreOf : List (Flat G H) → Type 0
-  AreOf cs = AllZip IsOf t.rows.keys cs
+  -- The states of a table are these.
+  abbrev pub AreOf : States → List (Flat G H) → Type 0
+  AreOf states cs = AllZip IsOf (states_of states) cs
 
   -- The row leads there, by that thread.
   pub record IsNextRow (r : NextRow) (x : Next (Flat G H)) : Type 0 where
     pub thread : x.thread ≡ r.thread
-    pub of : IsOf r.row x.state
+    pub of : IsOf r.row.items x.state
 
 -- The row is of a state that equals this one.
-pub record IsRowOfEqual {G H : Type 0} (eq_shared : G → G → Bool) (eq_thread : H → H → Bool) (t : Table G H) (c : Flat G H)
-    (r : Row) : Type 0 where
+pub record IsRowOfEqual {G H : Type 0} (eq_shared : G → G → Bool) (eq_thread : H → H → Bool) (t : Parts G H) (c : Flat G H)
+    (r : List ℕ) : Type 0 where
   pub shared : G
   pub threads : List H
   pub of : IsRow t r shared threads
@@ -73,7 +79,7 @@ module _ {X T E V A G H M : Type 0} (k : ThreadSystem X T E V A G H M) where
     pub come : (c : Flat G H) → c.shared ≡ shared → slice_get c.threads.items n ≡ Some thread
         → AllComeFrom c after made n (slice_set c.threads.items n rested)
 
-  module _ (t : Table G H) where
+  module _ (t : Parts G H) where
     -- The turn of thread n, by the numbers of the table.
     abbrev pub IsTurn : G → H → ℕ → Turn → Type 0
     IsTurn shared thread n Still = IsEventAt k shared thread n None
@@ -110,7 +116,7 @@ module _ {X T E V A G H M : Type 0} (k : ThreadSystem X T E V A G H M) where
         → slice_get t.threads.keys thread ≡ Some h → so g h
 
     -- Thread n of the state of a row has this number.
-    pub record IsThreadAt (r : Row) (thread n : ℕ) (c : Flat G H) : Type 0 where
+    pub record IsThreadAt (r : List ℕ) (thread n : ℕ) (c : Flat G H) : Type 0 where
       pub of : IsOf t r c
       pub somewhere : IsSomewhere k c
       pub thread_is : H
@@ -118,7 +124,7 @@ module _ {X T E V A G H M : Type 0} (k : ThreadSystem X T E V A G H M) where
       pub among : slice_get c.threads.items n ≡ Some thread_is
 
     -- It is so of the state of a row.
-    abbrev pub OfRow : Row → (Flat G H → Type 0) → Type 0
+    abbrev pub OfRow : List ℕ → (Flat G H → Type 0) → Type 0
     OfRow r so = (c : Flat G H) → IsOf t r c → IsSomewhere k c → so c
 
     -- The rows are those of the next states by the events of the threads below a number.
@@ -134,12 +140,12 @@ module _ {X T E V A G H M : Type 0} (k : ThreadSystem X T E V A G H M) where
       pub are : AllZip (IsNextRow t) rs next
 
     -- There is such a state of the row.
-    abbrev pub IsSomeRow : Row → Type 0
+    abbrev pub IsSomeRow : List ℕ → Type 0
     IsSomeRow r = (c : Flat G H) × IsOf t r c × IsSomewhere k c
 
   -- The row is of a state that equals one to which threads come after an event of thread n.
-  pub record IsRowAfter (eq_shared : G → G → Bool) (eq_thread : H → H → Bool) (t : Table G H) (after : G) (made : M) (n : ℕ)
-      (threads : List H) (r : Row) : Type 0 where
+  pub record IsRowAfter (eq_shared : G → G → Bool) (eq_thread : H → H → Bool) (t : Parts G H) (after : G) (made : M) (n : ℕ)
+      (threads : List H) (r : List ℕ) : Type 0 where
     pub state : Flat G H
     pub shared : state.shared ≡ after
     pub come : AllComeAfter k after made n threads state.threads.items
@@ -150,20 +156,20 @@ module _ {X T E V A G H M : Type 0} (k : ThreadSystem X T E V A G H M) where
   IsLostBy stuck n shared thread = (z : State X T) → IsThreadOf k shared thread n z
       → (e : E) × (k.system.wants (z.threads n) ≡ Calls e) × stuck (after_event k.system z n e)
 
-  -- Chains are in order, and what is known is so.
-  pub record AreKnown (m : Met G H) : Type 0 where
-    pub ordered : IsOrdered m.table.links.keys
-    pub right : (slot : ℕ) (known : Known) → slice_get m.known.items slot ≡ Some (Some known) → IsRight m.table known
+  -- What is known is so.
+  abbrev pub AreKnown : Met G H → Type 0
+  AreKnown m = (slot : ℕ) (known : Known) → slice_get m.known.items slot ≡ Some (Some known) → IsRight m.parts known
 
-  -- The table has these states.
-  pub record HasStates (m : Met G H) (cs : List (Flat G H)) : Type 0 where
-    pub known : AreKnown m
-    pub are : AreOf m.table cs
+  -- The tables have these states.
+  pub record HasStates (t : Tables G H) (cs : List (Flat G H)) : Type 0 where
+    pub known : AreKnown t.met
+    pub table : AreStates t.states
+    pub are : AreOf t.met.parts t.states cs
 
 -- The table has the states of these rows too, and the moves to them were noted: of whatever states they are.
-abbrev pub PutsRows : {G H : Type 0} → (G → G → Bool) → (H → H → Bool) → Table G H → Table G H → ℕ → List NextRow → List Move
-    → List Move → Type 0
-PutsRows {G} {H} eq_shared eq_thread before after at rs moves noted =
-    (ks : List (Flat G H)) (xs : List (Next (Flat G H))) → AreOf before ks → AllZip (IsNextRow before) rs xs
-    → (ls : List (Flat G H)) × AreOf after ls × Gains ks xs ls
+abbrev pub PutsRows : {G H : Type 0} → (G → G → Bool) → (H → H → Bool) → Parts G H → States → States → ℕ → List NextRow
+    → List Move → List Move → Type 0
+PutsRows {G} {H} eq_shared eq_thread t before after at rs moves noted =
+    (ks : List (Flat G H)) (xs : List (Next (Flat G H))) → AreOf t before ks → AllZip (IsNextRow t) rs xs
+    → (ls : List (Flat G H)) × AreOf t after ls × Gains ks xs ls
     × (length ls < 2 ^ 32 → Notes (flat_eq eq_shared eq_thread) ls at xs moves noted)

@@ -1,8 +1,8 @@
 //! The states that were met, in a table, and the turns that are known there.
 ghost use Rattle.std.specs.Prelude.{◌<◌, IfSome, OnOk};
-ghost use Rattle.search_settled.specs.Known.{IsNotedIn, AreFrom};
+ghost use Rattle.search_settled.specs.Known.{IsNotedIn, AreFrom, HasNoOther};
 
-use search_table::{Row, Table};
+use search_table::{Parts, States};
 use std::alloc::{AllocError, Global};
 use std::hash::Hash;
 
@@ -24,18 +24,25 @@ pub(crate) struct Known {
     pub(crate) turn: Turn,
 }
 
-/// A next state of a state, and the thread whose event leads there.
-#[derive(Clone, Copy)]
+/// The row of a next state of a state, and the thread whose event leads there.
+#[derive(Drop)]
 pub struct NextRow {
     pub thread: u32,
-    pub row: Row,
+    pub row: Vec<u32>,
 }
 
-/// The states that were met, and the turns that are known: those of the last ones to whom a slot fell.
+/// The parts of the states that were met, and the turns that are known: those of the last ones to whom a slot fell.
 #[derive(Drop)]
 pub(crate) struct Met<S: Eq + Hash, T: Eq + Hash> {
-    pub(crate) table: Table<S, T>,
+    pub(crate) parts: Parts<S, T>,
     pub(crate) known: Vec<Option<Known>>,
+}
+
+/// The states that were met, and what is known of them.
+#[derive(Drop)]
+pub(crate) struct Tables<S: Eq + Hash, T: Eq + Hash> {
+    pub(crate) met: Met<S, T>,
+    pub(crate) states: States,
 }
 
 /// How many slots there are at first, and at most.
@@ -83,20 +90,28 @@ fn slots_for(states: usize, slots: usize) -> usize
     }
 }
 
-/// Notes a turn in its slot, among so many states. Where more slots are wanted, all others are forgotten.
-pub(crate) fn note(
+/// Makes room for turns, among so many states. Where more slots are wanted, all turns are forgotten.
+pub(crate) fn make_room(
     alloc: Global,
     known: &mut Vec<Option<Known>>,
     states: usize,
-    new: Known,
 ) -> Result<(), AllocError>
-    ensures { OnOk result (AreFrom known.old.items new known.new.items) }
+    ensures { OnOk result (HasNoOther known.old.items known.new.items) }
 {
     let slots = slots_for(states, known.len());
     if known.len() < slots {
         *known = vec![in alloc; None; slots]?;
     }
+    Ok(())
+}
+
+/// Notes a turn in its slot, if there are any.
+pub(crate) fn note(known: &mut Vec<Option<Known>>, new: Known)
+    ensures { AreFrom known.old.items new known.new.items }
+{
+    if known.is_empty() {
+        return;
+    }
     let slot = slot_of(new.shared, new.thread, new.n, known.len());
     known[slot] = Some(new);
-    Ok(())
 }

@@ -6,18 +6,18 @@ ghost use Rattle.search_reach.specs.Levels.{IsLeveled};
 ghost use Rattle.search_reach.specs.Liveness.{IsCount, IsLiveWhereAll};
 ghost use Rattle.search_reach.specs.Sought.{SeeksIn};
 ghost use Rattle.search_reach.specs.Told.{Obeys};
-ghost use Rattle.search_table.specs.Tables.{HasSameParts};
+ghost use Rattle.search_table.specs.Tables.{AreStates};
 ghost use Rattle.search_settled.specs.Turns.{turns};
 ghost use Rattle.search_settled.specs.Levels.{HasEndsBehind};
 ghost use Rattle.search_settled.specs.Same.{flat_eq};
 ghost use Rattle.search_settled.specs.Known.{PutsRows};
 
 use crate::Moves;
-use crate::met::{Met, NextRow};
+use crate::met::{Met, NextRow, Tables, make_room};
 use crate::next::{next_rows, row_of, threads_of};
 use search_graph::Move;
 use search_reach::{Ended, Follows, Meets, Order, Seeks, all_endings};
-use search_table::Table;
+use search_table::{Parts, States};
 use std::alloc::{AllocError, Global};
 use std::hash::Hash;
 
@@ -27,21 +27,24 @@ struct Turns<'s, M> {
     system: &'s M,
 }
 
-/// Puts the rows of the next states of the one at this place, and notes the move to each.
+/// Puts the rows of the next states of the one at this place, and notes the move to each. These parts say of which states
+/// they are.
 ///
 /// # Errors
 /// Where memory is refused.
 pub fn put_rows<S: Eq + Hash + Drop, T: Eq + Hash + Drop>(
-    table: &mut Table<S, T>,
+    parts: &Parts<S, T>,
+    states: &mut States,
     moves: &mut Vec<Move>,
     at: u32,
     next: Vec<NextRow>,
 ) -> Result<(), AllocError>
-    ensures parts { OnOk result (HasSameParts table.old table.new) }
-    ensures puts { OnOk result (PutsRows S.eq T.eq table.old table.new at next.items moves.old.items moves.new.items) }
+    requires { AreStates states.old }
+    ensures are { OnOk result (AreStates states.new) }
+    ensures puts { OnOk result (PutsRows S.eq T.eq parts.now states.old states.new at next.items moves.old.items moves.new.items) }
 {
     for one in next {
-        let place = table.put_row(one.row)?;
+        let place = states.put(one.row.as_slice())?;
         moves.push(Move {
             from: at,
             thread: one.thread,
@@ -58,7 +61,7 @@ impl<M: Moves> Meets for Turns<'_, M> {
     ghost use Rattle.search_settled.specs.Turns.{turns};
     ghost use Rattle.search_settled.specs.Same.{flat_eq, flat_alike, stands_alike};
 
-    type Table = Met<M::Shared, M::Thread>;
+    type Table = Tables<M::Shared, M::Thread>;
 
     type Ending = M::Ending;
 
@@ -76,60 +79,73 @@ impl<M: Moves> Meets for Turns<'_, M> {
         (flat_alike M.Shared.eq M.Thread.eq (M.threads t.system.now)
         (M.same_shared t.system.now) (M.same_thread t.system.now) x y e) };
 
-    fn table(&self, alloc: Global) -> Met<M::Shared, M::Thread> {
-        Met {
-            table: Table::new(alloc),
-            known: Vec::new(alloc),
+    fn table(&self, alloc: Global) -> Tables<M::Shared, M::Thread> {
+        Tables {
+            met: Met {
+                parts: Parts::new(alloc),
+                known: Vec::new(alloc),
+            },
+            states: States::new(alloc),
         }
     }
 
-    fn count(&self, met: &Met<M::Shared, M::Thread>) -> usize {
-        met.table.len()
+    fn count(&self, tables: &Tables<M::Shared, M::Thread>) -> usize {
+        // No two parts are equal, as they say where they are asked for their number.
+        let _ = tables.met.parts.len();
+        tables.states.len()
     }
 
     fn first(
         &self,
         alloc: Global,
-        met: &mut Met<M::Shared, M::Thread>,
+        tables: &mut Tables<M::Shared, M::Thread>,
     ) -> Result<bool, AllocError> {
         let Some(flat) = self.system.first(alloc)? else {
             return Ok(false);
         };
-        let row = row_of(&mut met.table, flat)?;
-        met.table.put_row(row)?;
+        let row = row_of(alloc, &mut tables.met.parts, flat)?;
+        tables.states.put(row.as_slice())?;
         Ok(true)
     }
 
     fn next(
         &self,
         alloc: Global,
-        met: &mut Met<M::Shared, M::Thread>,
+        tables: &mut Tables<M::Shared, M::Thread>,
         at: u32,
         moves: &mut Vec<Move>,
     ) -> Result<bool, AllocError> {
-        let Some(row) = met.table.row(at as usize) else {
+        let Some(row) = tables.states.row(at as usize) else {
             return Ok(false);
         };
-        let Some(next) = next_rows(alloc, self.system, met, row)? else {
+        let Some((shared, threads)) = row.split_first() else {
             return Ok(false);
         };
-        put_rows(&mut met.table, moves, at, next)?;
+        let Some(next) = next_rows(alloc, self.system, &mut tables.met, *shared, threads)? else {
+            return Ok(false);
+        };
+        put_rows(&tables.met.parts, &mut tables.states, moves, at, next)?;
+        let count = tables.states.len();
+        make_room(alloc, &mut tables.met.known, count)?;
         Ok(true)
     }
 
     fn ending(
         &self,
         alloc: Global,
-        met: &Met<M::Shared, M::Thread>,
+        tables: &Tables<M::Shared, M::Thread>,
         at: usize,
     ) -> Result<Option<M::Ending>, AllocError> {
-        let Some(row) = met.table.row(at) else {
+        let Some(row) = tables.states.row(at) else {
             return Ok(None);
         };
-        let Some(shared) = met.table.shared.get_index(row.shared as usize) else {
+        let Some((number, threads)) = row.split_first() else {
             return Ok(None);
         };
-        let threads = threads_of(alloc, self.system, &met.table, row.chain)?;
+        let Some(shared) = tables.met.parts.shared.get_index(*number as usize) else {
+            return Ok(None);
+        };
+        let threads = threads_of(alloc, self.system, &tables.met.parts, threads)?;
         self.system.ending(alloc, shared, threads.as_slice())
     }
 }

@@ -65,19 +65,19 @@ fn made_anew<M: Moves>(
     n: usize,
 ) -> Result<Made<M::Shared, M::Effect>, AllocError>
     requires known { AreKnown (M.threads system.now) met.old }
-    requires of { AreOfThread (M.threads system.now) met.old.table shared thread n }
+    requires of { AreOfThread (M.threads system.now) met.old.parts shared thread n }
     requires few { n < (M.threads system.now).most }
-    ensures grows { OnOk result (Grows met.old.table met.new.table) }
+    ensures grows { OnOk result (Grows met.old.parts met.new.parts) }
     ensures known { OnOk result (AreKnown (M.threads system.now) met.new) }
-    ensures made { IfOk result (λ r. OfNumbers (M.threads system.now) met.old.table shared thread
-        (λ g h. IsMade (M.threads system.now) met.new.table g h n r)) }
-    ensures gives_up { IfOk result (λ r. r ≡ Unknown → OfNumbers (M.threads system.now) met.old.table shared thread
+    ensures made { IfOk result (λ r. OfNumbers (M.threads system.now) met.old.parts shared thread
+        (λ g h. IsMade (M.threads system.now) met.new.parts g h n r)) }
+    ensures gives_up { IfOk result (λ r. r ≡ Unknown → OfNumbers (M.threads system.now) met.old.parts shared thread
         (IsLostBy (M.threads system.now) (M.stuck system.now) n)) }
 {
-    let Some(old) = met.table.shared.get_index(shared as usize) else {
+    let Some(old) = met.parts.shared.get_index(shared as usize) else {
         return Ok(Made::Unknown);
     };
-    let Some(own) = met.table.threads.get_index(thread as usize) else {
+    let Some(own) = met.parts.threads.get_index(thread as usize) else {
         return Ok(Made::Unknown);
     };
     let count = system.started(old);
@@ -90,8 +90,8 @@ fn made_anew<M: Moves>(
     let Some(rested) = system.after(alloc, &made, n, own, n)? else {
         return Ok(Made::Unknown);
     };
-    let shared = met.table.put_shared(new)?;
-    let thread = met.table.put_thread(rested)?;
+    let shared = met.parts.put_shared(new)?;
+    let thread = met.parts.put_thread(rested)?;
     Ok(Made::Told(Turn::Alone { shared, thread }))
 }
 
@@ -105,18 +105,17 @@ pub(crate) fn made_by<M: Moves>(
     n: usize,
 ) -> Result<Made<M::Shared, M::Effect>, AllocError>
     requires known { AreKnown (M.threads system.now) met.old }
-    requires of { AreOfThread (M.threads system.now) met.old.table shared thread n }
+    requires of { AreOfThread (M.threads system.now) met.old.parts shared thread n }
     requires few { n < (M.threads system.now).most }
-    ensures grows { OnOk result (Grows met.old.table met.new.table) }
+    ensures grows { OnOk result (Grows met.old.parts met.new.parts) }
     ensures known { OnOk result (AreKnown (M.threads system.now) met.new) }
-    ensures made { IfOk result (λ r. OfNumbers (M.threads system.now) met.old.table shared thread
-        (λ g h. IsMade (M.threads system.now) met.new.table g h n r)) }
-    ensures gives_up { IfOk result (λ r. r ≡ Unknown → OfNumbers (M.threads system.now) met.old.table shared thread
+    ensures made { IfOk result (λ r. OfNumbers (M.threads system.now) met.old.parts shared thread
+        (λ g h. IsMade (M.threads system.now) met.new.parts g h n r)) }
+    ensures gives_up { IfOk result (λ r. r ≡ Unknown → OfNumbers (M.threads system.now) met.old.parts shared thread
         (IsLostBy (M.threads system.now) (M.stuck system.now) n)) }
 {
     let made = made_anew(alloc, system, met, shared, thread, n)?;
     if let Made::Told(turn) = made {
-        let states = met.table.rows.len();
         let n = n as u32;
         let new = Known {
             shared,
@@ -124,7 +123,7 @@ pub(crate) fn made_by<M: Moves>(
             n,
             turn,
         };
-        note(alloc, &mut met.known, states, new)?;
+        note(&mut met.known, new);
     }
     Ok(made)
 }

@@ -1,2 +1,4 @@
-pub mod Chains
+pub mod Keeping
 pub mod Distinct
+pub mod Cut
+pub mod Numbers

@@ -57,7 +57,7 @@ complete -c wathread -n '__fish_seen_subcommand_from search' -l runs -x -d 'How 
 complete -c wathread -n '__fish_seen_subcommand_from search' -l from -x -d 'The number of the first run [default: 1]'
 complete -c wathread -n '__fish_seen_subcommand_from search' -l seed -x -d 'The seed: run I of a seed is the same on every machine [default: 1]'
 complete -c wathread -n '__fish_seen_subcommand_from search' -l strategy -x -d 'Who goes on: random, pct:D for priorities that change at D - 1 points, D of 1 to 32, spin for long turns, or mix for all of these in turn [default: mix]'
-complete -c wathread -n '__fish_seen_subcommand_from search' -l jobs -x -d 'How many threads make runs, 1 to 256; without it as many as there are processors'
+complete -c wathread -n '__fish_seen_subcommand_from search' -l jobs -x -d 'How many threads make runs, or go on from states with --all, 1 to 256; without it as many as there are processors'
 complete -c wathread -n '__fish_seen_subcommand_from search' -l all -d 'In place of drawn runs, go through every order of the threads'\'' entries, by each state once, and say how all runs end, whether all do, and whether accesses race in any; nothing is said of timeouts that end while somebody is awake, of what a weaker memory shows where there is a race, or of other arguments'
 complete -c wathread -n '__fish_seen_subcommand_from search' -l states -x -d 'With --all: how many states are met at most, 1 to 1000000000; without it 1000000'
 complete -c wathread -n '__fish_seen_subcommand_from search' -l orders -x -a 'needed all' -d 'With --all: needed looks for races first, and where there is none goes through the orders that matter then; all goes through every order at once, and looks for no race [possible values: needed, all]'

@@ -4,7 +4,7 @@ use crate::all_runs::rows::{DUMP, EXCHANGES, Gone, MODULES, MOST, call_of, gone_
 use crate::runs::{LIMIT, load};
 use search_endings::Ending;
 use search_finds::run_to;
-use search_modules::{RaceFree, race_free_endings, turn_choices};
+use search_modules::{Alone, RaceFree, race_free_endings, turn_choices};
 use search_reach::{Ended, Order, Verdict};
 use spawn_host::Request;
 use std::alloc::Global;
@@ -41,7 +41,16 @@ fn gone_freely(
     order: Order,
 ) -> Result<RaceFree<Ending>, Fail> {
     let request = Request::new(valid, call_of(gone))?;
-    Ok(race_free_endings(alloc, &request, order, MOST, DUMP as usize, &(), &mut ())?)
+    Ok(race_free_endings(
+        alloc,
+        &request,
+        &Alone,
+        order,
+        MOST,
+        DUMP as usize,
+        &(),
+        &mut (),
+    )?)
 }
 
 /// They are the endings of every order.

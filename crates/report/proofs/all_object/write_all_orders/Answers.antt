@@ -1,10 +1,16 @@
-use Rattle.std.proofs.Common.{◌∙◌, refl, ap}
-use Rattle.std.specs.Prelude.{is_some}
+use Rattle.std.proofs.Common.{◌≡◌, ◌∙◌, Result, Ok, Err, refl, sym, ap, subst}
+use Rattle.std.specs.Prelude.{IfErr, IsErrAnd, is_some}
+use Rattle.report.specs.Searches.{IsOfSystem}
 use Rattle.report_jobs.specs.Prints.{change}
 use Rattle.report.proofs.Kept.{found_kept}
 use Rattle.report.proofs.Objected.{object_by, quiet_by, race_or_none, raced_in}
 use Rattle.report.proofs.Wholly.{and_none, finds_all, well_by}
 use Rattle.report.proofs.all_object.write_all_orders.Goals as goal
+
+-- the error that a call handed on
+handed_on : {A E : Type 0} (P : E → Type 0) (r : Result A E) (e : E) → IsErrAnd r (λ f. f ≡ e) → P e → IfErr r P
+handed_on P (Ok x) e is p = absurd is
+handed_on P (Err f) e is p = subst P (sym is) p
 
 pub returns-clause-finds : goal.returns-clause-finds
 returns-clause-finds g c =
@@ -58,3 +64,7 @@ returns-in_err-keep_found-clause-unwanted g c none =
 
 pub returns-in_err-keep_raced-clause-unwanted : goal.returns-in_err-keep_raced-clause-unwanted
 returns-in_err-keep_raced-clause-unwanted g c none = c.keep_raced.ensures.unwanted (and_none c.args.asked.search.now.races none)
+
+pub returns-in_err-keep_found-clause-trouble : goal.returns-in_err-keep_found-clause-trouble
+returns-in_err-keep_found-clause-trouble g c =
+    handed_on IsOfSystem c.from_residual-in_err-keep_found.result _ c.from_residual-in_err-keep_found.ensures.1 c.in_err-keep_found.ensures.trouble

@@ -21,9 +21,9 @@ invariant_of-result c =
     let worker = subst (λ (x : Parts). IsWorkerOf x c.worker_of.result) same c.worker_of.ensures in
     let opening = c.in_ok-opening.ensures ∙ ap opening_image same in
     let max = c.pages_max.ensures ∙ ap (pages_max_of MOST_PAGES) same in
-    let args = c.call.ensures.call.args_are in
+    let args = c.call.ensures.call.args_are ∙ sym c.in_ok-args.ensures in
     record {
-      callable = subst (λ (x : Parts). is_callable x c.in_ok-opening.opening.items c.pages_max.result c.number.result c.call.result.args.now
+      callable = subst (λ (x : Parts). is_callable x c.in_ok-opening.opening.items c.pages_max.result c.number.result c.in_ok-args.args.items
           c.worker_of.result ≡ true) (sym same)
           (subst (λ a. is_callable r.parts c.in_ok-opening.opening.items c.pages_max.result c.number.result a c.worker_of.result ≡ true) args
           (callable_so r.parts r.name r.args takes.0 c.worker_of.result worker c.in_ok-opening.opening.items c.pages_max.result c.number.result
@@ -40,9 +40,9 @@ returns-clause-call c =
     let worker = subst (λ (x : Parts). IsWorkerOf x c.worker_of.result) same c.worker_of.ensures in
     let opening = c.in_ok-opening.ensures ∙ ap opening_image same in
     let max = c.pages_max.ensures ∙ ap (pages_max_of MOST_PAGES) same in
-    let args = c.call.ensures.call.args_are in
+    let args = c.call.ensures.call.args_are ∙ sym c.in_ok-args.ensures in
     let b = λ (x : Parts) (a : List Value). called_of x c.in_ok-opening.opening.items c.pages_max.result c.number.result a c.worker_of.result in
-    subst (λ (x : Parts). IsCall r.parts r.name r.args (b x c.call.result.args.now)) (sym same)
+    subst (λ (x : Parts). IsCall r.parts r.name r.args (b x c.in_ok-args.args.items)) (sym same)
     (subst (λ a. IsCall r.parts r.name r.args (b r.parts a)) args
     (call_so r.parts r.name r.args takes.0 c.worker_of.result worker c.in_ok-opening.opening.items c.pages_max.result c.number.result
     opening max (sym takes.1)))

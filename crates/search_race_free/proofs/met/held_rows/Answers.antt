@@ -5,21 +5,16 @@ use Rattle.search_race_free.proofs.met.held_rows.Goals as goal
 
 pub loop-one-init : goal.loop-one-init
 loop-one-init g c = record {
-  grows = grows-self c.args.table.now;
-  ordered = c.requires;
-  rows = rows-none g.S.PartialEq.eq g.T.PartialEq.eq c.args.table.now c.new-rows.result.items c.new-rows.ensures.items;
+  grows = grows-self c.args.parts.now;
+  rows = rows-none g.S.PartialEq.eq g.T.PartialEq.eq c.args.parts.now c.new-rows.result.items c.new-rows.ensures.items;
 }
-
-pub held_row-requires : goal.held_row-requires
-held_row-requires g c = let so = c.loop-one.invariant in so.ordered
 
 pub loop-one-preserved : goal.loop-one-preserved
 loop-one-preserved g c =
     let so = c.loop-one.invariant in
     let row = c.in_ok-row.ensures in
     record {
-      grows = grows-then c.args.table.now c.loop-one.table c.held_row.new.table so.grows row.grows;
-      ordered = row.ordered;
-      rows = rows-more g.S.PartialEq.eq g.T.PartialEq.eq c.loop-one.table c.held_row.new.table row.grows c.loop-one.yielded c.loop-one.rows.items
+      grows = grows-then c.args.parts.now c.loop-one.parts c.held_row.new.parts so.grows row.grows;
+      rows = rows-more g.S.PartialEq.eq g.T.PartialEq.eq c.loop-one.parts c.held_row.new.parts row.grows c.loop-one.yielded c.loop-one.rows.items
           c.push.new.self.items c.in-Some.one (record { thread = c.in-Some.one.thread; row = c.in_ok-row.row }) so.rows refl row.row c.in_ok-push.ensures.items;
     }

@@ -22,7 +22,7 @@ returns-clause-none g c =
     c.in_ok-ended.ended.states c.in_ok-ended.ended.verdict c.in_ok-ended.ended.liveness c.in_ok-ended.ensures.live
 
 pub race_in-requires : goal.race_in-requires
-race_in-requires g c = let r = c.in_ok-reached.ensures.reached in (r.states, r.held, r.found.sound)
+race_in-requires g c = let r = c.in_ok-reached.ensures.reached in (r.states, (r.held).owning, r.found.sound)
 
 pub returns-clause-obeys : goal.returns-clause-obeys
 returns-clause-obeys g c = c.in_ok-ended.ensures.obeys (g.F.Follows.wish c.args.follower.now) c.in_ok-reached.ensures.obeys

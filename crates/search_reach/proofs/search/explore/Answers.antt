@@ -43,12 +43,17 @@ returns-then-most-met g c =
       obeys = λ ks held b n. absurd (c.loop-at.invariant.wished b n);
     }
 
-pub next-requires : goal.next-requires
-next-requires g c =
+pub next-requires-clause-at : goal.next-requires-clause-at
+next-requires-clause-at g c =
     let m = c.args.system.now in
     met-at (g.T.Meets.system m) (g.T.Meets.equal m) (g.T.Meets.holds m c.loop-at.table) (g.Q.Seeks.sought c.args.sought.now)
     (λ (j : ℕ). j < c.loop-at.at) c.loop-at.moves.items (c.loop-at.invariant.going).standing c.count-met.result c.count-met.ensures.len c.loop-at.at
     (omega arith)
+
+pub next-requires-clause-sound : goal.next-requires-clause-sound
+next-requires-clause-sound g c =
+    let so = (c.loop-at.invariant.going).standing in
+    (so.states, so.held, so.sound)
 
 pub returns-then-not-branch : goal.returns-then-not-branch
 returns-then-not-branch g c =

@@ -25,8 +25,8 @@ returns-in_default-clause-reached g c =
     let all = deep-all k eq has sought c.loop-at.stack.items c.loop-at.gone c.loop-at.moves.items so (omega (arith, (c.in_default.ensures.cases).0, c.loop-at.stack.ok)) (omega arith) in
     reached-all k eq has sought (Off c.loop-at.stack.items) c.loop-at.moves.items so.standing c.args.most _ _ tt all.0 all.1 (g.met.T.Meets.alike m)
 
-pub next-requires : goal.next-requires
-next-requires g c =
+pub next-requires-clause-at : goal.next-requires-clause-at
+next-requires-clause-at g c =
     let m = c.args.system.now in
     let k = g.T.Meets.system m in
     let eq = g.T.Meets.equal m in
@@ -36,6 +36,11 @@ next-requires g c =
     met-at k eq has sought (Off c.loop-at.stack.items) c.loop-at.moves.items so.standing c.count-met.result c.count-met.ensures.len c.in-Some.at
     (below-met k eq has sought c.loop-at.stack.items c.pop.new.self.items c.in-Some.at c.loop-at.gone c.loop-at.moves.items so c.in-Some.ensures.items
     c.count-met.result c.count-met.ensures.len (omega arith))
+
+pub next-requires-clause-sound : goal.next-requires-clause-sound
+next-requires-clause-sound g c =
+    let so = (c.loop-at.invariant.deep).standing in
+    (so.states, so.held, so.sound)
 
 pub returns-then-not-branch-clause-reached : goal.returns-then-not-branch-clause-reached
 returns-then-not-branch-clause-reached g c =

@@ -1,56 +1,54 @@
-use Rattle.std.proofs.Common.{sym, subst, ◌∙◌}
+use Rattle.std.proofs.Common.{◌∷◌, arith, sym, subst}
+use Rattle.search_settled.specs.Known.{AreNextBelow}
 use Rattle.search_settled.proofs.Rows.{grows-self, grows-then, row-grows}
-use Rattle.search_settled.proofs.Nexting.{Walks, walks-first, walks-at, walks-more, walks-done}
+use Rattle.search_settled.proofs.Nexting.{below-first, thread-at, below-done}
 use Rattle.search_settled.proofs.next.next_rows.Goals as goal
 
-pub loop-link-init : goal.loop-link-init
-loop-link-init g c = record {
+pub loop-n-init : goal.loop-n-init
+loop-n-init g c = record {
   known = c.requires.known;
-  grows = grows-self c.args.met.now.table;
-  walks = λ flat of at. subst (Walks (g.M.Moves.threads c.args.system.now) c.args.met.now.table flat 0 c.args.row.chain) (sym c.new-all.ensures.items)
-      (walks-first (g.M.Moves.threads c.args.system.now) c.args.met.now.table c.args.row flat of);
+  grows = grows-self c.args.met.now.parts;
+  next = λ flat of at. subst (AreNextBelow (g.M.Moves.threads c.args.system.now) c.args.met.now.parts flat 0) (sym c.new-all.ensures.items)
+      (below-first (g.M.Moves.threads c.args.system.now) c.args.met.now.parts flat);
 }
 
 pub put_next-requires-clause-at : goal.put_next-requires-clause-at
 put_next-requires-clause-at g c =
-    let k = g.M.Moves.threads c.args.system.now in
     let of = c.requires.of in
-    let so = c.loop-link.invariant in
-    let t = c.loop-link.met.table in (
+    let so = c.loop-n.invariant in
+    let t = c.loop-n.met.parts in (
       of.0,
-      walks-at k t c.args.row of.0 (row-grows c.args.met.now.table t so.grows c.args.row of.0.shared of.0.threads.items of.1) of.2 c.loop-link.n
-          c.loop-link.rest c.loop-link.all.items (so.walks of.0 of.1 of.2) c.in-Some.link (sym c.link.ensures ∙ c.in-Some.is),
+      thread-at (g.M.Moves.threads c.args.system.now) t c.args.shared c.args.threads.now of.0
+          (row-grows c.args.met.now.parts t so.grows (c.args.shared ∷ c.args.threads.now) of.0.shared of.0.threads.items of.1) of.2 c.loop-n.n
+          c.number_at-thread.result c.number_at-thread.ensures,
     )
 
-pub loop-link-preserved : goal.loop-link-preserved
-loop-link-preserved g c =
+pub loop-n-preserved : goal.loop-n-preserved
+loop-n-preserved g c =
     let k = g.M.Moves.threads c.args.system.now in
-    let so = c.loop-link.invariant in
-    let t = c.loop-link.met.table in
-    let u = c.put_next.new.met.table in
-    let is = sym c.link.ensures ∙ c.in-Some.is in
+    let so = c.loop-n.invariant in
+    let t = c.loop-n.met.parts in
     let put = c.in_ok-put_next.ensures in
     record {
       known = put.known;
-      grows = grows-then c.args.met.now.table t u so.grows put.grows;
-      walks = λ flat of at. (
-          let w = so.walks flat of at in
-          walks-more k t u put.grows flat c.loop-link.n c.loop-link.rest c.loop-link.all.items c.put_next.new.all.items w c.in-Some.link is
-          (put.next c.if-not-branch.false flat
-          (walks-at k t c.args.row flat (row-grows c.args.met.now.table t so.grows c.args.row flat.shared flat.threads.items of) at c.loop-link.n
-          c.loop-link.rest c.loop-link.all.items w c.in-Some.link is)));
+      grows = grows-then c.args.met.now.parts t c.put_next.new.met.parts so.grows put.grows;
+      next = λ flat of at. put.next c.if-not-branch.false flat
+          (thread-at k t c.args.shared c.args.threads.now flat
+          (row-grows c.args.met.now.parts t so.grows (c.args.shared ∷ c.args.threads.now) flat.shared flat.threads.items of) at c.loop-n.n
+          c.number_at-thread.result c.number_at-thread.ensures) (so.next flat of at);
     }
 
 pub returns-then-not-branch-clause-gives_up : goal.returns-then-not-branch-clause-gives_up
 returns-then-not-branch-clause-gives_up g c _ flat of at =
-    let k = g.M.Moves.threads c.args.system.now in
-    let so = c.loop-link.invariant in
-    let t = c.loop-link.met.table in
+    let so = c.loop-n.invariant in
+    let t = c.loop-n.met.parts in
     c.in_ok-put_next.ensures.gives_up c.if-not-branch.true flat
-    (walks-at k t c.args.row flat (row-grows c.args.met.now.table t so.grows c.args.row flat.shared flat.threads.items of) at c.loop-link.n
-    c.loop-link.rest c.loop-link.all.items (so.walks flat of at) c.in-Some.link (sym c.link.ensures ∙ c.in-Some.is))
+    (thread-at (g.M.Moves.threads c.args.system.now) t c.args.shared c.args.threads.now flat
+    (row-grows c.args.met.now.parts t so.grows (c.args.shared ∷ c.args.threads.now) flat.shared flat.threads.items of) at c.loop-n.n
+    c.number_at-thread.result c.number_at-thread.ensures)
 
 pub returns-clause-next : goal.returns-clause-next
 returns-clause-next g c flat of at =
-    walks-done (g.M.Moves.threads c.args.system.now) c.loop-link.met.table flat c.loop-link.n c.loop-link.rest c.loop-link.all.items
-    (c.loop-link.invariant.walks flat of at) (sym c.link.ensures ∙ c.in_default.is)
+    let so = c.loop-n.invariant in
+    below-done (g.M.Moves.threads c.args.system.now) c.args.met.now.parts c.loop-n.met.parts c.args.shared c.args.threads.now flat of c.loop-n.n
+    (omega arith) c.loop-n.all.items (so.next flat of at)

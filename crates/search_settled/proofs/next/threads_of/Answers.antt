@@ -1,26 +1,24 @@
-use Rattle.std.proofs.Common.{[], ◌∷◌, ◌++◌, ap, sym, subst, ◌∙◌}
-use Rattle.search_settled.proofs.Nexting.{Left, left-first, left-more, left-none, left-done}
+use Rattle.std.proofs.Common.{[], ◌∷◌, ◌++◌, ◌+◌, arith, ap, sym, subst, ◌∙◌}
+use Rattle.search_settled.proofs.Nexting.{Read, read-first, read-more, read-none, read-all}
 use Rattle.search_settled.proofs.next.threads_of.Goals as goal
 
-pub loop-link-init : goal.loop-link-init
-loop-link-init g c =
-    let t = c.args.table.now in
-    subst (Left t.threads.keys t.links.keys c.args.chain c.args.chain) (sym c.new-all.ensures.items) (left-first t.threads.keys t.links.keys c.args.chain)
+pub loop-n-init : goal.loop-n-init
+loop-n-init g c =
+    subst (Read c.args.parts.now c.args.numbers.now 0) (sym c.in_ok-all.ensures.items) (read-first c.args.parts.now c.args.numbers.now)
 
-pub loop-link-preserved-in_ok-push : goal.loop-link-preserved-in_ok-push
-loop-link-preserved-in_ok-push g c =
-    let t = c.args.table.now in
-    let pushed = c.in_ok-push.ensures.items ∙ ap (λ x. c.loop-link.all.items ++ x ∷ []) c.in_ok-share.ensures in
-    subst (Left t.threads.keys t.links.keys c.args.chain c.in-Some.link.rest) (sym pushed)
-    (left-more t.threads.keys t.links.keys c.args.chain c.loop-link.rest c.loop-link.all.items c.in-Some.link c.in-Some-get_index.thread.now
-    (sym c.link.ensures ∙ c.in-Some.is) (sym c.in-Some-get_index.ensures.key) c.loop-link.invariant)
+pub loop-n-preserved : goal.loop-n-preserved
+loop-n-preserved g c =
+    let t = c.args.parts.now in
+    let numbers = c.args.numbers.now in
+    let pushed = c.in_ok-push.ensures.items ∙ ap (λ x. c.loop-n.all.items ++ x ∷ []) c.in_ok-share.ensures in
+    subst (Read t numbers (c.loop-n.n + 1)) (sym pushed)
+    (read-more t numbers c.loop-n.n c.number_at-number.result c.loop-n.all.items c.in-Some.thread.now c.number_at-number.ensures
+    (sym c.in-Some.ensures.key) c.loop-n.invariant)
 
-pub loop-link-preserved : goal.loop-link-preserved
-loop-link-preserved g c =
-    let t = c.args.table.now in
-    left-none t.threads.keys t.links.keys c.args.chain c.loop-link.rest c.loop-link.all.items c.in-Some.link (sym c.link.ensures ∙ c.in-Some.is)
-    (sym c.in_default-get_index.ensures.key) c.loop-link.invariant
+pub loop-n-preserved-in_default : goal.loop-n-preserved-in_default
+loop-n-preserved-in_default g c =
+    read-none c.args.parts.now c.args.numbers.now c.loop-n.n c.number_at-number.result c.loop-n.all.items c.number_at-number.ensures
+    (sym c.in_default.ensures.key) c.loop-n.invariant
 
 pub returns : goal.returns
-returns g c = left-done c.args.table.now.threads.keys c.args.table.now.links.keys c.args.chain c.loop-link.rest c.loop-link.all.items
-    (sym c.link.ensures ∙ c.in_default.is) c.loop-link.invariant
+returns g c = read-all c.args.parts.now c.args.numbers.now c.loop-n.n c.loop-n.all.items (omega arith) c.loop-n.invariant

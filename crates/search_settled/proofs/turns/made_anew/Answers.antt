@@ -1,5 +1,4 @@
-use Rattle.std.proofs.Common.{refl, sym, subst, ◌∙◌}
-use Rattle.search_table.specs.Tables.{IsOrdered}
+use Rattle.std.proofs.Common.{refl, sym, ◌∙◌}
 use Rattle.search_settled.specs.Known.{IsTurn}
 use Rattle.search_settled.specs.declared.met.Turn.TheVariants.{Still, Alone}
 use Rattle.search_settled.proofs.Threads.{if-some-at}
@@ -9,34 +8,34 @@ use Rattle.search_settled.proofs.turns.made_anew.Goals as goal
 
 pub event-requires : goal.event-requires
 event-requires g c =
-    of-read (g.M.Moves.threads c.args.system.now) c.args.met.now.table c.args.shared c.args.thread c.args.n c.requires.of c.in-Some.old.now c.in-Some-get_index.own.now
+    of-read (g.M.Moves.threads c.args.system.now) c.args.met.now.parts c.args.shared c.args.thread c.args.n c.requires.of c.in-Some.old.now c.in-Some-get_index.own.now
     (sym c.in-Some.ensures.key) (sym c.in-Some-get_index.ensures.key)
 
 pub returns-in_default-2-clause-made : goal.returns-in_default-2-clause-made
 returns-in_default-2-clause-made g c =
     let k = g.M.Moves.threads c.args.system.now in
-    of-numbers k c.args.met.now.table c.args.shared c.args.thread (λ x y. IsTurn k c.args.met.now.table x y c.args.n Still)
+    of-numbers k c.args.met.now.parts c.args.shared c.args.thread (λ x y. IsTurn k c.args.met.now.parts x y c.args.n Still)
     c.in-Some.old.now c.in-Some-get_index.own.now (sym c.in-Some.ensures.key) (sym c.in-Some-get_index.ensures.key)
     (event-none k c.in-Some.old.now c.in-Some-get_index.own.now c.args.n _ c.in_default-2.is c.in_ok-new.ensures)
 
 pub is_quiet-requires : goal.is_quiet-requires
 is_quiet-requires g c =
     let k = g.M.Moves.threads c.args.system.now in
-    let of = of-read k c.args.met.now.table c.args.shared c.args.thread c.args.n c.requires.of c.in-Some.old.now c.in-Some-get_index.own.now
+    let of = of-read k c.args.met.now.parts c.args.shared c.args.thread c.args.n c.requires.of c.in-Some.old.now c.in-Some-get_index.own.now
     (sym c.in-Some.ensures.key) (sym c.in-Some-get_index.ensures.key) in
     count-low k (g.met.M.Moves.bounded c.args.system.now) c.in-Some.old.now c.in-Some-get_index.own.now c.args.n of.0 of.1 c.started-count.result c.started-count.ensures
 
 pub returns-then-not-is_quiet-clause-made : goal.returns-then-not-is_quiet-clause-made
 returns-then-not-is_quiet-clause-made g c =
     let k = g.M.Moves.threads c.args.system.now in
-    of-numbers k c.args.met.now.table c.args.shared c.args.thread _
+    of-numbers k c.args.met.now.parts c.args.shared c.args.thread _
     c.in-Some.old.now c.in-Some-get_index.own.now (sym c.in-Some.ensures.key) (sym c.in-Some-get_index.ensures.key)
     (event-some k c.in-Some.old.now c.in-Some-get_index.own.now c.args.n _ (c.in-Some-2.new, c.in-Some-2.made) c.in-Some-2.is c.in_ok-new.ensures)
 
 pub after-requires : goal.after-requires
 after-requires g c =
     let k = g.M.Moves.threads c.args.system.now in
-    let of = of-read k c.args.met.now.table c.args.shared c.args.thread c.args.n c.requires.of c.in-Some.old.now c.in-Some-get_index.own.now
+    let of = of-read k c.args.met.now.parts c.args.shared c.args.thread c.args.n c.requires.of c.in-Some.old.now c.in-Some-get_index.own.now
     (sym c.in-Some.ensures.key) (sym c.in-Some-get_index.ensures.key) in
     record {
       somewhere = own-before k c.in-Some.old.now c.in-Some-get_index.own.now c.args.n (c.in-Some-2.new, c.in-Some-2.made) of.0 of.1
@@ -47,7 +46,7 @@ after-requires g c =
 pub returns-in_default-3-clause-gives_up : goal.returns-in_default-3-clause-gives_up
 returns-in_default-3-clause-gives_up g c _ =
     let k = g.M.Moves.threads c.args.system.now in
-    of-numbers k c.args.met.now.table c.args.shared c.args.thread _
+    of-numbers k c.args.met.now.parts c.args.shared c.args.thread _
     c.in-Some.old.now c.in-Some-get_index.own.now (sym c.in-Some.ensures.key) (sym c.in-Some-get_index.ensures.key)
     (own-lost k (g.M.Moves.stuck c.args.system.now) c.in-Some.old.now c.in-Some-get_index.own.now c.args.n (c.in-Some-2.new, c.in-Some-2.made)
     (event-some k c.in-Some.old.now c.in-Some-get_index.own.now c.args.n _ (c.in-Some-2.new, c.in-Some-2.made) c.in-Some-2.is c.in_ok-new.ensures)
@@ -56,13 +55,12 @@ returns-in_default-3-clause-gives_up g c _ =
 pub returns-clause-known : goal.returns-clause-known
 returns-clause-known g c =
     let k = g.M.Moves.threads c.args.system.now in
-    let t = c.args.met.now.table in
+    let t = c.args.met.now.parts in
     let u = c.put_shared.new.self in
     let v = c.put_thread.new.self in
     let one = c.in_ok-shared.ensures in
     let two = c.in_ok-thread.ensures in
-    known-grows k c.args.met.now (record { table = v; known = c.args.met.now.known }) c.requires.known (grows-then t u v one.grows two.grows)
-    (subst IsOrdered (sym (two.links ∙ one.links)) c.requires.known.ordered) refl
+    known-grows k c.args.met.now (record { parts = v; known = c.args.met.now.known }) c.requires.known (grows-then t u v one.grows two.grows) refl
 
 pub returns-clause-made : goal.returns-clause-made
 returns-clause-made g c =
@@ -72,7 +70,7 @@ returns-clause-made g c =
     let one = c.in_ok-shared.ensures.number in
     let two = c.in_ok-thread.ensures.number in
     let event = event-some k c.in-Some.old.now c.in-Some-get_index.own.now c.args.n _ (c.in-Some-2.new, c.in-Some-2.made) c.in-Some-2.is c.in_ok-new.ensures in
-    of-numbers k c.args.met.now.table c.args.shared c.args.thread
+    of-numbers k c.args.met.now.parts c.args.shared c.args.thread
     (λ x y. IsTurn k v x y c.args.n (Alone c.in_ok-shared.shared c.in_ok-thread.thread))
     c.in-Some.old.now c.in-Some-get_index.own.now (sym c.in-Some.ensures.key) (sym c.in-Some-get_index.ensures.key) (
       one.key,

@@ -1,24 +1,32 @@
-use Rattle.std.proofs.Common.{subst}
+use Rattle.std.proofs.Common.{subst, ap, ◌∙◌}
+use Rattle.search_table.specs.Tables.{states_of, with_row}
+use Rattle.search_race_free.specs.declared.met.Table.{Table}
 use Rattle.search_race_free.specs.Same.{owning_alike}
 use Rattle.search_race_free.specs.Search.{IsCameFirst}
 use Rattle.search_race_free.proofs.Beginning.{begun-first, race-first, stuck-first}
 use Rattle.search_race_free.proofs.Keeping.{first-put}
+use Rattle.search_race_free.proofs.Pieces.{none-yet, first-ahead}
 use Rattle.search_race_free.proofs.states.RaceFreeTurnsMeets.first.Goals as goal
 
-pub held_row-requires : goal.held_row-requires
-held_row-requires g c = c.requires.ordered
+pub put-requires : goal.put-requires
+put-requires g c = (c.requires.owning).table
 
-pub returns-in_ok-put_row-in-To-clause-first : goal.returns-in_ok-put_row-in-To-clause-first
-returns-in_ok-put_row-in-To-clause-first g c _ =
+pub returns-in_ok-put-in-To-clause-first : goal.returns-in_ok-put-in-To-clause-first
+returns-in_ok-put-in-To-clause-first g c _ =
     let m = c.args.self.now.system.now in
     let k = g.M.Moves.threads m in
     let row = c.in_ok-row-in-To.ensures in
-    let put = c.in_ok-put_row-in-To.ensures in
-    first-put k (g.M.Moves.ends m) (g.M.Moves.stuck m) g.M.Shared.PartialEq.eq g.M.Thread.PartialEq.eq
+    let put = c.in_ok-put-in-To.ensures in
+    let t = c.args.tables.now in
+    let met : Table g.row.M-Shared.Denot g.row.M-Thread.Denot = record { parts = c.held_row.new.parts; states = c.put.new.self } in
+    first-ahead k (g.M.Moves.ends m) (g.M.Moves.stuck m) (record { met = met; ahead = t.ahead })
+    (none-yet k (g.M.Moves.ends m) (g.M.Moves.stuck m) t c.requires)
+    (first-put k (g.M.Moves.ends m) (g.M.Moves.stuck m) g.M.Shared.PartialEq.eq g.M.Thread.PartialEq.eq
     (owning_alike g.M.Shared.PartialEq.eq g.M.Thread.PartialEq.eq g.met.M.Shared.Eq.laws g.met.M.Thread.Eq.laws k (g.met.M.Moves.same_shared m) (g.met.M.Moves.same_thread m))
-    c.args.table.now c.held_row.new.table c.put_row.new.self c.requires row.grows row.ordered put.parts c.in_ok-row-in-To.row put.rows c.in-To.state
+    t.met met c.requires.owning put.are c.in_ok-row-in-To.row.items
+    (put.states ∙ ap (with_row (states_of t.met.states)) c.as_slice.ensures.value) c.in-To.state
     (begun-first k (g.met.M.Moves.tame m) (g.met.M.Accesses.plain m) (g.M.Moves.ends m) (g.M.Moves.stuck m) c.in-To.state
-    (subst (IsCameFirst k (g.M.Moves.stuck m)) c.in-To.is c.in_ok-state.ensures)) row.row
+    (subst (IsCameFirst k (g.M.Moves.stuck m)) c.in-To.is c.in_ok-state.ensures)) row.row)
 
 pub returns-in-Races-clause-gives_up : goal.returns-in-Races-clause-gives_up
 returns-in-Races-clause-gives_up g c _ =
