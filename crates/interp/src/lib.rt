@@ -7,10 +7,12 @@
 mod called;
 mod dispatch;
 mod entry;
+mod going;
 mod kept;
 mod opening;
 mod place;
 mod thread;
+mod trying;
 
 pub use kept::Kept;
 pub use place::CodePlace;

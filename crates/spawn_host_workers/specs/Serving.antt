@@ -21,18 +21,7 @@ use Rattle.interp_trait.specs.declared.turn.Turn.{Turn}
 use Rattle.interp_trait.specs.declared.turn.Turn.TheVariants as turns
 use Rattle.spawn_host_workers.specs.declared.serving.Served.{Served}
 use Rattle.spawn_host_workers.specs.declared.serving.Served.TheVariants as served
-use Rattle.spawn_host_workers.specs.Ends.{Comes, Watched}
-
--- A try as a step of the thread, and when it may be one.
-abbrev pub try_of : Event → Reply → Step Event Reply Answer
-try_of event replies.Again = Lost event
-try_of event replies.Full = Full event
-try_of event reply = Acts (Made event reply)
-
-abbrev pub MayTry : Event → Reply → Type 0
-MayTry event replies.Again = may_lose event ≡ true
-MayTry event replies.Full = is_exempt event ≡ false
-MayTry event reply = Unit {0}
+use Rattle.interp_trait.specs.Comes.{Comes, Watched}
 
 -- A question with a reply that leaves it open until its answer is heard.
 abbrev pub IsOpen : Event → Reply → Type 0

@@ -67,7 +67,7 @@ fn attend<T: TakesTurns, M: SharedMemory, W: Wait + Drop, G: Gate>(
     }
 }
 
-/// Makes turns of the thread's own, and then one try of the event that it wants.
+/// Makes turns of the thread, with tries of its accesses, and then one try of the event that it wants.
 fn step<T: TakesTurns, M: SharedMemory, W: Wait + Drop, G: Gate>(
     thread: &mut T,
     memory: &M,
@@ -81,8 +81,7 @@ fn step<T: TakesTurns, M: SharedMemory, W: Wait + Drop, G: Gate>(
     ensures stepped { SeatSteps M.SharedMemory G.Gate memory.now T.meaning thread.old thread.new seat.old seat.new
         gate.old gate.new result }
 {
-    let name = memory.name(seat);
-    match thread.own_turns(name, gate) {
+    match thread.turns_at(memory, seat, gate) {
         Turn::Wants(event) => attend(thread, memory, seat, desk, gate, event),
         turn => turn,
     }
