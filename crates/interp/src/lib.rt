@@ -7,8 +7,8 @@
 mod called;
 mod dispatch;
 mod entry;
-mod going;
 mod kept;
+mod onward;
 mod opening;
 mod place;
 mod thread;

@@ -9,8 +9,8 @@ ghost use Rattle.shared_memory.specs.Seats.{IsSameSeat};
 ghost use Rattle.shared_memory.specs.WaitQueue.{IsFree};
 ghost use Rattle.shared_memory.specs.History.{queue_after};
 
+use crate::accessed::Accessed;
 use crate::gate::Gate;
-use shared_memory::SharedMemory;
 use types::{Answer, Event, Outcome, Reply, Value};
 
 /// What a turn is given.
@@ -59,18 +59,18 @@ pub trait TakesTurns {
     /// Makes turns of its own and tries of the accesses that it wants, one after the other, until it wants an event that
     /// isn't made here, awaits an answer or has ended, and says which. A question is never made here. The gate is
     /// called before each turn, and before each event and each reply.
-    fn turns_at<M: SharedMemory, G: Gate>(
+    fn turns_at<M: Accessed, G: Gate>(
         &mut self,
         memory: &M,
         seat: &mut M::Seat,
         gate: &mut G,
     ) -> Turn
         requires here { MayRun (meaning self.old) }
-        requires alone { IsFree (queue_after (M.seen seat.old)) (M.name seat.old) }
+        requires alone { IsFree (queue_after (M.memory.seen seat.old)) (M.memory.name seat.old) }
         ensures stays { StaysAs (meaning self.old) (meaning self.new) }
-        ensures same { IsSameSeat M.SharedMemory seat.old seat.new }
-        ensures alone { IsFree (queue_after (M.seen seat.new)) (M.name seat.old) }
-        ensures ran { PausesAt M.SharedMemory G.Gate memory.now (meaning self.old) (meaning self.new) seat.old seat.new
+        ensures same { IsSameSeat M.memory seat.old seat.new }
+        ensures alone { IsFree (queue_after (M.memory.seen seat.new)) (M.memory.name seat.old) }
+        ensures ran { PausesAt M.memory G.Gate memory.now (meaning self.old) (meaning self.new) seat.old seat.new
             gate.old gate.new result };
 
     /// Replaces the arguments before the first turn.
