@@ -125,6 +125,12 @@ module _ {G : Type 0} (gate : Ghosts G) (budget : ℕ) (p : Program) (loses : Bo
   paid_pause turns.Awaits now other h = h
   paid_pause (turns.Ended outcome) now other h = tt
 
+  -- where it pauses for an event
+  pub pauses_for : (turn : Turn) (event : Event) (before after : Watched G) → turn ≡ turns.Wants event
+      → Pauses gate budget p loses opening_memory limit n t turn Stands before after
+      → Pauses gate budget p loses opening_memory limit n t (turns.Wants event) Stands before after
+  pauses_for turn event before after is g = subst (λ x. Pauses gate budget p loses opening_memory limit n t x Stands before after) is g
+
   pub steps_own : (turn : Turn) (before after : Watched G) → ((event : Event) → turn ≡ turns.Wants event → ⊥)
       → Pauses gate budget p loses opening_memory limit n t turn Stands before after
       → Steps gate budget p loses opening_memory limit n t turn Stands before after
