@@ -1,4 +1,4 @@
-use Rattle.std.proofs.Common.{◌≡◌, refl, subst, sym, ◌∙◌}
+use Rattle.std.proofs.Common.{◌≡◌, subst, sym, ◌∙◌}
 use Rattle.schedule.specs.System.{Want.Calls}
 use Rattle.interp_trait.specs.Turns.{IsWanted, wants_of}
 use Rattle.interp_trait.specs.Comes.{watched}
