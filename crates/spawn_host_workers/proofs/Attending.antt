@@ -1,5 +1,5 @@
 -- A thread is given what its event came to.
-use Rattle.std.proofs.Common.{◌≡◌, ◌<◌, ◌-◌, ℕ, zero, suc, arith, Bool, List, [], ◌∷◌, ◌++◌, Option, Some, None, refl, sym, subst}
+use Rattle.std.proofs.Common.{◌≡◌, ◌-◌, ℕ, arith, Bool, List, Option, None, refl, sym, subst}
 use Rattle.types.specs.declared.event.Event.{Event}
 use Rattle.types.specs.declared.event.Reply.{Reply}
 use Rattle.types.specs.declared.event.Reply.TheVariants as replies
@@ -7,18 +7,13 @@ use Rattle.types.specs.declared.event.Answer.{Answer}
 use Rattle.types.specs.declared.event.Entry.{Entry}
 use Rattle.shared_memory.specs.Memory.{Memory}
 use Rattle.shared_memory.specs.Access.{lost_after}
-use Rattle.types.specs.declared.outcome.Outcome.{Outcome}
-use Rattle.schedule.specs.System.{Act.Made, Act.Heard, Step.Own, Step.Acts, Want.Turns, Want.Calls}
-use Rattle.schedule.specs.Machine.{Thread.Absent, Thread.Runs, Thread.Over, Thread.Leaves, Thread.Left, thread_goes}
+use Rattle.schedule.specs.System.{Act.Made, Act.Heard, Step.Acts, Want.Calls}
+use Rattle.schedule.specs.Machine.{Thread.Runs}
 use Rattle.interp_machine.specs.Program.{Program}
-use Rattle.interp_machine.specs.State as states
 use Rattle.interp_machine.specs.State.{At, heard}
-use Rattle.schedule_threads.specs.Threads.{machine_of}
 use Rattle.schedule_threads.specs.Seeing.{Sees, SeesAct}
-use Rattle.interp_trait.specs.Turns.{Running, outcome_of, left_of, wants_of, after_reply, after_own, IsGiven, IsTurned, IsPaused, SaysWhy, IsHere}
-use Rattle.interp_trait.specs.Calls.{IsCalled, calls_for, calls_until, own_calls, unless_ended}
+use Rattle.interp_trait.specs.Turns.{Running, outcome_of, left_of, wants_of, after_reply, IsGiven, IsTurned, SaysWhy, IsHere}
 use Rattle.interp_trait.specs.declared.gate.Gate.{Ghosts}
-use Rattle.interp_trait.proofs.Pausing.{own_here}
 use Rattle.interp_trait.specs.declared.turn.Given.TheVariants as given
 use Rattle.interp_trait.specs.declared.turn.Turn.{Turn}
 use Rattle.interp_trait.specs.declared.turn.Turn.TheVariants as turns
@@ -124,6 +119,12 @@ module _ {G : Type 0} (gate : Ghosts G) (budget : ℕ) (p : Program) (loses : Bo
   paid_pause (turns.Wants event) now other h = absurd (other event refl)
   paid_pause turns.Awaits now other h = h
   paid_pause (turns.Ended outcome) now other h = tt
+
+  -- where it pauses for an event
+  pub pauses_for : (turn : Turn) (event : Event) (before after : Watched G) → turn ≡ turns.Wants event
+      → Pauses gate budget p loses opening_memory limit n t turn Stands before after
+      → Pauses gate budget p loses opening_memory limit n t (turns.Wants event) Stands before after
+  pauses_for turn event before after is g = subst (λ x. Pauses gate budget p loses opening_memory limit n t x Stands before after) is g
 
   pub steps_own : (turn : Turn) (before after : Watched G) → ((event : Event) → turn ≡ turns.Wants event → ⊥)
       → Pauses gate budget p loses opening_memory limit n t turn Stands before after

@@ -1,5 +1,5 @@
 -- What a call of the memory or of the desk enters, as acts of the caller's thread.
-use Rattle.std.proofs.Common.{◌≡◌, ℕ, ◌==◌, Bool, true, false, cond, List, [], ◌∷◌, ◌++◌, Option, Some, None, refl, sym, ◌∙◌, ap, append_assoc}
+use Rattle.std.proofs.Common.{◌≡◌, ℕ, ◌==◌, true, false, cond, List, [], ◌∷◌, ◌++◌, Option, Some, None, refl, sym, ◌∙◌, ap, append_assoc}
 use Rattle.std.proofs.lemmas.Bool.{cond_both, both_ways}
 use Rattle.std.proofs.lemmas.List.{append_cancel_left}
 use Rattle.types.specs.declared.event.Entry.{Entry}
@@ -14,12 +14,11 @@ use Rattle.shared_memory.specs.Memory.{Memory}
 use Rattle.shared_memory.specs.Events.{is_exempt}
 use Rattle.shared_memory.specs.WaitQueue.{IsFree}
 use Rattle.shared_memory.specs.History.{entries_of, queue_after}
-use Rattle.shared_memory.specs.Access.{HasRoom, Answers, Accesses}
+use Rattle.shared_memory.specs.Access.{HasRoom}
 use Rattle.shared_memory.proofs.Histories.{entries_of-append, entries_of-own}
 use Rattle.waiters_desk.specs.Calls.{EntersAtDesk, FindsRoom, Misses, Hears, Sleeps, Refused, asked_with, taken}
 use Rattle.schedule.specs.System.{Act.Made, Act.Heard}
-use Rattle.schedule_threads.specs.Seeing.{Sees, SeesAct, SeesFull}
-use Rattle.interp_trait.specs.Comes.{MayTry, try_of}
+use Rattle.schedule_threads.specs.Seeing.{SeesAct, SeesFull}
 use Rattle.spawn_host_workers.specs.Serving.{IsOpen, IsAnswered, IsAsked}
 
 -- the first entry of a thread among others

@@ -1,30 +1,34 @@
-use Rattle.std.proofs.Common.{◌≡◌, refl, subst, sym, ◌∙◌}
+use Rattle.std.proofs.Common.{◌≡◌, subst, sym, ◌∙◌}
 use Rattle.schedule.specs.System.{Want.Calls}
-use Rattle.interp_trait.specs.Turns.{wants_of}
-use Rattle.interp_trait.specs.Comes.{Pauses, watched}
+use Rattle.interp_trait.specs.Turns.{IsWanted, wants_of}
+use Rattle.interp_trait.specs.Comes.{watched}
 use Rattle.shared_memory.specs.WaitQueue.{IsFree}
 use Rattle.shared_memory.specs.History.{queue_after}
-use Rattle.spawn_host_workers.proofs.Attending.{steps_own, steps_then}
+use Rattle.spawn_host_workers.proofs.Attending.{pauses_for, steps_own, steps_then}
 use Rattle.spawn_host_workers.proofs.running.step.Goals as goal
 
-pub attend-requires : goal.attend-requires
-attend-requires g c =
+pub attend-requires-clause-wanted : goal.attend-requires-clause-wanted
+attend-requires-clause-wanted g c κs within =
     let m = g.M.SharedMemory in
     let first = g.T.TakesTurns.meaning c.args.thread.now in
-    let middle = (g.T.TakesTurns.meaning c.turns_at.new.self).stands in
     let h = c.requires.here in
     let o = c.turns_at.ensures in
-    let paused = subst (λ turn. Pauses g.G.Gate first.fuel first.program m.LOSES m.opening (m.limit c.args.memory.now) (m.name c.args.seat.now) h.0 turn middle
-    (watched m.seen m.lost c.args.seat.now c.args.gate.now) (watched m.seen m.lost c.turns_at.new.seat c.turns_at.new.gate)) c.in-Wants.is (o.ran h.0 h.1 h.2) in record {
-      wanted = (
-        paused.now,
-        paused.stands,
-        paused.why.0,
-        subst (λ p. wants_of p paused.now ≡ Calls c.in-Wants.event) (sym o.stays.program) paused.why.1,
-      );
-      event = paused.wanted;
-      free = subst (λ k. IsFree (queue_after (m.seen c.turns_at.new.seat)) k) (sym o.same.name_is) o.alone;
-    }
+    let paused = pauses_for g.G.Gate first.fuel first.program m.LOSES m.opening (m.limit c.args.memory.now) (m.name c.args.seat.now) h.0
+    (g.T.TakesTurns.meaning c.turns_at.new.self).stands c.turns_at.result c.in-Wants.event
+    (watched m.seen m.lost c.args.seat.now c.args.gate.now) (watched m.seen m.lost c.turns_at.new.seat c.turns_at.new.gate)
+    c.in-Wants.is (o.ran h.0 h.1 h.2) in (
+      paused.now,
+      (paused.stands, paused.why.0, subst (λ p. wants_of p paused.now ≡ Calls c.in-Wants.event) (sym o.stays.program) paused.why.1),
+    )
+
+pub attend-requires-clause-event : goal.attend-requires-clause-event
+attend-requires-clause-event g c κs within =
+    let h = c.requires.here in subst IsWanted c.in-Wants.is (c.turns_at.ensures.ran h.0 h.1 h.2).wanted
+
+pub attend-requires-clause-free : goal.attend-requires-clause-free
+attend-requires-clause-free g c κs within =
+    let m = g.M.SharedMemory in
+    let o = c.turns_at.ensures in subst (λ k. IsFree (queue_after (m.seen c.turns_at.new.seat)) k) (sym o.same.name_is) o.alone
 
 pub returns-in-Wants-clause-stepped : goal.returns-in-Wants-clause-stepped
 returns-in-Wants-clause-stepped g c t stands here =
@@ -35,12 +39,13 @@ returns-in-Wants-clause-stepped g c t stands here =
     let event = c.in-Wants.event in
     let middle = (g.T.TakesTurns.meaning c.turns_at.new.self).stands in
     let o = c.turns_at.ensures in
-    let paused = subst (λ turn. Pauses g.G.Gate first.fuel p m.LOSES m.opening (m.limit c.args.memory.now) (m.name seat) t turn middle
-    (watched m.seen m.lost seat c.args.gate.now) (watched m.seen m.lost c.turns_at.new.seat c.turns_at.new.gate)) c.in-Wants.is (o.ran t stands here) in
+    let before = watched m.seen m.lost seat c.args.gate.now in
+    let between = watched m.seen m.lost c.turns_at.new.seat c.turns_at.new.gate in
+    let paused = pauses_for g.G.Gate first.fuel p m.LOSES m.opening (m.limit c.args.memory.now) (m.name seat) t middle c.turns_at.result event before between
+    c.in-Wants.is (o.ran t stands here) in
     let attended = rw (o.stays.program, o.stays.fuel, o.same.name_is) at c.attend.ensures.attended in
     steps_then g.G.Gate first.fuel p m.LOSES m.opening (m.limit c.args.memory.now) (m.name seat) t middle event c.attend.result _
-    (watched m.seen m.lost seat c.args.gate.now) (watched m.seen m.lost c.turns_at.new.seat c.turns_at.new.gate)
-    (watched m.seen m.lost c.attend.new.seat c.attend.new.gate) paused
+    before between (watched m.seen m.lost c.attend.new.seat c.attend.new.gate) paused
     (λ earlier saw. attended paused.now earlier (paused.stands, paused.why.0, paused.why.1) saw)
 
 pub returns-in_default : goal.returns-in_default
