@@ -33,3 +33,4 @@ pub use printing::print;
 pub use replaying::{Unfit, misfit};
 pub use running::{Trouble, args_of, keep, request_of};
 pub use streams::Streams;
+pub use telling::{say, say_pieces};

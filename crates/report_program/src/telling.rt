@@ -7,6 +7,7 @@ ghost use Rattle.report_program.specs.Messages.{why_if, why_text, IsUsageStatus}
 
 use crate::Noted;
 use report_command::Usage;
+use report_jobs::{say, say_pieces};
 use std::alloc::Global;
 use std::fmt::Display;
 use std::io::{ErrorKind, Write};
@@ -17,47 +18,7 @@ const USAGE: u8 = 3;
 /// The status of a file or stream that failed, and of no memory.
 pub(crate) const FILE_FAULT: u8 = 5;
 
-/// Says a text, as much of it as the writer takes, and answers whether that is all. Where it isn't there is nobody left
-/// to tell.
-pub(crate) fn say<E: Write>(err: &mut E, text: &[u8]) -> bool
-    ensures told { Tells (E.contents err.old) (E.contents err.new) text.now }
-    ensures all { result ≡ true → Appends (E.contents err.old) (E.contents err.new) text.now }
-{
-    let mut rest = text;
-    for _ in 0..u64::MAX {
-        if rest.is_empty() {
-            return true;
-        }
-        match err.write(rest) {
-            Ok(0) => return false,
-            Ok(count) => rest = &rest[count..],
-            Err(fault) => {
-                if fault.kind() != ErrorKind::Interrupted {
-                    return false;
-                }
-            }
-        }
-    }
-    false
-}
-
-/// Says a path between two texts, and one more behind them, piece by piece.
-fn say_pieces<E: Write>(err: &mut E, front: &str, path: &str, behind: &str, more: &str)
-    ensures { Tells (E.contents err.old) (E.contents err.new) (front.now ++ path.now ++ behind.now ++ more.now) }
-{
-    if !say(err, front.as_bytes()) {
-        return;
-    }
-    if !say(err, path.as_bytes()) {
-        return;
-    }
-    if !say(err, behind.as_bytes()) {
-        return;
-    }
-    say(err, more.as_bytes());
-}
-
-/// The same in one piece, where there is memory for that.
+/// Says a path between two texts, and one more behind them, in one piece where there is memory for that.
 fn say_around<E: Write>(
     alloc: Global,
     err: &mut E,

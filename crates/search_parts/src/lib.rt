@@ -24,6 +24,7 @@ pub use opening::{first_common, first_threads};
 pub use resting::rest_after;
 pub use same::{
     equal_memories_are_the_same, equal_queues_are_the_same, equal_standings_are_the_same,
+    the_same_memories_are_equal, the_same_queues_are_equal, the_same_standings_are_equal,
 };
 pub use shared::{Common, HashedThread};
 pub use shared_walker::SharedWalker;

@@ -1,8 +1,9 @@
 use Rattle.std.proofs.Common.{◌++◌, ℕ, List, Option}
 use Rattle.std.specs.Io.KnownBytes.{Appends}
 use Rattle.report_jobs.specs.Trapped.{Tells}
-use Rattle.report_program.proofs.Said.{appends_as, appends_then, tells_as, tells_behind, tells_front}
-use Rattle.report_program.proofs.telling.say_pieces.Goals as goal
+use Rattle.replay_forms.proofs.Written.{appends_then}
+use Rattle.report_jobs.proofs.Said.{appends_as, tells_as, tells_behind, tells_front}
+use Rattle.report_jobs.proofs.telling.say_pieces.Goals as goal
 
 pub returns-then-not-say : goal.returns-then-not-say
 returns-then-not-say g c =
