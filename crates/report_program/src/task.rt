@@ -10,10 +10,10 @@ use crate::closing::{Closed, Lost, close, close_behind};
 use crate::copied::Copied;
 use crate::input::{Input, read};
 use crate::stop::Stop;
-use crate::telling::{say, tell_file_fault, tell_output_fault, tell_unkept, why_if};
+use crate::telling::{tell_file_fault, tell_output_fault, tell_unkept, why_if};
 use crate::{Noted, SavePlace, SavedFile, is_one_file, is_one_place};
 use report_command::{Form, Job, Misuse, RunJob, Search, misused};
-use report_jobs::Streams;
+use report_jobs::{Streams, say};
 use std::alloc::Global;
 use std::io::{self, BufWriter, Write};
 

@@ -1,6 +1,5 @@
 //! What is said, each text in one piece where there is memory for that, and the statuses that go with it.
 ghost use Rattle.std.specs.Prelude.{◌≡◌, ◌++◌, ◌⊎◌, true, false};
-ghost use Rattle.std.specs.Io.KnownBytes.{Appends};
 ghost use Rattle.report_jobs.specs.Trapped.{Tells};
 ghost use Rattle.report_program.specs.Messages.{file_text, memory_text, output_text, reason_text, unkept_text};
 ghost use Rattle.report_program.specs.Messages.{why_if, why_text, IsUsageStatus};
