@@ -68,7 +68,7 @@ the_same_queue x y same =
 -- ---- threads
 
 -- the values of these frames, which are all that lies
-lower_of : List Frame → List Value
+abbrev lower_of : List Frame → List Value
 lower_of [] = []
 lower_of (f ∷ fs) = values_on f (lower_of fs)
 
@@ -79,11 +79,11 @@ lower-is w results [] (f ∷ fs) values h = absurd h
 lower-is w results (c ∷ cs) [] values h = absurd h
 lower-is w results (c ∷ cs) (f ∷ fs) values h = h.4 ∙ ap (values_on f) (lower-is w h.0.context.results cs fs h.1 h.8)
 
-first_of : ℕ → List ℕ → ℕ
+abbrev first_of : ℕ → List ℕ → ℕ
 first_of d [] = d
 first_of d (x ∷ xs) = x
 
-rest_of : List ℕ → List ℕ
+abbrev rest_of : List ℕ → List ℕ
 rest_of [] = []
 rest_of (x ∷ xs) = xs
 
@@ -136,7 +136,7 @@ module _ (w : WithTables) (x y : Kept) (c : Config) (kx : IsKept w x c) (ky : Is
 
   below : a.lower ≡ b.lower
   below = lower-is w a.body.context.results (reverse s.callers.items) c.callers a.lower a.callers
-  ∙ sym (lower-is w b.body.context.results (reverse t.callers.items) c.callers b.lower b.callers)
+      ∙ sym (lower-is w b.body.context.results (reverse t.callers.items) c.callers b.lower b.callers)
 
   base : x.base ≡ y.base
   base = kx.is_of.base ∙ a.base ∙ ap length below ∙ sym b.base ∙ sym ky.is_of.base
@@ -149,7 +149,7 @@ module _ (w : WithTables) (x y : Kept) (c : Config) (kx : IsKept w x c) (ky : Is
 
   values : x.values.items ≡ y.values.items
   values = kx.is_of.values ∙ one_back s.values.items t.values.items
-  (a.values.are ∙ ap (λ l. map word_of (values_on c.frame l)) below ∙ sym b.values.are) ∙ sym ky.is_of.values
+      (a.values.are ∙ ap (λ l. map word_of (values_on c.frame l)) below ∙ sym b.values.are) ∙ sym ky.is_of.values
 
   globals : x.globals.items ≡ y.globals.items
   globals = kx.is_of.globals ∙ a.globals ∙ sym b.globals ∙ sym ky.is_of.globals
@@ -159,19 +159,19 @@ module _ (w : WithTables) (x y : Kept) (c : Config) (kx : IsKept w x c) (ky : Is
 
   of_callers : (f : Caller → ℕ) → map f x.callers.items ≡ map f y.callers.items → map f (reverse s.callers.items) ≡ map f (reverse t.callers.items)
   of_callers f e = map_reversed f s.callers.items
-  ∙ ap reverse (ap (map f) (sym kx.is_of.callers) ∙ e ∙ ap (map f) ky.is_of.callers)
-  ∙ sym (map_reversed f t.callers.items)
+      ∙ ap reverse (ap (map f) (sym kx.is_of.callers) ∙ e ∙ ap (map f) ky.is_of.callers)
+      ∙ sym (map_reversed f t.callers.items)
 
   callers : x.callers.items ≡ y.callers.items
   callers = kx.is_of.callers ∙ one_back s.callers.items t.callers.items
-  (one_list_of_callers w a.body.context.results b.body.context.results (reverse s.callers.items) (reverse t.callers.items) c.callers a.lower b.lower
-  a.callers b.callers (of_callers (λ c. c.function) at.callers) (of_callers (λ c. c.pc) at.instructions)) ∙ sym ky.is_of.callers
+      (one_list_of_callers w a.body.context.results b.body.context.results (reverse s.callers.items) (reverse t.callers.items) c.callers a.lower b.lower
+      a.callers b.callers (of_callers (λ c. c.function) at.callers) (of_callers (λ c. c.pc) at.instructions)) ∙ sym ky.is_of.callers
 
   pub one_kept : kept_eq.eq-value.it x y ≡ true
   one_kept = sym (λ i. nat_eq x.function (at.function i) && (nat_eq x.pc (at.instruction i) && (nat_eq x.base (base i) && (nat_eq x.operands (operands i)
-  && (nat_eq x.results (results i) && (pointwise nat_eq x.values.items (values i) && (pointwise value_eq.eq-value.it x.globals.items (globals i)
-  && (pointwise caller_eq.eq-value.it x.callers.items (callers i) && progress_eq.eq-value.it x.progress (progress i)))))))))
-  ∙ kept_laws.refl x
+      && (nat_eq x.results (results i) && (pointwise nat_eq x.values.items (values i) && (pointwise value_eq.eq-value.it x.globals.items (globals i)
+      && (pointwise caller_eq.eq-value.it x.callers.items (callers i) && progress_eq.eq-value.it x.progress (progress i)))))))))
+      ∙ kept_laws.refl x
 
 one_going : (w : WithTables) (x y : Kept) (v : Walker) → AreAtOnePlace x y → StandsForThread w (Going x) v → StandsForThread w (Going y) v
     → kept_eq.eq-value.it x y ≡ true
