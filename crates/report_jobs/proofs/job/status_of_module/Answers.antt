@@ -1,5 +1,5 @@
 use Rattle.report_jobs.proofs.Refused.{outside, in_body}
-use Rattle.report_jobs.proofs.job.refuse_module.Goals as goal
+use Rattle.report_jobs.proofs.job.status_of_module.Goals as goal
 
 pub returns-in-Outside-clause-refused : goal.returns-in-Outside-clause-refused
 returns-in-Outside-clause-refused g c = λ bytes refused two. outside bytes c.args.fault c.in-Outside.kind c.in-Outside.is refused

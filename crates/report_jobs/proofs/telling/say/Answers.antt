@@ -2,8 +2,8 @@ use Rattle.std.proofs.Common.{◌≡◌, ℕ, List, ◌++◌, sym, ap, ◌∙◌
 use Rattle.std.proofs.lemmas.List.{take_all}
 use Rattle.std.specs.Borrow.{Bor}
 use Rattle.report_jobs.proofs.Said.{Telling, told_more, told_no_more}
-use Rattle.report_jobs.proofs.telling.say_bytes.Goals.{in-Ok, in-Err+else-ne}
-use Rattle.report_jobs.proofs.telling.say_bytes.Goals as goal
+use Rattle.report_jobs.proofs.telling.say.Goals.{in-Ok, in-Err+else-ne}
+use Rattle.report_jobs.proofs.telling.say.Goals as goal
 
 pub loop-preserved : goal.loop-preserved
 loop-preserved g c =
