@@ -223,7 +223,7 @@ fn path_of<'a>(job: &RunJob<'a>, trouble: Trouble) -> Option<&'a str> {
 
 /// The address from which a file is laid.
 fn laid_from(file: Option<MemoryFile>) -> u32
-    ensures { result ≡ laid_from file }
+    ensures { result ≡ laid_from file.entry }
 {
     match file {
         Some(file) => file.addr,
@@ -237,7 +237,7 @@ fn decline<E: Write>(err: &mut E, unready: Unready, file: Option<MemoryFile>, co
     ensures status { (result ≡ 2) ⊎ (result ≡ 3) ⊎ (result ≡ 5) }
     ensures number { result ≡ unready_status unready }
     ensures refused { IsStatusOfUnready unready result }
-    ensures told { Tells (E.contents err.old) (E.contents err.new) (unready_line unready file count) }
+    ensures told { Tells (E.contents err.old) (E.contents err.new) (unready_line unready file.entry count) }
 {
     match unready {
         Unready::Refused(refusal) => refuse(err, refusal),
