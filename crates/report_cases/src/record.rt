@@ -98,7 +98,12 @@ fn is_whole(
 }
 
 /// Whether a page has the lines that it is to have. Says what is otherwise.
-fn is_page(rt: &HostRuntime, place: CaseName, case: &Case, gave: &Gave) -> Result<bool, AllocError> {
+fn is_page(
+    rt: &HostRuntime,
+    place: CaseName,
+    case: &Case,
+    gave: &Gave,
+) -> Result<bool, AllocError> {
     let lines = case.all(rt.alloc(), "page-has")?;
     let is_right = has_lines(&gave.streams.save, &lines);
     if !is_right {
