@@ -7,6 +7,7 @@ pub mod Here
 pub mod Begun
 pub mod Starting
 pub mod Flats
-pub mod Coming
 pub mod Others
 pub mod Pushing
+pub mod GoingAt
+pub mod Tried

@@ -4,3 +4,4 @@ pub mod Came
 pub mod Shown
 pub mod Starts
 pub mod Threads
+pub mod Tries

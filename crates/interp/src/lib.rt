@@ -8,9 +8,11 @@ mod called;
 mod dispatch;
 mod entry;
 mod kept;
+mod onward;
 mod opening;
 mod place;
 mod thread;
+mod trying;
 
 pub use kept::Kept;
 pub use place::CodePlace;

@@ -1,3 +1,4 @@
 pub mod Done
 pub mod Requests
 pub mod Replies
+pub mod Wanted

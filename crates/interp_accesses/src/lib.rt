@@ -8,6 +8,7 @@
 //! against the bounds of the whole access (this project's own).
 #![tactic(auto)]
 
+mod accesses;
 mod answers;
 mod atomic_operands;
 mod loaded;
@@ -20,8 +21,6 @@ mod requests;
 mod steps;
 mod stores;
 
+pub use accesses::{Access, access_replied, wanted};
 pub use answers::hear;
-pub use loads::{load, load_replied};
 pub use pages::{memory_grow, memory_grow_replied, memory_size, memory_size_replied};
-pub use steps::{atomic, atomic_replied};
-pub use stores::{store, store_replied};

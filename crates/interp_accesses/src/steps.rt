@@ -8,10 +8,11 @@ ghost use Rattle.interp_machine.specs.Program.{Program};
 ghost use Rattle.interp_state.specs.Steps.{ComesNext, IsStep, Wanting, IsReplied};
 ghost use Rattle.interp_state.specs.Words.{HasWords};
 ghost use Rattle.interp_accesses.specs.Requests.{Wants};
+ghost use Rattle.interp_accesses.specs.Wanted.{wants_or_traps};
 
 use crate::replies::{await_answer, finish, give};
 use crate::requests::{cmpxchg, load, notify, rmw, store, wait};
-use interp_state::{State, StepResult};
+use interp_state::State;
 use types::{AtomicOp, Event, MemArg, Trap};
 
 /// The event that an atomic instruction wants, or its trap.
@@ -37,19 +38,16 @@ pub(crate) fn request(
 
 /// An atomic instruction wants its event, or traps. The operands stay until the reply.
 #[inline(always)]
-pub fn atomic(state: &mut State, op: AtomicOp, arg: MemArg) -> StepResult
-    requires { ComesNext state.old (Instr.Plain (PlainInstr.Atomic op arg)) }
-    ensures { IsStep state.old result state.new }
+pub(crate) fn atomic(state: &State, op: AtomicOp, arg: MemArg) -> Result<Event, Trap>
+    requires { ComesNext state.now (Instr.Plain (PlainInstr.Atomic op arg)) }
+    ensures { IsStep state.now (wants_or_traps result) state.now }
 {
-    match request(state.values.as_slice(), state.program.shared, op, arg) {
-        Ok(event) => StepResult::Wants(event),
-        Err(trap) => StepResult::Trapped(trap),
-    }
+    request(state.values.as_slice(), state.program.shared, op, arg)
 }
 
 /// The reply to an atomic instruction's event is taken. After `wait` and `notify` the answer is due.
 #[inline(always)]
-pub fn atomic_replied(state: &mut State, op: AtomicOp, arg: MemArg, number: u64)
+pub(crate) fn atomic_replied(state: &mut State, op: AtomicOp, arg: MemArg, number: u64)
     requires { Wanting state.old (Instr.Plain (PlainInstr.Atomic op arg)) }
     ensures { IsReplied state.old number state.new }
 {

@@ -12,10 +12,7 @@ mod variables;
 pub use arithmetic::{
     comparison, constant, conversion, i32_operator, i64_operator, unary_operator, zero_test,
 };
-pub use control::{
-    block, br, br_if, br_if_to, br_table, br_to, else_part, else_to, end, if_start, if_to,
-    loop_start, return_now,
-};
+pub use control::{block, br, br_if, br_table, else_part, end, if_start, loop_start, return_now};
 pub use variables::{
     drop_value, fence, global_get, global_set, local_get, local_set, local_tee, nop, select,
     unreachable_instr,

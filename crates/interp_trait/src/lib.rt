@@ -3,8 +3,10 @@
 //! Proved: these are definitions, and the trait in their words.
 #![tactic(auto)]
 
+mod accessed;
 mod gate;
 mod turn;
 
+pub use accessed::{Accessed, Lent};
 pub use gate::{Gate, OpenGate, TrapFrame};
 pub use turn::{Given, TakesTurns, Turn};

@@ -4,7 +4,12 @@ ghost use Rattle.interp_trait.specs.Turns.{Meaning, BeginsAlike, HasSpent, MayBe
 ghost use Rattle.interp_trait.specs.Turns.{StaysAs, MakesTurn};
 ghost use Rattle.interp_trait.specs.Turns.{MayRun};
 ghost use Rattle.interp_trait.specs.Calls.{MakesOwnTurns};
+ghost use Rattle.interp_trait.specs.Comes.{PausesAt};
+ghost use Rattle.shared_memory.specs.Seats.{IsSameSeat};
+ghost use Rattle.shared_memory.specs.WaitQueue.{IsFree};
+ghost use Rattle.shared_memory.specs.History.{queue_after};
 
+use crate::accessed::Accessed;
 use crate::gate::Gate;
 use types::{Answer, Event, Outcome, Reply, Value};
 
@@ -50,6 +55,23 @@ pub trait TakesTurns {
         requires { MayRun (meaning self.old) }
         ensures stays { StaysAs (meaning self.old) (meaning self.new) }
         ensures turned { MakesOwnTurns G.sees name (meaning self.old) result (meaning self.new) gate.old gate.new };
+
+    /// Makes turns of its own and tries of the accesses that it wants, one after the other, until it wants an event that
+    /// isn't made here, awaits an answer or has ended, and says which. A question is never made here. The gate is
+    /// called before each turn, and before each event and each reply.
+    fn turns_at<M: Accessed, G: Gate>(
+        &mut self,
+        memory: &M,
+        seat: &mut M::Seat,
+        gate: &mut G,
+    ) -> Turn
+        requires here { MayRun (meaning self.old) }
+        requires alone { IsFree (queue_after (M.memory.seen seat.old)) (M.memory.name seat.old) }
+        ensures stays { StaysAs (meaning self.old) (meaning self.new) }
+        ensures same { IsSameSeat M.memory seat.old seat.new }
+        ensures alone { IsFree (queue_after (M.memory.seen seat.new)) (M.memory.name seat.old) }
+        ensures ran { PausesAt M.memory G.Gate memory.now (meaning self.old) (meaning self.new) seat.old seat.new
+            gate.old gate.new result };
 
     /// Replaces the arguments before the first turn.
     fn set_args(&mut self, args: &[Value])

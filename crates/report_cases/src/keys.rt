@@ -1,7 +1,7 @@
 //! The keys of lines.
 
 /// The keys that there are.
-const KEYS: [&str; 28] = [
+const KEYS: [&str; 29] = [
     "module",
     "hex",
     "body",
@@ -28,6 +28,7 @@ const KEYS: [&str; 28] = [
     "record",
     "record-end",
     "record-has",
+    "page-has",
     "again",
     "again-err",
 ];

@@ -38,6 +38,7 @@
 //! record LINE            the lines of the record that is written, or of the file that `show` makes
 //! record-end LINE        or its last lines, before that of the pages, which was printed too, and `finish`
 //! record-has LINE        lines that it has, in this order
+//! page-has LINE          lines that a page has which `show` makes, in this order
 //! memory-out 65536 61 62 how many bytes are written of the memory, of which these are the first
 //! again LINE             what its replay prints, with the `--dump` of the words
 //! again-err LINE         what the replay says on standard error

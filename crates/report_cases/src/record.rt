@@ -97,6 +97,21 @@ fn is_whole(
     Ok(is_right)
 }
 
+/// Whether a page has the lines that it is to have. Says what is otherwise.
+fn is_page(
+    rt: &HostRuntime,
+    place: CaseName,
+    case: &Case,
+    gave: &Gave,
+) -> Result<bool, AllocError> {
+    let lines = case.all(rt.alloc(), "page-has")?;
+    let is_right = has_lines(&gave.streams.save, &lines);
+    if !is_right {
+        tell(rt, place, &lines, "page", b"", &gave.streams.save);
+    }
+    Ok(is_right)
+}
+
 /// Whether a command line wrote to its record what is wanted. Says what is otherwise.
 pub(crate) fn is_kept(
     rt: &HostRuntime,
@@ -113,6 +128,7 @@ pub(crate) fn is_kept(
             }
             Ok(gave.streams.save.is_empty())
         }
+        Kept::AsSaid if case.get("page-has").is_some() => is_page(rt, place, case, gave),
         Kept::AsSaid if !is_end => is_whole(rt, place, case, gave),
         Kept::Run | Kept::AsSaid => is_run(rt, place, case, gave),
     }

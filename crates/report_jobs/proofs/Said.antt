@@ -1,5 +1,5 @@
 -- What was told so far of a text.
-use Rattle.std.proofs.Common.{◌≡◌, ℕ, List, [], ◌++◌, Option, None, Some, refl, sym, ◌∙◌, ap, append_assoc}
+use Rattle.std.proofs.Common.{◌≡◌, ℕ, List, [], ◌++◌, Option, None, Some, refl, sym, ◌∙◌, ap, append_assoc, subst}
 use Rattle.std.proofs.lemmas.List.{append-nil}
 use Rattle.std.specs.Io.KnownBytes.{Appends, Keeps}
 use Rattle.replay_forms.proofs.Written.{appends_then}
@@ -46,3 +46,28 @@ tells old new text rest t = record { front = t.front; more = rest; cut = t.cut; 
 -- nothing was told
 pub untold : (old : Option (List ℕ)) (text : List ℕ) → Tells old old text
 untold old text = tells old old text text (begun old text)
+
+-- a beginning of a text is one of a longer text
+pub tells_front : (old new : Option (List ℕ)) (x y : List ℕ) → Tells old new x → Tells old new (x ++ y)
+tells_front old new x y t = record {
+  front = t.front;
+  more = t.more ++ y;
+  cut = ap (λ (z : List ℕ). z ++ y) t.cut ∙ append_assoc t.front t.more y;
+  told = t.told;
+}
+
+-- a text was told, and a beginning of another behind it
+pub tells_behind : (old now new : Option (List ℕ)) (x y : List ℕ) → Appends old now x → Tells now new y → Tells old new (x ++ y)
+tells_behind old now new x y said t = record {
+  front = x ++ t.front;
+  more = t.more;
+  cut = ap (λ (z : List ℕ). x ++ z) t.cut ∙ sym (append_assoc x t.front t.more);
+  told = appends_then old now new x t.front said t.told;
+}
+
+-- the same of a text that is equal
+pub tells_as : (old new : Option (List ℕ)) (t x : List ℕ) → t ≡ x → Tells old new t → Tells old new x
+tells_as old new t x same said = subst (λ (z : List ℕ). Tells old new z) same said
+
+pub appends_as : (old new : Option (List ℕ)) (t x : List ℕ) → t ≡ x → Appends old new t → Appends old new x
+appends_as old new t x same said = subst (λ (z : List ℕ). Appends old new z) same said

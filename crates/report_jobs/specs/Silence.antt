@@ -7,6 +7,8 @@ use Rattle.report_command.specs.declared.command_line.Job.{Job}
 use Rattle.report_command.specs.declared.command_line.Job.TheVariants as jobs
 use Rattle.report_jobs.specs.declared.loading.Refusal.{Refusal}
 use Rattle.report_jobs.specs.declared.loading.Refusal.TheVariants.{Read, Validity}
+use Rattle.report_jobs.specs.declared.loading.Unready.{Unready}
+use Rattle.report_jobs.specs.declared.loading.Unready.TheVariants as unreadies
 use Rattle.report_jobs.specs.declared.replaying.Unfit.{Unfit}
 use Rattle.report_jobs.specs.declared.replaying.Unfit.TheVariants as unfits
 use Rattle.report_jobs.specs.declared.running.Trouble.{Trouble}
@@ -19,6 +21,12 @@ refusal_status (Read (Malformed kind offset)) = 2
 refusal_status (Validity ValidityOutOfMemory) = 5
 refusal_status (Validity (Outside kind)) = 2
 refusal_status (Validity (InBody kind function place)) = 2
+
+-- The same, 3 for bytes that can't be laid over its memory, and 5 where memory ran out.
+abbrev pub unready_status : Unready → ℕ
+unready_status (unreadies.Refused refusal) = refusal_status refusal
+unready_status (unreadies.Unlaid why) = 3
+unready_status unreadies.NoMemory = 5
 
 -- 3 for a call, and 5 for memory, a thread or a stream.
 abbrev pub trouble_status : Trouble → ℕ

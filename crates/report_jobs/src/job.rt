@@ -6,9 +6,11 @@ ghost use Rattle.report_jobs.specs.Jobs.{IsAccepted, IsAcceptedAs, HasRun, Canno
 ghost use Rattle.report_jobs.specs.Jobs.{IsRefused};
 ghost use Rattle.report_jobs.specs.Jobs.{IsNoValidModule, IsStatusOfRefusal, IsStatusOfUnfit, IsStatusOfUnready};
 ghost use Rattle.report_jobs.specs.Prints.{accepted_text, changed, written};
-ghost use Rattle.report_jobs.specs.Silence.{IsRefusal, Stays, refusal_status, trouble_status, unfit_status};
+ghost use Rattle.report_jobs.specs.Silence.{IsRefusal, Stays};
+ghost use Rattle.report_jobs.specs.Silence.{refusal_status, trouble_status, unfit_status, unready_status};
 ghost use Rattle.report_jobs.specs.declared.loading.Refusal.{Refusal};
-ghost use Rattle.report_jobs.specs.Told.{TellsWhatIsWrong, unfit_line};
+ghost use Rattle.report_jobs.specs.Told.{TellsRefusal, TellsWhatIsWrong, refusal_line, unfit_line, unready_line};
+ghost use Rattle.report_jobs.specs.Told.{laid_from, path_or, trouble_line};
 ghost use Rattle.report_jobs.specs.Trapped.{Tells};
 ghost use Rattle.report_jobs.specs.Troubles.{IsStatusOfTrouble};
 
@@ -16,17 +18,16 @@ use crate::loading::{Refusal, Unready, load, load_checked, load_over};
 use crate::replaying::{Unfit, replay_record};
 use crate::running::{Trouble, print_run};
 use crate::streams::Streams;
-use crate::telling::say_unfit;
+use crate::telling::{say, say_call, say_pieces, say_refusal, say_unfit, say_unlaid};
 use binary_wire::ReadFault;
 use report_command::{EndLook, Form, MemoryFile, RunJob};
 use report_json::write_accepted;
-use report_memory::Unlaid;
 use show_text::Unwritten;
 use std::alloc::Global;
 use std::io::Write;
 use std::sync::Wait;
 use std::thread::Threads;
-use types::{MOST_ITEMS, Module};
+use types::Module;
 use validate_typing::ValidFault;
 
 /// The statuses with which the program ends, beside 0 and 1 for a run.
@@ -41,7 +42,7 @@ const FAULT: u8 = 5;
 /// Reads a module and validates it, and prints how many functions of its own it has.
 ///
 /// Answers 0 only where the bytes are the text of a valid module and that was printed, 2 for a refused module, and 5
-/// where memory or the stream failed.
+/// where memory or the stream failed. At 2 the line that says why goes to `err`, as far as `err` takes it.
 pub fn check<W: Write, E: Write>(
     alloc: Global,
     bytes: &[u8],
@@ -51,6 +52,7 @@ pub fn check<W: Write, E: Write>(
 ) -> u8
     ensures accepted { result ≡ 0 → IsAccepted form bytes.now (W.contents out.old) (W.contents out.new) }
     ensures refused { result ≡ 2 → IsNoValidModule bytes.now }
+    ensures told { result ≡ 2 → TellsRefusal bytes.now (changed E.contents err.old err.new) }
     ensures silent { result ≡ 2 → Stays out.old out.new }
     ensures status { (result ≡ 0) ⊎ (result ≡ 2) ⊎ (result ≡ 5) }
 {
@@ -96,11 +98,11 @@ fn accept<W: Write, E: Write>(
     match write_functions(alloc, out, form, functions) {
         Ok(()) => 0,
         Err(Unwritten::NoMemory) => {
-            say(err, "no memory");
+            say(err, b"no memory\n");
             FAULT
         }
         Err(Unwritten::Output) => {
-            say(err, "file fault: standard output");
+            say(err, b"file fault: standard output\n");
             FAULT
         }
     }
@@ -111,60 +113,41 @@ pub fn refuse<E: Write>(err: &mut E, refusal: Refusal) -> u8
     ensures status { (result ≡ 2) ⊎ (result ≡ 5) }
     ensures number { result ≡ refusal_status refusal }
     ensures refused { IsStatusOfRefusal refusal result }
+    ensures told { Tells (E.contents err.old) (E.contents err.new) (refusal_line refusal) }
 {
+    say_refusal(err, refusal);
     match refusal {
-        Refusal::Read(fault) => refuse_text(err, fault),
-        Refusal::Validity(fault) => refuse_module(err, fault),
+        Refusal::Read(fault) => status_of_text(fault),
+        Refusal::Validity(fault) => status_of_module(fault),
     }
 }
 
-/// Says why bytes are no module's text, and answers the status.
-fn refuse_text<E: Write>(err: &mut E, fault: ReadFault) -> u8
+/// The status of bytes that are no module's text.
+fn status_of_text(fault: ReadFault) -> u8
     ensures status { (result ≡ 2) ⊎ (result ≡ 5) }
     ensures number { result ≡ refusal_status (Refusal.Read fault) }
     ensures refused { IsStatusOfRefusal (Refusal.Read fault) result }
 {
     match fault {
-        ReadFault::OutOfMemory => {
-            say(err, "no memory");
-            FAULT
-        }
-        ReadFault::Malformed { kind, offset } => {
-            let number = kind.number();
-            let _ = write!(err, "module refused: read {number} at {offset}\n");
-            MODULE_REFUSED
-        }
+        ReadFault::OutOfMemory => FAULT,
+        ReadFault::Malformed { kind: _, offset: _ } => MODULE_REFUSED,
     }
 }
 
-/// Says why a module isn't valid, and answers the status.
-fn refuse_module<E: Write>(err: &mut E, fault: ValidFault) -> u8
+/// The status of a module that isn't valid.
+fn status_of_module(fault: ValidFault) -> u8
     ensures status { (result ≡ 2) ⊎ (result ≡ 5) }
     ensures number { result ≡ refusal_status (Refusal.Validity fault) }
     ensures refused { IsStatusOfRefusal (Refusal.Validity fault) result }
 {
     match fault {
-        ValidFault::OutOfMemory => {
-            say(err, "no memory");
-            FAULT
-        }
-        ValidFault::Outside(kind) => {
-            let number = kind.number();
-            let _ = write!(err, "module refused: validity {number}\n");
-            MODULE_REFUSED
-        }
+        ValidFault::OutOfMemory => FAULT,
+        ValidFault::Outside(_) => MODULE_REFUSED,
         ValidFault::InBody {
-            kind,
-            function,
-            instruction,
-        } => {
-            let number = kind.number();
-            let _ = write!(
-                err,
-                "module refused: validity {number} in function {function} at {instruction}\n"
-            );
-            MODULE_REFUSED
-        }
+            kind: _,
+            function: _,
+            instruction: _,
+        } => MODULE_REFUSED,
     }
 }
 
@@ -212,6 +195,7 @@ where
     ensures made { result ≤ 1 → HasRun «module».now over.now job.now
         (written W.contents E.contents S.contents streams.old streams.new) result }
     ensures refused { result ≡ 2 → IsNoValidModule «module».now }
+    ensures told { result ≡ 2 → TellsRefusal «module».now (changed E.contents streams.old.err streams.new.err) }
     ensures cannot { result ≡ 3 → CannotRun «module».now over.now job.now }
     ensures silent { IsRefusal result → Stays streams.old.out streams.new.out
         × Stays streams.old.save streams.new.save × Stays streams.old.memory streams.new.memory }
@@ -237,51 +221,35 @@ fn path_of<'a>(job: &RunJob<'a>, trouble: Trouble) -> Option<&'a str> {
     }
 }
 
+/// The address from which a file is laid.
+fn laid_from(file: Option<MemoryFile>) -> u32
+    ensures { result ≡ laid_from file.entry }
+{
+    match file {
+        Some(file) => file.addr,
+        None => 0,
+    }
+}
+
 /// Says why there is no module of which a run could be made, and answers the status. So many bytes were to be laid over
 /// its memory.
 fn decline<E: Write>(err: &mut E, unready: Unready, file: Option<MemoryFile>, count: usize) -> u8
     ensures status { (result ≡ 2) ⊎ (result ≡ 3) ⊎ (result ≡ 5) }
+    ensures number { result ≡ unready_status unready }
     ensures refused { IsStatusOfUnready unready result }
+    ensures told { Tells (E.contents err.old) (E.contents err.new) (unready_line unready file.entry count) }
 {
     match unready {
         Unready::Refused(refusal) => refuse(err, refusal),
         Unready::Unlaid(why) => {
-            say_unlaid(err, why, file, count);
+            say_unlaid(err, why, laid_from(file), count);
             RUN_REFUSED
         }
         Unready::NoMemory => {
-            say(err, "no memory");
+            say(err, b"no memory\n");
             FAULT
         }
     }
-}
-
-/// Says why so many bytes of a file can't be laid over the memory of a module.
-fn say_unlaid<E: Write>(err: &mut E, why: Unlaid, file: Option<MemoryFile>, count: usize) {
-    let addr = match file {
-        Some(file) => file.addr,
-        None => 0,
-    };
-    let _ = match why {
-        Unlaid::Nowhere => {
-            write!(
-                err,
-                "memory refused: the module has none over which --memory-in could lay bytes\n"
-            )
-        }
-        Unlaid::Outside(room) => {
-            write!(
-                err,
-                "memory refused: --memory-in lays {count} bytes from {addr} on, and the memory has {room} at first\n"
-            )
-        }
-        Unlaid::Segments => {
-            write!(
-                err,
-                "memory refused: the module has {MOST_ITEMS} data segments, and --memory-in wants one more\n"
-            )
-        }
-    };
 }
 
 /// Replays the record whose text the bytes are, and prints what its run printed: how the threads ended, the pages and
@@ -302,6 +270,7 @@ pub fn replay_saved<W: Write, E: Write>(
     ensures replayed { result ≤ 1 → IsReplayed «module».now saved.now look (changed W.contents out.old out.new)
         (changed E.contents err.old err.new) result }
     ensures refused { result ≡ 2 → IsNoValidModule «module».now }
+    ensures refusal { result ≡ 2 → TellsRefusal «module».now (changed E.contents err.old err.new) }
     ensures none { result ≡ 4 → IsNoRecordOf «module».now saved.now }
     ensures told { result ≡ 4 → TellsWhatIsWrong «module».now saved.now (changed E.contents err.old err.new) }
     ensures silent { IsRefusal result → Stays out.old out.new }
@@ -331,38 +300,34 @@ pub fn reject<E: Write>(err: &mut E, unfit: Unfit) -> u8
     }
 }
 
-/// Says why there was no run, or why its lines or its record couldn't be written, and answers the status.
+/// Says why there was no run, or why its lines or its record couldn't be written, and answers the status. The path is
+/// that of the file that failed.
 pub fn complain<E: Write>(err: &mut E, trouble: Trouble, path: Option<&str>) -> u8
     ensures status { (result ≡ 3) ⊎ (result ≡ 5) }
     ensures number { result ≡ trouble_status trouble }
     ensures refused { IsStatusOfTrouble trouble result }
+    ensures told { Tells (E.contents err.old) (E.contents err.new) (trouble_line trouble (path_or path.entry)) }
 {
     match trouble {
         Trouble::Call(fault) => {
-            let _ = write!(err, "run refused: {fault}\n");
+            say_call(err, fault);
             RUN_REFUSED
         }
         Trouble::NoThread => {
-            say(err, "no thread");
+            say(err, b"no thread\n");
             FAULT
         }
         Trouble::NoMemory => {
-            say(err, "no memory");
+            say(err, b"no memory\n");
             FAULT
         }
         Trouble::Output => {
-            say(err, "file fault: standard output");
+            say(err, b"file fault: standard output\n");
             FAULT
         }
         Trouble::Save | Trouble::SaveMemory => {
-            let path = path.unwrap_or("the record");
-            let _ = write!(err, "file fault: {path}\n");
+            say_pieces(err, "file fault: ", path.unwrap_or("the record"), "\n", "");
             FAULT
         }
     }
-}
-
-/// Writes a line about what went wrong; where that fails there is nobody left to tell.
-fn say<E: Write>(err: &mut E, message: &str) {
-    let _ = write!(err, "{message}\n");
 }

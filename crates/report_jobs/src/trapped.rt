@@ -5,7 +5,7 @@ ghost use Rattle.std.specs.Io.KnownBytes.{Appends};
 ghost use Rattle.types.specs.declared.outcome.Outcome.TheVariants as outcomes;
 ghost use Rattle.report_jobs.specs.Trapped.{IsAddedTo, IsTrapLine, TellsEnd, TellsTraps, trap_front};
 
-use crate::telling::say_bytes;
+use crate::telling::say;
 use arrayvec::ArrayVec;
 use report_traps::{Frames, Traps};
 use std::alloc::{AllocError, Global};
@@ -102,7 +102,7 @@ fn say_plain<E: Write>(err: &mut E, thread: usize, trap: Trap)
 {
     let mut line: ArrayVec<u8, 64> = ArrayVec::new();
     if write_plain(&mut line, thread, trap).is_ok() {
-        say_bytes(err, line.as_slice());
+        say(err, line.as_slice());
     }
 }
 
@@ -118,7 +118,9 @@ fn say_trap<E: Write>(
     ensures { TellsEnd thread (outcomes.Trap trap) (E.contents err.old) (E.contents err.new) }
 {
     match line_of(alloc, traps, thread, trap, callers) {
-        Ok(line) => say_bytes(err, line.as_bytes()),
+        Ok(line) => {
+            say(err, line.as_bytes());
+        }
         Err(_) => say_plain(err, thread, trap),
     }
 }

@@ -6,7 +6,9 @@
 //! to 0 or 1 `close` says that nothing is lost only where the streams got all that was written to their buffers, the
 //! lines before the file that it makes; that file gets nothing more at another status, or where lines were lost, and
 //! one behind it (`close_behind`) none where anything before it was. `read_front` gives the first bytes of a reader.
-//! That `Task::end` answers by what `close` says is tested.
+//! What is said of a fault of files, streams or memory is the line that is defined for it, with its path and its reason,
+//! as far as it is taken (specs/Messages.antt); of a file that would take the place of another it is said of the one
+//! that the job makes. That `Task::end` answers by what `close` says is tested.
 #![tactic(auto)]
 
 mod beside;

@@ -1,6 +1,9 @@
 //! Files that are read to some length at most, so that neither an endless nor a large one takes more time or memory
 //! than a file that can be accepted.
 ghost use Rattle.std.specs.Prelude.{◌≡◌, IfOk, IfSome, take};
+ghost use Rattle.std.specs.IoError.{error_kind};
+ghost use Rattle.report_program.specs.Messages.{unread_by};
+ghost use Rattle.report_program.specs.declared.reading.Unread.TheVariants as unreads;
 
 use std::alloc::{AllocError, Global};
 use std::fs::File;
@@ -45,12 +48,16 @@ pub enum Unread {
 }
 
 impl From<AllocError> for Unread {
+    ghost from_gives = { λ _ e. e ≡ unreads.NoMemory };
+
     fn from(_: AllocError) -> Unread {
         Unread::NoMemory
     }
 }
 
 impl From<io::Error> for Unread {
+    ghost from_gives = { λ error e. e ≡ unread_by (error_kind error) };
+
     fn from(error: io::Error) -> Unread {
         match error.kind() {
             io::ErrorKind::OutOfMemory => Unread::NoMemory,

@@ -1,10 +1,15 @@
 //! Why a job isn't done.
+ghost use Rattle.std.specs.Prelude.{◌≡◌};
+ghost use Rattle.std.specs.IoError.{error_kind};
+ghost use Rattle.report_program.specs.Messages.{stop_by, unread_by, TellsStop, IsStopStatus};
+ghost use Rattle.report_program.specs.declared.stop.Stop.TheVariants as stops;
 
-use crate::Unread;
-use crate::telling::{reason_if, tell_file_fault, tell_no_memory, tell_usage};
+use crate::telling::{say_usage, tell_file_fault, tell_no_memory, why_if};
+use crate::{Noted, Unread};
 use report_command::{Form, Usage};
 use report_json::{Failure, write_failed};
-use std::io::{self, ErrorKind};
+use std::alloc::Global;
+use std::io::{self, ErrorKind, Write};
 
 /// Why a job isn't done.
 #[derive(Drop)]
@@ -16,6 +21,8 @@ pub(crate) enum Stop<'a> {
 }
 
 impl From<io::Error> for Stop<'_> {
+    ghost from_gives = { λ _ e. e ≡ stops.NoMemory };
+
     /// The error of a buffer, which is that of memory.
     fn from(_: io::Error) -> Self {
         Stop::NoMemory
@@ -24,39 +31,60 @@ impl From<io::Error> for Stop<'_> {
 
 impl<'a> Stop<'a> {
     /// The file at the path couldn't be read.
-    pub(crate) fn unread(path: &'a str, why: Unread) -> Stop<'a> {
+    pub(crate) fn unread(path: &'a str, why: Unread) -> Stop<'a>
+        ensures { result ≡ stop_by path.entry why }
+    {
         match why {
             Unread::NoMemory => Stop::NoMemory,
             Unread::File(kind) => Stop::File(path, kind),
         }
     }
 
-    /// What failed, if the words are right.
-    fn failure(&self) -> Option<Failure<'_>> {
-        match self {
-            Stop::NoMemory => Some(Failure::Memory),
-            Stop::File(path, _) => Some(Failure::File(*path)),
-            Stop::Usage(_) => None,
+    /// The file at the path can't be made.
+    pub(crate) fn unmade(path: &'a str, error: io::Error) -> Stop<'a>
+        ensures { result ≡ stop_by path.entry (unread_by (error_kind error)) }
+    {
+        Stop::unread(path, Unread::from(error))
+    }
+
+    /// Writes the object of what failed, where one is asked for and the words are right.
+    fn print<W: Write>(&self, alloc: Global, out: &mut W, form: Form) {
+        let failure = match self {
+            Stop::NoMemory => Failure::Memory,
+            Stop::File(path, _) => Failure::File(*path),
+            Stop::Usage(_) => return,
+        };
+        if form == Form::Json {
+            let _ = write_failed(alloc, out, failure);
         }
     }
 
-    /// Writes the object of what failed to standard output, where one is asked for.
-    fn print(&self, rt: &HostRuntime, form: Form) {
-        if form == Form::Json
-            && let Some(failure) = self.failure()
-        {
-            let _ = write_failed(rt.alloc(), &mut rt.stdout(), failure);
+    /// Says it on these streams, as `tell` says.
+    fn say<W: Write, E: Write>(
+        &self,
+        alloc: Global,
+        out: &mut Noted<W>,
+        err: &mut E,
+        form: Form,
+        explain: bool,
+    ) -> u8
+        ensures told { TellsStop self.now explain (E.contents err.old) (E.contents err.new) }
+        ensures status { IsStopStatus self.now result }
+    {
+        self.print(alloc, out, form);
+        match self {
+            Stop::NoMemory => tell_no_memory(err),
+            Stop::File(path, kind) => tell_file_fault(alloc, err, path, why_if(explain, *kind)),
+            Stop::Usage(usage) => say_usage(alloc, out, err, usage),
         }
     }
 
     /// Says so, prints its object where one is asked for, and answers the status. Where it is to explain, why a file
     /// failed is said too.
-    pub(crate) fn tell(&self, rt: &HostRuntime, form: Form, explain: bool) -> u8 {
-        self.print(rt, form);
-        match self {
-            Stop::NoMemory => tell_no_memory(rt),
-            Stop::File(path, kind) => tell_file_fault(rt, path, reason_if(explain, *kind)),
-            Stop::Usage(usage) => tell_usage(rt, usage),
-        }
+    pub(crate) fn tell(&self, rt: &HostRuntime, form: Form, explain: bool) -> u8
+        ensures { IsStopStatus self.now result }
+    {
+        let mut out = Noted::new(rt.stdout());
+        self.say(rt.alloc(), &mut out, &mut rt.stderr(), form, explain)
     }
 }

@@ -1,14 +1,21 @@
 //! A job with its files and streams.
+ghost use Rattle.std.specs.Prelude.{◌≡◌, IfSome, IfOk, IfErr, MatchOption, None};
+ghost use Rattle.std.specs.IoError.{error_kind};
+ghost use Rattle.report_jobs.specs.Trapped.{Tells};
+ghost use Rattle.report_program.specs.Messages.{file_text, memory_path, path_text, record_path, why_if};
+ghost use Rattle.report_program.specs.Messages.{MayReplace, TellsLost};
+ghost use Rattle.report_command.specs.declared.command_line.Job.TheVariants as jobs;
 
 use crate::closing::{Closed, Lost, close, close_behind};
 use crate::copied::Copied;
 use crate::input::{Input, read};
 use crate::stop::Stop;
-use crate::telling::{reason_if, tell, tell_file_fault, tell_output_fault, tell_unkept};
+use crate::telling::{tell_file_fault, tell_output_fault, tell_unkept, why_if};
 use crate::{Noted, SavePlace, SavedFile, is_one_file, is_one_place};
 use report_command::{Form, Job, Misuse, RunJob, Search, misused};
-use report_jobs::Streams;
-use std::io::{self, BufWriter, ErrorKind, Write};
+use report_jobs::{Streams, say};
+use std::alloc::Global;
+use std::io::{self, BufWriter, Write};
 
 /// The bytes of standard output, which is written in one piece: 64 lines of threads, one of pages and 4096 bytes shown
 /// fit.
@@ -31,7 +38,9 @@ pub struct Task<'a, W: Write + Drop> {
 }
 
 /// The path of the file that a job makes, a record, a page or a trace, or none.
-fn record_of<'a>(job: &Job<'a>) -> Option<&'a str> {
+fn record_of<'a>(job: &Job<'a>) -> Option<&'a str>
+    ensures { result ≡ record_path job.now }
+{
     match job {
         Job::Check { .. } | Job::Replay { .. } | Job::Races(_) => None,
         Job::Show { how, .. } => how.view.path(),
@@ -40,11 +49,20 @@ fn record_of<'a>(job: &Job<'a>) -> Option<&'a str> {
 }
 
 /// The path of the file that gets the bytes of a run's memory, or none.
-fn memory_of<'a>(job: &Job<'a>) -> Option<&'a str> {
+fn memory_of<'a>(job: &Job<'a>) -> Option<&'a str>
+    ensures { result ≡ memory_path job.now }
+{
     match job {
         Job::Run(RunJob { memory_out, .. }) => *memory_out,
         _ => None,
     }
+}
+
+/// A path as it is said, or nothing.
+fn path_text(path: Option<&str>) -> &str
+    ensures { result.now ≡ path_text path.entry }
+{
+    path.unwrap_or("")
 }
 
 /// Where the file with this path goes, if there is to be one.
@@ -54,8 +72,7 @@ fn place_of<'a>(rt: &HostRuntime, path: Option<&'a str>) -> Result<Option<SavePl
     };
     match SavePlace::new(rt, path) {
         Ok(place) => Ok(Some(place)),
-        Err(error) if error.kind() == ErrorKind::OutOfMemory => Err(Stop::NoMemory),
-        Err(error) => Err(Stop::File(path, error.kind())),
+        Err(error) => Err(Stop::unmade(path, error)),
     }
 }
 
@@ -85,30 +102,32 @@ fn memory_replaces(rt: &HostRuntime, run: &RunJob) -> bool {
         || is_file_of(rt, path, run.memory_in.map(|laid| laid.path))
 }
 
-/// Refuses a file that would take the place of one that is read.
-fn keep_module<'a>(rt: &HostRuntime, job: &Job<'a>) -> Result<(), Stop<'a>> {
+/// How the paths of a run are wrong, if a file that it makes would take the place of one that it reads, or of another.
+fn run_replaces(rt: &HostRuntime, run: &RunJob) -> Option<Misuse>
+    ensures { IfSome result (MayReplace (jobs.Run run.now)) }
+{
+    if run.memory_out.is_some() && memory_replaces(rt, run) {
+        return Some(Misuse::MemoryReplaces);
+    }
+    match run.save {
+        Some(path) if is_one_file(rt, run.file, path) => Some(Misuse::ReplacesModule),
+        _ => None,
+    }
+}
+
+/// How the paths of a job are wrong, if a file that it makes would take the place of one that it reads.
+fn replaced(rt: &HostRuntime, job: &Job) -> Option<Misuse>
+    ensures { IfSome result (MayReplace job.now) }
+{
     match job {
-        Job::Run(run) if memory_replaces(rt, run) => {
-            Err(Stop::Usage(misused(rt.alloc(), Misuse::MemoryReplaces)))
-        }
-        Job::Run(
-            RunJob {
-                file,
-                save: Some(path),
-                ..
-            },
-        ) if is_one_file(rt, file, path) => {
-            Err(Stop::Usage(misused(rt.alloc(), Misuse::ReplacesModule)))
-        }
+        Job::Run(run) => run_replaces(rt, run),
         Job::Search(
             Search {
                 file,
                 save: Some(path),
                 ..
             },
-        ) if is_one_file(rt, file, path) => {
-            Err(Stop::Usage(misused(rt.alloc(), Misuse::FindReplacesModule)))
-        }
+        ) if is_one_file(rt, file, path) => Some(Misuse::FindReplacesModule),
         Job::Show {
             file,
             saved,
@@ -116,25 +135,42 @@ fn keep_module<'a>(rt: &HostRuntime, job: &Job<'a>) -> Result<(), Stop<'a>> {
             ..
         } => match how.view.path() {
             Some(path) if is_one_file(rt, file, path) || is_one_file(rt, saved, path) => {
-                Err(Stop::Usage(misused(rt.alloc(), Misuse::ReplacesRead)))
+                Some(Misuse::ReplacesRead)
             }
-            _ => Ok(()),
+            _ => None,
         },
-        _ => Ok(()),
+        _ => None,
     }
 }
 
-/// The status of a job whose file with this path was kept, or why it wasn't.
-fn status_of_kept(
-    rt: &HostRuntime,
+/// Refuses a file that would take the place of one that is read.
+fn keep_module<'a>(rt: &HostRuntime, job: &Job<'a>) -> Result<(), Stop<'a>> {
+    match replaced(rt, job) {
+        Some(misuse) => Err(Stop::Usage(misused(rt.alloc(), misuse))),
+        None => Ok(()),
+    }
+}
+
+/// The status of a job whose file with this path was kept; else it is said why it wasn't.
+fn status_of_kept<E: Write>(
+    alloc: Global,
+    err: &mut E,
     path: Option<&str>,
     status: u8,
     kept: io::Result<()>,
     explain: bool,
-) -> u8 {
+) -> u8
+    ensures kept { IfOk kept (λ _. (result ≡ status) × (err.new ≡ err.old)) }
+    ensures status { IfErr kept (λ _. result ≡ 5) }
+    ensures told { IfErr kept (λ error. Tells (E.contents err.old) (E.contents err.new)
+        (file_text (path_text path.entry) (why_if explain (error_kind error)))) }
+{
     match kept {
         Ok(()) => status,
-        Err(error) => tell_file_fault(rt, path.unwrap_or(""), reason_if(explain, error.kind())),
+        Err(error) => {
+            let why = why_if(explain, error.kind());
+            tell_file_fault(alloc, err, path_text(path), why)
+        }
     }
 }
 
@@ -145,7 +181,8 @@ fn finish(rt: &HostRuntime, job: &Job, status: u8, save: SavedFile, explain: boo
         save.give_up();
         return status;
     }
-    status_of_kept(rt, record_of(job), status, save.keep(), explain)
+    let (path, kept) = (record_of(job), save.keep());
+    status_of_kept(rt.alloc(), &mut rt.stderr(), path, status, kept, explain)
 }
 
 /// The same of the bytes of a memory, which may have none: then the file is empty.
@@ -154,13 +191,30 @@ fn finish_memory(rt: &HostRuntime, job: &Job, status: u8, memory: SavedFile, exp
         memory.give_up();
         return status;
     }
-    status_of_kept(
-        rt,
-        memory_of(job),
-        status,
-        memory.keep_even_empty(),
-        explain,
-    )
+    let (path, kept) = (memory_of(job), memory.keep_even_empty());
+    status_of_kept(rt.alloc(), &mut rt.stderr(), path, status, kept, explain)
+}
+
+/// Says which of a job's streams didn't get all that was written to them, the lines and the file or the memory, and
+/// answers the status, if one didn't.
+fn tell_lost<E: Write>(
+    alloc: Global,
+    err: &mut E,
+    job: &Job,
+    lost: (Option<Lost>, Option<Lost>),
+    is_closed: bool,
+) -> Option<u8>
+    ensures status { MatchOption result ((lost.0 ≡ None) × (lost.1 ≡ None)) (λ status. status ≡ 5) }
+    ensures told { TellsLost job.now lost.0 lost.1 is_closed (E.contents err.old) (E.contents err.new) }
+{
+    match lost {
+        (None, None) => None,
+        (Some(Lost::Lines), _) => Some(tell_output_fault(err, is_closed)),
+        (Some(Lost::File), _) => {
+            Some(tell_file_fault(alloc, err, path_text(record_of(job)), None))
+        }
+        (None, Some(_)) => Some(tell_file_fault(alloc, err, path_text(memory_of(job)), None)),
+    }
 }
 
 /// The bytes of standard error for which there is memory before a job begins, so that a line about these paths fits.
@@ -260,7 +314,7 @@ fn note_unkept(rt: &HostRuntime, job: &Job, status: u8, save: &SavedFile) {
         && status <= 1
         && save.is_untouched()
     {
-        tell_unkept(rt, path);
+        tell_unkept(rt.alloc(), &mut rt.stderr(), path);
     }
 }
 
@@ -306,21 +360,19 @@ impl<W: Write + Drop> Task<'_, W> {
         let files = Ended { save, memory };
         let is_closed = out.stream().is_closed();
         if !is_closed {
-            tell(rt, &err);
+            say(&mut rt.stderr(), &err);
         }
-        match (lost, lost_memory) {
-            (None, None) => files.finish(rt, job, status, explain),
-            (Some(Lost::Lines), _) => {
+        match tell_lost(
+            rt.alloc(),
+            &mut rt.stderr(),
+            job,
+            (lost, lost_memory),
+            is_closed,
+        ) {
+            None => files.finish(rt, job, status, explain),
+            Some(fault) => {
                 files.give_up();
-                tell_output_fault(rt, is_closed)
-            }
-            (Some(Lost::File), _) => {
-                files.give_up();
-                tell_file_fault(rt, record_of(job).unwrap_or(""), "")
-            }
-            (None, Some(_)) => {
-                files.give_up();
-                tell_file_fault(rt, memory_of(job).unwrap_or(""), "")
+                fault
             }
         }
     }

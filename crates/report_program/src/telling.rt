@@ -1,9 +1,15 @@
-//! What is said, each text in one piece, and the statuses that go with it.
+//! What is said, each text in one piece where there is memory for that, and the statuses that go with it.
+ghost use Rattle.std.specs.Prelude.{◌≡◌, ◌++◌, ◌⊎◌, true, false};
+ghost use Rattle.report_jobs.specs.Trapped.{Tells};
+ghost use Rattle.report_program.specs.Messages.{file_text, memory_text, output_text, reason_text, unkept_text};
+ghost use Rattle.report_program.specs.Messages.{why_if, why_text, IsUsageStatus};
 
 use crate::Noted;
 use report_command::Usage;
+use report_jobs::{say, say_pieces};
+use std::alloc::Global;
 use std::fmt::Display;
-use std::io::{BufWriter, ErrorKind, Write};
+use std::io::{ErrorKind, Write};
 
 /// The status of a wrong command line.
 const USAGE: u8 = 3;
@@ -11,22 +17,38 @@ const USAGE: u8 = 3;
 /// The status of a file or stream that failed, and of no memory.
 pub(crate) const FILE_FAULT: u8 = 5;
 
-/// The bytes of the longest text but for a path, and some more.
-const TEXT: usize = 8192;
-
-/// Says on standard error what went wrong. Where that can't be written there is nobody left to tell.
-pub(crate) fn tell(rt: &HostRuntime, text: &[u8]) {
-    let _ = rt.stderr().write_all(text);
+/// Says a path between two texts, and one more behind them, in one piece where there is memory for that.
+fn say_around<E: Write>(
+    alloc: Global,
+    err: &mut E,
+    front: &str,
+    path: &str,
+    behind: &str,
+    more: &str,
+)
+    ensures { Tells (E.contents err.old) (E.contents err.new) (front.now ++ path.now ++ behind.now ++ more.now) }
+{
+    match format!(in alloc; "{front}{path}{behind}{more}") {
+        Ok(text) => {
+            say(err, text.as_bytes());
+        }
+        Err(_) => say_pieces(err, front, path, behind, more),
+    }
 }
 
 /// Says that there was too little memory, and answers the status.
-pub(crate) fn tell_no_memory(rt: &HostRuntime) -> u8 {
-    tell(rt, b"no memory\n");
+pub(crate) fn tell_no_memory<E: Write>(err: &mut E) -> u8
+    ensures told { Tells (E.contents err.old) (E.contents err.new) memory_text }
+    ensures status { result ≡ 5 }
+{
+    say(err, b"no memory\n");
     FILE_FAULT
 }
 
 /// Why the system refused a file, as a line.
-fn reason_of(kind: ErrorKind) -> &'static str {
+fn reason_of(kind: ErrorKind) -> &'static str
+    ensures { result.now ≡ reason_text kind }
+{
     match kind {
         ErrorKind::NotFound => "there is nothing with this path\n",
         ErrorKind::PermissionDenied => "the system doesn't allow it\n",
@@ -40,61 +62,116 @@ fn reason_of(kind: ErrorKind) -> &'static str {
     }
 }
 
-/// The same, if it is to be explained, and else nothing.
-pub(crate) fn reason_if(explain: bool, kind: ErrorKind) -> &'static str {
-    if explain { reason_of(kind) } else { "" }
+/// The same, or nothing.
+fn reason_if(why: Option<ErrorKind>) -> &'static str
+    ensures { result.now ≡ why_text why }
+{
+    match why {
+        Some(kind) => reason_of(kind),
+        None => "",
+    }
+}
+
+/// Why a file failed, if it is to be explained.
+pub(crate) fn why_if(explain: bool, kind: ErrorKind) -> Option<ErrorKind>
+    ensures { result ≡ why_if explain kind }
+{
+    if explain { Some(kind) } else { None }
 }
 
 /// Says which file failed, with the line of its reason or nothing behind that, and answers the status.
-pub(crate) fn tell_file_fault(rt: &HostRuntime, path: &str, reason: &str) -> u8 {
-    match format!(in rt.alloc(); "file fault: {path}\n{reason}") {
-        Ok(lines) => tell(rt, lines.as_bytes()),
-        Err(_) => {
-            let _ = eprintln!(rt; "file fault: {path}");
-        }
-    }
+pub(crate) fn tell_file_fault<E: Write>(
+    alloc: Global,
+    err: &mut E,
+    path: &str,
+    why: Option<ErrorKind>,
+) -> u8
+    ensures told { Tells (E.contents err.old) (E.contents err.new) (file_text path.now why) }
+    ensures status { result ≡ 5 }
+{
+    say_around(alloc, err, "file fault: ", path, "\n", reason_if(why));
     FILE_FAULT
 }
 
 /// Says that no run was found whose record this file was to get.
-pub(crate) fn tell_unkept(rt: &HostRuntime, path: &str) {
-    let _ = eprintln!(rt; "note: no run was found to keep: {path} is as it was");
+pub(crate) fn tell_unkept<E: Write>(alloc: Global, err: &mut E, path: &str)
+    ensures { Tells (E.contents err.old) (E.contents err.new) (unkept_text path.now) }
+{
+    say_around(
+        alloc,
+        err,
+        "note: no run was found to keep: ",
+        path,
+        " is as it was\n",
+        "",
+    );
 }
 
 /// Says that standard output failed, unless nobody is left to read it, and answers the status.
-pub(crate) fn tell_output_fault(rt: &HostRuntime, is_closed: bool) -> u8 {
+pub(crate) fn tell_output_fault<E: Write>(err: &mut E, is_closed: bool) -> u8
+    ensures told { is_closed ≡ false → Tells (E.contents err.old) (E.contents err.new) output_text }
+    ensures silent { is_closed ≡ true → err.new ≡ err.old }
+    ensures status { result ≡ 5 }
+{
     if !is_closed {
-        tell(rt, b"file fault: standard output\n");
+        say(err, b"file fault: standard output\n");
     }
     FILE_FAULT
 }
 
 /// Writes help to standard output, and answers the status.
-fn help<D: Display>(rt: &HostRuntime, text: &D) -> u8 {
-    let Ok(mut out) = BufWriter::with_capacity(rt.alloc(), TEXT, Noted::new(rt.stdout())) else {
-        return tell_no_memory(rt);
+fn help<W: Write, E: Write, D: Display>(
+    alloc: Global,
+    out: &mut Noted<W>,
+    err: &mut E,
+    text: &D,
+) -> u8
+    ensures { (result ≡ 0) ⊎ (result ≡ 5) }
+{
+    let Ok(text) = format!(in alloc; "{text}") else {
+        return tell_no_memory(err);
     };
-    if write!(out, "{text}").is_ok() && out.flush().is_ok() {
+    if out.write_all(text.as_bytes()).is_ok() && out.flush().is_ok() {
         return 0;
     }
-    tell_output_fault(rt, out.get_ref().is_closed())
+    tell_output_fault(err, out.is_closed())
 }
 
 /// Says how the words of the command line are wrong, and answers the status.
-fn complain<D: Display>(rt: &HostRuntime, text: &D) -> u8 {
-    let Ok(mut err) = BufWriter::with_capacity(rt.alloc(), TEXT, rt.stderr()) else {
-        return tell_no_memory(rt);
+fn complain<E: Write, D: Display>(alloc: Global, err: &mut E, text: &D) -> u8
+    ensures { (result ≡ 3) ⊎ (result ≡ 5) }
+{
+    let Ok(text) = format!(in alloc; "{text}") else {
+        return tell_no_memory(err);
     };
-    let _ = write!(err, "{text}");
-    let _ = err.flush();
+    say(err, text.as_bytes());
     USAGE
 }
 
-/// Says why the words of the command line are no job, and answers the status.
-pub fn tell_usage(rt: &HostRuntime, usage: &Usage) -> u8 {
+/// Says on these streams why the words of the command line are no job, and answers the status.
+pub(crate) fn say_usage<W: Write, E: Write>(
+    alloc: Global,
+    out: &mut Noted<W>,
+    err: &mut E,
+    usage: &Usage,
+) -> u8
+    ensures { IsUsageStatus usage.now result }
+{
     match usage {
-        Usage::Help(text) => help(rt, text),
-        Usage::Wrong(text) => complain(rt, text),
-        Usage::NoMemory => tell_no_memory(rt),
+        Usage::Help(text) => help(alloc, out, err, text),
+        Usage::Wrong(text) => complain(alloc, err, text),
+        Usage::NoMemory => tell_no_memory(err),
     }
+}
+
+/// Says why the words of the command line are no job, and answers the status.
+pub fn tell_usage(rt: &HostRuntime, usage: &Usage) -> u8
+    ensures { IsUsageStatus usage.now result }
+{
+    say_usage(
+        rt.alloc(),
+        &mut Noted::new(rt.stdout()),
+        &mut rt.stderr(),
+        usage,
+    )
 }

@@ -419,6 +419,7 @@ impl<'m, 'a> RunMaker<'m, 'a> {
         ensures drawn { IfOk result (λ s. IfFound s.halt (λ f. IsMadeIn self.now f.run f.made)) }
         ensures number { IfOk result
             (λ s. IfFound s.halt (λ f. f.run + 1 ≡ self.now.sought.now.from + s.table.runs)) }
+        ensures stops { IfOk result (λ s. IfFound s.halt (λ f. IsTrue self.now.sought.now.stops)) }
         ensures all_made { IfOk result (λ s. s.halt ≡ Halt.AllMade → s.table.runs ≡ self.now.sought.now.runs) }
         ensures told { IfOk result (λ s. s.halt ≡ Halt.Told → F.wish follower.new ≡ Wish.End) }
     {
@@ -456,8 +457,9 @@ impl<'m, 'a> RunMaker<'m, 'a> {
 /// and so is what is found, which is made once more by itself. The follower hears of each how many were made, with how
 /// many endings; and where a run is given up since there is something to be seen, it is asked.
 ///
-/// The table has the endings of the runs of these numbers, in a row from the first on, each noted. What is found is the
-/// last of them: the judge says of it that it is looked for, and of those before it that they aren't. Where nothing is
+/// The table has the endings of the runs of these numbers, in a row from the first on, each noted. What is found, where
+/// the search stops at a find, is the last of them: the judge says of it that it is looked for, and of those before it
+/// that they aren't. Where nothing is
 /// found, all runs were made, or the follower's last wish is that it ends; and where the search stops, none of those
 /// that were made is looked for.
 ///
@@ -479,6 +481,7 @@ pub fn first_judged<R: Threads + Sync, F: Hears, J: Judges + Sync>(
         (λ f. IsFindBy (J.judges judge.now) request.now sought.now.limit f.made)) }
     ensures drawn { IfOk result (λ s. IfFound s.halt (λ f. IsRunOfNumber request.now sought.now f.run f.made)) }
     ensures number { IfOk result (λ s. IfFound s.halt (λ f. f.run + 1 ≡ sought.now.from + s.table.runs)) }
+    ensures stops { IfOk result (λ s. IfFound s.halt (λ f. IsTrue sought.now.stops)) }
     ensures all_made { IfOk result (λ s. s.halt ≡ Halt.AllMade → s.table.runs ≡ sought.now.runs) }
     ensures told { IfOk result (λ s. s.halt ≡ Halt.Told → F.wish follower.new ≡ Wish.End) }
 {
@@ -506,8 +509,8 @@ pub fn first_judged<R: Threads + Sync, F: Hears, J: Judges + Sync>(
 
 /// The same where a run is looked for by how it ends.
 ///
-/// The table has the endings of the runs of these numbers, in a row from the first on, each noted. What is found is the
-/// last of them: it ends as is looked for. Where nothing is found, all runs were made, and, where
+/// The table has the endings of the runs of these numbers, in a row from the first on, each noted. What is found, where
+/// the search stops at a find, is the last of them: it ends as is looked for. Where nothing is found, all runs were made, and, where
 /// the search stops, none is looked for; or the follower's last wish is that it ends.
 ///
 /// # Errors
@@ -526,6 +529,7 @@ pub fn first_found<R: Threads + Sync, F: Hears>(
     ensures found { IfOk result (λ s. IfFound s.halt (λ f. IsFound request.now sought.now f.made)) }
     ensures drawn { IfOk result (λ s. IfFound s.halt (λ f. IsRunOfNumber request.now sought.now f.run f.made)) }
     ensures number { IfOk result (λ s. IfFound s.halt (λ f. f.run + 1 ≡ sought.now.from + s.table.runs)) }
+    ensures stops { IfOk result (λ s. IfFound s.halt (λ f. IsTrue sought.now.stops)) }
     ensures all_made { IfOk result (λ s. s.halt ≡ Halt.AllMade → s.table.runs ≡ sought.now.runs) }
     ensures none { IfOk result (λ s. s.halt ≡ Halt.AllMade → IsTrue sought.now.stops
         → HasNoneLookedFor sought.now s.table) }

@@ -1,5 +1,5 @@
 //! Of a run one with fewer switches of threads that is looked for too.
-ghost use Rattle.std.specs.Prelude.{IfOk, IfSome, true};
+ghost use Rattle.std.specs.Prelude.{◌≡◌, IfOk, IfSome, true, false};
 ghost use Rattle.search_finds.specs.Endings.{HaveOneEnding};
 ghost use Rattle.search_finds.specs.Finds.{IsFind};
 ghost use Rattle.search_finds.specs.Judged.{IsFindBy};
@@ -96,6 +96,8 @@ fn better<W: Watch, J: Judges>(
     requires { IsFindBy (J.judges judge.now) request.now limit best }
     ensures run { IfOk result (λ r. IsFindBy (J.judges judge.now) request.now limit r.0) }
     ensures size { IfOk result (λ r. IsNoLarger (size_in r.0.record) (size_in best.record)) }
+    ensures smaller { IfOk result (λ r. r.1 ≡ true → IsSmaller (size_in r.0.record) (size_in best.record)) }
+    ensures kept { IfOk result (λ r. r.1 ≡ false → r.0 ≡ best) }
 {
     match tried(alloc, request, limit, judge, watch, &best, schedule)? {
         Some(smaller) => Ok((smaller, true)),

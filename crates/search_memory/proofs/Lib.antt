@@ -1,2 +1,3 @@
 pub mod Differing
+pub mod Forms
 pub mod Putting

@@ -1,5 +1,5 @@
 -- A memory beside the one that was opened.
-use Rattle.std.specs.Prelude.{ℕ, ◌≡◌, ◌-◌, ◌++◌, Bool, nat_lt, List, length, take, replicate, fold, slice_set}
+use Rattle.std.specs.Prelude.{ℕ, suc, ◌≡◌, ◌≢◌, ◌<◌, ◌≤◌, ◌-◌, ◌++◌, Bool, nat_lt, List, [], ◌∷◌, length, take, replicate, fold, slice_set, get_or}
 use Rattle.types.specs.declared.event.Event.{Event}
 use Rattle.shared_memory.specs.Memory.{Memory, state_after, written}
 use Rattle.search_memory.specs.declared.beside.ChangedByte.{ChangedByte}
@@ -44,3 +44,22 @@ AreWritten b addr width value after = memory_of b.opening.now after ≡ written 
 abbrev pub WithByte : List ℕ → ℕ → List ChangedByte → ℕ → ℕ → List ChangedByte → Type 0
 WithByte opening len before at byte after =
     changed_bytes opening len after ≡ slice_set (changed_bytes opening len before) at byte
+
+-- A change at an address from one on and before another, of which the byte isn't the one that was opened there.
+pub record IsDifference (opening : List ℕ) (from end : ℕ) (change : ChangedByte) : Type 0 where
+  pub since : from ≤ change.at
+  pub before : change.at < end
+  pub other : change.byte ≢ get_or opening change.at 0
+
+-- Such changes, in order of the addresses. A memory has one list of them (`the_same_memories_are_equal`, search_parts).
+abbrev pub AreDifferences : List ℕ → ℕ → ℕ → List ChangedByte → Type 0
+AreDifferences opening from end [] = Unit {0}
+AreDifferences opening from end (c ∷ cs) = IsDifference opening from end c × AreDifferences opening (suc c.at) end cs
+
+-- The changes are what differs, and nothing else.
+abbrev pub HasDifferences : List ℕ → Changes → Type 0
+HasDifferences opening c = AreDifferences opening 0 c.len c.changes.items
+
+-- It stays so.
+abbrev pub StayDifferences : List ℕ → Changes → Changes → Type 0
+StayDifferences opening before after = HasDifferences opening before → HasDifferences opening after

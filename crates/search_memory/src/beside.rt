@@ -2,6 +2,7 @@
 
 ghost use Rattle.std.specs.Prelude.{◌≡◌, fold, length, IfOk};
 ghost use Rattle.search_memory.specs.Memories.{memory_of, padded, with_change};
+ghost use Rattle.search_memory.specs.Memories.{AreDifferences, HasDifferences, StayDifferences};
 
 use shared_memory_sequential::OneMemory;
 use std::alloc::{AllocError, Global};
@@ -41,7 +42,8 @@ impl Changes {
     /// # Errors
     /// Where memory is refused.
     pub fn copy(&self, alloc: Global) -> Result<Changes, AllocError>
-        ensures { IfOk result (λ c. (opening : List ℕ) → memory_of opening c ≡ memory_of opening self.now) }
+        ensures same { IfOk result (λ c. (opening : List ℕ) → memory_of opening c ≡ memory_of opening self.now) }
+        ensures differences { IfOk result (λ c. (opening : List ℕ) → StayDifferences opening self.now c) }
     {
         Ok(Changes {
             len: self.len,
@@ -64,7 +66,8 @@ pub(crate) fn padded(alloc: Global, opening: &[u8], len: usize) -> Result<Vec<u8
 /// What differs from the bytes at first.
 fn differences(alloc: Global, first: &[u8], bytes: &[u8]) -> Result<Vec<ChangedByte>, AllocError>
     requires { length first.now ≡ length bytes.now }
-    ensures { IfOk result (λ changes. fold with_change first.now changes.items ≡ bytes.now) }
+    ensures same { IfOk result (λ changes. fold with_change first.now changes.items ≡ bytes.now) }
+    ensures differences { IfOk result (λ changes. AreDifferences first.now 0 (length bytes.now) changes.items) }
 {
     let mut changes = Vec::new(alloc);
     for at in 0..bytes.len() {
@@ -83,7 +86,8 @@ fn differences(alloc: Global, first: &[u8], bytes: &[u8]) -> Result<Vec<ChangedB
 /// # Errors
 /// Where memory is refused.
 pub fn changes_in(alloc: Global, opening: &[u8], memory: &OneMemory) -> Result<Changes, AllocError>
-    ensures { IfOk result (λ c. memory_of opening.now c ≡ memory.now) }
+    ensures same { IfOk result (λ c. memory_of opening.now c ≡ memory.now) }
+    ensures differences { IfOk result (HasDifferences opening.now) }
 {
     let bytes = memory.bytes();
     let first = padded(alloc, opening, bytes.len())?;

@@ -1,7 +1,7 @@
 //! A byte of a memory that is given by its changes, and one more change.
 
 ghost use Rattle.std.specs.Prelude.{◌≡◌, ◌++◌, ◌<◌, filter, get_or, IfOk};
-ghost use Rattle.search_memory.specs.Memories.{padded, changed_bytes, is_below, is_above, WithByte};
+ghost use Rattle.search_memory.specs.Memories.{padded, changed_bytes, is_below, is_above, AreDifferences, WithByte};
 
 use crate::beside::ChangedByte;
 use std::alloc::{AllocError, Global};
@@ -67,7 +67,9 @@ pub(crate) fn with_byte(
     byte: u8,
 ) -> Result<Vec<ChangedByte>, AllocError>
     requires { at < len }
-    ensures { IfOk result (λ v. WithByte opening.now len changes.now at byte v.items) }
+    ensures same { IfOk result (λ v. WithByte opening.now len changes.now at byte v.items) }
+    ensures differences { AreDifferences opening.now 0 len changes.now
+        → IfOk result (λ v. AreDifferences opening.now 0 len v.items) }
 {
     let mut all = lower(alloc, changes, at)?;
     if byte != opened(opening, at) {

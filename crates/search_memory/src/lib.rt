@@ -1,6 +1,7 @@
 //! The memory of a state of a search: the bytes that differ from the opening memory's.
 //!
-//! Proved: changed bytes stand for one memory, of which `step` gives the sequential memory's reply and the next.
+//! Proved: changed bytes stand for one memory, of which `step` gives the sequential memory's reply and the next; and they
+//! are the bytes that differ, in order of their addresses, and no others, so that one memory has one form.
 //!
 //! Most states of a search differ from the opening memory in a few bytes. `Changes` has these alone, so states take
 //! little room and are compared quickly; an event reads and changes the bytes that it touches alone, and only

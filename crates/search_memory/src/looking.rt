@@ -4,7 +4,7 @@ ghost use Rattle.std.specs.Prelude.{◌≡◌, ◌+◌, ◌^◌, ◌<◌, ◌≤
 ghost use Rattle.shared_memory.specs.Events.{IsEvent, IsQuestion};
 ghost use Rattle.shared_memory.specs.Memory.{loaded, pages, reply_of, reply_to_question};
 ghost use Rattle.shared_memory_sequential.specs.Opening.{IsSized};
-ghost use Rattle.search_memory.specs.Memories.{memory_at, memory_of, AreWritten};
+ghost use Rattle.search_memory.specs.Memories.{memory_at, memory_of, AreWritten, StayDifferences};
 
 use crate::beside::{Changes, copied};
 use crate::bytes::{byte_at, with_byte};
@@ -116,6 +116,7 @@ impl Beside<'_> {
         requires { addr + width ≤ length (memory_at self.now).bytes }
         ensures written { IfOk result (AreWritten self.now addr width value) }
         ensures sized { IsSized (memory_at self.now) → IfOk result (λ c. IsSized (memory_of self.now.opening.now c)) }
+        ensures differences { IfOk result (StayDifferences self.now.opening.now self.now.changed.now) }
     {
         let changed = self.changed;
         let len = self.len();

@@ -4,7 +4,7 @@ ghost use Rattle.std.specs.Prelude.{◌≡◌, ◌≤◌, ◌+◌, ◌==◌, ◌
 ghost use Rattle.shared_memory.specs.Events.{IsEvent};
 ghost use Rattle.shared_memory.specs.Memory.{loaded, reply_of};
 ghost use Rattle.shared_memory_sequential.specs.Opening.{IsSized};
-ghost use Rattle.search_memory.specs.Memories.{memory_of, with_change, AreAfter};
+ghost use Rattle.search_memory.specs.Memories.{memory_of, with_change, AreAfter, StayDifferences};
 
 use crate::beside::{ChangedByte, Changes, changes_in, padded};
 use crate::looking::Beside;
@@ -68,6 +68,7 @@ fn grown(
     requires event { IsEvent event.now }
     ensures after { IfOk result (AreAfter opening.now changed.now event.now) }
     ensures sized { IfOk result (λ c. IsSized (memory_of opening.now c)) }
+    ensures differences { IfOk result (StayDifferences opening.now changed.now) }
 {
     let mut memory = memory(alloc, opening, changed)?;
     memory.step(event);
@@ -85,6 +86,7 @@ fn after(
     requires event { IsEvent event.now }
     ensures after { IfOk result (AreAfter opening.now changed.now event.now) }
     ensures sized { IfOk result (λ c. IsSized (memory_of opening.now c)) }
+    ensures differences { IfOk result (StayDifferences opening.now changed.now) }
 {
     let beside = Beside { opening, changed };
     match *event {
@@ -130,6 +132,7 @@ pub fn step(
     requires event { IsEvent event.now }
     ensures after { IfOk result (λ r. AreAfter opening.now changed.now event.now r.0) }
     ensures sized { IfOk result (λ r. IsSized (memory_of opening.now r.0)) }
+    ensures differences { IfOk result (λ r. StayDifferences opening.now changed.now r.0) }
     ensures reply { IfOk result (λ r. r.1 ≡ reply_of (memory_of opening.now changed.now) event.now) }
 {
     let reply = Beside { opening, changed }.reply(event);

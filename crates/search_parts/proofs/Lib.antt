@@ -2,6 +2,7 @@ pub mod Bounds
 pub mod Events
 pub mod AtRest
 pub mod Opened
+pub mod Forms
 pub mod Leaving
 pub mod Untouching
 pub mod Standings

@@ -1,7 +1,9 @@
 //! What is equal in a search is the same: its tests of equality read all that tells memories, queues and threads apart.
+//! And what is the same is equal, so that a search meets each state once: there is one form for one meaning.
 //!
 //! Each function here does nothing, and its contract is a law.
 ghost use Rattle.search_parts.specs.Same.{EqualMemoriesAreTheSame, EqualQueuesAreTheSame, EqualStandingsAreTheSame};
+ghost use Rattle.search_parts.specs.Same.{TheSameMemoriesAreEqual, TheSameQueuesAreEqual, TheSameStandingsAreEqual};
 
 /// Changes of one opening memory that are equal are those of the same memory.
 pub fn equal_memories_are_the_same()
@@ -16,4 +18,19 @@ pub fn equal_queues_are_the_same()
 /// Threads at rest that are equal stand for the same threads.
 pub fn equal_standings_are_the_same()
     ensures { EqualStandingsAreTheSame }
+{}
+
+/// Changes of one opening memory that are those of the same memory are equal, where they are what differs.
+pub fn the_same_memories_are_equal()
+    ensures { TheSameMemoriesAreEqual }
+{}
+
+/// What is kept of the same queue is equal.
+pub fn the_same_queues_are_equal()
+    ensures { TheSameQueuesAreEqual }
+{}
+
+/// Threads at rest that stand for the same thread, at the same places of the module, are equal.
+pub fn the_same_standings_are_equal()
+    ensures { TheSameStandingsAreEqual }
 {}

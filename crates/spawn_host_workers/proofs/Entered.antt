@@ -1,5 +1,5 @@
 -- What a call of the memory or of the desk enters, as acts of the caller's thread.
-use Rattle.std.proofs.Common.{◌≡◌, ℕ, ◌==◌, Bool, true, false, cond, List, [], ◌∷◌, ◌++◌, Option, Some, None, refl, sym, ◌∙◌, ap, append_assoc}
+use Rattle.std.proofs.Common.{◌≡◌, ℕ, ◌==◌, true, false, cond, List, [], ◌∷◌, ◌++◌, Option, Some, None, refl, sym, ◌∙◌, ap, append_assoc}
 use Rattle.std.proofs.lemmas.Bool.{cond_both, both_ways}
 use Rattle.std.proofs.lemmas.List.{append_cancel_left}
 use Rattle.types.specs.declared.event.Entry.{Entry}
@@ -14,12 +14,12 @@ use Rattle.shared_memory.specs.Memory.{Memory}
 use Rattle.shared_memory.specs.Events.{is_exempt}
 use Rattle.shared_memory.specs.WaitQueue.{IsFree}
 use Rattle.shared_memory.specs.History.{entries_of, queue_after}
-use Rattle.shared_memory.specs.Access.{HasRoom, Answers, Accesses}
+use Rattle.shared_memory.specs.Access.{HasRoom}
 use Rattle.shared_memory.proofs.Histories.{entries_of-append, entries_of-own}
 use Rattle.waiters_desk.specs.Calls.{EntersAtDesk, FindsRoom, Misses, Hears, Sleeps, Refused, asked_with, taken}
 use Rattle.schedule.specs.System.{Act.Made, Act.Heard}
-use Rattle.schedule_threads.specs.Seeing.{Sees, SeesAct, SeesFull}
-use Rattle.spawn_host_workers.specs.Serving.{IsOpen, IsAnswered, IsAsked, MayTry, try_of}
+use Rattle.schedule_threads.specs.Seeing.{SeesAct, SeesFull}
+use Rattle.spawn_host_workers.specs.Serving.{IsOpen, IsAnswered, IsAsked}
 
 -- the first entry of a thread among others
 pub record FirstOwn (n : ℕ) (xs : List Entry) (e : Entry) (es : List Entry) : Type 0 where
@@ -134,28 +134,6 @@ pub sees_refused : (opening : Memory) (limit : Option ℕ) (n : ℕ) (before aft
     → Refused opening limit n before after → SeesFull limit n before after
 sees_refused opening limit n before after did =
     record { others = did.enters.added; list = did.enters.list; apart = did.enters.of_caller; reached = did.reached }
-
--- an access
-module _ (loses : Bool) (opening : Memory) (limit : Option ℕ) (n : ℕ) (right : Bool) (event : Event) (before after : List Entry) where
-  sees_answer : (reply : Reply) → Answers opening limit n right event reply before after → SeesAct limit n (Made event reply) before after
-  sees_answer reply a = record {
-    others = a.others;
-    so_far = a.so_far;
-    behind = [];
-    gains = a.gains.list;
-    apart = a.gains.apart;
-    list = a.list;
-    apart_behind = refl;
-    room = a.room;
-  }
-
-  pub sees_access : (reply : Reply) → Accesses loses opening limit n right event before after reply
-      → MayTry event reply × Sees loses opening limit n (try_of event reply) before after
-  sees_access (replies.Value v) a = (tt, sees_answer (replies.Value v) a)
-  sees_access replies.Done a = (tt, sees_answer replies.Done a)
-  sees_access replies.OutOfBounds a = (tt, sees_answer replies.OutOfBounds a)
-  sees_access replies.Again a = (a.kind, record { others = a.others; list = a.gains.list; apart = a.gains.apart; may = a.may; cause = a.cause; expected = a.expected })
-  sees_access replies.Full a = (a.kind, record { others = a.others; list = a.gains.list; apart = a.gains.apart; reached = a.reached })
 
 -- what a question came to
 module _ (opening : Memory) (limit : Option ℕ) (n : ℕ) (question : Question) (before after : List Entry) where

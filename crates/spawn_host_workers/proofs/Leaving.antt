@@ -17,10 +17,11 @@ use Rattle.interp_trait.specs.Turns.{Running, left_of, outcome_of, wants_of, IsH
 use Rattle.interp_trait.specs.Calls.{IsCalled, unless_ended}
 use Rattle.interp_trait.specs.declared.gate.Gate.{Ghosts}
 use Rattle.interp_trait.specs.declared.turn.Turn.TheVariants as turns
-use Rattle.spawn_host_workers.specs.Ends.{Comes, Watched, RunsOutTrying, IsLast}
+use Rattle.interp_trait.specs.Comes.{Comes, Watched}
+use Rattle.spawn_host_workers.specs.Ends.{RunsOutTrying, IsLast}
 use Rattle.spawn_host_workers.specs.Serving.{Attends}
 use Rattle.spawn_host_workers.specs.Gated.{PassesGate}
-use Rattle.spawn_host_workers.proofs.Coming.{comes_by, comes_then, runs_to_end}
+use Rattle.interp_trait.proofs.Coming.{comes_by, comes_then, runs_to_end}
 use Rattle.spawn_host_workers.proofs.Entered.{between, sees_asked, sees_heard}
 
 -- who has ended wants to leave, and asks

@@ -8,7 +8,6 @@ pub mod OneList
 pub mod Unspawned
 pub mod Ending
 pub mod Entered
-pub mod Coming
 pub mod Turning
 pub mod Paying
 pub mod Attending

@@ -15,7 +15,8 @@ use Rattle.spawn_host_workers.specs.declared.serving.Served.{Served}
 use Rattle.spawn_host_workers.specs.declared.report.RunEnd.{RunEnd}
 use Rattle.spawn_host_workers.specs.declared.running.ThreadEnd.{ThreadEnd}
 use Rattle.spawn_host_workers.specs.OverMemory.{over}
-use Rattle.spawn_host_workers.specs.Ends.{RunsOutTrying, watched}
+use Rattle.interp_trait.specs.Comes.{watched}
+use Rattle.spawn_host_workers.specs.Ends.{RunsOutTrying}
 use Rattle.spawn_host_workers.specs.Serving.{Attends, Serves, Steps}
 use Rattle.spawn_host_workers.specs.Level.{Level, Round}
 use Rattle.spawn_host_workers.specs.Composed.{IsComposed}

@@ -1,5 +1,5 @@
 -- What a thread's event comes to at the memory and at the desk, and what the thread comes to by it.
-use Rattle.std.specs.Prelude.{ℕ, ◌≡◌, ◌<◌, ◌⊎◌, Bool, true, false, List, Option, Some}
+use Rattle.std.specs.Prelude.{ℕ, ◌≡◌, ◌<◌, ◌⊎◌, Bool, List, Option, Some}
 use Rattle.types.specs.declared.event.Event.{Event}
 use Rattle.types.specs.declared.event.Event.TheVariants as events
 use Rattle.types.specs.declared.event.Reply.{Reply}
@@ -7,12 +7,11 @@ use Rattle.types.specs.declared.event.Reply.TheVariants as replies
 use Rattle.types.specs.declared.event.Answer.{Answer}
 use Rattle.types.specs.declared.event.Entry.{Entry}
 use Rattle.shared_memory.specs.Memory.{Memory}
-use Rattle.shared_memory.specs.Events.{is_exempt, may_lose}
 use Rattle.shared_memory.specs.WaitQueue.{IsFree}
 use Rattle.shared_memory.specs.History.{queue_after}
 use Rattle.shared_memory.specs.Access.{lost_after}
 use Rattle.waiters_desk.specs.Calls.{IsWaiting}
-use Rattle.schedule.specs.System.{Act.Made, Act.Heard, Step, Step.Lost, Step.Full, Step.Acts, Want.Awaits}
+use Rattle.schedule.specs.System.{Act.Made, Act.Heard, Want.Awaits}
 use Rattle.interp_machine.specs.Program.{Program}
 use Rattle.schedule_threads.specs.Seeing.{Sees, SeesAct}
 use Rattle.interp_trait.specs.Turns.{Running, outcome_of, left_of, wants_of, IsHere}
@@ -21,18 +20,7 @@ use Rattle.interp_trait.specs.declared.turn.Turn.{Turn}
 use Rattle.interp_trait.specs.declared.turn.Turn.TheVariants as turns
 use Rattle.spawn_host_workers.specs.declared.serving.Served.{Served}
 use Rattle.spawn_host_workers.specs.declared.serving.Served.TheVariants as served
-use Rattle.spawn_host_workers.specs.Ends.{Comes, Watched}
-
--- A try as a step of the thread, and when it may be one.
-abbrev pub try_of : Event → Reply → Step Event Reply Answer
-try_of event replies.Again = Lost event
-try_of event replies.Full = Full event
-try_of event reply = Acts (Made event reply)
-
-abbrev pub MayTry : Event → Reply → Type 0
-MayTry event replies.Again = may_lose event ≡ true
-MayTry event replies.Full = is_exempt event ≡ false
-MayTry event reply = Unit {0}
+use Rattle.interp_trait.specs.Comes.{Comes, MayTry, Watched, try_of}
 
 -- A question with a reply that leaves it open until its answer is heard.
 abbrev pub IsOpen : Event → Reply → Type 0

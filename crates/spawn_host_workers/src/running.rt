@@ -9,7 +9,7 @@ ghost use Rattle.spawn_host_workers.specs.Gated.{CallsOnce};
 ghost use Rattle.spawn_host_workers.specs.Seats.{SeatAttends, SeatEnds, SeatRunsOut, SeatSteps, StaysFree};
 
 use crate::serving::{Served, serve};
-use interp_trait::{Gate, Given, TakesTurns, Turn};
+use interp_trait::{Gate, Given, Lent, TakesTurns, Turn};
 use shared_memory::SharedMemory;
 use std::sync::Wait;
 use types::{Event, Outcome, Reply};
@@ -67,7 +67,7 @@ fn attend<T: TakesTurns, M: SharedMemory, W: Wait + Drop, G: Gate>(
     }
 }
 
-/// Makes turns of the thread's own, and then one try of the event that it wants.
+/// Makes turns of the thread, with tries of its accesses, and then one try of the event that it wants.
 fn step<T: TakesTurns, M: SharedMemory, W: Wait + Drop, G: Gate>(
     thread: &mut T,
     memory: &M,
@@ -81,8 +81,8 @@ fn step<T: TakesTurns, M: SharedMemory, W: Wait + Drop, G: Gate>(
     ensures stepped { SeatSteps M.SharedMemory G.Gate memory.now T.meaning thread.old thread.new seat.old seat.new
         gate.old gate.new result }
 {
-    let name = memory.name(seat);
-    match thread.own_turns(name, gate) {
+    let lent = Lent { memory };
+    match thread.turns_at(&lent, seat, gate) {
         Turn::Wants(event) => attend(thread, memory, seat, desk, gate, event),
         turn => turn,
     }

@@ -14,9 +14,9 @@ use Rattle.validate_instructions.specs.declared.problem.Problem.TheVariants.{Out
 use Rattle.validate_instructions.specs.Kinds.{kind_at}
 use Rattle.validate_bodies.specs.Reached.{Done, flat_done, labels_in, BeginsSome, BeginsNone}
 
--- Memory ran out: a number counts things that don't fit into it.
+-- Memory ran out: a number counts things that don't fit into it, or into the 32 bits of a target.
 abbrev pub TooLarge : ℕ → Problem → Type 0
-TooLarge n e = (e ≡ OutOfMemory) × (2 ^ 64 ≤ n)
+TooLarge n e = (e ≡ OutOfMemory) × (2 ^ 32 ≤ n)
 
 -- Code breaks a rule at a place, and before it none: some typed code begins with what comes before the place, and none
 -- with the instruction there behind that. The fault is that of the instruction inside the labels of the open blocks.

@@ -25,7 +25,7 @@ fn blocks_at(
     ensures { IfOk result (BlocksAt (context_of scope.now) code.now place) }
 {
     let mut blocks = Vec::new(alloc);
-    blocks.push(own_block(alloc, scope, code.len()))?;
+    blocks.push(own_block(alloc, scope, code.len())?)?;
     let Ok(mut ends) = BlockEnds::of(alloc, code) else {
         return Err(AllocError);
     };

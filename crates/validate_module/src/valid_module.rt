@@ -7,7 +7,7 @@ ghost use Rattle.types.specs.declared.limits.TheConstants.{MOST_PAGES};
 ghost use Rattle.validate_typing.specs.Context.{imported_functions, memories_of};
 ghost use Rattle.validate_typing.specs.Image.{opening_image, opening_pages, pages_max_of};
 ghost use Rattle.validate_typing.specs.Tabled.{IsValidated};
-ghost use Rattle.validate_typing.specs.Flattening.{all_flats};
+ghost use Rattle.validate_typing.specs.Flattening.{AreAllFlat};
 ghost use Rattle.validate_module_rules.specs.Exported.{IsExported};
 ghost use Rattle.validate_module_rules.specs.Spaces.{FindsAs};
 ghost use Rattle.validate_module.specs.Pages.{HasPagesWithin};
@@ -54,7 +54,7 @@ impl Model for ValidModule {
     ghost use Rattle.std.specs.List.{slice_get};
     ghost use Rattle.validate_typing.specs.Context.{imported_functions, memories_of};
     ghost use Rattle.validate_typing.specs.Tabled.{WithTables, IsValidated};
-    ghost use Rattle.validate_typing.specs.Flattening.{all_flats};
+    ghost use Rattle.validate_typing.specs.Flattening.{AreAllFlat};
 
     ghost Value = { WithTables };
 
@@ -64,8 +64,8 @@ impl Model for ValidModule {
         (record { parts = v.checked.value.module; tables = v.checked.value.findings.tables.items })
         × (v.checked.value.findings.imported ≡ length (imported_functions v.checked.value.module))
         × (v.checked.value.findings.memory ≡ slice_get (memories_of v.checked.value.module) 0)
-        × (v.checked.value.findings.flats.items ≡ all_flats v.checked.value.module.bodies
-        v.checked.value.findings.tables.items) };
+        × AreAllFlat v.checked.value.module.bodies v.checked.value.findings.tables.items
+        v.checked.value.findings.flats.items };
 }
 
 impl ValidModule {
@@ -77,7 +77,7 @@ impl ValidModule {
         requires validated { IsValidated (record { parts = «module»; tables = findings.tables.items }) }
         requires imported { findings.imported ≡ length (imported_functions «module») }
         requires memory { findings.memory ≡ slice_get (memories_of «module») 0 }
-        requires flats { findings.flats.items ≡ all_flats («module»).bodies findings.tables.items }
+        requires flats { AreAllFlat («module»).bodies findings.tables.items findings.flats.items }
         ensures { IfOk result (λ v. v ≡ record { parts = «module»; tables = findings.tables.items }) }
     {
         let checked = Box::new(alloc, Checked { module, findings })?;
@@ -179,7 +179,7 @@ impl ValidModule {
 
     /// The flat instructions of each body, in order.
     pub fn flats(&self) -> &[Sequence<Flat>]
-        ensures { result.now ≡ all_flats self.now.parts.bodies self.now.tables }
+        ensures { AreAllFlat self.now.parts.bodies self.now.tables result.now }
     {
         &self.checked.findings.flats
     }

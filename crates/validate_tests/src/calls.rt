@@ -77,7 +77,7 @@ fn tells_kinds_and_places(rt: HostRuntime) -> Result<(), Fail> {
     Ok(())
 }
 
-fn target(to: usize) -> Target {
+fn target(to: u32) -> Target {
     Target {
         to,
         height: 2,

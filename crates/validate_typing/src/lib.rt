@@ -18,7 +18,7 @@ mod table;
 mod target;
 
 pub use fault::{BodyPlace, Fault, ValidFault};
-pub use instr::{Flat, Jump};
+pub use instr::Flat;
 pub use laws::expression_stands_for_one_nesting;
 pub use making::{flatten, flatten_all};
 pub use table::Table;

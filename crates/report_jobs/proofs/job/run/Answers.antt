@@ -1,4 +1,6 @@
 use Rattle.std.proofs.Common.{inl, inr}
+use Rattle.report_jobs.specs.Prints.{changed}
+use Rattle.report_jobs.proofs.Readied.{told_refusal}
 use Rattle.report_jobs.proofs.job.run.Goals as goal
 
 pub returns-in-Err-clause-refused : goal.returns-in-Err-clause-refused
@@ -9,3 +11,9 @@ pub returns-in-Err-clause-cannot : goal.returns-in-Err-clause-cannot
 returns-in-Err-clause-cannot g c = λ three.
     let x = c.decline.ensures.refused.cannot c.args.module.now c.args.over.now c.args.job.now.memory_in c.in-Err.ensures.err three in
     record { parts = x.parts; text = x.text; valid = x.valid; cannot = inr x.cannot }
+
+pub returns-in-Err-clause-told : goal.returns-in-Err-clause-told
+returns-in-Err-clause-told g c = λ two.
+    told_refusal c.args.module.now c.args.over.now c.args.job.now.memory_in c.in-Err.unready _ _
+    (changed g.E.Write.contents c.args.streams.now.err c.decline.new.err)
+    c.in-Err.ensures.err c.decline.ensures.number c.decline.ensures.told two

@@ -1,4 +1,4 @@
-use Rattle.spawn_host_workers.specs.Ends.{watched}
+use Rattle.interp_trait.specs.Comes.{watched}
 use Rattle.spawn_host_workers.proofs.Growing.{sees_grows}
 use Rattle.spawn_host_workers.proofs.Leaving.{passes_gate}
 use Rattle.spawn_host_workers.proofs.crew.lead.Goals as goal

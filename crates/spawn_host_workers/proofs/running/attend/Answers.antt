@@ -1,7 +1,7 @@
 use Rattle.std.proofs.Common.{◌∙◌}
-use Rattle.spawn_host_workers.specs.Ends.{watched}
+use Rattle.interp_trait.specs.Comes.{watched}
 use Rattle.spawn_host_workers.proofs.Entered.{sees_collected}
-use Rattle.spawn_host_workers.proofs.Turning.{of_thread}
+use Rattle.interp_trait.proofs.Trying.{of_thread}
 use Rattle.spawn_host_workers.proofs.Attending.{steps_reply, steps_answer, awaiting_stands, awaiting_given, may_be_told}
 use Rattle.spawn_host_workers.proofs.running.attend.Goals as goal
 

@@ -1,4 +1,4 @@
-use Rattle.spawn_host_workers.specs.Ends.{watched}
+use Rattle.interp_trait.specs.Comes.{watched}
 use Rattle.std.proofs.Common.{refl, ◌∙◌}
 use Rattle.spawn_host_workers.proofs.Leaving.{runs_out}
 use Rattle.spawn_host_workers.proofs.running.run_thread.Goals as goal

@@ -1,5 +1,5 @@
 use Rattle.std.proofs.Common.{refl}
-use Rattle.spawn_host_workers.specs.Ends.{watched}
+use Rattle.interp_trait.specs.Comes.{watched}
 use Rattle.interp_trait.specs.declared.turn.Turn.TheVariants.{Moved, Ended}
 use Rattle.spawn_host_workers.proofs.Attending.{attends_none, attends_then, attends_moved}
 use Rattle.spawn_host_workers.proofs.Staying.{stays_free_on}

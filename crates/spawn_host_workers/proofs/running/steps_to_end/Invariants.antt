@@ -1,5 +1,5 @@
 use Rattle.interp_trait.specs.Turns.{Running, IsHere}
-use Rattle.spawn_host_workers.specs.Ends.{watched}
+use Rattle.interp_trait.specs.Comes.{watched}
 use Rattle.spawn_host_workers.specs.Seats.{StaysFree}
 use Rattle.interp_trait.specs.declared.turn.Turn.TheVariants.{Moved}
 use Rattle.spawn_host_workers.specs.Serving.{Attends}

@@ -1,17 +1,6 @@
-use Rattle.std.proofs.Common.{◌≡◌, false, refl}
-use Rattle.types.specs.declared.event.Event.{Event}
-use Rattle.types.specs.declared.event.Event.TheVariants.{Ask, Told}
-use Rattle.types.specs.declared.event.Question.{Question}
-use Rattle.types.specs.declared.event.Answer.{Answer}
-use Rattle.shared_memory.specs.Events.{is_of_queue}
 use Rattle.waiters_desk.proofs.Surviving.{free_accessed}
-use Rattle.spawn_host_workers.proofs.Entered.{sees_access}
+use Rattle.interp_trait.proofs.Entering.{no_question, sees_access}
 use Rattle.spawn_host_workers.proofs.serving.serve.Goals as goal
-
-no_question : (e : Event) → ((q : Question) → e ≡ Ask q → ⊥) → ((a : Answer) → e ≡ Told a → ⊥) → is_of_queue e ≡ false
-no_question (Ask q) asks tells = absurd (asks q refl)
-no_question (Told a) asks tells = absurd (tells a refl)
-no_question _ asks tells = refl
 
 pub returns-in_default : goal.returns-in_default
 returns-in_default g c =

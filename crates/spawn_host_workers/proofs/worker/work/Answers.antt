@@ -2,7 +2,7 @@ use Rattle.std.proofs.Common.{[], ◌∷◌, ◌∙◌}
 use Rattle.types.specs.declared.value.Value.TheVariants.{I32}
 use Rattle.interp_machine.specs.State.{At}
 use Rattle.schedule.specs.Machine.Thread.{Runs}
-use Rattle.spawn_host_workers.specs.Ends.{watched}
+use Rattle.interp_trait.specs.Comes.{watched}
 use Rattle.spawn_host_workers.proofs.Growing.{sees_grows}
 use Rattle.spawn_host_workers.proofs.Leaving.{passes_gate}
 use Rattle.spawn_host_workers.proofs.worker.work.Goals as goal

@@ -9,9 +9,9 @@ use Rattle.validate_bodies.proofs.reached.blocks_at.Goals as goal
 pub loop-here-init : goal.loop-here-init
 loop-here-init c = record {
   on = rw (c.in_ok-push.ensures.items, c.new-blocks.ensures.items)
-      (on_start (context_of c.args.scope.now) c.args.code.now c.own_block.result _ c.own_block.ensures c.requires.expression c.in-Ok.ensures);
+      (on_start (context_of c.args.scope.now) c.args.code.now c.in_ok-own_block.field-0 _ c.in_ok-own_block.ensures c.requires.expression c.in-Ok.ensures);
   comes = rw (c.in_ok-push.ensures.items, c.new-blocks.ensures.items)
-      (comes_first (context_of c.args.scope.now) c.args.code.now (length c.args.code.now) c.own_block.result c.own_block.ensures);
+      (comes_first (context_of c.args.scope.now) c.args.code.now (length c.args.code.now) c.in_ok-own_block.field-0 c.in_ok-own_block.ensures);
 }
 
 pub returns-in-Err-Wrong : goal.returns-in-Err-Wrong
