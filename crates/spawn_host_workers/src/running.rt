@@ -9,7 +9,7 @@ ghost use Rattle.spawn_host_workers.specs.Gated.{CallsOnce};
 ghost use Rattle.spawn_host_workers.specs.Seats.{SeatAttends, SeatEnds, SeatRunsOut, SeatSteps, StaysFree};
 
 use crate::serving::{Served, serve};
-use interp_trait::{Gate, Given, TakesTurns, Turn};
+use interp_trait::{Gate, Given, TakesTurns, Turn, Lent};
 use shared_memory::SharedMemory;
 use std::sync::Wait;
 use types::{Event, Outcome, Reply};
@@ -81,7 +81,7 @@ fn step<T: TakesTurns, M: SharedMemory, W: Wait + Drop, G: Gate>(
     ensures stepped { SeatSteps M.SharedMemory G.Gate memory.now T.meaning thread.old thread.new seat.old seat.new
         gate.old gate.new result }
 {
-    match thread.turns_at(memory, seat, gate) {
+    match thread.turns_at(&Lent { memory }, seat, gate) {
         Turn::Wants(event) => attend(thread, memory, seat, desk, gate, event),
         turn => turn,
     }

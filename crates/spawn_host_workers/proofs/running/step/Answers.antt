@@ -54,7 +54,7 @@ returns-in_default g c =
     let first = g.T.TakesTurns.meaning c.args.thread.now in
     let seat = c.args.seat.now in
     let o = c.turns_at.ensures in record {
-      stays = record { stays = o.stays; same = o.same; free = o.alone };
+      stays = record { stays = o.stays; same = record { name_is = o.same.name_is; right_is = o.same.right_is }; free = o.alone };
       stepped = λ t stands here. steps_own g.G.Gate first.fuel first.program m.LOSES m.opening
           (m.limit c.args.memory.now) (m.name seat) t _ c.turns_at.result
           (watched m.seen m.lost seat c.args.gate.now) (watched m.seen m.lost c.turns_at.new.seat c.turns_at.new.gate)
