@@ -45,14 +45,14 @@ impl<M: SharedMemory> Accessed for Lent<'_, M> {
     type Seat = M::Seat;
 
     ghost memory = { record {
-        LOSES = M.LOSES;
-        opening = M.opening;
-        limit = λ lent. M.limit lent.memory.now;
-        pages_max = λ lent. M.pages_max lent.memory.now;
-        name = M.name;
-        seen = M.seen;
-        has_queue_right = M.has_queue_right;
-        lost = M.lost;
+      LOSES = M.LOSES;
+      opening = M.opening;
+      limit = λ lent. M.limit lent.memory.now;
+      pages_max = λ lent. M.pages_max lent.memory.now;
+      name = M.name;
+      seen = M.seen;
+      has_queue_right = M.has_queue_right;
+      lost = M.lost;
     } };
 
     #[inline(always)]

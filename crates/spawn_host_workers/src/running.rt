@@ -9,7 +9,7 @@ ghost use Rattle.spawn_host_workers.specs.Gated.{CallsOnce};
 ghost use Rattle.spawn_host_workers.specs.Seats.{SeatAttends, SeatEnds, SeatRunsOut, SeatSteps, StaysFree};
 
 use crate::serving::{Served, serve};
-use interp_trait::{Gate, Given, TakesTurns, Turn, Lent};
+use interp_trait::{Gate, Given, Lent, TakesTurns, Turn};
 use shared_memory::SharedMemory;
 use std::sync::Wait;
 use types::{Event, Outcome, Reply};
