@@ -1,8 +1,10 @@
-use Rattle.std.proofs.Common.{ℕ, length, ap, refl, sym, subst, ◌∙◌}
+use Rattle.std.proofs.Common.{ℕ, ◌<◌, ◌^◌, length, ap, refl, sym, subst, ◌∙◌}
 use Rattle.std.specs.List.{AllZip}
 use Rattle.std.proofs.lemmas.Slice.Zip.{AllZip-long}
 use Rattle.search_reach.specs.Search.{IsMarkedSo, IsAll, IsSound, HasAllEnds, AreEnds, CanGetStuck}
 use Rattle.search_reach.specs.Found.{IsFound}
+use Rattle.search_reach.specs.Moved.{ArePathsTo}
+use Rattle.search_reach.proofs.Leading.{ways-are}
 use Rattle.search_reach.proofs.Gathering.{endings-of_all}
 use Rattle.search_reach.proofs.Living.{moves-within, live, found-after, live-after, sought-back, sought-forth}
 use Rattle.search_reach.proofs.Leveling.{gone-within}
@@ -88,3 +90,16 @@ returns-clause-levels g c =
     let r = c.requires in
     let gathered = c.in_ok-endings.ensures.gathered r.states r.held r.found.sound in
     gone-within k g.T.Ending.PartialEq.eq r.states c.in_ok-endings.field-0.endings.keys c.args.reached.levels r.gone_through gathered.all
+
+pub returns-clause-ways : goal.returns-clause-ways
+returns-clause-ways g c few =
+    let m = c.args.system.now in
+    let r = c.requires in
+    let len = c.count-states.ensures.len r.states r.held in
+    let moved = r.moved (subst (λ (n : ℕ). n < 2 ^ 32) len few) in
+    let moves = c.args.reached.moves.items in
+    ways-are (g.T.Meets.system m) (g.T.Meets.equal m) r.states moves moved c.in_ok-paths.paths.items c.in_ok-endings.field-0.firsts.items
+    c.in_ok-endings.field-0.endings.keys
+    (subst (λ (n : ℕ). ArePathsTo moves n c.in_ok-paths.paths.items c.in_ok-endings.field-0.firsts.items) len
+    (subst (ArePathsTo moves c.count-states.result c.in_ok-paths.paths.items) c.as_slice.ensures.value c.in_ok-paths.ensures.paths))
+    (c.in_ok-endings.ensures.firsts r.states r.held r.found.sound)
