@@ -1,18 +1,23 @@
 -- Choices among moves lead from state to state.
 use Rattle.std.specs.Prelude.{◌≡◌, ◌<◌, ℕ, zero, suc, Bool, true, false, List, [], ◌∷◌, ◌++◌, length, Some, refl, if◌then◌else◌}
-use Rattle.std.specs.Prelude.{Contains}
+use Rattle.std.specs.Prelude.{All, Contains}
 use Rattle.std.specs.Global.{Vec}
 use Rattle.std.specs.List.{slice_get, AllZip, list_any}
 use Rattle.std.proofs.Common.{ap, subst, sym, ◌∙◌, arith}
-use Rattle.std.proofs.lemmas.Option.{none-some, same_Some, slice_get_within}
-use Rattle.std.proofs.lemmas.Slice.Zip.{all_zipped_more}
+use Rattle.std.proofs.lemmas.List.{length-map}
+use Rattle.std.proofs.lemmas.List.Elements.{All-head, All-tail, Contains-get_or}
+use Rattle.std.proofs.lemmas.Option.{none-some, same_Some, slice_get_within, slice_get-get_or}
+use Rattle.std.proofs.lemmas.Slice.Zip.{all_zipped_more, AllZip-long}
 use Rattle.indexmap.specs.IndexSet.{insert_key}
+use Rattle.search_graph.specs.Graph.{move_at}
+use Rattle.search_graph.specs.Round.{moves_at, came, IsFairRound}
 use Rattle.search_graph.specs.declared.graph.Move.{Move}
 use Rattle.search_reach.specs.declared.explores.Next.{Next}
 use Rattle.search_reach.specs.Search.{StepSystem}
 use Rattle.search_reach.specs.Explored.{moves_from, IsNoted}
-use Rattle.search_reach.specs.Moved.{GoesBy, ArePathsTo, IsMoved, HasEndedAt, AreFirsts, insert_first}
-use Rattle.search_reach.specs.Ways.{Leads, AreWays}
+use Rattle.search_reach.specs.Moved.{GoesBy, IsChoiceOf, AreChoicesOf, IsPathTo, ArePathsTo, IsMoved, HasEndedAt, AreFirsts, insert_first}
+use Rattle.search_reach.specs.Ways.{Leads, IsWay, AreWays, GoesRound}
+use Rattle.search_reach.specs.declared.liveness.FairCycle.{FairCycle}
 use Rattle.search_reach.proofs.Searching.{here}
 use Rattle.search_reach.proofs.Moving.{some-at}
 use Rattle.search_reach.proofs.Choosing.{from-of, from-among}
@@ -25,6 +30,11 @@ zip-at R [] (z ∷ ys) h i y at = absurd h
 zip-at R (x ∷ xs) [] h i y at = absurd h
 zip-at R (x ∷ xs) (z ∷ ys) h zero y at = (x, refl, subst (R x) (same_Some z y at) h.0)
 zip-at R (x ∷ xs) (z ∷ ys) h (suc i) y at = zip-at R xs ys h.1 i y at
+
+-- where a walk stands behind its first move
+came-on : (at : ℕ) (m : Move) (walk : List Move) (j : ℕ) → came at (m ∷ walk) (suc j) ≡ came m.next walk j
+came-on at m walk zero = refl
+came-on at m walk (suc j) = refl
 
 module _ {S W E : Type 0} (k : StepSystem S W E) (eq : S → S → Bool) (ks : List S) (moves : List Move) (is : IsMoved k eq ks moves) where
   pub leads-by : (at to : ℕ) (choices : List ℕ) (s t : S) → slice_get ks at ≡ Some s → slice_get ks to ≡ Some t → GoesBy moves at choices to
@@ -43,6 +53,55 @@ module _ {S W E : Type 0} (k : StepSystem S W E) (eq : S → S → Bool) (ks : L
         leads-by m.next to choices next.key t next.at there goes.2,
       )
 
+  pub way-to : (to : ℕ) (choices : List ℕ) (t : S) → slice_get ks to ≡ Some t → IsPathTo moves (length ks) choices to → IsWay k eq choices t
+  way-to to choices t at path =
+      let low = slice_get_within ks to t at in
+      let first = some-at ks 0 (omega (arith, low)) in
+      record { first = first.0; begins = is.first first.0 first.1; leads = leads-by 0 to choices first.0 t first.1 at (path is.ordered low) }
+
+  -- the choices of a walk go along it
+  goes-along : (at to : ℕ) (places choices : List ℕ) → All (λ p. p < length moves) places → AreChoicesOf moves places choices
+      → ((j : ℕ) → j < length (moves_at moves places) → (move_at (moves_at moves places) j).from ≡ came at (moves_at moves places) j)
+      → came at (moves_at moves places) (length (moves_at moves places)) ≡ to → GoesBy moves at choices to
+  goes-along at to [] [] low are joined closed = closed
+  goes-along at to [] (c ∷ cs) low are joined closed = absurd are
+  goes-along at to (p ∷ ps) [] low are joined closed = absurd are
+  goes-along at to (p ∷ ps) (c ∷ cs) low are joined closed =
+      let m = move_at moves p in
+      let walk = moves_at moves ps in
+      let from : m.from ≡ at = joined 0 (omega arith) in
+      let chosen = are.0 m (slice_get-get_or moves p _ (All-head (λ q. q < length moves) p ps low)) (is.ordered.together m.from) in (
+        m,
+        ap (λ (f : ℕ). slice_get (moves_from f moves) c) (sym from) ∙ chosen,
+        goes-along m.next to ps cs (All-tail (λ q. q < length moves) p ps low) are.1
+            (λ j inside. joined (suc j) (omega (arith, inside)) ∙ came-on at m walk j) (sym (came-on at m walk (length walk)) ∙ closed),
+      )
+
+  pub round-by : ((m : Move) → Contains moves m → m.from < length ks) → (c : FairCycle) (start : ℕ) (places : List ℕ) → IsFairRound moves start places
+      → IsPathTo moves (length ks) c.path.items start → AreChoicesOf moves places c.walk.items → GoesRound k eq c
+  round-by within c start places round path walk = record {
+    start = state.0;
+    way = way-to start c.path.items state.0 state.1 path;
+    some = omega (arith, long);
+    round = leads-by start start c.walk.items state.0 state.0 state.1 state.1
+        (goes-along start start places c.walk.items round.within walk round.round.joined round.round.closed);
+  }
+    where
+      long : 0 < length c.walk.items
+      long =
+          let some = round.round.some in
+          omega (arith, some, length-map places (move_at moves), AllZip-long (IsChoiceOf moves) places c.walk.items walk)
+
+      start-low : (places : List ℕ) → IsFairRound moves start places → start < length ks
+      start-low [] round = let some = round.round.some in absurd (omega (arith, some))
+      start-low (p ∷ ps) round =
+          let m = move_at moves p in
+          let low : p < length moves = All-head (λ q. q < length moves) p ps round.within in
+          subst (λ (n : ℕ). n < length ks) (round.round.joined 0 (omega arith)) (within m (Contains-get_or moves p _ low))
+
+      state : (s : S) × (slice_get ks start ≡ Some s)
+      state = some-at ks start (start-low places round)
+
   pub ways-are : (paths : List (Vec ℕ)) (firsts : List ℕ) (es : List E) → ArePathsTo moves (length ks) paths firsts → AreFirsts k ks firsts es
       → AreWays k eq paths es
   ways-are [] [] [] paths ended = tt
@@ -52,13 +111,10 @@ module _ {S W E : Type 0} (k : StepSystem S W E) (eq : S → S → Bool) (ks : L
   ways-are (p ∷ ps) (f ∷ firsts) [] paths ended = absurd ended
   ways-are (p ∷ ps) (f ∷ firsts) (e ∷ es) paths ended =
       let h : HasEndedAt k ks f e = ended.0 in
-      let low = slice_get_within ks f h.state h.at in
-      let first = some-at ks 0 (omega (arith, low)) in (
+      (
         record {
-          first = first.0;
-          begins = is.first first.0 first.1;
           last = h.state;
-          leads = leads-by 0 f p.items first.0 h.state first.1 h.at (paths.0 is.ordered low);
+          way = way-to f p.items h.state h.at paths.0;
           ended = h.ended;
         },
         ways-are ps firsts es paths.1 ended.1,

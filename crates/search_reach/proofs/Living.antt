@@ -20,6 +20,8 @@ use Rattle.search_reach.specs.Search.{StepSystem, Steps, StandsFor, RestsIn, Has
 use Rattle.search_reach.specs.Explored.{IsGoneOn, ExploredTo}
 use Rattle.search_reach.specs.Liveness.{CanEndSomehow, NeverEnds, StillEnds, AreEndless, SaysOf, IsLive, IsLiveWhereAll, SaysOfGraph, IsGraphLive, IsJudged}
 use Rattle.search_reach.specs.Found.{Claims, IsFound}
+use Rattle.search_reach.specs.Moved.{IsPathTo, IsMoved}
+use Rattle.search_reach.specs.Ways.{AreNumbered, GoRound}
 use Rattle.search_reach.specs.declared.follows.Wish.{Wish}
 use Rattle.search_reach.specs.declared.search.Verdict.{Verdict}
 use Rattle.search_reach.specs.declared.search.Verdict.TheVariants as verdicts
@@ -28,6 +30,7 @@ use Rattle.search_reach.specs.declared.liveness.FairRuns.TheVariants.{AllEnd, Go
 use Rattle.search_reach.specs.declared.liveness.Liveness.{Liveness}
 use Rattle.search_reach.proofs.Paths.{stays, one_step, onward}
 use Rattle.search_reach.proofs.Searching.{here}
+use Rattle.search_reach.proofs.Leading.{way-to, round-by}
 use Rattle.search_reach.proofs.Graphing.{move_to, move_by, Stands, gone_on, follow, covered, followed, leads, explored-all}
 
 -- the mark of a state
@@ -247,16 +250,26 @@ module _ {S W E : Type 0} (k : StepSystem S W E) (eq : S → S → Bool) (ks : L
   says (GoOn c) round = fair_run k eq ks g.moves.items same e round.cycle.start (moves_at g.moves.items round.cycle.walk.items) round.is.runs
   says Unknown h = tt
 
-  pub live : (marks : List Bool) → g.states ≡ length ks → IsDistinct eq ks → AllZip (IsMarkedSo k) ks marks → (l : Liveness) → IsGraphLive g marks l
-      → IsLive k eq g.states l
-  live marks is distinct marked l said = record {
+  go_round : IsMoved k eq ks g.moves.items → g.states ≡ length ks → (f : FairRuns) → SaysOfGraph g f → GoRound k eq f
+  go_round moved is AllEnd all = tt
+  go_round moved is (GoOn c) round =
+      round-by k eq ks g.moves.items moved (λ m among. (e.from m among).1) c round.cycle.start round.cycle.walk.items (round.is).round
+      (subst (λ (n : ℕ). IsPathTo g.moves.items n c.path.items round.cycle.start) is round.path) round.walk
+  go_round moved is Unknown h = tt
+
+  pub live : (marks : List Bool) → g.states ≡ length ks → IsDistinct eq ks → AllZip (IsMarkedSo k) ks marks → IsMoved k eq ks g.moves.items
+      → (l : Liveness) → IsGraphLive g marks l → IsLive k eq g.states l
+  live marks is distinct marked moved l said = record {
     keys = ks;
     counted = record { len = sym is; distinct = distinct; sound = e.sound };
     all = explored-all k eq ks g.moves.items same e;
     endless = endless_are k eq ks g.moves.items same e marks marked l.endless.items said.order
         (subst (λ (n : ℕ). (p : ℕ) → Contains l.endless.items p ↔ CannotEnd g.moves.items marks n p) is said.exact)
         (subst (λ (n : ℕ). (p : ℕ) → p < n → Contains l.endless.items p ⊎ PathEnds g.moves.items marks p) is said.others);
+    path = λ p s first at. way-to k eq ks g.moves.items moved p l.path.items s at
+        (subst (λ (n : ℕ). IsPathTo g.moves.items n l.path.items p) is (said.path p first));
     fair_runs = says l.fair_runs said.fair_runs;
+    round = go_round moved is l.fair_runs said.fair_runs;
   }
 
 -- by the verdict and the wish in the end
@@ -283,6 +296,13 @@ module _ (g : Graph) (ended : List Bool) (before : Verdict) (old : Wish) (after 
       | inr told ↦ told.1
     ];
   }
+
+  pub numbered-before : (states : ℕ) → AreNumbered after states → AreNumbered before states
+  numbered-before states (inl all) = elim judged.verdict [
+    | inl same ↦ inl (sym same ∙ all)
+    | inr told ↦ (let t = told.0 in absurd (cc (t, all)))
+  ]
+  numbered-before states (inr few) = inr few
 
   pub sought-back : after ≡ verdicts.Sought → before ≡ verdicts.Sought
   sought-back v = elim judged.verdict [

@@ -20,6 +20,7 @@ use Rattle.search_reach.specs.declared.search.Verdict.{Verdict}
 use Rattle.search_reach.proofs.Passing.{passed-more, sought-more, all-passed, seeks-none, seeks-some}
 use Rattle.search_reach.proofs.Leveling.{levels-longer, levels-all, levels-none, levels-more}
 use Rattle.search_reach.specs.Moved.{IsMoved}
+use Rattle.search_reach.specs.Ways.{AreNumbered}
 use Rattle.search_reach.proofs.Moving.{IsUnique, moved-none, moved-first, moved-more}
 use Rattle.search_reach.proofs.Searching.{Begins, Gains-begins, length-longer, explored-first, sound-is_met, sound-more, sound-stuck, explored-more, explored-whole}
 use Rattle.search_reach.proofs.Graphing.{explored-all}
@@ -48,6 +49,11 @@ turns-on at met known low = record {
     by : (j : ℕ) → j < at + 1 → (j < at) ⊎ (at ≤ j) → ((j < at) × (j < met)) ⊎ (at ≡ j)
     by j h (inl less) = inl (less, omega (arith, less, low))
     by j h (inr high) = inr (omega (arith, h, high))
+
+-- where not all were met
+numbered : (verdict : Verdict) (states : ℕ) → (verdict ≡ verdicts.All → ⊥) → AreNumbered verdict states → states < 2 ^ 32
+numbered verdict states other (inl all) = absurd (other all)
+numbered verdict states other (inr few) = few
 
 module _ {S W E : Type 0} (k : StepSystem S W E) (eq : S → S → Bool) where
   -- where a search stands that has gone on from the states of some places, and has met nothing that is looked for
@@ -175,7 +181,7 @@ module _ {S W E : Type 0} (k : StepSystem S W E) (eq : S → S → Bool) where
               told = λ v. told;
             };
             whole = λ v. absurd (cc v);
-            moved = moved-now;
+            moved = λ n. moved-now (numbered verdicts.Told (length (goes).states) (λ v. cc v) n);
             seeks = seeks-none k sought verdicts.Told (goes).states (λ v. cc v) (passed-now is fails said);
             gone_through = through;
           }
@@ -194,7 +200,7 @@ module _ {S W E : Type 0} (k : StepSystem S W E) (eq : S → S → Bool) where
               told = λ v. absurd (cc v);
             };
             whole = λ v. absurd (cc v);
-            moved = moved-now;
+            moved = λ n. moved-now (numbered verdicts.Sought (length (goes).states) (λ v. cc v) n);
             seeks = seeks-some k sought (goes).states (sought-more k sought was.states (goes).states begins was.passed
                 (subst (λ (n : ℕ). HasSoughtFrom k sought n (goes).states) long (says (goes).states (goes).held sound-now)));
             gone_through = through;
@@ -220,7 +226,7 @@ module _ {S W E : Type 0} (k : StepSystem S W E) (eq : S → S → Bool) where
               told = λ v. absurd (cc v);
             };
             whole = λ v. whole;
-            moved = was.moved;
+            moved = λ n. was.moved few;
             seeks = seeks-so verdicts.All (λ v. cc v);
             gone_through = through;
           }
@@ -240,7 +246,7 @@ module _ {S W E : Type 0} (k : StepSystem S W E) (eq : S → S → Bool) where
               told = λ v. absurd (cc v);
             };
             whole = λ v. absurd (cc v);
-            moved = was.moved;
+            moved = λ n. was.moved (numbered verdicts.TooMany (length was.states) (λ v. cc v) n);
             seeks = seeks-so verdicts.TooMany (λ v. cc v);
             gone_through = through;
           }
@@ -261,7 +267,7 @@ module _ {S W E : Type 0} (k : StepSystem S W E) (eq : S → S → Bool) where
               told = λ v. absurd (cc v);
             };
             whole = λ v. absurd (cc v);
-            moved = λ few. subst (IsMoved k eq was.states) (sym kept) (was.moved few);
+            moved = λ n. subst (IsMoved k eq was.states) (sym kept) (was.moved (numbered verdicts.CannotTell (length was.states) (λ v. cc v) n));
             seeks = seeks-so verdicts.CannotTell (λ v. cc v);
             gone_through = through;
           }
@@ -373,7 +379,7 @@ module _ {S W E : Type 0} (k : StepSystem S W E) (eq : S → S → Bool) where
       told = λ v. absurd (cc v);
     };
     whole = λ v. absurd (cc v);
-    moved = λ few. subst (IsMoved k eq []) (sym none) (moved-none k eq);
+    moved = λ n. subst (IsMoved k eq []) (sym none) (moved-none k eq);
     seeks = seeks-none k sought verdicts.CannotTell [] (λ v. cc v) (λ j s at. absurd (none-some s at));
     gone_through = tt;
   }
@@ -397,7 +403,7 @@ module _ {S W E : Type 0} (k : StepSystem S W E) (eq : S → S → Bool) where
           told = λ v. absurd (cc v);
         };
         whole = λ v. absurd (cc v);
-        moved = λ few. subst (IsMoved k eq (f.state ∷ [])) (sym none) (moved-first k eq f.state f.is);
+        moved = λ n. subst (IsMoved k eq (f.state ∷ [])) (sym none) (moved-first k eq f.state f.is);
         seeks = seeks-some k sought (f.state ∷ []) (says (f.state ∷ []) f.held first.sound);
         gone_through = subst (HasGoneThrough k (f.state ∷ [])) (sym counted) (through order);
       }

@@ -13,6 +13,7 @@ use Rattle.search_reach.specs.Found.{IsFound}
 use Rattle.search_reach.specs.Sought.{ArePassed, SeeksAmong}
 use Rattle.search_reach.specs.Levels.{HasGoneThrough}
 use Rattle.search_reach.specs.Moved.{IsMoved}
+use Rattle.search_reach.specs.Ways.{AreNumbered}
 
 -- What equals another is equalled by it.
 pub equal_back : {S : Type 0} (eq : S → S → Bool) → IsEquivalence eq → (x y : S) → eq x y ≡ true → eq y x ≡ true
@@ -60,7 +61,7 @@ module _ {S W E : Type 0} (k : StepSystem S W E) (has : List S → Type 0) where
       pub found : IsFound (record { complete = IsAll k; sound = IsSound k; lost = CanGetStuck k }) most wish verdict
           (length states) states
       pub whole : IsWhole k eq states moves verdict
-      pub moved : length states < 2 ^ 32 → IsMoved k eq states moves
+      pub moved : AreNumbered verdict (length states) → IsMoved k eq states moves
       pub seeks : SeeksAmong k sought verdict states
       pub gone_through : HasGoneThrough k states levels
 

@@ -1,10 +1,19 @@
 -- Ways: choices, each of which names one of the next states of a state.
-use Rattle.std.specs.Prelude.{◌≡◌, ◌<◌, ◌^◌, ℕ, Bool, true, Some, List, [], ◌∷◌}
+use Rattle.std.specs.Prelude.{◌≡◌, ◌<◌, ◌^◌, ◌⊎◌, ℕ, Bool, true, Some, List, [], ◌∷◌, length}
 use Rattle.std.specs.Global.{Vec}
 use Rattle.std.specs.List.{slice_get, AllZip}
 use Rattle.search_reach.specs.Search.{StepSystem, AreNext, IsFirst, IsEnding}
 use Rattle.search_reach.specs.declared.explores.Next.{Next}
+use Rattle.search_reach.specs.declared.search.Verdict.{Verdict}
+use Rattle.search_reach.specs.declared.search.Verdict.TheVariants as verdicts
 use Rattle.search_reach.specs.declared.ending.Ended as endings
+use Rattle.search_reach.specs.declared.liveness.FairCycle.{FairCycle}
+use Rattle.search_reach.specs.declared.liveness.FairRuns.{FairRuns}
+use Rattle.search_reach.specs.declared.liveness.FairRuns.TheVariants.{AllEnd, GoOn, Unknown}
+
+-- The search met all states, or so few that a number of 32 bits tells each from the others.
+abbrev pub AreNumbered : Verdict → ℕ → Type 0
+AreNumbered verdict states = (verdict ≡ verdicts.All) ⊎ (states < 2 ^ 32)
 
 module _ {S W E : Type 0} (k : StepSystem S W E) (eq : S → S → Bool) where
   -- The choice names one of the next states of s, which equals t.
@@ -20,18 +29,35 @@ module _ {S W E : Type 0} (k : StepSystem S W E) (eq : S → S → Bool) where
   Leads s [] t = s ≡ t
   Leads s (choice ∷ choices) t = (v : S) × Chooses s choice v × Leads v choices t
 
-  -- They lead from a first state to one that has ended so.
-  pub record IsWayTo (choices : List ℕ) (e : E) : Type 0 where
+  -- They lead there from a first state.
+  pub record IsWay (choices : List ℕ) (t : S) : Type 0 where
     pub first : S
     pub begins : IsFirst k first
+    pub leads : Leads first choices t
+
+  -- They lead so to a state that has ended so.
+  pub record IsWayTo (choices : List ℕ) (e : E) : Type 0 where
     pub last : S
-    pub leads : Leads first choices last
+    pub way : IsWay choices last
     pub ended : IsEnding k last (Some e)
 
-  -- For each ending there is one.
+  -- For each ending there is a way.
   abbrev pub AreWays : List (Vec ℕ) → List E → Type 0
   AreWays paths es = AllZip (λ path e. IsWayTo path.items e) paths es
 
-  -- So it is with those of a search that met fewer states than places have numbers of 32 bits.
+  -- So it is with the paths of a search.
   abbrev pub HasWays : endings.Ended E → Type 0
-  HasWays ended = ended.states < 2 ^ 32 → AreWays ended.paths.items ended.endings.keys
+  HasWays ended = AreNumbered ended.verdict ended.states → AreWays ended.paths.items ended.endings.keys
+
+  -- A way leads to where it begins to go round, and the walk from there once round and back there.
+  pub record GoesRound (c : FairCycle) : Type 0 where
+    pub start : S
+    pub way : IsWay c.path.items start
+    pub some : 0 < length c.walk.items
+    pub round : Leads start c.walk.items start
+
+  -- So it is where a run goes on for ever.
+  abbrev pub GoRound : FairRuns → Type 0
+  GoRound AllEnd = Unit {0}
+  GoRound (GoOn c) = GoesRound c
+  GoRound Unknown = Unit {0}

@@ -1,5 +1,5 @@
 //! How the states that were met have ended.
-ghost use Rattle.std.specs.Prelude.{◌≡◌, ◌<◌, ◌^◌, IfOk, IfSome, OnOk, length, vec_len};
+ghost use Rattle.std.specs.Prelude.{◌≡◌, IfOk, IfSome, OnOk, length, vec_len};
 ghost use Rattle.indexmap.specs.IndexSet.{index_set_len, insert_key};
 ghost use Rattle.search_reach.specs.Meeting.{HasSound, OfStates, AreGathered, IsReached};
 ghost use Rattle.search_reach.specs.Explored.{IsWhole};
@@ -9,7 +9,7 @@ ghost use Rattle.search_reach.specs.Levels.{HasEndsWithin, HasGoneThrough, IsLev
 ghost use Rattle.search_reach.specs.Moved.{AreFirsts, ArePathsTo, IsMoved, insert_first};
 ghost use Rattle.search_reach.specs.Sought.{SeeksAmong, SeeksIn};
 ghost use Rattle.search_reach.specs.Told.{Obeys, OfCount, StillObeys};
-ghost use Rattle.search_reach.specs.Ways.{HasWays};
+ghost use Rattle.search_reach.specs.Ways.{AreNumbered, HasWays};
 
 use crate::liveness::judged;
 use crate::path::{paths_to, ways_in};
@@ -82,7 +82,7 @@ pub struct Ended<E: Eq + Hash> {
     /// The endings, each once.
     pub endings: IndexSet<E>,
     /// For each ending a way to it from the first state: which of the next states of each is the next one. It leads to a
-    /// state that has ended so (`HasWays`), where fewer than 2 ^ 32 states were met.
+    /// state that has ended so (`HasWays`), where all states were met or fewer than 2 ^ 32.
     pub paths: Vec<Vec<usize>>,
     /// How many states were met, each once.
     pub states: usize,
@@ -178,7 +178,7 @@ pub fn endings_of<T: Explores, Q: Seeks<T::Ending>, F: Follows>(
 ) -> Result<Ended<T::Ending>, AllocError>
     requires found { IsSearched (T.system system.now) most (F.wish follower.old) found }
     requires whole { IsWhole (T.system system.now) T.State.eq found.met.keys found.moves.items found.verdict }
-    requires moved { index_set_len found.met < 2 ^ 32
+    requires moved { AreNumbered found.verdict (index_set_len found.met)
         → IsMoved (T.system system.now) T.State.eq found.met.keys found.moves.items }
     requires seeks { SeeksAmong (T.system system.now) (Q.sought sought.now) found.verdict found.met.keys }
     requires levels { HasGoneThrough (T.system system.now) found.met.keys found.levels }

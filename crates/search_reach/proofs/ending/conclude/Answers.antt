@@ -1,12 +1,13 @@
-use Rattle.std.proofs.Common.{ℕ, ◌<◌, ◌^◌, length, ap, refl, sym, subst, ◌∙◌}
+use Rattle.std.proofs.Common.{ℕ, length, inl, ap, refl, sym, subst, ◌∙◌}
 use Rattle.std.specs.List.{AllZip}
 use Rattle.std.proofs.lemmas.Slice.Zip.{AllZip-long}
 use Rattle.search_reach.specs.Search.{IsMarkedSo, IsAll, IsSound, HasAllEnds, AreEnds, CanGetStuck}
 use Rattle.search_reach.specs.Found.{IsFound}
 use Rattle.search_reach.specs.Moved.{ArePathsTo}
+use Rattle.search_reach.specs.Ways.{AreNumbered}
 use Rattle.search_reach.proofs.Leading.{ways-are}
 use Rattle.search_reach.proofs.Gathering.{endings-of_all}
-use Rattle.search_reach.proofs.Living.{moves-within, live, found-after, live-after, sought-back, sought-forth}
+use Rattle.search_reach.proofs.Living.{moves-within, live, found-after, live-after, numbered-before, sought-back, sought-forth}
 use Rattle.search_reach.proofs.Leveling.{gone-within}
 use Rattle.search_reach.proofs.Passing.{seeks-in}
 use Rattle.search_reach.specs.Told.{Obeys}
@@ -65,7 +66,7 @@ returns-clause-live g c =
     (λ v l said. live k (g.T.Meets.equal m) r.states (record { states = c.count-states.result; moves = c.args.reached.moves })
     (g.met.T.Meets.alike m) (r.whole v) c.as_slice-2.result.now (c.count-states.ensures.len r.states r.held)
     (c.count-states.ensures.distinct r.states r.held)
-    (subst (λ l. AllZip (IsMarkedSo k) r.states l) (sym c.as_slice-2.ensures.value) gathered.marks_are) l said)
+    (subst (λ l. AllZip (IsMarkedSo k) r.states l) (sym c.as_slice-2.ensures.value) gathered.marks_are) (r.moved (inl v)) l said)
 
 pub returns-clause-obeys : goal.returns-clause-obeys
 returns-clause-obeys g c before so =
@@ -96,7 +97,8 @@ returns-clause-ways g c few =
     let m = c.args.system.now in
     let r = c.requires in
     let len = c.count-states.ensures.len r.states r.held in
-    let moved = r.moved (subst (λ (n : ℕ). n < 2 ^ 32) len few) in
+    let moved = r.moved (numbered-before _ _ _ _ _ _ _ c.in_ok-verdict.ensures.judged (length r.states)
+    (subst (λ (n : ℕ). AreNumbered c.in_ok-verdict.verdict n) len few)) in
     let moves = c.args.reached.moves.items in
     ways-are (g.T.Meets.system m) (g.T.Meets.equal m) r.states moves moved c.in_ok-paths.paths.items c.in_ok-endings.field-0.firsts.items
     c.in_ok-endings.field-0.endings.keys

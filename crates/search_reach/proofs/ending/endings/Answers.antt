@@ -77,4 +77,5 @@ pub returns-clause-len : goal.returns-clause-len
 returns-clause-len g c =
     let k = g.T.Meets.system c.args.system.now in
     let r = c.requires in
-    sym (AllZip-long (HasEndedAt k r.0) c.loop-at.firsts.items c.loop-at.endings.keys (c.loop-at.invariant.firsts r.0 r.1 r.2))
+    let long = AllZip-long (HasEndedAt k r.0) c.loop-at.firsts.items c.loop-at.endings.keys (c.loop-at.invariant.firsts r.0 r.1 r.2) in
+    omega (arith, long, c.loop-at.firsts.ok)
