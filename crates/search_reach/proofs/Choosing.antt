@@ -1,16 +1,16 @@
 -- Choices among moves, the first move to each state from a lower one, and paths of them.
-use Rattle.std.specs.Prelude.{◌≡◌, ◌==◌, ◌+◌, ◌-◌, ◌<◌, ◌≤◌, ◌⊎◌, ℕ, zero, suc, true, List, [], ◌∷◌, ◌++◌, length, reverse, replicate, set, Option, Some, None, refl}
+use Rattle.std.specs.Prelude.{◌≡◌, ◌==◌, ◌+◌, ◌-◌, ◌<◌, ◌≤◌, ◌⊎◌, ℕ, zero, suc, true, List, [], ◌∷◌, ◌++◌, length, reverse, replicate, set, Some, None, refl}
 use Rattle.std.specs.Prelude.{Contains}
-use Rattle.std.specs.List.{slice_get, filter}
-use Rattle.std.proofs.Common.{ap, subst, sym, ◌∙◌, inl, inr, arith, length-append}
+use Rattle.std.specs.List.{slice_get}
+use Rattle.std.proofs.Common.{ap, subst, sym, ◌∙◌, inl, inr, arith}
 use Rattle.std.proofs.lemmas.Bool.{cases_eq, cases_lt, eqb-true}
-use Rattle.std.proofs.lemmas.List.{length-set, reverse-append}
+use Rattle.std.proofs.lemmas.List.{reverse-append}
 use Rattle.std.proofs.lemmas.List.Elements.{All-contains, All-contains_itself, All-filter, filter_passes}
 use Rattle.std.proofs.lemmas.Option.{none-some, slice_get_within, same_Some}
 use Rattle.search_graph.specs.declared.graph.Move.{Move}
 use Rattle.search_reach.specs.Explored.{moves_from}
 use Rattle.search_reach.specs.Moved.{StandTogether, LeadsIn, AreOrdered, GoesBy, IsChoiceOf, IsWayIn, AreWaysIn, IsMoveTo}
-use Rattle.search_reach.proofs.Searching.{Begins, get_longer, get_shorter, here}
+use Rattle.search_reach.proofs.Searching.{get_shorter, here}
 use Rattle.search_reach.proofs.Moving.{behind, some-at}
 
 -- a move from the state is a move, and from there

@@ -12,7 +12,6 @@ use Rattle.indexmap.specs.IndexSet.{insert_key}
 use Rattle.search_graph.specs.Graph.{move_at}
 use Rattle.search_graph.specs.Round.{moves_at, came, IsFairRound}
 use Rattle.search_graph.specs.declared.graph.Move.{Move}
-use Rattle.search_reach.specs.declared.explores.Next.{Next}
 use Rattle.search_reach.specs.Search.{StepSystem}
 use Rattle.search_reach.specs.Explored.{moves_from, IsNoted}
 use Rattle.search_reach.specs.Moved.{GoesBy, IsChoiceOf, AreChoicesOf, IsPathTo, ArePathsTo, IsMoved, HasEndedAt, AreFirsts, insert_first}
@@ -110,8 +109,7 @@ module _ {S W E : Type 0} (k : StepSystem S W E) (eq : S → S → Bool) (ks : L
   ways-are (p ∷ ps) [] es paths ended = absurd paths
   ways-are (p ∷ ps) (f ∷ firsts) [] paths ended = absurd ended
   ways-are (p ∷ ps) (f ∷ firsts) (e ∷ es) paths ended =
-      let h : HasEndedAt k ks f e = ended.0 in
-      (
+      let h : HasEndedAt k ks f e = ended.0 in (
         record {
           last = h.state;
           way = way-to f p.items h.state h.at paths.0;

@@ -12,8 +12,8 @@ use Rattle.search_graph.specs.declared.graph.Move.{Move}
 use Rattle.search_reach.specs.declared.explores.Next.{Next}
 use Rattle.search_reach.specs.Search.{StepSystem, IsFirst}
 use Rattle.search_reach.specs.Explored.{Gains, moves_from, HasAt, Notes, Explored}
-use Rattle.search_reach.specs.Moved.{StandTogether, LeadsIn, AreOrdered, IsMoved}
-use Rattle.search_reach.proofs.Searching.{Begins, Gains-begins, Contains-longer, get_longer, get_shorter, here, from-none, from-all, noted-each, noted-all}
+use Rattle.search_reach.specs.Moved.{StandTogether, LeadsIn, IsMoved}
+use Rattle.search_reach.proofs.Searching.{Begins, Gains-begins, get_longer, get_shorter, here, from-none, from-all, noted-each, noted-all}
 
 -- no two places have equal states
 abbrev pub IsUnique : {S : Type 0} → (S → S → Bool) → List S → Type 0
