@@ -6,7 +6,7 @@ use Rattle.schedule_threads.specs.Shared.{Shared}
 use Rattle.spawn_host.specs.Requests.{Requested}
 use Rattle.search_endings.specs.Endings.{Ending}
 use Rattle.search_reach.specs.Search.{StepSystem}
-use Rattle.search_reach.specs.Ways.{HasWays}
+use Rattle.search_reach.specs.Liveness.{HasWays}
 use Rattle.search_reach.specs.declared.ending.Ended as endings
 use Rattle.search_settled.specs.Settled.{turning}
 use Rattle.search_settled.specs.Next.{StandsForState, IsFirstOf}
@@ -36,8 +36,8 @@ by_states = gone_by (λ s. StandsForState (threads s)) IsStuck
 abbrev pub by_owned : Searched → StepSystem Owned (State Shared Thread) Ending
 by_owned = gone_by (λ s. StandsBefore (threads s)) (λ s w. IsStuck s w ⊎ SomeRace (threads s))
 
--- Each path leads from state to state of the call to one that has ended as is said beside it, with so many first bytes:
--- at each it names one of the next states.
+-- The choices of a search by this call, whose endings have so many first bytes, lead where they are said to lead, from
+-- state to state of the call.
 pub record HasWaysBy {S : Type 0} (eq : S → S → Bool) (gone : Searched → StepSystem S (State Shared Thread) Ending)
     (r : Requested) (dump : ℕ) (ended : endings.Ended Ending) : Type 0 where
   pub searched : Searched

@@ -3,10 +3,9 @@ ghost use Rattle.std.specs.Prelude.{◌≡◌, IfOk, IfSome, OnOk, option_map, v
 ghost use Rattle.indexmap.specs.IndexSet.{index_set_len};
 ghost use Rattle.search_reach.specs.Meeting.{HasMetAt, HasSound};
 ghost use Rattle.search_reach.specs.Found.{AreEndings};
-ghost use Rattle.search_reach.specs.Liveness.{IsCount, IsLiveWhereAll};
+ghost use Rattle.search_reach.specs.Liveness.{IsCount, IsLiveWhereAll, HasWays};
 ghost use Rattle.search_reach.specs.Sought.{SeeksIn};
 ghost use Rattle.search_reach.specs.Told.{Obeys};
-ghost use Rattle.search_reach.specs.Ways.{HasWays};
 ghost use Rattle.search_reach.specs.declared.search.Verdict.TheVariants as verdicts;
 ghost use Rattle.search_race_free.specs.Turns.{reduced, IsRaceOf, HasNoRace};
 ghost use Rattle.search_race_free.specs.Same.{owning_eq};

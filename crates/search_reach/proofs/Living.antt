@@ -3,7 +3,7 @@ use Rattle.std.specs.Prelude.{◌≡◌, ◌<◌, ◌⊎◌, ◌↔◌, ℕ, zer
 use Rattle.std.proofs.Common.{ap, subst, sym, ◌∙◌, inl, inr, arith, true≢false}
 use Rattle.std.specs.List.{slice_get, AllZip, IsDistinct}
 use Rattle.std.specs.List.Sorted.{IsStrictlyIncreasing}
-use Rattle.std.specs.Option.{is_some}
+use Rattle.std.specs.Option.{is_some, IfSome}
 use Rattle.search_graph.specs.Paths.{Goes, Reaches}
 use Rattle.std.proofs.lemmas.Option.{slice_get_within, none-some}
 use Rattle.std.proofs.lemmas.List.Elements.{All-weaker, All-contains_itself}
@@ -18,7 +18,7 @@ use Rattle.search_graph.proofs.Shadow.{no-fair-run}
 use Rattle.search_graph.proofs.Rounds.{fair-run-along, fair-run-round}
 use Rattle.search_reach.specs.Search.{StepSystem, Steps, StandsFor, RestsIn, HasOf, IsMet, IsMarkedSo, StaysIn, LeadsOn, ComesBy}
 use Rattle.search_reach.specs.Explored.{IsGoneOn, ExploredTo}
-use Rattle.search_reach.specs.Liveness.{CanEndSomehow, NeverEnds, StillEnds, AreEndless, SaysOf, IsLive, IsLiveWhereAll, SaysOfGraph, IsGraphLive, IsJudged}
+use Rattle.search_reach.specs.Liveness.{CanEndSomehow, NeverEnds, StillEnds, AreEndless, LeadsToEndless, SaysOf, IsLive, IsLiveWhereAll, SaysOfGraph, IsGraphLive, IsJudged}
 use Rattle.search_reach.specs.Found.{Claims, IsFound}
 use Rattle.search_reach.specs.Moved.{IsPathTo, IsMoved}
 use Rattle.search_reach.specs.Ways.{AreNumbered, GoRound}
@@ -320,3 +320,22 @@ live-after k eq states g ended before old after new None judged lives = judged.u
 live-after k eq states g ended before old after new (Some l) judged lives =
     let said = judged.said in
     (said.1, lives said.0 l said.2)
+
+-- where the choices lead that are said with it
+module _ {S W E : Type 0} (k : StepSystem S W E) (eq : S → S → Bool) (states : ℕ) (verdict : Verdict) where
+  pub leads-endless : (o : Option Liveness) → IsLiveWhereAll k eq states verdict o → IfSome o (LeadsToEndless k eq)
+  leads-endless None unsaid = tt
+  leads-endless (Some l) said = λ p first. (
+      let live = said.1 in
+      let among = here l.endless.items 0 p first in
+      let s = get_at live.keys p (live.endless.within p among) in
+      (s.0, never p s.0 among (live.endless.each p s.0 s.1), live.path p s.0 first s.1))
+    where
+      never : (p : ℕ) (s : S) → Contains l.endless.items p → (Contains l.endless.items p × NeverEnds k s) ⊎ ((Contains l.endless.items p → ⊥) × StillEnds k s)
+          → NeverEnds k s
+      never p s among (inl is) = is.1
+      never p s among (inr no) = absurd (no.0 among)
+
+  pub leads-round : (o : Option Liveness) → IsLiveWhereAll k eq states verdict o → IfSome o (λ l. GoRound k eq l.fair_runs)
+  leads-round None unsaid = tt
+  leads-round (Some l) said = said.1.round

@@ -11,11 +11,12 @@ use Rattle.search_fairness.specs.Judged.{IsCycle}
 use Rattle.search_fairness.specs.declared.judged.Cycle as cycles
 use Rattle.search_reach.specs.Search.{StepSystem, StandsFor, CanEnd, IsSound, IsAll}
 use Rattle.search_reach.specs.Moved.{IsPathTo, AreChoicesOf}
-use Rattle.search_reach.specs.Ways.{IsWay, GoRound}
+use Rattle.search_reach.specs.Ways.{AreNumbered, IsWay, AreWays, GoRound}
 use Rattle.search_reach.specs.declared.follows.Wish.{Wish}
 use Rattle.search_reach.specs.declared.follows.Wish.TheVariants as wishes
 use Rattle.search_reach.specs.declared.search.Verdict.{Verdict}
 use Rattle.search_reach.specs.declared.search.Verdict.TheVariants as verdicts
+use Rattle.search_reach.specs.declared.ending.Ended as found
 use Rattle.search_reach.specs.declared.liveness.FairCycle as rounds
 use Rattle.search_reach.specs.declared.liveness.FairRuns.{FairRuns}
 use Rattle.search_reach.specs.declared.liveness.FairRuns.TheVariants.{AllEnd, GoOn, Unknown}
@@ -69,6 +70,17 @@ module _ {S W E : Type 0} (k : StepSystem S W E) where
     pub path : LeadsToFirst eq keys l.endless.items l.path.items
     pub fair_runs : SaysOf l.fair_runs
     pub round : GoRound k eq l.fair_runs
+
+  -- The path leads to a state from which no ending can be reached, if there is one.
+  abbrev pub LeadsToEndless : (S → S → Bool) → Liveness → Type 0
+  LeadsToEndless eq l = (p : ℕ) → slice_get l.endless.items 0 ≡ Some p → (s : S) × NeverEnds s × IsWay k eq l.path.items s
+
+  -- The choices of a search lead where they are said to lead: those beside each ending to a state that has ended so; and
+  -- where more is said, others to a state from which no ending can be reached, and round.
+  pub record HasWays (eq : S → S → Bool) (ended : found.Ended E) : Type 0 where
+    pub endings : AreNumbered ended.verdict ended.states → AreWays k eq ended.paths.items ended.endings.keys
+    pub endless : IfSome ended.liveness (LeadsToEndless eq)
+    pub round : IfSome ended.liveness (λ l. GoRound k eq l.fair_runs)
 
   -- It is said where all were met, and there alone.
   abbrev pub IsLiveWhereAll : (S → S → Bool) → ℕ → Verdict → Option Liveness → Type 0

@@ -6,7 +6,6 @@ use Rattle.search_reach.specs.Search.{StepSystem, AreNext, IsFirst, IsEnding}
 use Rattle.search_reach.specs.declared.explores.Next.{Next}
 use Rattle.search_reach.specs.declared.search.Verdict.{Verdict}
 use Rattle.search_reach.specs.declared.search.Verdict.TheVariants as verdicts
-use Rattle.search_reach.specs.declared.ending.Ended as endings
 use Rattle.search_reach.specs.declared.liveness.FairCycle.{FairCycle}
 use Rattle.search_reach.specs.declared.liveness.FairRuns.{FairRuns}
 use Rattle.search_reach.specs.declared.liveness.FairRuns.TheVariants.{AllEnd, GoOn, Unknown}
@@ -44,10 +43,6 @@ module _ {S W E : Type 0} (k : StepSystem S W E) (eq : S → S → Bool) where
   -- For each ending there is a way.
   abbrev pub AreWays : List (Vec ℕ) → List E → Type 0
   AreWays paths es = AllZip (λ path e. IsWayTo path.items e) paths es
-
-  -- So it is with the paths of a search.
-  abbrev pub HasWays : endings.Ended E → Type 0
-  HasWays ended = AreNumbered ended.verdict ended.states → AreWays ended.paths.items ended.endings.keys
 
   -- A way leads to where it begins to go round, and the walk from there once round and back there.
   pub record GoesRound (c : FairCycle) : Type 0 where

@@ -4,12 +4,12 @@ ghost use Rattle.indexmap.specs.IndexSet.{index_set_len, insert_key};
 ghost use Rattle.search_reach.specs.Meeting.{HasSound, OfStates, AreGathered, IsReached};
 ghost use Rattle.search_reach.specs.Explored.{IsWhole};
 ghost use Rattle.search_reach.specs.Found.{AreEndings, IsSearched};
-ghost use Rattle.search_reach.specs.Liveness.{IsCount, IsLiveWhereAll};
+ghost use Rattle.search_reach.specs.Liveness.{IsCount, IsLiveWhereAll, HasWays};
 ghost use Rattle.search_reach.specs.Levels.{HasEndsWithin, HasGoneThrough, IsLeveled};
 ghost use Rattle.search_reach.specs.Moved.{AreFirsts, ArePathsTo, IsMoved, insert_first};
 ghost use Rattle.search_reach.specs.Sought.{SeeksAmong, SeeksIn};
 ghost use Rattle.search_reach.specs.Told.{Obeys, OfCount, StillObeys};
-ghost use Rattle.search_reach.specs.Ways.{AreNumbered, HasWays};
+ghost use Rattle.search_reach.specs.Ways.{AreNumbered};
 
 use crate::liveness::judged;
 use crate::path::{paths_to, ways_in};

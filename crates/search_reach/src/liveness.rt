@@ -45,7 +45,7 @@ pub enum FairRuns {
 pub struct Liveness {
     /// The states from which no ending can be reached, by their places among those that were met, ascending.
     pub endless: Vec<usize>,
-    /// The choices to the first of these, if there is one (`LeadsToFirst`).
+    /// The choices to the first of these, if there is one; they lead there (`LeadsToFirst`).
     pub path: Vec<usize>,
     /// Whether every fair run ends.
     pub fair_runs: FairRuns,

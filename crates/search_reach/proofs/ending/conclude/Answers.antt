@@ -7,7 +7,7 @@ use Rattle.search_reach.specs.Moved.{ArePathsTo}
 use Rattle.search_reach.specs.Ways.{AreNumbered}
 use Rattle.search_reach.proofs.Leading.{ways-are}
 use Rattle.search_reach.proofs.Gathering.{endings-of_all}
-use Rattle.search_reach.proofs.Living.{moves-within, live, found-after, live-after, numbered-before, sought-back, sought-forth}
+use Rattle.search_reach.proofs.Living.{moves-within, live, found-after, live-after, leads-endless, leads-round, numbered-before, sought-back, sought-forth}
 use Rattle.search_reach.proofs.Leveling.{gone-within}
 use Rattle.search_reach.proofs.Passing.{seeks-in}
 use Rattle.search_reach.specs.Told.{Obeys}
@@ -93,15 +93,21 @@ returns-clause-levels g c =
     gone-within k g.T.Ending.PartialEq.eq r.states c.in_ok-endings.field-0.endings.keys c.args.reached.levels r.gone_through gathered.all
 
 pub returns-clause-ways : goal.returns-clause-ways
-returns-clause-ways g c few =
+returns-clause-ways g c =
     let m = c.args.system.now in
+    let k = g.T.Meets.system m in
+    let eq = g.T.Meets.equal m in
     let r = c.requires in
     let len = c.count-states.ensures.len r.states r.held in
-    let moved = r.moved (numbered-before _ _ _ _ _ _ _ c.in_ok-verdict.ensures.judged (length r.states)
-    (subst (λ (n : ℕ). AreNumbered c.in_ok-verdict.verdict n) len few)) in
     let moves = c.args.reached.moves.items in
-    ways-are (g.T.Meets.system m) (g.T.Meets.equal m) r.states moves moved c.in_ok-paths.paths.items c.in_ok-endings.field-0.firsts.items
-    c.in_ok-endings.field-0.endings.keys
-    (subst (λ (n : ℕ). ArePathsTo moves n c.in_ok-paths.paths.items c.in_ok-endings.field-0.firsts.items) len
-    (subst (ArePathsTo moves c.count-states.result c.in_ok-paths.paths.items) c.as_slice.ensures.value c.in_ok-paths.ensures.paths))
-    (c.in_ok-endings.ensures.firsts r.states r.held r.found.sound)
+    record {
+      endings = λ few. ways-are k eq r.states moves
+          (r.moved (numbered-before _ _ _ _ _ _ _ c.in_ok-verdict.ensures.judged (length r.states)
+          (subst (λ (n : ℕ). AreNumbered c.in_ok-verdict.verdict n) len few)))
+          c.in_ok-paths.paths.items c.in_ok-endings.field-0.firsts.items c.in_ok-endings.field-0.endings.keys
+          (subst (λ (n : ℕ). ArePathsTo moves n c.in_ok-paths.paths.items c.in_ok-endings.field-0.firsts.items) len
+          (subst (ArePathsTo moves c.count-states.result c.in_ok-paths.paths.items) c.as_slice.ensures.value c.in_ok-paths.ensures.paths))
+          (c.in_ok-endings.ensures.firsts r.states r.held r.found.sound);
+      endless = leads-endless k eq c.count-states.result c.in_ok-verdict.verdict c.in_ok-verdict.liveness (returns-clause-live g c);
+      round = leads-round k eq c.count-states.result c.in_ok-verdict.verdict c.in_ok-verdict.liveness (returns-clause-live g c);
+    }
