@@ -23,7 +23,7 @@ from-among at moves m c =
     (All-filter (λ (n : Move). n.from == at) (Contains moves) moves (All-contains_itself moves)) c
 
 -- what stands behind the first ones
-slice_get-past : {A : Type 0} (xs ys : List A) (i n : ℕ) → i ≡ length xs + n → slice_get (xs ++ ys) i ≡ slice_get ys n
+pub slice_get-past : {A : Type 0} (xs ys : List A) (i n : ℕ) → i ≡ length xs + n → slice_get (xs ++ ys) i ≡ slice_get ys n
 slice_get-past [] ys i n is = ap (slice_get ys) (omega (arith, is))
 slice_get-past (x ∷ xs) ys zero n is = absurd (omega (arith, is))
 slice_get-past (x ∷ xs) ys (suc i) n is = slice_get-past xs ys i n (omega (arith, is))
