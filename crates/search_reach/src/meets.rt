@@ -83,6 +83,6 @@ pub trait Meets {
     ghost alike: { (t : Self) (x y : State) → equal t x y ≡ true → (w : World) (left : ℕ → ℕ)
         → (system t).stands x w left → (system t).stands y w left };
 
-    /// And that the one equals the other is said both ways.
+    /// What equals another is equalled by it.
     ghost symmetric: { (t : Self) (x y : State) → equal t x y ≡ true → equal t y x ≡ true };
 }
