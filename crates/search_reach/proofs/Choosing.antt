@@ -11,7 +11,7 @@ use Rattle.search_graph.specs.declared.graph.Move.{Move}
 use Rattle.search_reach.specs.Explored.{moves_from}
 use Rattle.search_reach.specs.Moved.{StandTogether, LeadsIn, AreOrdered, GoesBy, IsChoiceOf, IsWayIn, AreWaysIn, IsMoveTo}
 use Rattle.search_reach.proofs.Searching.{get_shorter, here}
-use Rattle.search_reach.proofs.Moving.{behind, some-at}
+use Rattle.search_reach.proofs.Moving.{behind, at-some}
 
 -- a move from the state is a move, and from there
 pub from-of : (at : ℕ) (moves : List Move) (m : Move) → Contains (moves_from at moves) m → m.from ≡ at
@@ -77,7 +77,7 @@ choice-is moves place choice m at low are more other there t = subst (λ (v : Mo
         by (inr so) = so
         by (inl short) =
             let within = slice_get_within moves place m at in
-            let n = some-at moves (place - choice) (omega (arith, within)) in
+            let n = at-some moves (place - choice) (omega (arith, within)) in
             let from = are (place - choice) n.0 (omega (arith, low)) (omega (arith, low)) n.1 in
             let front = get_shorter stand.front moves (place - choice) n.0 (record { more = ours ++ stand.back; is = stand.is }) (omega (arith, short, low)) n.1 in
             absurd (stand.before n.0 (here stand.front (place - choice) n.0 front) from)
@@ -162,7 +162,7 @@ module _ (moves : List Move) (place : ℕ) (m : Move) (at : slice_get moves plac
 
 module _ (moves : List Move) (ways : List ℕ) (are : AreWaysIn moves (length moves) ways) (to : ℕ) where
   pub no-way : slice_get ways to ≡ None → IsMoveTo moves (length ways) to None
-  no-way none ordered low = let s = some-at ways to low in absurd (none-some s.0 (sym none ∙ s.1))
+  no-way none ordered low = let s = at-some ways to low in absurd (none-some s.0 (sym none ∙ s.1))
 
   pub none-leads : (way : ℕ) → slice_get ways to ≡ Some way → way ≡ length moves → IsMoveTo moves (length ways) to None
   none-leads way at none ordered low = by (are to way at) (cases_lt 0 to)

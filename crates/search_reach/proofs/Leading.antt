@@ -18,7 +18,7 @@ use Rattle.search_reach.specs.Moved.{GoesBy, IsChoiceOf, AreChoicesOf, IsPathTo,
 use Rattle.search_reach.specs.Ways.{Leads, IsWay, AreWays, GoesRound}
 use Rattle.search_reach.specs.declared.liveness.FairCycle.{FairCycle}
 use Rattle.search_reach.proofs.Searching.{here}
-use Rattle.search_reach.proofs.Moving.{some-at}
+use Rattle.search_reach.proofs.Moving.{at-some}
 use Rattle.search_reach.proofs.Choosing.{from-of, from-among}
 
 -- what stands beside it
@@ -55,7 +55,7 @@ module _ {S W E : Type 0} (k : StepSystem S W E) (eq : S → S → Bool) (ks : L
   pub way-to : (to : ℕ) (choices : List ℕ) (t : S) → slice_get ks to ≡ Some t → IsPathTo moves (length ks) choices to → IsWay k eq choices t
   way-to to choices t at path =
       let low = slice_get_within ks to t at in
-      let first = some-at ks 0 (omega (arith, low)) in
+      let first = at-some ks 0 (omega (arith, low)) in
       record { first = first.0; begins = is.first first.0 first.1; leads = leads-by 0 to choices first.0 t first.1 at (path is.ordered low) }
 
   -- the choices of a walk go along it
@@ -99,7 +99,7 @@ module _ {S W E : Type 0} (k : StepSystem S W E) (eq : S → S → Bool) (ks : L
           subst (λ (n : ℕ). n < length ks) (round.round.joined 0 (omega arith)) (within m (Contains-get_or moves p _ low))
 
       state : (s : S) × (slice_get ks start ≡ Some s)
-      state = some-at ks start (start-low places round)
+      state = at-some ks start (start-low places round)
 
   pub ways-are : (paths : List (Vec ℕ)) (firsts : List ℕ) (es : List E) → ArePathsTo moves (length ks) paths firsts → AreFirsts k ks firsts es
       → AreWays k eq paths es

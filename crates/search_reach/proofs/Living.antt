@@ -30,6 +30,7 @@ use Rattle.search_reach.specs.declared.liveness.FairRuns.TheVariants.{AllEnd, Go
 use Rattle.search_reach.specs.declared.liveness.Liveness.{Liveness}
 use Rattle.search_reach.proofs.Paths.{stays, one_step, onward}
 use Rattle.search_reach.proofs.Searching.{here}
+use Rattle.search_reach.proofs.Moving.{at-some}
 use Rattle.search_reach.proofs.Leading.{way-to, round-by}
 use Rattle.search_reach.proofs.Graphing.{move_to, move_by, Stands, gone_on, follow, covered, followed, leads, explored-all}
 
@@ -44,11 +45,6 @@ mark_at R (k ∷ ks) (m ∷ marks) (suc p) s h at = mark_at R ks marks p s h.1 a
 some_of : {A : Type 0} (o : Option A) → is_some o ≡ true → (x : A) × (o ≡ Some x)
 some_of None h = absurd (true≢false (sym h))
 some_of (Some x) h = (x, refl)
-
-get_at : {S : Type 0} (ks : List S) (p : ℕ) → p < length ks → (s : S) × (slice_get ks p ≡ Some s)
-get_at [] p h = absurd (omega arith)
-get_at (k ∷ ks) zero h = (k, refl)
-get_at (k ∷ ks) (suc p) h = get_at ks p (omega arith)
 
 module _ {S W E : Type 0} (k : StepSystem S W E) (eq : S → S → Bool) (ks : List S) (moves : List Move)
     (same : (x y : S) → eq x y ≡ true → (w : W) (left : ℕ → ℕ) → k.stands x w left → k.stands y w left) (e : ExploredTo k eq ks moves (length ks)) where
@@ -168,7 +164,7 @@ module _ {S W E : Type 0} (k : StepSystem S W E) (eq : S → S → Bool) (ks : L
           (e.from _ (subst (λ o. Turns moves (cycle.run.at 0) o (cycle.run.at 1)) (cycle.makes 0).thread (cycle.run.turns 0))).0
 
       state : (s : S) × (slice_get ks start ≡ Some s)
-      state = get_at ks start within
+      state = at-some ks start within
 
       met : IsMet k state.0
       met = e.sound state.0 (here ks start state.0 state.1)
@@ -328,7 +324,7 @@ module _ {S W E : Type 0} (k : StepSystem S W E) (eq : S → S → Bool) (states
   leads-endless (Some l) said = λ p first. (
       let live = said.1 in
       let among = here l.endless.items 0 p first in
-      let s = get_at live.keys p (live.endless.within p among) in
+      let s = at-some live.keys p (live.endless.within p among) in
       (s.0, never p s.0 among (live.endless.each p s.0 s.1), live.path p s.0 first s.1))
     where
       never : (p : ℕ) (s : S) → Contains l.endless.items p → (Contains l.endless.items p × NeverEnds k s) ⊎ ((Contains l.endless.items p → ⊥) × StillEnds k s)

@@ -21,14 +21,10 @@ use Rattle.search_reach.proofs.Passing.{passed-more, sought-more, all-passed, se
 use Rattle.search_reach.proofs.Leveling.{levels-longer, levels-all, levels-none, levels-more}
 use Rattle.search_reach.specs.Moved.{IsMoved}
 use Rattle.search_reach.specs.Ways.{AreNumbered}
+pub use Rattle.search_reach.proofs.Moving.{at-some}
 use Rattle.search_reach.proofs.Moving.{IsUnique, moved-none, moved-first, moved-more}
 use Rattle.search_reach.proofs.Searching.{Begins, Gains-begins, length-longer, explored-first, sound-is_met, sound-more, sound-stuck, explored-more, explored-whole}
 use Rattle.search_reach.proofs.Graphing.{explored-all}
-
-pub at-some : {A : Type 0} (xs : List A) (i : ℕ) → i < length xs → (x : A) × (slice_get xs i ≡ Some x)
-at-some [] i low = absurd (omega (arith, low))
-at-some (x ∷ xs) zero low = (x, refl)
-at-some (x ∷ xs) (suc i) low = at-some xs i (omega (arith, low))
 
 -- The places that were gone on from, before and behind a turn at one of them.
 pub record Turns (gone now : ℕ → Type 0) (at met known : ℕ) : Type 0 where

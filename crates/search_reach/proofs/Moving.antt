@@ -96,16 +96,16 @@ behind (k ∷ ks) more (suc i) s past at = behind ks more i s (omega (arith, pas
 placed : {A : Type 0} (xs : List A) (x : A) → Contains xs x → (place : ℕ) × (slice_get xs place ≡ Some x)
 placed xs x c = (c.0, slice_get-get_or xs c.0 x c.1 ∙ ap Some c.2)
 
-pub some-at : {A : Type 0} (xs : List A) (i : ℕ) → i < length xs → (x : A) × (slice_get xs i ≡ Some x)
-some-at [] i low = absurd (omega (arith, low))
-some-at (x ∷ xs) zero low = (x, refl)
-some-at (x ∷ xs) (suc i) low = some-at xs i (omega (arith, low))
+pub at-some : {A : Type 0} (xs : List A) (i : ℕ) → i < length xs → (x : A) × (slice_get xs i ≡ Some x)
+at-some [] i low = absurd (omega (arith, low))
+at-some (x ∷ xs) zero low = (x, refl)
+at-some (x ∷ xs) (suc i) low = at-some xs i (omega (arith, low))
 
 module _ {S : Type 0} (eq : S → S → Bool) (ks ls : List S) (xs : List (Next S)) (moves after : List Move) (i : ℕ) (g : Gains ks xs ls)
     (noted : Notes eq ls i xs moves after) (low : i < length ks) (distinct : IsUnique eq ls) where
   led-new : (to : ℕ) → to < length ls → length ks ≤ to → (place : ℕ) × LeadsIn after to place
   led-new to within past =
-      let s = some-at ls to within in
+      let s = at-some ls to within in
       let among = behind ks g.more to s.0 past (sym (ap (λ l. slice_get l to) g.is) ∙ s.1) in
       let x = g.among s.0 among in
       let m = noted-all eq ls i xs noted.new noted.are x.0 x.1 in
