@@ -12,7 +12,7 @@ use Rattle.search_reach.proofs.Moving.{behind}
 use Rattle.search_reach.proofs.Choosing.{slice_get-past}
 
 module _ {S : Type 0} where
-  pub ascend-none : AscendBelow {S} 0 []
+  pub ascend-none : AscendBelow {S = S} 0 []
   ascend-none = record {
     ascend = λ i j x y less at there. absurd (none-some x at);
     low = λ x c. absurd (omega (arith, c.1));

@@ -330,7 +330,7 @@ module _ {S W E : Type 0} (k : StepSystem S W E) (eq : S → S → Bool) (states
       never : (p : ℕ) (s : S) → Contains l.endless.items p → (Contains l.endless.items p × NeverEnds k s) ⊎ ((Contains l.endless.items p → ⊥) × StillEnds k s)
           → NeverEnds k s
       never p s among (inl is) = is.1
-      never p s among (inr no) = absurd (no.0 among)
+      never p s among (inr other) = absurd (other.0 among)
 
   pub leads-round : (o : Option Liveness) → IsLiveWhereAll k eq states verdict o → IfSome o (λ l. GoRound k eq l.fair_runs)
   leads-round None unsaid = tt

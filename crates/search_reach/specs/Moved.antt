@@ -23,7 +23,7 @@ module _ (moves : List Move) where
     pub next : move.next ≡ to
     pub lower : move.from < to
 
-  -- Those from each state stand together, and to each of so many states but the first one leads in.
+  -- Those from each state stand together; and to each of so many states, but for the first, one leads in.
   pub record AreOrdered (states : ℕ) : Type 0 where
     pub together : (from : ℕ) → StandTogether from
     pub led : (to : ℕ) → 0 < to → to < states → (place : ℕ) × LeadsIn to place
