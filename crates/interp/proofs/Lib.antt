@@ -11,3 +11,4 @@ pub mod Others
 pub mod Pushing
 pub mod GoingAt
 pub mod Tried
+pub mod Ended

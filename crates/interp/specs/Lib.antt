@@ -1,5 +1,6 @@
 pub mod Kept
 pub mod Places
+pub mod Room
 pub mod Came
 pub mod Shown
 pub mod Starts

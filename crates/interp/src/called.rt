@@ -11,6 +11,7 @@ impl<'m> Thread<'m> {
     ghost use Rattle.interp.specs.Kept.{RunsBy};
     ghost use Rattle.interp.specs.Starts.{TakesArguments};
     ghost use Rattle.interp.specs.Threads.{StandsForCall};
+    ghost use Rattle.interp.specs.Room.{HasRoom};
 
     /// A thread that is about to call a function of the module itself, from 0 without the imported ones, with these
     /// arguments.
@@ -28,6 +29,7 @@ impl<'m> Thread<'m> {
         ensures budget { IfOk result (λ thread. thread.fuel ≡ fuel) }
         ensures runs_by { IfOk result (RunsBy valid.now) }
         ensures stands { IfOk result (StandsForCall valid.now.parts own args.now fuel) }
+        ensures room { IfOk result (λ thread. HasRoom thread.state) }
     {
         Ok(Thread {
             parts: valid.parts(),

@@ -2,6 +2,7 @@
 
 ghost use Rattle.std.specs.Prelude.{◌≡◌, IfOk};
 ghost use Rattle.interp.specs.Starts.{TakesArguments, StandsAtStart};
+ghost use Rattle.interp.specs.Room.{HasRoom};
 
 use crate::opening::{opening_globals, opening_values, program};
 use interp_state::{Progress, State, code_of};
@@ -20,6 +21,7 @@ pub(crate) fn start<'m>(
     ensures function { IfOk result (λ s. s.function ≡ own) }
     ensures tables { IfOk result (λ s. s.program.tables.now ≡ valid.now.tables) }
     ensures stands { IfOk result (StandsAtStart valid.now.parts own args.now) }
+    ensures room { IfOk result HasRoom }
 {
     let parts = valid.parts();
     let Some(func_type) = valid.func_type(own) else {

@@ -1,6 +1,6 @@
 //! A thread between two turns, in few bytes, and the thread that goes on from there.
 
-ghost use Rattle.std.specs.Prelude.{◌≡◌, ◌≤◌, IfOk, vec_capacity};
+ghost use Rattle.std.specs.Prelude.{◌≡◌, IfOk, length, max, vec_capacity};
 
 use crate::opening::program;
 use crate::thread::Thread;
@@ -31,19 +31,22 @@ pub struct Kept {
     pub progress: Progress,
 }
 
-/// A copy, with room for at least so many items.
+/// A copy, with room for so many items, or for its own where they are more.
 fn copied_with_room<T: Copy>(alloc: Global, items: &[T], room: usize) -> Result<Vec<T>, AllocError>
     ensures items { IfOk result (λ v. v.items ≡ items.now) }
-    ensures room { IfOk result (λ v. room ≤ vec_capacity v) }
+    ensures room { IfOk result (λ v. vec_capacity v ≡ max room (length items.now)) }
 {
-    let mut all = Vec::with_capacity(alloc, room)?;
-    all.extend_from_slice(items)?;
+    let mut all = Vec::with_capacity(alloc, room.max(items.len()))?;
+    for item in items {
+        all.push_reserved(*item);
+    }
     Ok(all)
 }
 
-/// A copy.
+/// A copy, with room for its items alone.
 fn copied<T: Copy>(alloc: Global, items: &[T]) -> Result<Vec<T>, AllocError>
-    ensures { IfOk result (λ v. v.items ≡ items.now) }
+    ensures items { IfOk result (λ v. v.items ≡ items.now) }
+    ensures room { IfOk result (λ v. vec_capacity v ≡ length items.now) }
 {
     copied_with_room(alloc, items, items.len())
 }
@@ -51,13 +54,15 @@ fn copied<T: Copy>(alloc: Global, items: &[T]) -> Result<Vec<T>, AllocError>
 impl Kept {
     ghost use Rattle.interp_state.specs.declared.state.State.{State};
     ghost use Rattle.interp.specs.Kept.{IsOf};
+    ghost use Rattle.interp.specs.Room.{HasOwnRoom};
 
     /// A copy.
     ///
     /// # Errors
     /// Where memory is refused.
     pub fn copy(&self, alloc: Global) -> Result<Kept, AllocError>
-        ensures { IfOk result (λ kept. (s : State) → IsOf self.now s → IsOf kept s) }
+        ensures same { IfOk result (λ kept. (s : State) → IsOf self.now s → IsOf kept s) }
+        ensures room { IfOk result HasOwnRoom }
     {
         Ok(Kept {
             function: self.function,
@@ -77,13 +82,15 @@ impl<'m> Thread<'m> {
     ghost use Rattle.std.specs.Prelude.{IfOk};
     ghost use Rattle.interp_machine.specs.Config.{Config};
     ghost use Rattle.interp.specs.Kept.{IsKept, IsKeptOf, IsResumed};
+    ghost use Rattle.interp.specs.Room.{HasRoom, HasOwnRoom};
 
     /// What of the thread is more than its module and its units.
     ///
     /// # Errors
     /// Where memory is refused.
     pub fn keep(&self, alloc: Global) -> Result<Kept, AllocError>
-        ensures { IfOk result (IsKeptOf self.now) }
+        ensures kept { IfOk result (IsKeptOf self.now) }
+        ensures room { IfOk result HasOwnRoom }
     {
         let state = &self.state;
         Ok(Kept {
@@ -110,7 +117,8 @@ impl<'m> Thread<'m> {
         fuel: u64,
     ) -> Result<Thread<'m>, AllocError>
         requires { (c : Config) × IsKept valid.now kept.now c }
-        ensures { IfOk result (IsResumed valid.now kept.now fuel) }
+        ensures resumed { IfOk result (IsResumed valid.now kept.now fuel) }
+        ensures room { IfOk result (λ thread. HasRoom thread.state) }
     {
         let values = copied_with_room(alloc, kept.values.as_slice(), MOST_VALUES)?;
         let callers = copied_with_room(alloc, kept.callers.as_slice(), MOST_FRAMES)?;

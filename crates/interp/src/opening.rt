@@ -112,7 +112,7 @@ pub(crate) fn push_words(words: &mut Vec<u64>, values: &[Value])
 }
 
 /// The values of a function that starts: its arguments, and a zero for each other local. There is room for all values
-/// that may ever lie on the stack.
+/// that may ever lie on the stack, and for no more.
 pub(crate) fn opening_values(
     alloc: Global,
     args: &[Value],
@@ -120,7 +120,7 @@ pub(crate) fn opening_values(
 ) -> Result<Vec<u64>, AllocError>
     requires { length args.now + length locals.now ≤ MOST_VALUES }
     ensures items { IfOk result (λ values. Mean values.items (args.now ++ map zero_of locals.now)) }
-    ensures room { IfOk result (λ values. MOST_VALUES ≤ vec_capacity values) }
+    ensures room { IfOk result (λ values. vec_capacity values ≡ MOST_VALUES) }
 {
     let mut values = Vec::with_capacity(alloc, MOST_VALUES)?;
     push_words(&mut values, args);

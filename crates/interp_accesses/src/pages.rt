@@ -2,7 +2,7 @@
 
 ghost use Rattle.types.specs.declared.instr.Instr.{Instr};
 ghost use Rattle.types.specs.declared.instr.PlainInstr.{PlainInstr};
-ghost use Rattle.interp_state.specs.Steps.{ComesNext, Wanting, IsStep, IsReplied};
+ghost use Rattle.interp_state.specs.Steps.{ComesNext, Wanting, IsStep, StaysThere, IsReplied};
 
 use crate::operands::replace_top;
 use interp_numeric::i32_wrap_i64;
@@ -13,7 +13,8 @@ use types::{Event, Instr, MOST_VALUES, PlainInstr, Trap};
 #[inline]
 pub fn memory_size(state: &mut State) -> StepResult
     requires { ComesNext state.old (Instr.Plain PlainInstr.MemorySize) }
-    ensures { IsStep state.old result state.new }
+    ensures step { IsStep state.old result state.new }
+    ensures stays { StaysThere state.old result state.new }
 {
     if state.values.len() == MOST_VALUES {
         return StepResult::Trapped(Trap::StackExhausted);
@@ -35,7 +36,8 @@ pub fn memory_size_replied(state: &mut State, number: u64)
 #[inline]
 pub fn memory_grow(state: &mut State) -> StepResult
     requires { ComesNext state.old (Instr.Plain PlainInstr.MemoryGrow) }
-    ensures { IsStep state.old result state.new }
+    ensures step { IsStep state.old result state.new }
+    ensures stays { StaysThere state.old result state.new }
 {
     StepResult::Wants(Event::Grow(top_i32(&state.values)))
 }

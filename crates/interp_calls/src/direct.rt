@@ -4,7 +4,7 @@
 ghost use Rattle.std.specs.Prelude.{ℕ};
 ghost use Rattle.types.specs.declared.instr.Instr.{Instr};
 ghost use Rattle.types.specs.declared.instr.PlainInstr.{PlainInstr};
-ghost use Rattle.interp_state.specs.Steps.{ComesNext, IsStep, Wanting, IsReplied};
+ghost use Rattle.interp_state.specs.Steps.{ComesNext, IsStep, StaysThere, Wanting, IsReplied};
 ghost use Rattle.interp_calls.specs.Entering.{HasBodies};
 
 use crate::entering::enter;
@@ -17,7 +17,8 @@ use types::{Event, Instr, PlainInstr, Question};
 pub fn call(state: &mut State, function: u32) -> StepResult
     requires begins { ComesNext state.old (Instr.Plain (PlainInstr.Call function)) }
     requires bodies { HasBodies state.old }
-    ensures { IsStep state.old result state.new }
+    ensures step { IsStep state.old result state.new }
+    ensures stays { StaysThere state.old result state.new }
 {
     let function = function as usize;
     let imported = state.program.imported;

@@ -3,7 +3,7 @@
 ghost use Rattle.std.specs.Prelude.{◌≡◌, ◌<◌, ◌∷◌, Some, length, reverse, vec_len, vec_capacity};
 ghost use Rattle.std.specs.List.{slice_get};
 ghost use Rattle.types.specs.declared.parts.Body.{Body};
-ghost use Rattle.interp_state.specs.Steps.{came_to};
+ghost use Rattle.interp_state.specs.Steps.{StaysThere, came_to};
 ghost use Rattle.interp_calls.specs.Entering.{CanEnter, IsEntered};
 
 use interp_state::{Caller, Program, State, code_of, push_zeros, type_of_function};
@@ -35,7 +35,8 @@ fn locals_of<'m>(program: &Program<'m>, own: usize) -> &'m [ValType]
 #[inline]
 pub(crate) fn enter(state: &mut State, own: usize) -> Option<Trap>
     requires { CanEnter state.old own }
-    ensures { IsEntered state.old own (came_to result) state.new }
+    ensures entered { IsEntered state.old own (came_to result) state.new }
+    ensures stays { StaysThere state.old (came_to result) state.new }
 {
     let locals = locals_of(&state.program, own);
     if state.callers.len() + 2 > MOST_FRAMES || locals.len() > MOST_VALUES - state.values.len() {

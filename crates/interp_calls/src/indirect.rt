@@ -4,7 +4,7 @@
 ghost use Rattle.std.specs.Prelude.{ℕ};
 ghost use Rattle.types.specs.declared.instr.Instr.{Instr};
 ghost use Rattle.types.specs.declared.instr.PlainInstr.{PlainInstr};
-ghost use Rattle.interp_state.specs.Steps.{ComesNext, IsStep, Wanting, IsReplied};
+ghost use Rattle.interp_state.specs.Steps.{ComesNext, IsStep, StaysThere, Wanting, IsReplied};
 ghost use Rattle.interp_calls.specs.Entering.{HasBodies};
 
 use crate::entering::enter;
@@ -17,7 +17,8 @@ use types::{Event, Instr, PlainInstr, Question, Trap};
 pub fn call_indirect(state: &mut State, type_index: u32) -> StepResult
     requires begins { ComesNext state.old (Instr.Plain (PlainInstr.CallIndirect type_index)) }
     requires bodies { HasBodies state.old }
-    ensures { IsStep state.old result state.new }
+    ensures step { IsStep state.old result state.new }
+    ensures stays { StaysThere state.old result state.new }
 {
     let place = top_i32(state.values.as_slice());
     let function = match element_at(state.program.elements.as_slice(), place as usize) {

@@ -1,6 +1,6 @@
 //! A run of real threads.
 ghost use Rattle.std.specs.Prelude.{◌≡◌, ◌≢◌, ◌≤◌, ◌<◌, ◌+◌, true, [], All, map, IfOk, IfErr, OnErr, IsOk};
-ghost use Rattle.std.specs.Prelude.{slice_index_or};
+ghost use Rattle.std.specs.Prelude.{length, slice_index_or};
 ghost use Rattle.std.specs.Prelude.{vec_len, vec_capacity};
 ghost use Rattle.types.specs.declared.limits.TheConstants.{DESK_NAME, MOST_THREADS, SEATS};
 ghost use Rattle.interp_trait.specs.Turns.{MayRun, MayBeSpawned};
@@ -129,17 +129,17 @@ struct Room<T: TakesTurns, M: SharedMemory, G: Gate> {
     home: Vec<M::Seat>,
 }
 
-/// Takes the room for a run with so many workers.
+/// Takes the room for a run with these workers, and no more.
 fn reserve<T: TakesTurns, M: SharedMemory, G: Gate>(
     alloc: Global,
-    workers: usize,
+    workers: &[T],
 ) -> Result<Room<T, M, G>, AllocError>
-    ensures handles { IfOk result (λ r. (r.handles.items ≡ []) × (workers ≤ vec_capacity r.handles)) }
-    ensures ends { IfOk result (λ r. (r.ends.items ≡ []) × (MOST_THREADS ≤ vec_capacity r.ends)) }
-    ensures reports { IfOk result (λ r. (r.reports.items ≡ []) × (MOST_THREADS ≤ vec_capacity r.reports)) }
-    ensures home { IfOk result (λ r. (r.home.items ≡ []) × (SEATS ≤ vec_capacity r.home)) }
+    ensures handles { IfOk result (λ r. (r.handles.items ≡ []) × (vec_capacity r.handles ≡ length workers.now)) }
+    ensures ends { IfOk result (λ r. (r.ends.items ≡ []) × (vec_capacity r.ends ≡ MOST_THREADS)) }
+    ensures reports { IfOk result (λ r. (r.reports.items ≡ []) × (vec_capacity r.reports ≡ MOST_THREADS)) }
+    ensures home { IfOk result (λ r. (r.home.items ≡ []) × (vec_capacity r.home ≡ SEATS)) }
 {
-    let handles = Vec::with_capacity(alloc, workers)?;
+    let handles = Vec::with_capacity(alloc, workers.len())?;
     let ends = Vec::with_capacity(alloc, MOST_THREADS)?;
     let reports = Vec::with_capacity(alloc, MOST_THREADS)?;
     let home = Vec::with_capacity(alloc, SEATS as usize)?;
@@ -241,7 +241,7 @@ where
         gate.new) }
     ensures uncalled { OnErr result (gate.new ≡ gate.old) }
 {
-    let Ok(room) = reserve::<T, M, G>(alloc, spawned.len()) else {
+    let Ok(room) = reserve::<T, M, G>(alloc, spawned.as_slice()) else {
         return Err(Unstarted::NoMemory(seats));
     };
     let Room {

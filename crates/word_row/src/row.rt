@@ -251,6 +251,7 @@ impl<B: Naming + Send + Sync> SharedMemory for WordRow<B> {
 
     ghost whole = { λ m. m.row.stored.sized.whole };
 
+    #[inline(always)]
     fn access(&self, seat: &mut WordSeat<B>, event: Event) -> Reply {
         WordRow::access(self, seat, event)
     }

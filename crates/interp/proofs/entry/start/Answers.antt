@@ -69,3 +69,6 @@ pub code_of-code-requires-clause-table : goal.code_of-code-requires-clause-table
 code_of-code-requires-clause-table c =
     let h : c.args.own < length c.args.valid.now.parts.bodies = slice_get_within _ _ _ c.requires.2.body_is in
     let e = c.parts-parts.ensures.validated.long in rw c.in_ok-program.ensures.tables (omega arith)
+
+pub returns-clause-room : goal.returns-clause-room
+returns-clause-room c = record { values = c.in_ok-values.ensures.room; callers = c.in_ok-callers.ensures.exact }

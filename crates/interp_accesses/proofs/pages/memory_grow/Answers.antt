@@ -5,7 +5,7 @@ use Rattle.interp_accesses.proofs.pages.memory_grow.Goals as goal
 pub top_i32-requires : goal.top_i32-requires
 top_i32-requires c = grow_ready _ (comes_next _ _ c.requires)
 
-pub returns : goal.returns
-returns c = λ w k v st.
+pub returns-clause-step : goal.returns-clause-step
+returns-clause-step c = λ w k v st.
     grow_wants w c.args.state.now k c.top_i32.result st c.requires
     (_, c.top_i32.ensures.1)

@@ -14,8 +14,8 @@ code_of-code-requires-clause-body c = slice_get_within _ _ _ c.requires.is.body_
 pub code_of-code-requires-clause-table : goal.code_of-code-requires-clause-table
 code_of-code-requires-clause-table c = slice_get_within _ _ _ c.requires.is.rows_are
 
-pub returns : goal.returns
-returns c = λ t body rows f.
+pub returns-clause-entered : goal.returns-clause-entered
+returns-clause-entered c = λ t body rows f.
     let same_type = c.type_of_function-func_type.ensures t f.typed in
     let same_locals = c.locals_of-locals.ensures body f.body_is in
     let locals = ap length same_locals in

@@ -10,14 +10,14 @@ use Rattle.interp_calls.proofs.indirect.call_indirect.Goals as goal
 pub top_i32-place-requires : goal.top_i32-place-requires
 top_i32-place-requires c = rw c.as_slice.ensures.value (indirect_asks c.args.state.now c.args.type_index c.requires.begins)
 
-pub returns-in-None : goal.returns-in-None
-returns-in-None c = λ w k v st.
+pub returns-in-None-clause-step : goal.returns-in-None-clause-step
+returns-in-None-clause-step c = λ w k v st.
     indirect_undefined w c.args.state.now k c.args.type_index c.top_i32-place.result c.top_i32-place.ensures.0 st c.requires.begins
     (ap reverse (sym c.as_slice.ensures.value) ∙ c.top_i32-place.ensures.1)
     (read_at c.args.state.now.program.elements.items _ _ _ None c.element_at.ensures c.as_slice-2.ensures.value c.in-None.is)
 
-pub returns-in-Some-None : goal.returns-in-Some-None
-returns-in-Some-None c = λ w k v st.
+pub returns-in-Some-None-clause-step : goal.returns-in-Some-None-clause-step
+returns-in-Some-None-clause-step c = λ w k v st.
     indirect_empty w c.args.state.now k c.args.type_index c.top_i32-place.result c.top_i32-place.ensures.0 st c.requires.begins
     (ap reverse (sym c.as_slice.ensures.value) ∙ c.top_i32-place.ensures.1)
     (read_at c.args.state.now.program.elements.items _ _ _ (Some None) c.element_at.ensures c.as_slice-2.ensures.value
@@ -32,8 +32,8 @@ is_of_type-requires-clause-function c =
 pub is_of_type-requires-clause-stated : goal.is_of_type-requires-clause-stated
 is_of_type-requires-clause-stated c = stated_there c.args.state.now c.args.type_index c.requires.begins
 
-pub returns-then-not-is_of_type : goal.returns-then-not-is_of_type
-returns-then-not-is_of_type c = λ w k v st.
+pub returns-then-not-is_of_type-clause-step : goal.returns-then-not-is_of_type-clause-step
+returns-then-not-is_of_type-clause-step c = λ w k v st.
     let element = read_at c.args.state.now.program.elements.items _ _ _ (Some (Some c.in-Some-Some.function))
     c.element_at.ensures c.as_slice-2.ensures.value (c.in-Some-Some.is ∙ ap Some c.in-Some-Some.field-0-is) in
     let t = element_typed c.args.state.now c.args.type_index c.top_i32-place.result c.in-Some-Some.function c.requires.begins element in
@@ -58,8 +58,8 @@ top_i32-arg-requires c =
     let below = below_top c.args.state.now.values.items c.top_i32-place.ensures.0 c.top_i32-place.result c.len.result top long in
     rw c.deref.ensures.value (subst (HasWords (types.I32 ∷ [])) (sym below) x)
 
-pub returns-then-function-imported : goal.returns-then-function-imported
-returns-then-function-imported c = λ w k v st.
+pub returns-then-function-imported-clause-step : goal.returns-then-function-imported-clause-step
+returns-then-function-imported-clause-step c = λ w k v st.
     let element = read_at c.args.state.now.program.elements.items _ _ _ (Some (Some c.in-Some-Some.function))
     c.element_at.ensures c.as_slice-2.ensures.value (c.in-Some-Some.is ∙ ap Some c.in-Some-Some.field-0-is) in
     let top = ap reverse (sym c.as_slice.ensures.value) ∙ c.top_i32-place.ensures.1 in
@@ -86,8 +86,8 @@ enter-requires c =
     c.requires.begins c.requires.bodies c.if-function-imported.false
     (record { same = refl; pc = refl; globals = refl; progress = refl }) c.pop.ensures.word found
 
-pub returns : goal.returns
-returns c = rw c.came_to.ensures λ w k v st.
+pub returns-clause-step : goal.returns-clause-step
+returns-clause-step c = rw c.came_to.ensures λ w k v st.
     let element = read_at c.args.state.now.program.elements.items _ _ _ (Some (Some c.in-Some-Some.function))
     c.element_at.ensures c.as_slice-2.ensures.value (c.in-Some-Some.is ∙ ap Some c.in-Some-Some.field-0-is) in
     let top = ap reverse (sym c.as_slice.ensures.value) ∙ c.top_i32-place.ensures.1 in
@@ -96,7 +96,7 @@ returns c = rw c.came_to.ensures λ w k v st.
     c.if-not-is_of_type.false in
     indirect_enters w c.args.state.now _ _ k _ c.args.type_index c.top_i32-place.result c.in-Some-Some.function
     c.pop.result v st c.requires.begins c.requires.bodies c.if-function-imported.false
-    (record { same = refl; pc = refl; globals = refl; progress = refl }) c.pop.ensures.word found c.enter.ensures
+    (record { same = refl; pc = refl; globals = refl; progress = refl }) c.pop.ensures.word found c.enter.ensures.entered
 
 pub pop-requires : goal.pop-requires
 pop-requires c = some_on c.args.state.now.values.items types.I32 [] (indirect_asks c.args.state.now c.args.type_index c.requires.begins)
@@ -105,3 +105,6 @@ pub slice_bounds-top_i32-count : goal.slice_bounds-top_i32-count
 slice_bounds-top_i32-count c =
     let some = some_on c.args.state.now.values.items types.I32 [] (indirect_asks c.args.state.now c.args.type_index c.requires.begins) in
     let long : c.len.result ≡ length c.args.state.now.values.items = search rules in omega arith
+
+pub returns-clause-stays : goal.returns-clause-stays
+returns-clause-stays c = rw c.came_to.ensures c.enter.ensures.stays

@@ -11,12 +11,12 @@ overflow_add-state c =
 pub index-value-requires : goal.index-value-requires
 index-value-requires c = let h = global_get_ready c.args.state.now c.args.index c.requires in search rules
 
-pub returns-then-len-eq-MOST_VALUES : goal.returns-then-len-eq-MOST_VALUES
-returns-then-len-eq-MOST_VALUES c = let e : length c.args.state.now.values.items ≡ MOST_VALUES = search rules in
+pub returns-then-len-eq-MOST_VALUES-clause-step : goal.returns-then-len-eq-MOST_VALUES-clause-step
+returns-then-len-eq-MOST_VALUES-clause-step c = let e : length c.args.state.now.values.items ≡ MOST_VALUES = search rules in
     λ w k v st. global_get_full w c.args.state.now _ k c.args.index st c.requires e
 
-pub returns : goal.returns
-returns c = let e : length c.args.state.now.values.items ≢ MOST_VALUES = search rules in
+pub returns-clause-step : goal.returns-clause-step
+returns-clause-step c = let e : length c.args.state.now.values.items ≢ MOST_VALUES = search rules in
     λ w k v st. global_gets w c.args.state.now _ k c.args.index c.index-value.result.now st c.requires
     c.index-value.ensures (c.push.ensures.word ∙ ap (λ z. z ∷ reverse c.args.state.now.values.items) c.word.ensures.word)
     c.word.ensures.in_range e refl refl refl refl

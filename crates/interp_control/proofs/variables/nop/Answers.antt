@@ -7,5 +7,5 @@ pub overflow_add-state : goal.overflow_add-state
 overflow_add-state c =
     let h : c.args.state.now.pc < length c.args.state.now.code.now = slice_get_within _ _ _ c.requires.here in search rules
 
-pub returns : goal.returns
-returns c = λ w k v st. nops w c.args.state.now _ k st c.requires refl refl refl refl refl
+pub returns-clause-step : goal.returns-clause-step
+returns-clause-step c = λ w k v st. nops w c.args.state.now _ k st c.requires refl refl refl refl refl

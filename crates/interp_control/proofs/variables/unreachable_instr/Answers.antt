@@ -1,5 +1,5 @@
 use Rattle.interp_control.proofs.Values.{traps_there}
 use Rattle.interp_control.proofs.variables.unreachable_instr.Goals as goal
 
-pub returns : goal.returns
-returns c = λ w k v st. traps_there w c.args.state.now _ k st c.requires
+pub returns-clause-step : goal.returns-clause-step
+returns-clause-step c = λ w k v st. traps_there w c.args.state.now _ k st c.requires

@@ -58,5 +58,5 @@ returns-clause-rests c = λ w b x left of by s.
     record {
       rested = Going k.state;
       settles = k.settles;
-      stands = (at.0, ap Going at.1, c.in_ok-keep.ensures w at.0 (suc k.left) runs_by st);
+      stands = (at.0, ap Going at.1, c.in_ok-keep.ensures.kept w at.0 (suc k.left) runs_by st);
     }

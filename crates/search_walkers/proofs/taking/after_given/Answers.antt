@@ -17,7 +17,7 @@ use Rattle.search_walkers.proofs.taking.after_given.Goals as goal
 
 pub turn-requires : goal.turn-requires
 turn-requires c =
-    let r = c.in_ok-thread.ensures in
+    let r = c.in_ok-thread.ensures.resumed in
     record {
       given = (
         Runs (At c.requires.0) 1000001,
@@ -28,7 +28,7 @@ turn-requires c =
 
 pub returns-in-Ended-clause-rests : goal.returns-in-Ended-clause-rests
 returns-in-Ended-clause-rests c = λ b x of may.
-    let r = c.in_ok-thread.ensures in
+    let r = c.in_ok-thread.ensures.resumed in
     let module_is = ap program_of r.runs_by.parts in
     let here = subst (λ p. IsGiven p (Runs (At x) 1000001) c.args.given) (sym module_is) may.given in
     let called = subst (λ p. IsGiven p (Runs (At x) 1000001) c.args.given) (sym of) may.given in
@@ -43,7 +43,7 @@ returns-in-Ended-clause-rests c = λ b x of may.
 
 pub rest-requires : goal.rest-requires
 rest-requires c =
-    let r = c.in_ok-thread.ensures in
+    let r = c.in_ok-thread.ensures.resumed in
     let module_is = ap program_of r.runs_by.parts in
     let x = c.requires.0 in
     let may = c.requires.1 in
@@ -71,7 +71,7 @@ returns-in_default-2 c = record {
   gives_up = λ none b x of may.
       let w = c.args.valid.now in
       let n = c.turn.new.self in
-      let r = c.in_ok-thread.ensures in
+      let r = c.in_ok-thread.ensures.resumed in
       let module_is = ap program_of r.runs_by.parts in
       let here = subst (λ p. IsGiven p (Runs (At x) 1000001) c.args.given) (sym module_is) may.given in
       let called = subst (λ p. IsGiven p (Runs (At x) 1000001) c.args.given) (sym of) may.given in
@@ -91,7 +91,7 @@ pub returns-clause-rests : goal.returns-clause-rests
 returns-clause-rests c = λ b x of may.
     let w = c.args.valid.now in
     let n = c.turn.new.self in
-    let r = c.in_ok-thread.ensures in
+    let r = c.in_ok-thread.ensures.resumed in
     let module_is = ap program_of r.runs_by.parts in
     let here = subst (λ p. IsGiven p (Runs (At x) 1000001) c.args.given) (sym module_is) may.given in
     let called = subst (λ p. IsGiven p (Runs (At x) 1000001) c.args.given) (sym of) may.given in

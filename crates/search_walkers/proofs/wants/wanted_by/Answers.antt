@@ -8,11 +8,11 @@ use Rattle.search_walkers.proofs.Walking.{event_in, event_said, no_event_in}
 use Rattle.search_walkers.proofs.wants.wanted_by.Goals as goal
 
 pub turn-requires : goal.turn-requires
-turn-requires c = record { given = (Runs (At c.requires.0) 1000001, c.in_ok-thread.ensures.stands c.requires.0 c.requires.1, tt) }
+turn-requires c = record { given = (Runs (At c.requires.0) 1000001, c.in_ok-thread.ensures.resumed.stands c.requires.0 c.requires.1, tt) }
 
 pub returns-in-Wants-clause-wanted : goal.returns-in-Wants-clause-wanted
 returns-in-Wants-clause-wanted c = λ b x of kept.
-    let r = c.in_ok-thread.ensures in
+    let r = c.in_ok-thread.ensures.resumed in
     let turned = c.turn.ensures.turned (Runs (At x) 1000001) (r.stands x kept) tt in
     let same = ap program_of r.runs_by.parts ∙ sym of in
     let said = subst (λ p. c.turn.result ≡ answer_of p (Runs (At x) 1000001) given.Nothing) same turned.answer in
@@ -20,13 +20,13 @@ returns-in-Wants-clause-wanted c = λ b x of kept.
 
 pub returns-in-Wants-clause-event : goal.returns-in-Wants-clause-event
 returns-in-Wants-clause-event c =
-    let r = c.in_ok-thread.ensures in
+    let r = c.in_ok-thread.ensures.resumed in
     let turned = c.turn.ensures.turned (Runs (At c.requires.0) 1000001) (r.stands c.requires.0 c.requires.1) tt in
     subst IsWanted c.in-Wants.is turned.wanted
 
 pub returns-clause-wanted : goal.returns-clause-wanted
 returns-clause-wanted c = λ b x of kept.
-    let r = c.in_ok-thread.ensures in
+    let r = c.in_ok-thread.ensures.resumed in
     let turned = c.turn.ensures.turned (Runs (At x) 1000001) (r.stands x kept) tt in
     let same = ap program_of r.runs_by.parts ∙ sym of in
     let said = subst (λ p. c.turn.result ≡ answer_of p (Runs (At x) 1000001) given.Nothing) same turned.answer in

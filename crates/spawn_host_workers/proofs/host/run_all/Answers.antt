@@ -26,7 +26,7 @@ desk g c =
     c.deal-seat.result.desk (dealt_of g c) c.requires.names c.requires.new g.M.SharedMemory.has_queue_right c.requires.right
 
 -- an empty vector with room for so many
-room_for : {A B : Type 0} (ends : Vec A) (reports : Vec B) (room : ℕ) → vec_len ends ≡ room → reports.items ≡ [] → room ≤ vec_capacity reports
+room_for : {A B : Type 0} (ends : Vec A) (reports : Vec B) (room : ℕ) → vec_len ends ≡ room → reports.items ≡ [] → vec_capacity reports ≡ room
     → vec_len reports + vec_len ends ≤ vec_capacity reports
 room_for ends reports room many none fits =
     let empty : length reports.items ≡ 0 = ap length none in
@@ -105,7 +105,7 @@ returns-in-Ok-run_crew-clause-gated g c =
     c.args.seats.items dealt.first dealt.desk dealt.workers.items c.in-Ok-run_crew.ends.items c.bring_home.result.threads.items
     (record { parts = c.deal-seat.ensures.parts; len = c.deal-seat.ensures.len }) c.requires.names c.requires.new
     c.bring_home.ensures.threads
-    (subst (λ (l : List (WorkerEnd _ _)). Gathers g.G.Gate (map passage_of l) c.args.gate.now c.gather.new.gate) c.as_slice.ensures.value c.gather.ensures)
+    (subst (λ (l : List (WorkerEnd _ _)). Gathers g.G.Gate (map passage_of l) c.args.gate.now c.gather.new.gate) c.as_slice-in-Ok-run_crew.ensures.value c.gather.ensures)
     c.in-Ok-run_crew.ensures.ends
 
 pub bring_home-requires-clause-right : goal.bring_home-requires-clause-right

@@ -15,3 +15,6 @@ returns-clause-stands c = λ t body f. (
         (c.in_ok-start.ensures.stands t body f),
   ),
 )
+
+pub returns-clause-room : goal.returns-clause-room
+returns-clause-room c = c.in_ok-start.ensures.room

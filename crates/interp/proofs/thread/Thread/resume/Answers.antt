@@ -1,4 +1,4 @@
-use Rattle.std.proofs.Common.{refl, sym, ◌∙◌, ap}
+use Rattle.std.proofs.Common.{length, refl, sym, ◌∙◌, ap, arith}
 use Rattle.std.specs.List.{slice_get}
 use Rattle.types.specs.declared.parts.Parts.{Parts}
 use Rattle.interp.proofs.Resumed.{stands_again}
@@ -13,8 +13,8 @@ pub code_of-code-requires-clause-table : goal.code_of-code-requires-clause-table
 code_of-code-requires-clause-table c =
     let k = c.requires.1 in rw c.in_ok-program.ensures.tables (rw k.is_of.function (slice_get_within _ _ _ k.stands.own.rows_are))
 
-pub returns : goal.returns
-returns c =
+pub returns-clause-resumed : goal.returns-clause-resumed
+returns-clause-resumed c =
     let w = c.args.valid.now in
     let k = c.args.kept.now in
     let of_module = c.parts.ensures in
@@ -39,7 +39,7 @@ returns c =
                   operands = refl;
                   results = refl;
                   values = sym (c.in_ok-values.ensures.items ∙ c.as_slice.ensures.value);
-                  globals = sym (c.in_ok-globals.ensures ∙ c.as_slice-3.ensures.value);
+                  globals = sym (c.in_ok-globals.ensures.items ∙ c.as_slice-3.ensures.value);
                   callers = sym (c.in_ok-callers.ensures.items ∙ c.as_slice-2.ensures.value);
                   progress = refl;
                 }) c.in_ok-program.ensures
@@ -51,3 +51,14 @@ returns c =
         ),
       );
     }
+
+pub returns-clause-room : goal.returns-clause-room
+returns-clause-room c =
+    let k = c.requires.1 in
+    let values = c.in_ok-values.ensures.room in
+    let callers = c.in_ok-callers.ensures.room in
+    let many = ap length (c.as_slice.ensures.value ∙ k.is_of.values) in
+    let deep = ap length (c.as_slice-2.ensures.value ∙ k.is_of.callers) in
+    let room = k.stands.room in
+    let few = k.stands.few in
+    record { values = omega arith; callers = omega arith }
