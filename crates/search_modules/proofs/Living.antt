@@ -3,7 +3,6 @@ use Rattle.std.specs.Prelude.{ℕ, ◌≡◌, ◌<◌, Bool, List, [], Contains,
 use Rattle.std.proofs.Common.{subst, inl, inr, arith, ap, ◌∙◌}
 use Rattle.std.specs.List.{slice_get}
 use Rattle.std.proofs.lemmas.Option.{slice_get-get_or}
-use Rattle.types.specs.declared.limits.TheConstants.{MOST_THREADS}
 use Rattle.schedule.specs.System.{State}
 use Rattle.schedule_threads.specs.Shared.{Shared}
 use Rattle.spawn_host.specs.Requests.{Requested}
@@ -17,25 +16,12 @@ use Rattle.search_reach.specs.declared.liveness.FairRuns.TheVariants.{AllEnd, Go
 use Rattle.search_reach.specs.declared.liveness.Liveness.{Liveness}
 use Rattle.search_reach.specs.declared.search.Verdict.{Verdict}
 use Rattle.search_settled.specs.Settled.{StepsBy, turning}
-use Rattle.search_settled.specs.Next.{IsFirstOf}
 use Rattle.search_runs.specs.Called.{Called, Walker as Thread, system_of, first_state}
-use Rattle.search_runs.specs.Ends.{HasEndedSo}
 use Rattle.search_runs.specs.Theorems.{CanReach}
 use Rattle.search_modules.specs.Moved.{called}
+use Rattle.search_modules.specs.Ways.{gone_by}
 use Rattle.search_modules.specs.Liveness.{CanStillEnd, SaysOfRuns, AreStatesBy, IsOfCall, CountsStatesBy, SaysBy, SaysWhereAllBy}
 use Rattle.search_modules.specs.declared.called.Searched.{Searched}
-
--- What is gone through by such states.
-abbrev gone_by : {S : Type 0} → (Searched → S → State Shared Thread → (ℕ → ℕ) → Type 0) → (Searched → State Shared Thread → Type 0) → Searched
-    → StepSystem S (State Shared Thread) Ending
-gone_by stands stuck s = record {
-  worlds = turning (system_of (called s));
-  most = MOST_THREADS;
-  stands = stands s;
-  begins = IsFirstOf (first_state (called s));
-  ends = HasEndedSo s.dump;
-  stuck = stuck s;
-}
 
 module _ {S : Type 0} (eq : S → S → Bool) (stands : Searched → S → State Shared Thread → (ℕ → ℕ) → Type 0) (stuck : Searched → State Shared Thread → Type 0)
     (s : Searched) where

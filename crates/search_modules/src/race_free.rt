@@ -8,6 +8,7 @@ ghost use Rattle.search_reach.specs.declared.search.Verdict.TheVariants as verdi
 ghost use Rattle.search_modules.specs.Endings.{HasSought};
 ghost use Rattle.search_modules.specs.Liveness.{CountsOwned, SaysWhereAllFree};
 ghost use Rattle.search_modules.specs.Races.{CanRaceSo, NeverRaces, race_free_claims_of};
+ghost use Rattle.search_modules.specs.Ways.{HasWaysFreely};
 
 use crate::called::Searched;
 use crate::calling::searched;
@@ -52,6 +53,7 @@ pub fn race_free_endings<'m, C: Crew<Searched<'m>>, Q: Seeks<Ending>, F: Follows
     ensures found { IfOk result
         (λ r. AreListed (race_free_claims_of request.now dump) most_states (F.wish follower.new) r.ended) }
     ensures paths { IfOk result (λ r. vec_len r.ended.paths ≡ index_set_len r.ended.endings) }
+    ensures ways { IfOk result (λ r. HasWaysFreely request.now dump r.ended) }
     ensures count { IfOk result (λ r. CountsOwned request.now r.ended.states) }
     ensures live { IfOk result
         (λ r. SaysWhereAllFree request.now dump r.ended.states r.ended.verdict r.ended.liveness) }

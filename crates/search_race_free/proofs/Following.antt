@@ -5,6 +5,7 @@ use Rattle.std.proofs.lemmas.List.Elements.{Contains-push, Contains-push_cases, 
 use Rattle.std.proofs.lemmas.Option.{none-some}
 use Rattle.schedule.specs.System.{State}
 use Rattle.search_reach.specs.declared.explores.Next.{Next}
+use Rattle.search_reach.proofs.Ascending.{ascend-none, ascend-same, ascend-more}
 use Rattle.search_settled.specs.declared.access.Access.{Access}
 use Rattle.search_settled.specs.declared.flat.Flat.{Flat}
 use Rattle.search_settled.specs.Threads.{ThreadSystem}
@@ -23,7 +24,11 @@ module _ {X T E V A G H M : Type 0} (k : ThreadSystem X T E V A G H M) (s : Owni
   wants-at before n a are h z at = sym (are z at n) ∙ h
 
   pub below-none : HasReducedBelow k s 0 []
-  below-none = record { all = λ z at n low. absurd (omega (arith, low)); each = λ x among. absurd (omega (arith, among.1)) }
+  below-none = record {
+    all = λ z at n low. absurd (omega (arith, low));
+    each = λ x among. absurd (omega (arith, among.1));
+    ascend = ascend-none;
+  }
 
   -- a thread that can't go on
   pub below-same : (before : List (Option Access)) (i : ℕ) (xs : List (Next (Owning (Flat G H)))) → AreWanted k s.flat before → access_at before i ≡ None
@@ -34,6 +39,7 @@ module _ {X T E V A G H M : Type 0} (k : ThreadSystem X T E V A G H M) (s : Owni
       | inr same ↦ absurd (none-some a (sym none ∙ (are z at i ∙ subst (λ m. wanted_in k z m ≡ Some a) same wants)))
     ];
     each = so.each;
+    ascend = ascend-same i xs so.ascend;
   }
 
   -- a thread that can
@@ -48,12 +54,14 @@ module _ {X T E V A G H M : Type 0} (k : ThreadSystem X T E V A G H M) (s : Owni
       | inl before ↦ so.each x before
       | inr same ↦ subst (λ (v : Next (Owning (Flat G H))). ComesOf k s v.thread v.state) same (subst (λ t. ComesOf k s t y.state) (sym is) of)
     ];
+    ascend = ascend-more i xs y is so.ascend;
   }
 
   pub below-all : (i : ℕ) (xs : List (Next (Owning (Flat G H)))) → HasReducedBelow k s i xs → length s.flat.threads.items ≤ i → HasReduced k s xs
   below-all i xs so past = record {
     all = λ z at n a wants. so.all z at n (low z at n a wants) a wants;
     each = so.each;
+    ascend = so.ascend.ascend;
   }
     where
       low : (z : State X T) → IsResting k s.flat z → (n : ℕ) (a : Access) → wanted_in k z n ≡ Some a → n < i

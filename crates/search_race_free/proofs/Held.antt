@@ -174,6 +174,11 @@ module _ {S W E : Type 0} (k : StepSystem S W E) where
         comes = λ w rests y c.
             let b = beside-back IsLike xs ys like c.0 y (at-of ys y c) in
             comes-like b.0 y b.2 w (next.comes w (there w (λ (n : ℕ). 0) rests) b.0 (here xs c.0 b.0 b.1));
+        ascend = λ i j x y less at-x at-y.
+            let a = beside-back IsLike xs ys like i x at-x in
+            let b = beside-back IsLike xs ys like j y at-y in
+            let low = next.ascend i j a.0 b.0 less a.1 b.1 in
+            omega (arith, low, (a.2).thread, (b.2).thread);
       }
 
 -- Rows of states, as they are put.

@@ -330,4 +330,5 @@ module _ {X T E V A G H M O : Type 0} (k : ThreadSystem X T E V A G H M) (ends :
         goes_on = going;
         all = all;
         comes = comes;
+        ascend = next.ascend;
       }

@@ -2,7 +2,7 @@
 use Rattle.std.specs.Prelude.{ℕ, ◌≡◌, ◌≢◌, ◌⊎◌, true, List, Contains, Some, Option}
 use Rattle.schedule.specs.System.{Want.Turns, State}
 use Rattle.search_reach.specs.declared.explores.Next.{Next}
-use Rattle.search_reach.specs.Search.{StepSystem}
+use Rattle.search_reach.specs.Search.{StepSystem, Ascend}
 use Rattle.search_settled.specs.Settled.{IsReached, turning}
 use Rattle.search_settled.specs.Accesses.{HasByte}
 use Rattle.search_settled.specs.Threads.{ThreadSystem, IsFlat}
@@ -98,8 +98,9 @@ module _ {X T E V A G H M : Type 0} (k : ThreadSystem X T E V A G H M) where
     pub each : (z : State X T) → IsResting s.flat z → IsAfterTurn n x z
     pub owned : (t : ℕ) (a : Access) → t ≢ n → Within s.owned.items t a → Within x.owned.items t a
 
-  -- There is one of these of each thread that can go on, and each of these is of such a thread.
+  -- There is one of these of each thread that can go on, and each of these is of such a thread, in their order.
   pub record HasReduced (s : Owning (Flat G H)) (xs : List (Next (Owning (Flat G H)))) : Type 0 where
     pub all : (z : State X T) → IsResting s.flat z → (n : ℕ) (a : Access) → wanted_in z n ≡ Some a
         → (x : Next (Owning (Flat G H))) × Contains xs x × (x.thread ≡ n)
     pub each : (x : Next (Owning (Flat G H))) → Contains xs x → ComesOf s x.thread x.state
+    pub ascend : Ascend xs

@@ -2,14 +2,14 @@
 use Rattle.std.specs.Prelude.{ℕ, ◌≡◌, ◌&&◌, Bool, true, List, [], ◌∷◌, Contains, refl}
 use Rattle.std.proofs.Common.{ap, sym, ◌∙◌, subst, true≢false}
 use Rattle.std.proofs.lemmas.Bool.{eqb-true}
-use Rattle.std.specs.Cmp.{first_so, second_so, booleans_Decides, IsEquivalence, partial_equiv_from_equiv}
-use Rattle.std.specs.Cmp.Lexicographic.{pointwise, lists_per}
+use Rattle.std.specs.Cmp.{first_so, second_so, booleans_Decides, IsEquivalence}
+use Rattle.std.specs.Cmp.Lexicographic.{pointwise}
 use Rattle.schedule.specs.System.{State}
 use Rattle.search_settled.specs.declared.access.Access.{Access}
 use Rattle.search_settled.specs.declared.flat.Flat.{Flat}
 use Rattle.search_settled.specs.contracts.access.AccessPartialEq.TheImpl as accesses
 use Rattle.search_settled.specs.Threads.{ThreadSystem, IsFlat}
-use Rattle.search_settled.specs.Same.{flat_eq, flat_alike}
+use Rattle.search_settled.specs.Same.{flat_eq, flat_eq_back, flat_alike}
 use Rattle.search_race_free.specs.declared.owning.Owning.{Owning}
 use Rattle.search_race_free.specs.declared.owning.Touch.{Touch}
 use Rattle.search_race_free.specs.contracts.owning.TouchPartialEq.TheImpl as touches
@@ -44,13 +44,16 @@ same_touches (x ∷ xs) [] e = absurd (true≢false (sym e))
 same_touches (x ∷ xs) (y ∷ ys) e = λ i. same_touch x y (first_so _ _ e) i ∷ same_touches xs ys (second_so _ _ e) i
 
 -- the other way round
-flat_eq_back : {G H : Type 0} (eq_shared : G → G → Bool) (eq_thread : H → H → Bool) → IsEquivalence eq_shared → IsEquivalence eq_thread
-    → (x y : Flat G H) → flat_eq eq_shared eq_thread x y ≡ true → flat_eq eq_shared eq_thread y x ≡ true
-flat_eq_back eq_shared eq_thread shared thread x y e =
-    let per = lists_per (partial_equiv_from_equiv thread) in
-    let a = shared.symm y.shared x.shared ∙ first_so (eq_shared x.shared y.shared) (pointwise eq_thread x.threads.items y.threads.items) e in
-    let b = per.symm y.threads.items x.threads.items ∙ second_so (eq_shared x.shared y.shared) (pointwise eq_thread x.threads.items y.threads.items) e in
-    ap (λ t. t && pointwise eq_thread y.threads.items x.threads.items) a ∙ b
+pub owning_eq_back : {G H : Type 0} (eq_shared : G → G → Bool) (eq_thread : H → H → Bool) → IsEquivalence eq_shared → IsEquivalence eq_thread
+    → (x y : Owning (Flat G H)) → owning_eq eq_shared eq_thread x y ≡ true → owning_eq eq_shared eq_thread y x ≡ true
+owning_eq_back eq_shared eq_thread shared thread x y e =
+    let xs = x.owned.items in
+    let ys = y.owned.items in
+    let a = flat_eq_back eq_shared eq_thread shared thread x.flat y.flat (first_so (flat_eq eq_shared eq_thread x.flat y.flat) (pointwise touches.eq-value.it xs ys) e) in
+    let b = second_so (flat_eq eq_shared eq_thread x.flat y.flat) (pointwise touches.eq-value.it xs ys) e in
+    let same = same_touches xs ys b in
+    ap (λ t. t && pointwise touches.eq-value.it ys xs) a
+    ∙ subst (λ l. pointwise touches.eq-value.it l xs ≡ true) same (subst (λ l. pointwise touches.eq-value.it xs l ≡ true) (sym same) b)
 
 module _ {X T E V A G H M : Type 0} (k : ThreadSystem X T E V A G H M) (x y : Owning (Flat G H)) (there : (z : State X T) → IsFlat k x.flat z → IsFlat k y.flat z)
     (back : (z : State X T) → IsFlat k y.flat z → IsFlat k x.flat z) (same : x.owned.items ≡ y.owned.items) where

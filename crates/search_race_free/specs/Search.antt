@@ -3,6 +3,7 @@ use Rattle.std.specs.Prelude.{ℕ, ◌≡◌, ◌≢◌, ◌+◌, ◌<◌, ◌�
 use Rattle.schedule.specs.System.{Want.Calls, System, State}
 use Rattle.search_graph.specs.Paths.{Reaches}
 use Rattle.search_reach.specs.declared.explores.Next.{Next}
+use Rattle.search_reach.specs.Search.{AscendBelow}
 use Rattle.search_settled.specs.Settled.{IsReached, StepsBy}
 use Rattle.search_settled.specs.Accesses.{HasByte, Conflict}
 use Rattle.search_settled.specs.Threads.{ThreadSystem}
@@ -117,6 +118,7 @@ module _ {X T E V A G H M : Type 0} (k : ThreadSystem X T E V A G H M) where
     pub all : (z : State X T) → IsResting k s.flat z → (n : ℕ) → n < i → (a : Access) → wanted_in k z n ≡ Some a
         → (x : Next (Owning (Flat G H))) × Contains xs x × (x.thread ≡ n)
     pub each : (x : Next (Owning (Flat G H))) → Contains xs x → ComesOf k s x.thread x.state
+    pub ascend : AscendBelow i xs
 
   -- With what was put to them, they are those of one thread more.
   abbrev pub HasOneMore : Owning (Flat G H) → ℕ → List (Next (Owning (Flat G H))) → List (Next (Owning (Flat G H))) → Type 0

@@ -3,7 +3,7 @@ ghost use Rattle.std.specs.Prelude.{◌≡◌, IfOk, IfSome, OnOk, option_map, v
 ghost use Rattle.indexmap.specs.IndexSet.{index_set_len};
 ghost use Rattle.search_reach.specs.Meeting.{HasMetAt, HasSound};
 ghost use Rattle.search_reach.specs.Found.{AreEndings};
-ghost use Rattle.search_reach.specs.Liveness.{IsCount, IsLiveWhereAll};
+ghost use Rattle.search_reach.specs.Liveness.{IsCount, IsLiveWhereAll, HasWays};
 ghost use Rattle.search_reach.specs.Sought.{SeeksIn};
 ghost use Rattle.search_reach.specs.Told.{Obeys};
 ghost use Rattle.search_reach.specs.declared.search.Verdict.TheVariants as verdicts;
@@ -93,7 +93,7 @@ impl<M: Accesses, C: Crew<M>> Meets for RaceFreeTurns<'_, M, C> {
     ghost use Rattle.search_settled.specs.Same.{flat_alike};
     ghost use Rattle.search_race_free.specs.declared.owning.Owning.{Owning as OwningState};
     ghost use Rattle.search_race_free.specs.Turns.{reduced};
-    ghost use Rattle.search_race_free.specs.Same.{owning_eq, owning_alike};
+    ghost use Rattle.search_race_free.specs.Same.{owning_eq, owning_eq_back, owning_alike};
     ghost use Rattle.search_race_free.specs.Ahead.{HasAhead};
 
     type Table = Tables<M::Shared, M::Thread>;
@@ -112,6 +112,8 @@ impl<M: Accesses, C: Crew<M>> Meets for RaceFreeTurns<'_, M, C> {
 
     ghost alike = { λ t x y e. owning_alike M.Shared.eq M.Thread.eq M.Shared.Eq.laws M.Thread.Eq.laws
         (M.threads t.system.now) (M.same_shared t.system.now) (M.same_thread t.system.now) x y e };
+
+    ghost symmetric = { λ t. owning_eq_back M.Shared.eq M.Thread.eq M.Shared.Eq.laws M.Thread.Eq.laws };
 
     fn table(&self, alloc: Global) -> Tables<M::Shared, M::Thread> {
         Tables {
@@ -318,6 +320,8 @@ pub fn search_race_free<M: Accesses, C: Crew<M>, Q: Seeks<M::Ending>, F: Follows
     ensures found { IfOk result
         (λ r. AreEndings (reduced M.Moves system.now) M.Ending.eq most (F.wish follower.new) r.ended) }
     ensures paths { IfOk result (λ r. vec_len r.ended.paths ≡ index_set_len r.ended.endings) }
+    ensures ways { IfOk result
+        (λ r. HasWays (reduced M.Moves system.now) (owning_eq M.Shared.eq M.Thread.eq) r.ended) }
     ensures count { IfOk result
         (λ r. IsCount (reduced M.Moves system.now) (owning_eq M.Shared.eq M.Thread.eq) r.ended.states) }
     ensures live { IfOk result

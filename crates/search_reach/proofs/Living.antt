@@ -1,9 +1,9 @@
 -- What is said of the graph of all states, said of the worlds that they stand for.
 use Rattle.std.specs.Prelude.{◌≡◌, ◌<◌, ◌⊎◌, ◌↔◌, ℕ, zero, suc, Bool, true, false, List, [], ◌∷◌, length, All, Contains, Option, Some, None, refl, slice_index_or}
-use Rattle.std.proofs.Common.{ap, subst, sym, ◌∙◌, inl, inr, arith, true≢false}
+use Rattle.std.proofs.Common.{ap, subst, sym, ◌∙◌, inl, inr, true≢false}
 use Rattle.std.specs.List.{slice_get, AllZip, IsDistinct}
 use Rattle.std.specs.List.Sorted.{IsStrictlyIncreasing}
-use Rattle.std.specs.Option.{is_some}
+use Rattle.std.specs.Option.{is_some, IfSome}
 use Rattle.search_graph.specs.Paths.{Goes, Reaches}
 use Rattle.std.proofs.lemmas.Option.{slice_get_within, none-some}
 use Rattle.std.proofs.lemmas.List.Elements.{All-weaker, All-contains_itself}
@@ -18,8 +18,10 @@ use Rattle.search_graph.proofs.Shadow.{no-fair-run}
 use Rattle.search_graph.proofs.Rounds.{fair-run-along, fair-run-round}
 use Rattle.search_reach.specs.Search.{StepSystem, Steps, StandsFor, RestsIn, HasOf, IsMet, IsMarkedSo, StaysIn, LeadsOn, ComesBy}
 use Rattle.search_reach.specs.Explored.{IsGoneOn, ExploredTo}
-use Rattle.search_reach.specs.Liveness.{CanEndSomehow, NeverEnds, StillEnds, AreEndless, SaysOf, IsLive, IsLiveWhereAll, SaysOfGraph, IsGraphLive, IsJudged}
+use Rattle.search_reach.specs.Liveness.{CanEndSomehow, NeverEnds, StillEnds, AreEndless, LeadsToEndless, SaysOf, IsLive, IsLiveWhereAll, SaysOfGraph, IsGraphLive, IsJudged}
 use Rattle.search_reach.specs.Found.{Claims, IsFound}
+use Rattle.search_reach.specs.Moved.{IsPathTo, IsMoved}
+use Rattle.search_reach.specs.Ways.{AreNumbered, GoRound}
 use Rattle.search_reach.specs.declared.follows.Wish.{Wish}
 use Rattle.search_reach.specs.declared.search.Verdict.{Verdict}
 use Rattle.search_reach.specs.declared.search.Verdict.TheVariants as verdicts
@@ -28,6 +30,8 @@ use Rattle.search_reach.specs.declared.liveness.FairRuns.TheVariants.{AllEnd, Go
 use Rattle.search_reach.specs.declared.liveness.Liveness.{Liveness}
 use Rattle.search_reach.proofs.Paths.{stays, one_step, onward}
 use Rattle.search_reach.proofs.Searching.{here}
+use Rattle.search_reach.proofs.Moving.{at-some}
+use Rattle.search_reach.proofs.Leading.{way-to, round-by}
 use Rattle.search_reach.proofs.Graphing.{move_to, move_by, Stands, gone_on, follow, covered, followed, leads, explored-all}
 
 -- the mark of a state
@@ -41,11 +45,6 @@ mark_at R (k ∷ ks) (m ∷ marks) (suc p) s h at = mark_at R ks marks p s h.1 a
 some_of : {A : Type 0} (o : Option A) → is_some o ≡ true → (x : A) × (o ≡ Some x)
 some_of None h = absurd (true≢false (sym h))
 some_of (Some x) h = (x, refl)
-
-get_at : {S : Type 0} (ks : List S) (p : ℕ) → p < length ks → (s : S) × (slice_get ks p ≡ Some s)
-get_at [] p h = absurd (omega arith)
-get_at (k ∷ ks) zero h = (k, refl)
-get_at (k ∷ ks) (suc p) h = get_at ks p (omega arith)
 
 module _ {S W E : Type 0} (k : StepSystem S W E) (eq : S → S → Bool) (ks : List S) (moves : List Move)
     (same : (x y : S) → eq x y ≡ true → (w : W) (left : ℕ → ℕ) → k.stands x w left → k.stands y w left) (e : ExploredTo k eq ks moves (length ks)) where
@@ -165,7 +164,7 @@ module _ {S W E : Type 0} (k : StepSystem S W E) (eq : S → S → Bool) (ks : L
           (e.from _ (subst (λ o. Turns moves (cycle.run.at 0) o (cycle.run.at 1)) (cycle.makes 0).thread (cycle.run.turns 0))).0
 
       state : (s : S) × (slice_get ks start ≡ Some s)
-      state = get_at ks start within
+      state = at-some ks start within
 
       met : IsMet k state.0
       met = e.sound state.0 (here ks start state.0 state.1)
@@ -247,16 +246,26 @@ module _ {S W E : Type 0} (k : StepSystem S W E) (eq : S → S → Bool) (ks : L
   says (GoOn c) round = fair_run k eq ks g.moves.items same e round.cycle.start (moves_at g.moves.items round.cycle.walk.items) round.is.runs
   says Unknown h = tt
 
-  pub live : (marks : List Bool) → g.states ≡ length ks → IsDistinct eq ks → AllZip (IsMarkedSo k) ks marks → (l : Liveness) → IsGraphLive g marks l
-      → IsLive k eq g.states l
-  live marks is distinct marked l said = record {
+  go_round : IsMoved k eq ks g.moves.items → g.states ≡ length ks → (f : FairRuns) → SaysOfGraph g f → GoRound k eq f
+  go_round moved is AllEnd all = tt
+  go_round moved is (GoOn c) round =
+      round-by k eq ks g.moves.items moved (λ m among. (e.from m among).1) c round.cycle.start round.cycle.walk.items (round.is).round
+      (subst (λ (n : ℕ). IsPathTo g.moves.items n c.path.items round.cycle.start) is round.path) round.walk
+  go_round moved is Unknown h = tt
+
+  pub live : (marks : List Bool) → g.states ≡ length ks → IsDistinct eq ks → AllZip (IsMarkedSo k) ks marks → IsMoved k eq ks g.moves.items
+      → (l : Liveness) → IsGraphLive g marks l → IsLive k eq g.states l
+  live marks is distinct marked moved l said = record {
     keys = ks;
     counted = record { len = sym is; distinct = distinct; sound = e.sound };
     all = explored-all k eq ks g.moves.items same e;
     endless = endless_are k eq ks g.moves.items same e marks marked l.endless.items said.order
         (subst (λ (n : ℕ). (p : ℕ) → Contains l.endless.items p ↔ CannotEnd g.moves.items marks n p) is said.exact)
         (subst (λ (n : ℕ). (p : ℕ) → p < n → Contains l.endless.items p ⊎ PathEnds g.moves.items marks p) is said.others);
+    path = λ p s first at. way-to k eq ks g.moves.items moved p l.path.items s at
+        (subst (λ (n : ℕ). IsPathTo g.moves.items n l.path.items p) is (said.path p first));
     fair_runs = says l.fair_runs said.fair_runs;
+    round = go_round moved is l.fair_runs said.fair_runs;
   }
 
 -- by the verdict and the wish in the end
@@ -284,6 +293,13 @@ module _ (g : Graph) (ended : List Bool) (before : Verdict) (old : Wish) (after 
     ];
   }
 
+  pub numbered-before : (states : ℕ) → AreNumbered after states → AreNumbered before states
+  numbered-before states (inl all) = elim judged.verdict [
+    | inl same ↦ inl (sym same ∙ all)
+    | inr told ↦ (let t = told.0 in absurd (cc (t, all)))
+  ]
+  numbered-before states (inr few) = inr few
+
   pub sought-back : after ≡ verdicts.Sought → before ≡ verdicts.Sought
   sought-back v = elim judged.verdict [
     | inl same ↦ sym same ∙ v
@@ -300,3 +316,22 @@ live-after k eq states g ended before old after new None judged lives = judged.u
 live-after k eq states g ended before old after new (Some l) judged lives =
     let said = judged.said in
     (said.1, lives said.0 l said.2)
+
+-- where the choices lead that are said with it
+module _ {S W E : Type 0} (k : StepSystem S W E) (eq : S → S → Bool) (states : ℕ) (verdict : Verdict) where
+  pub leads-endless : (o : Option Liveness) → IsLiveWhereAll k eq states verdict o → IfSome o (LeadsToEndless k eq)
+  leads-endless None unsaid = tt
+  leads-endless (Some l) said = λ p first. (
+      let live = said.1 in
+      let among = here l.endless.items 0 p first in
+      let s = at-some live.keys p (live.endless.within p among) in
+      (s.0, never p s.0 among (live.endless.each p s.0 s.1), live.path p s.0 first s.1))
+    where
+      never : (p : ℕ) (s : S) → Contains l.endless.items p → (Contains l.endless.items p × NeverEnds k s) ⊎ ((Contains l.endless.items p → ⊥) × StillEnds k s)
+          → NeverEnds k s
+      never p s among (inl is) = is.1
+      never p s among (inr other) = absurd (other.0 among)
+
+  pub leads-round : (o : Option Liveness) → IsLiveWhereAll k eq states verdict o → IfSome o (λ l. GoRound k eq l.fair_runs)
+  leads-round None unsaid = tt
+  leads-round (Some l) said = said.1.round

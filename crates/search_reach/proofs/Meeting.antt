@@ -1,5 +1,5 @@
 -- Where a search of states in a table stands, from one to the next.
-use Rattle.std.specs.Prelude.{◌≡◌, ◌+◌, ◌^◌, ◌<◌, ◌≤◌, ◌⊎◌, ℕ, zero, suc, Bool, true, false, List, [], ◌∷◌, length, Option, Some, None, refl}
+use Rattle.std.specs.Prelude.{◌≡◌, ◌+◌, ◌^◌, ◌<◌, ◌≤◌, ◌⊎◌, ℕ, suc, Bool, true, false, List, [], ◌∷◌, length, Option, Some, None, refl}
 use Rattle.std.specs.List.{slice_get}
 use Rattle.std.proofs.lemmas.Option.{none-some}
 use Rattle.std.proofs.lemmas.Bool.{cases_lt}
@@ -19,13 +19,12 @@ use Rattle.search_reach.specs.declared.search.Order.TheVariants.{Breadth, Depth}
 use Rattle.search_reach.specs.declared.search.Verdict.{Verdict}
 use Rattle.search_reach.proofs.Passing.{passed-more, sought-more, all-passed, seeks-none, seeks-some}
 use Rattle.search_reach.proofs.Leveling.{levels-longer, levels-all, levels-none, levels-more}
+use Rattle.search_reach.specs.Moved.{IsMoved}
+use Rattle.search_reach.specs.Ways.{AreNumbered}
+pub use Rattle.search_reach.proofs.Moving.{at-some}
+use Rattle.search_reach.proofs.Moving.{IsUnique, moved-none, moved-first, moved-more}
 use Rattle.search_reach.proofs.Searching.{Begins, Gains-begins, length-longer, explored-first, sound-is_met, sound-more, sound-stuck, explored-more, explored-whole}
 use Rattle.search_reach.proofs.Graphing.{explored-all}
-
-pub at-some : {A : Type 0} (xs : List A) (i : ℕ) → i < length xs → (x : A) × (slice_get xs i ≡ Some x)
-at-some [] i low = absurd (omega (arith, low))
-at-some (x ∷ xs) zero low = (x, refl)
-at-some (x ∷ xs) (suc i) low = at-some xs i (omega (arith, low))
 
 -- The places that were gone on from, before and behind a turn at one of them.
 pub record Turns (gone now : ℕ → Type 0) (at met known : ℕ) : Type 0 where
@@ -47,6 +46,11 @@ turns-on at met known low = record {
     by j h (inl less) = inl (less, omega (arith, less, low))
     by j h (inr high) = inr (omega (arith, h, high))
 
+-- where not all were met
+numbered : (verdict : Verdict) (states : ℕ) → (verdict ≡ verdicts.All → ⊥) → AreNumbered verdict states → states < 2 ^ 32
+numbered verdict states other (inl all) = absurd (other all)
+numbered verdict states other (inr few) = few
+
 module _ {S W E : Type 0} (k : StepSystem S W E) (eq : S → S → Bool) where
   -- where a search stands that has gone on from the states of some places, and has met nothing that is looked for
   pub record Standing (has : List S → Type 0) (sought : E → Type 0) (gone : ℕ → Type 0) (moves : List Move) : Type 0 where
@@ -55,6 +59,7 @@ module _ {S W E : Type 0} (k : StepSystem S W E) (eq : S → S → Bool) where
     pub sound : IsSound k states
     pub passed : ArePassed k sought states
     pub explored : length states < 2 ^ 32 → Explored k eq states moves gone
+    pub moved : length states < 2 ^ 32 → IsMoved k eq states moves
 
   pub begun : (has : List S → Type 0) (sought : E → Type 0) (moves : List Move) → moves ≡ [] → HasFirst k has → (is : Bool) → is ≡ false
       → OfStates k has (SaysFrom k sought 0 is) → IsBegun k has eq sought moves
@@ -62,6 +67,7 @@ module _ {S W E : Type 0} (k : StepSystem S W E) (eq : S → S → Bool) where
     states = f.state ∷ [];
     held = f.held;
     explored = subst (λ l. ExploredTo k eq (f.state ∷ []) l 0) (sym none) first;
+    moved = subst (λ l. IsMoved k eq (f.state ∷ []) l) (sym none) (moved-first k eq f.state f.is);
     passed = all-passed k sought (f.state ∷ []) (subst (λ b. OfStates k has (SaysFrom k sought 0 b)) fails said (f.state ∷ []) f.held first.sound);
   }
     where
@@ -130,52 +136,71 @@ module _ {S W E : Type 0} (k : StepSystem S W E) (eq : S → S → Bool) where
                 (λ j inside h. subst (λ (n : ℕ). (gone j × (j < n)) ⊎ (at ≡ j)) is (t.which j (omega (arith, inside, are)) h))
                 (λ j inside h. t.kept j (omega (arith, inside, is)) h) t.this
 
-            -- where none of them has ended as is looked for
+        -- where no two of them are equal, and it hadn't gone on from this one before
+        module _ (unique : (ks : List S) → new ks → IsUnique eq ks) (before : gone at → ⊥) where
+          pub moved-now : length (goes).states < 2 ^ 32 → IsMoved k eq (goes).states after
+          moved-now few =
+              let g = goes in
+              let more = length-longer was.states g.states begins in
+              let is = long in
+              let small : length was.states < 2 ^ 32 = omega (arith, more, few) in
+              let old = was.explored small in
+              moved-more k eq was.states g.states g.next moves after at g.gains (g.noted few) (omega (arith, is, low)) (unique g.states g.held)
+              (λ m c same. before (subst gone same (old.from m c).0)) (was.moved small) (λ (j : ℕ). (gone j × (j < length was.states)) ⊎ (at ≡ j))
+              (explored-more eq k was.states g.states g.next moves after at here-is.0 gone old before here-is.1 g.are g.gains (g.noted few)
+              (λ (j : ℕ). (gone j × (j < length was.states)) ⊎ (at ≡ j)) (λ j inside h. h) (λ j inside h. inl (h, inside)) (inr refl))
+
+          -- where none of them has ended as is looked for
+          module _ (known : ℕ) (known-is : (ks : List S) → new ks → known ≡ length ks) (now : ℕ → Type 0)
+              (turns : known < 2 ^ 32 → Turns gone now at met known) where
             abbrev pub standing-more : (is : Bool) → is ≡ false → OfStates k new (SaysFrom k sought met is) → Standing new sought now after
             standing-more is fails said = record {
               states = (goes).states;
               held = (goes).held;
               sound = sound-now;
               passed = passed-now is fails said;
-              explored = explored-now;
+              explored = explored-now known known-is now turns;
+              moved = moved-now;
             }
 
-        -- where it is told to end
-        pub reached-told : (most : ℕ) (wish : Wish) (levels : Option ℕ) → HasGoneThrough k (goes).states levels → (is : Bool) → is ≡ false
-            → OfStates k new (SaysFrom k sought met is) → wish ≡ wishes.End → IsReached k new eq most wish sought after verdicts.Told levels
-        reached-told most wish levels through is fails said told = record {
-          states = (goes).states;
-          held = (goes).held;
-          found = record {
-            all = λ v. absurd (cc v);
-            sound = sound-now;
-            bound = λ v. absurd (cc v);
-            gives_up = λ v. absurd (cc v);
-            told = λ v. told;
-          };
-          whole = λ v. absurd (cc v);
-          seeks = seeks-none k sought verdicts.Told (goes).states (λ v. cc v) (passed-now is fails said);
-          gone_through = through;
-        }
+          -- where it is told to end
+          pub reached-told : (most : ℕ) (wish : Wish) (levels : Option ℕ) → HasGoneThrough k (goes).states levels → (is : Bool) → is ≡ false
+              → OfStates k new (SaysFrom k sought met is) → wish ≡ wishes.End → IsReached k new eq most wish sought after verdicts.Told levels
+          reached-told most wish levels through is fails said told = record {
+            states = (goes).states;
+            held = (goes).held;
+            found = record {
+              all = λ v. absurd (cc v);
+              sound = sound-now;
+              bound = λ v. absurd (cc v);
+              gives_up = λ v. absurd (cc v);
+              told = λ v. told;
+            };
+            whole = λ v. absurd (cc v);
+            moved = λ n. moved-now (numbered verdicts.Told (length (goes).states) (λ v. cc v) n);
+            seeks = seeks-none k sought verdicts.Told (goes).states (λ v. cc v) (passed-now is fails said);
+            gone_through = through;
+          }
 
-        -- where one has
-        pub reached-sought : (most : ℕ) (wish : Wish) (levels : Option ℕ) → HasGoneThrough k (goes).states levels → (is : Bool) → is ≡ true
-            → OfStates k new (SaysFrom k sought met is) → IsReached k new eq most wish sought after verdicts.Sought levels
-        reached-sought most wish levels through is holds said = let says = subst (λ b. OfStates k new (SaysFrom k sought met b)) holds said in record {
-          states = (goes).states;
-          held = (goes).held;
-          found = record {
-            all = λ v. absurd (cc v);
-            sound = sound-now;
-            bound = λ v. absurd (cc v);
-            gives_up = λ v. absurd (cc v);
-            told = λ v. absurd (cc v);
-          };
-          whole = λ v. absurd (cc v);
-          seeks = seeks-some k sought (goes).states (sought-more k sought was.states (goes).states begins was.passed
-              (subst (λ (n : ℕ). HasSoughtFrom k sought n (goes).states) long (says (goes).states (goes).held sound-now)));
-          gone_through = through;
-        }
+          -- where one has
+          pub reached-sought : (most : ℕ) (wish : Wish) (levels : Option ℕ) → HasGoneThrough k (goes).states levels → (is : Bool) → is ≡ true
+              → OfStates k new (SaysFrom k sought met is) → IsReached k new eq most wish sought after verdicts.Sought levels
+          reached-sought most wish levels through is holds said = let says = subst (λ b. OfStates k new (SaysFrom k sought met b)) holds said in record {
+            states = (goes).states;
+            held = (goes).held;
+            found = record {
+              all = λ v. absurd (cc v);
+              sound = sound-now;
+              bound = λ v. absurd (cc v);
+              gives_up = λ v. absurd (cc v);
+              told = λ v. absurd (cc v);
+            };
+            whole = λ v. absurd (cc v);
+            moved = λ n. moved-now (numbered verdicts.Sought (length (goes).states) (λ v. cc v) n);
+            seeks = seeks-some k sought (goes).states (sought-more k sought was.states (goes).states begins was.passed
+                (subst (λ (n : ℕ). HasSoughtFrom k sought n (goes).states) long (says (goes).states (goes).held sound-now)));
+            gone_through = through;
+          }
 
     module _ (most : ℕ) (wish : Wish) (levels : Option ℕ) (through : HasGoneThrough k was.states levels) where
       seeks-so : (verdict : Verdict) → (verdict ≡ verdicts.Sought → ⊥) → SeeksAmong k sought verdict was.states
@@ -197,6 +222,7 @@ module _ {S W E : Type 0} (k : StepSystem S W E) (eq : S → S → Bool) where
               told = λ v. absurd (cc v);
             };
             whole = λ v. whole;
+            moved = λ n. was.moved few;
             seeks = seeks-so verdicts.All (λ v. cc v);
             gone_through = through;
           }
@@ -216,13 +242,14 @@ module _ {S W E : Type 0} (k : StepSystem S W E) (eq : S → S → Bool) where
               told = λ v. absurd (cc v);
             };
             whole = λ v. absurd (cc v);
+            moved = λ n. was.moved (numbered verdicts.TooMany (length was.states) (λ v. cc v) n);
             seeks = seeks-so verdicts.TooMany (λ v. cc v);
             gone_through = through;
           }
 
       pub reached-stuck : (at : ℕ) (new : List S → Type 0) (after : List Move) → at < length was.states → OfStateAt k has at (λ ks s. new ks)
-          → OfStateAt k has at (λ ks s. AllGetStuck k s) → IsReached k new eq most wish sought after verdicts.CannotTell levels
-      reached-stuck at new after low none gives_up =
+          → after ≡ moves → OfStateAt k has at (λ ks s. AllGetStuck k s) → IsReached k new eq most wish sought after verdicts.CannotTell levels
+      reached-stuck at new after low none kept gives_up =
           let s = at-some was.states at low in
           let is = sound-is_met eq k was.states at s.0 was.sound s.1 in
           record {
@@ -236,6 +263,7 @@ module _ {S W E : Type 0} (k : StepSystem S W E) (eq : S → S → Bool) where
               told = λ v. absurd (cc v);
             };
             whole = λ v. absurd (cc v);
+            moved = λ n. subst (IsMoved k eq was.states) (sym kept) (was.moved (numbered verdicts.CannotTell (length was.states) (λ v. cc v) n));
             seeks = seeks-so verdicts.CannotTell (λ v. cc v);
             gone_through = through;
           }
@@ -253,7 +281,7 @@ module _ {S W E : Type 0} (k : StepSystem S W E) (eq : S → S → Bool) where
   going-first has sought moves end len same b =
       let is = len b.states b.held in
       record {
-        standing = record { states = b.states; held = b.held; sound = (b.explored).sound; passed = b.passed; explored = λ few. b.explored };
+        standing = record { states = b.states; held = b.held; sound = (b.explored).sound; passed = b.passed; explored = λ few. b.explored; moved = λ few. b.moved };
         low = omega arith;
         inside = omega (arith, is);
         complete = subst (λ (n : ℕ). HasLevels k b.states 0 n) (sym is) (levels-none k eq same b.states moves 0 b.explored);
@@ -266,7 +294,10 @@ module _ {S W E : Type 0} (k : StepSystem S W E) (eq : S → S → Bool) where
     module _ (met : ℕ) (len : (ks : List S) → has ks → met ≡ length ks) (new : List S → Type 0) (after : List Move) (low : at < met)
         (of : OfStateAt k has at (λ ks s. GoesOn k new eq ks at s moves after)) (known : ℕ) (known-is : (ks : List S) → new ks → known ≡ length ks)
         (same : (x y : S) → eq x y ≡ true → (w : W) (left : ℕ → ℕ) → k.stands x w left → k.stands y w left) (next : Levels)
-        (behind : IsBehind levels (at + 1) known next) where
+        (behind : IsBehind levels (at + 1) known next) (unique : (ks : List S) → new ks → IsUnique eq ks) where
+      before : at < at → ⊥
+      before h = omega (arith, h)
+
       abbrev was : Standing has sought (λ (j : ℕ). j < at) moves
       was = so.standing
 
@@ -313,7 +344,7 @@ module _ {S W E : Type 0} (k : StepSystem S W E) (eq : S → S → Bool) where
 
       pub going-more : (is : Bool) → is ≡ false → OfStates k new (SaysFrom k sought met is) → Going new sought (at + 1) after next
       going-more is fails said = record {
-        standing = standing-more has sought (λ (j : ℕ). j < at) moves was met len at new after low of known known-is (λ (j : ℕ). j < at + 1)
+        standing = standing-more has sought (λ (j : ℕ). j < at) moves was met len at new after low of unique before known known-is (λ (j : ℕ). j < at + 1)
             (λ small. turns-on at met known low) is fails said;
         low = low-now next behind;
         inside = inside-now next behind;
@@ -323,17 +354,17 @@ module _ {S W E : Type 0} (k : StepSystem S W E) (eq : S → S → Bool) where
       pub going-told : (most : ℕ) (wish : Wish) (is : Bool) → is ≡ false → OfStates k new (SaysFrom k sought met is) → wish ≡ wishes.End
           → IsReached k new eq most wish sought after verdicts.Told (Some next.complete)
       going-told most wish is fails said told =
-          reached-told has sought (λ (j : ℕ). j < at) moves was met len at new after low of most wish (Some next.complete) through-now is fails said told
+          reached-told has sought (λ (j : ℕ). j < at) moves was met len at new after low of unique before most wish (Some next.complete) through-now is fails said told
 
       pub going-sought : (most : ℕ) (wish : Wish) (is : Bool) → is ≡ true → OfStates k new (SaysFrom k sought met is)
           → IsReached k new eq most wish sought after verdicts.Sought (Some next.complete)
       going-sought most wish is holds said =
-          reached-sought has sought (λ (j : ℕ). j < at) moves was met len at new after low of most wish (Some next.complete) through-now is holds said
+          reached-sought has sought (λ (j : ℕ). j < at) moves was met len at new after low of unique before most wish (Some next.complete) through-now is holds said
 
   -- where nothing was met
-  pub reached-none : (has : List S → Type 0) (sought : E → Type 0) (moves : List Move) (most : ℕ) (wish : Wish) → has [] → CanGetStuck k
+  pub reached-none : (has : List S → Type 0) (sought : E → Type 0) (moves : List Move) (most : ℕ) (wish : Wish) → moves ≡ [] → has [] → CanGetStuck k
       → IsReached k has eq most wish sought moves verdicts.CannotTell None
-  reached-none has sought moves most wish held gives_up = record {
+  reached-none has sought moves most wish none held gives_up = record {
     states = [];
     held = held;
     found = record {
@@ -344,6 +375,7 @@ module _ {S W E : Type 0} (k : StepSystem S W E) (eq : S → S → Bool) where
       told = λ v. absurd (cc v);
     };
     whole = λ v. absurd (cc v);
+    moved = λ n. subst (IsMoved k eq []) (sym none) (moved-none k eq);
     seeks = seeks-none k sought verdicts.CannotTell [] (λ v. cc v) (λ j s at. absurd (none-some s at));
     gone_through = tt;
   }
@@ -367,6 +399,7 @@ module _ {S W E : Type 0} (k : StepSystem S W E) (eq : S → S → Bool) where
           told = λ v. absurd (cc v);
         };
         whole = λ v. absurd (cc v);
+        moved = λ n. subst (IsMoved k eq (f.state ∷ [])) (sym none) (moved-first k eq f.state f.is);
         seeks = seeks-some k sought (f.state ∷ []) (says (f.state ∷ []) f.held first.sound);
         gone_through = subst (HasGoneThrough k (f.state ∷ [])) (sym counted) (through order);
       }

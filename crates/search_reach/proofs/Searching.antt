@@ -170,13 +170,13 @@ module _ {S : Type 0} (eq : S → S → Bool) where
       (subst (λ l. Notes eq (insert_key eq ks x.state) at (xs ++ x ∷ []) before l) (sym (pushed ∙ ap (λ (n : ℕ). between ++ m n ∷ []) same)) new)
 
 -- the moves from a state
-from-none : (at : ℕ) (ms : List Move) → ((m : Move) → Contains ms m → m.from ≡ at → ⊥) → moves_from at ms ≡ []
+pub from-none : (at : ℕ) (ms : List Move) → ((m : Move) → Contains ms m → m.from ≡ at → ⊥) → moves_from at ms ≡ []
 from-none at [] h = refl
 from-none at (m ∷ ms) h =
     cond-false (m.from == at) (m ∷ moves_from at ms) (moves_from at ms) (ne_eqb m.from at (h m (Contains-head m ms)))
     ∙ from-none at ms (λ n c. h n (Contains-tail m n ms c))
 
-from-all : (at : ℕ) (ms : List Move) → ((m : Move) → Contains ms m → m.from ≡ at) → moves_from at ms ≡ ms
+pub from-all : (at : ℕ) (ms : List Move) → ((m : Move) → Contains ms m → m.from ≡ at) → moves_from at ms ≡ ms
 from-all at [] h = refl
 from-all at (m ∷ ms) h =
     cond-true (m.from == at) (m ∷ moves_from at ms) (moves_from at ms) (eq-eqb m.from at (h m (Contains-head m ms)))

@@ -11,6 +11,7 @@ use Rattle.search_reach.specs.Meeting.{OfStateAt, GoesOn, OfStates, IsBegun}
 use Rattle.search_reach.specs.Sought.{SaysFrom}
 use Rattle.search_reach.specs.Stack.{IsStack, Opens, IsOpened}
 use Rattle.search_reach.proofs.Searching.{Begins, get_longer, get_shorter, here, explored-alike}
+use Rattle.search_reach.proofs.Moving.{IsUnique}
 use Rattle.search_reach.proofs.Meeting.{Turns, Standing, met-known, now-long, standing-more}
 
 -- the place isn't on it
@@ -176,6 +177,7 @@ module _ {S W E : Type 0} (k : StepSystem S W E) (eq : S → S → Bool) where
           passed = b.passed;
           explored = λ few. explored-alike eq k b.states moves (λ (j : ℕ). j < 0) (Off stack) (λ j low h. absurd (omega (arith, h)))
               (λ j low off. absurd (off ((o.opens (omega (arith, is, few))).new j (omega arith) (omega (arith, is, low))))) b.explored;
+          moved = λ few. b.moved;
         };
         len = let l = o.len in omega (arith, l, is);
         stacked = λ few. subst (IsStack stack) is ((o.opens (omega (arith, is, few))).stack (stack-none 0));
@@ -188,6 +190,9 @@ module _ {S W E : Type 0} (k : StepSystem S W E) (eq : S → S → Bool) where
         let is = len (so.standing).states (so.standing).held in
         subst (λ l. IsStack l met) taken (subst (IsStack stack) (sym is) (so.stacked (omega (arith, is, few))))
 
+    pub not-before : Off stack at → ⊥
+    not-before off = off (subst (λ l. Contains l at) (sym taken) (Contains-push rest at))
+
     pub gone-fewer : gone < met
     gone-fewer =
         let is = len (so.standing).states (so.standing).held in
@@ -198,14 +203,14 @@ module _ {S W E : Type 0} (k : StepSystem S W E) (eq : S → S → Bool) where
     below-met few = (stacked few).within at (Contains-push rest at)
 
     module _ (new : List S → Type 0) (after : List Move) (low : at < met) (of : OfStateAt k has at (λ ks s. GoesOn k new eq ks at s moves after))
-        (known : ℕ) (known-is : (ks : List S) → new ks → known ≡ length ks) where
+        (known : ℕ) (known-is : (ks : List S) → new ks → known ≡ length ks) (unique : (ks : List S) → new ks → IsUnique eq ks) where
       pub deep-more : (is : Bool) → is ≡ false → OfStates k new (SaysFrom k sought met is) → (more : List ℕ) → IsOpened rest met known more
           → Deep new sought more (gone + 1) after
       deep-more is fails said more o =
           let up = met-known k eq has sought (Off stack) moves so.standing met len at new after low of known known-is in
           let are = now-long k eq has sought (Off stack) moves so.standing met len at new after low of known known-is in
           record {
-            standing = standing-more k eq has sought (Off stack) moves so.standing met len at new after low of known known-is (Off more)
+            standing = standing-more k eq has sought (Off stack) moves so.standing met len at new after low of unique not-before known known-is (Off more)
                 (λ few. subst (λ l. Turns (Off l) (Off more) at met known) (sym taken)
                 (turns-off rest more at met known (stacked (omega (arith, up, few))) (o.opens (omega (arith, few))))) is fails said;
             len =

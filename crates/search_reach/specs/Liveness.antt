@@ -10,10 +10,13 @@ use Rattle.search_graph.specs.declared.graph.Graph.{Graph}
 use Rattle.search_fairness.specs.Judged.{IsCycle}
 use Rattle.search_fairness.specs.declared.judged.Cycle as cycles
 use Rattle.search_reach.specs.Search.{StepSystem, StandsFor, CanEnd, IsSound, IsAll}
+use Rattle.search_reach.specs.Moved.{IsPathTo, AreChoicesOf}
+use Rattle.search_reach.specs.Ways.{AreNumbered, IsWay, AreWays, GoRound}
 use Rattle.search_reach.specs.declared.follows.Wish.{Wish}
 use Rattle.search_reach.specs.declared.follows.Wish.TheVariants as wishes
 use Rattle.search_reach.specs.declared.search.Verdict.{Verdict}
 use Rattle.search_reach.specs.declared.search.Verdict.TheVariants as verdicts
+use Rattle.search_reach.specs.declared.ending.Ended as found
 use Rattle.search_reach.specs.declared.liveness.FairCycle as rounds
 use Rattle.search_reach.specs.declared.liveness.FairRuns.{FairRuns}
 use Rattle.search_reach.specs.declared.liveness.FairRuns.TheVariants.{AllEnd, GoOn, Unknown}
@@ -53,13 +56,31 @@ module _ {S W E : Type 0} (k : StepSystem S W E) where
   SaysOf (GoOn c) = (w : W) × k.begins w × FairRun k.worlds w
   SaysOf Unknown = Unit {0}
 
+  -- A way leads to the first state of these places, if there is one.
+  abbrev pub LeadsToFirst : (S → S → Bool) → List S → List ℕ → List ℕ → Type 0
+  LeadsToFirst eq ks places choices =
+      (p : ℕ) (s : S) → slice_get places 0 ≡ Some p → slice_get ks p ≡ Some s → IsWay k eq choices s
+
   -- All of so many states, and what is said of them.
   pub record IsLive (eq : S → S → Bool) (states : ℕ) (l : Liveness) : Type 0 where
     pub keys : List S
     pub counted : AreCounted eq keys states
     pub all : IsAll k keys
     pub endless : AreEndless keys l.endless.items
+    pub path : LeadsToFirst eq keys l.endless.items l.path.items
     pub fair_runs : SaysOf l.fair_runs
+    pub round : GoRound k eq l.fair_runs
+
+  -- The path leads to a state from which no ending can be reached, if there is one.
+  abbrev pub LeadsToEndless : (S → S → Bool) → Liveness → Type 0
+  LeadsToEndless eq l = (p : ℕ) → slice_get l.endless.items 0 ≡ Some p → (s : S) × NeverEnds s × IsWay k eq l.path.items s
+
+  -- The choices of a search lead where they are said to lead: those beside each ending to a state that has ended so; and
+  -- where more is said, others to a state from which no ending can be reached, and round.
+  pub record HasWays (eq : S → S → Bool) (ended : found.Ended E) : Type 0 where
+    pub endings : AreNumbered ended.verdict ended.states → AreWays k eq ended.paths.items ended.endings.keys
+    pub endless : IfSome ended.liveness (LeadsToEndless eq)
+    pub round : IfSome ended.liveness (λ l. GoRound k eq l.fair_runs)
 
   -- It is said where all were met, and there alone.
   abbrev pub IsLiveWhereAll : (S → S → Bool) → ℕ → Verdict → Option Liveness → Type 0
@@ -68,12 +89,15 @@ module _ {S W E : Type 0} (k : StepSystem S W E) where
 
 -- The same of a graph.
 module _ (graph : Graph) where
-  -- The threads and the number of the states are those of a cycle of the graph.
+  -- The threads and the number of the states are those of a cycle of the graph; the path leads to where it starts, and
+  -- the walk has the choices of its moves.
   pub record IsRoundOf (c : rounds.FairCycle) : Type 0 where
     pub cycle : cycles.Cycle
     pub is : IsCycle graph.moves.items cycle
     pub threads : c.threads.items ≡ cycle.threads.items
     pub states : c.states ≡ length cycle.states.items
+    pub path : IsPathTo graph.moves.items graph.states c.path.items cycle.start
+    pub walk : AreChoicesOf graph.moves.items cycle.walk.items c.walk.items
 
   abbrev pub SaysOfGraph : FairRuns → Type 0
   SaysOfGraph AllEnd = EveryFairRunEnds graph.moves.items
@@ -86,6 +110,7 @@ module _ (graph : Graph) (ended : List Bool) where
     pub order : IsStrictlyIncreasing l.endless.items
     pub exact : (s : ℕ) → Contains l.endless.items s ↔ CannotEnd graph.moves.items ended graph.states s
     pub others : (s : ℕ) → s < graph.states → Contains l.endless.items s ⊎ PathEnds graph.moves.items ended s
+    pub path : (p : ℕ) → slice_get l.endless.items 0 ≡ Some p → IsPathTo graph.moves.items graph.states l.path.items p
     pub fair_runs : SaysOfGraph graph l.fair_runs
 
   -- How it is judged, by the verdict and the last wish before: where all were met, and nobody wishes the end.

@@ -1,5 +1,7 @@
 -- States in a table, which has some states: what comes of going on from one, and where a search stands.
-use Rattle.std.specs.Prelude.{◌≡◌, ◌<◌, ◌^◌, ℕ, Bool, Option, Some, List, [], ◌∷◌, length}
+use Rattle.std.specs.Prelude.{◌≡◌, ◌<◌, ◌^◌, ℕ, Bool, true, Option, Some, List, [], ◌∷◌, length}
+use Rattle.std.proofs.Common.{◌∙◌}
+use Rattle.std.specs.Cmp.{IsEquivalence}
 use Rattle.std.specs.List.{slice_get, AllZip}
 use Rattle.search_graph.specs.declared.graph.Move.{Move}
 use Rattle.search_reach.specs.declared.explores.Next.{Next}
@@ -10,6 +12,12 @@ use Rattle.search_reach.specs.Explored.{Gains, Notes, ExploredTo, IsWhole}
 use Rattle.search_reach.specs.Found.{IsFound}
 use Rattle.search_reach.specs.Sought.{ArePassed, SeeksAmong}
 use Rattle.search_reach.specs.Levels.{HasGoneThrough}
+use Rattle.search_reach.specs.Moved.{IsMoved}
+use Rattle.search_reach.specs.Ways.{AreNumbered}
+
+-- What equals another is equalled by it.
+pub equal_back : {S : Type 0} (eq : S → S → Bool) → IsEquivalence eq → (x y : S) → eq x y ≡ true → eq y x ≡ true
+equal_back eq is x y e = is.symm y x ∙ e
 
 module _ {S W E : Type 0} (k : StepSystem S W E) (has : List S → Type 0) where
   -- One of the states has this index, and can be met.
@@ -41,6 +49,7 @@ module _ {S W E : Type 0} (k : StepSystem S W E) (has : List S → Type 0) where
       pub states : List S
       pub held : has states
       pub explored : ExploredTo k eq states moves 0
+      pub moved : IsMoved k eq states moves
       pub passed : ArePassed k sought states
 
     -- What a search found that was to meet no more than `most` states and a few, and to end at an ending that is looked
@@ -52,6 +61,7 @@ module _ {S W E : Type 0} (k : StepSystem S W E) (has : List S → Type 0) where
       pub found : IsFound (record { complete = IsAll k; sound = IsSound k; lost = CanGetStuck k }) most wish verdict
           (length states) states
       pub whole : IsWhole k eq states moves verdict
+      pub moved : AreNumbered verdict (length states) → IsMoved k eq states moves
       pub seeks : SeeksAmong k sought verdict states
       pub gone_through : HasGoneThrough k states levels
 

@@ -1,6 +1,6 @@
 -- What an exhaustive search shows: concrete states stand for worlds, between which threads make steps.
 use Rattle.std.specs.Prelude.{◌≡◌, ◌≢◌, ◌≤◌, ◌<◌, ◌⊎◌, ℕ, Bool, true, Option, Some, List, take, Contains}
-use Rattle.std.specs.List.{AllZip}
+use Rattle.std.specs.List.{slice_get, AllZip}
 use Rattle.std.specs.Option.{is_some}
 use Rattle.search_graph.specs.Paths.{Reaches}
 use Rattle.search_graph.specs.Worlds.{Worlds, CanStep}
@@ -29,6 +29,15 @@ pub record HasOf {S : Type 0} (xs : List (Next S)) (thread : ℕ) : Type 0 where
   pub next : Next S
   pub among : Contains xs next
   pub is : next.thread ≡ thread
+
+-- Their threads ascend.
+abbrev pub Ascend : {S : Type 0} → List (Next S) → Type 0
+Ascend xs = (i j : ℕ) (x y : Next _) → i < j → slice_get xs i ≡ Some x → slice_get xs j ≡ Some y → x.thread < y.thread
+
+-- They ascend, and each is below this number.
+pub record AscendBelow {S : Type 0} (end : ℕ) (xs : List (Next S)) : Type 0 where
+  pub ascend : Ascend xs
+  pub low : (x : Next S) → Contains xs x → x.thread < end
 
 module _ {S W E : Type 0} (k : StepSystem S W E) where
   -- A step of a thread.
@@ -111,8 +120,9 @@ module _ {S W E : Type 0} (k : StepSystem S W E) where
         → k.worlds.can z u
     pub settles : (w : W) → StandsFor s w → (z : W) × Reaches (CanStep k.worlds) w z × RestsIn s z
 
-  -- These are the next states of s, each with its thread. Each step of a thread that can go on stays within s or leads
-  -- to one of them; and where all rest in s, the threads that can go on are theirs, and come to each.
+  -- These are the next states of s, each with its thread, in the order of the threads. Each step of a thread that can go
+  -- on stays within s or leads to one of them; and where all rest in s, the threads that can go on are theirs, and come to
+  -- each.
   pub record AreNext (s : S) (xs : List (Next S)) : Type 0 where
     pub orderly : IsOrderly s
     pub step : (w z : W) (left : ℕ → ℕ) (n : ℕ) → k.stands s w left → k.worlds.can w n → k.worlds.steps n w z
@@ -120,6 +130,7 @@ module _ {S W E : Type 0} (k : StepSystem S W E) where
     pub goes_on : (w : W) → StandsFor s w → (x : Next S) → Contains xs x → k.worlds.can w x.thread
     pub all : (w : W) → RestsIn s w → (n : ℕ) → k.worlds.can w n → HasOf xs n
     pub comes : (w : W) → RestsIn s w → (x : Next S) → Contains xs x → ComesBy x.thread w x.state
+    pub ascend : Ascend xs
 
   -- This is a first state: it stands for all first worlds, and for one.
   pub record IsFirst (s : S) : Type 0 where

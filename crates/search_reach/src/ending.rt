@@ -4,10 +4,12 @@ ghost use Rattle.indexmap.specs.IndexSet.{index_set_len, insert_key};
 ghost use Rattle.search_reach.specs.Meeting.{HasSound, OfStates, AreGathered, IsReached};
 ghost use Rattle.search_reach.specs.Explored.{IsWhole};
 ghost use Rattle.search_reach.specs.Found.{AreEndings, IsSearched};
-ghost use Rattle.search_reach.specs.Liveness.{IsCount, IsLiveWhereAll};
+ghost use Rattle.search_reach.specs.Liveness.{IsCount, IsLiveWhereAll, HasWays};
 ghost use Rattle.search_reach.specs.Levels.{HasEndsWithin, HasGoneThrough, IsLeveled};
+ghost use Rattle.search_reach.specs.Moved.{AreFirsts, ArePathsTo, IsMoved, insert_first};
 ghost use Rattle.search_reach.specs.Sought.{SeeksAmong, SeeksIn};
 ghost use Rattle.search_reach.specs.Told.{Obeys, OfCount, StillObeys};
+ghost use Rattle.search_reach.specs.Ways.{AreNumbered};
 
 use crate::liveness::judged;
 use crate::path::{paths_to, ways_in};
@@ -34,9 +36,8 @@ fn add_ending<E: Eq + Hash + Drop>(
     at: usize,
     ending: E,
 ) -> Result<(), AllocError>
-    requires { vec_len firsts.old ≡ index_set_len endings.old }
     ensures added { OnOk result (endings.new.keys ≡ insert_key E.eq endings.old.keys ending) }
-    ensures firsts { OnOk result (vec_len firsts.new ≡ index_set_len endings.new) }
+    ensures firsts { OnOk result (firsts.new.items ≡ insert_first E.eq endings.old.keys ending firsts.old.items at) }
 {
     let is_new = endings.insert(ending)?;
     if is_new {
@@ -54,7 +55,9 @@ fn endings<T: Meets>(
     requires { HasSound (T.system system.now) (T.holds system.now table.now) }
     ensures gathered { IfOk result (λ r. OfStates (T.system system.now) (T.holds system.now table.now)
         (λ ks. AreGathered (T.system system.now) T.Ending.eq ks r.endings.keys r.ended.items)) }
-    ensures firsts { IfOk result (λ r. vec_len r.firsts ≡ index_set_len r.endings) }
+    ensures firsts { IfOk result (λ r. OfStates (T.system system.now) (T.holds system.now table.now)
+        (λ ks. AreFirsts (T.system system.now) ks r.firsts.items r.endings.keys)) }
+    ensures len { IfOk result (λ r. vec_len r.firsts ≡ index_set_len r.endings) }
 {
     let mut endings = IndexSet::new(alloc);
     let mut firsts = Vec::new(alloc);
@@ -78,8 +81,8 @@ fn endings<T: Meets>(
 pub struct Ended<E: Eq + Hash> {
     /// The endings, each once.
     pub endings: IndexSet<E>,
-    /// For each ending a way to it from the first state: which of the next states of each is the next one. No clause
-    /// says that it leads there: it is a hint, to be judged by whoever follows it.
+    /// For each ending a way to it from the first state: which of the next states of each is the next one. It leads to a
+    /// state that has ended so (`HasWays`), where all states were met or fewer than 2 ^ 32.
     pub paths: Vec<Vec<usize>>,
     /// How many states were met, each once.
     pub states: usize,
@@ -94,7 +97,9 @@ pub struct Ended<E: Eq + Hash> {
 
 /// A way to each of these states, by the moves that were noted.
 fn paths_of(alloc: Global, graph: &Graph, states: &[usize]) -> Result<Vec<Vec<usize>>, AllocError>
-    ensures { IfOk result (λ paths. vec_len paths ≡ length states.now) }
+    ensures paths { IfOk result (λ paths.
+        ArePathsTo graph.now.moves.items graph.now.states paths.items states.now) }
+    ensures len { IfOk result (λ paths. vec_len paths ≡ length states.now) }
 {
     let moves = graph.moves.as_slice();
     let ways = ways_in(alloc, graph.states, moves)?;
@@ -118,6 +123,7 @@ pub fn conclude<T: Meets, Q: Seeks<T::Ending>, F: Follows>(
         (F.wish follower.old) (Q.sought _sought.now) reached.moves.items reached.verdict reached.levels }
     ensures found { IfOk result (AreEndings (T.system system.now) T.Ending.eq most (F.wish follower.new)) }
     ensures paths { IfOk result (λ r. vec_len r.paths ≡ index_set_len r.endings) }
+    ensures ways { IfOk result (HasWays (T.system system.now) (T.equal system.now)) }
     ensures count { IfOk result (λ r. IsCount (T.system system.now) (T.equal system.now) r.states) }
     ensures live { IfOk result
         (λ r. IsLiveWhereAll (T.system system.now) (T.equal system.now) r.states r.verdict r.liveness) }
@@ -172,10 +178,13 @@ pub fn endings_of<T: Explores, Q: Seeks<T::Ending>, F: Follows>(
 ) -> Result<Ended<T::Ending>, AllocError>
     requires found { IsSearched (T.system system.now) most (F.wish follower.old) found }
     requires whole { IsWhole (T.system system.now) T.State.eq found.met.keys found.moves.items found.verdict }
+    requires moved { AreNumbered found.verdict (index_set_len found.met)
+        → IsMoved (T.system system.now) T.State.eq found.met.keys found.moves.items }
     requires seeks { SeeksAmong (T.system system.now) (Q.sought sought.now) found.verdict found.met.keys }
     requires levels { HasGoneThrough (T.system system.now) found.met.keys found.levels }
     ensures found { IfOk result (AreEndings (T.system system.now) T.Ending.eq most (F.wish follower.new)) }
     ensures paths { IfOk result (λ r. vec_len r.paths ≡ index_set_len r.endings) }
+    ensures ways { IfOk result (HasWays (T.system system.now) T.State.eq) }
     ensures count { IfOk result (λ r. IsCount (T.system system.now) T.State.eq r.states) }
     ensures live { IfOk result
         (λ r. IsLiveWhereAll (T.system system.now) T.State.eq r.states r.verdict r.liveness) }
@@ -216,6 +225,7 @@ pub fn all_endings<T: Meets, Q: Seeks<T::Ending>, F: Follows>(
 ) -> Result<Ended<T::Ending>, AllocError>
     ensures found { IfOk result (AreEndings (T.system system.now) T.Ending.eq most (F.wish follower.new)) }
     ensures paths { IfOk result (λ r. vec_len r.paths ≡ index_set_len r.endings) }
+    ensures ways { IfOk result (HasWays (T.system system.now) (T.equal system.now)) }
     ensures count { IfOk result (λ r. IsCount (T.system system.now) (T.equal system.now) r.states) }
     ensures live { IfOk result
         (λ r. IsLiveWhereAll (T.system system.now) (T.equal system.now) r.states r.verdict r.liveness) }

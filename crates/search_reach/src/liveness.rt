@@ -1,10 +1,12 @@
 //! Whether all comes to an end: from which states no ending can be reached, and whether every fair run ends.
-ghost use Rattle.std.specs.Prelude.{◌≡◌, None, IfOk, IfSome, All, length};
+ghost use Rattle.std.specs.Prelude.{◌≡◌, ℕ, None, Some, IfOk, IfSome, All, length};
+ghost use Rattle.std.specs.List.{slice_get};
 ghost use Rattle.search_graph.specs.Graph.{IsWithin};
 ghost use Rattle.search_fairness.specs.Judged.{Says, IsCycle};
 ghost use Rattle.search_reach.specs.declared.follows.Wish.TheVariants as wishes;
 ghost use Rattle.search_reach.specs.declared.search.Verdict.TheVariants as verdicts;
 ghost use Rattle.search_reach.specs.Liveness.{IsRoundOf, SaysOfGraph, IsGraphLive, IsJudged};
+ghost use Rattle.search_reach.specs.Moved.{AreWaysIn, IsPathTo, AreChoicesOf};
 ghost use Rattle.search_reach.specs.Told.{Obeys, StillObeys};
 
 use crate::path::{choices_of, path_to, ways_in};
@@ -13,8 +15,8 @@ use search_fairness::{Cycle, Fairness, judge};
 use search_graph::{Graph, Move, cannot_end};
 use std::alloc::{AllocError, Global};
 
-/// A fair run that goes on for ever: it comes to a state, and from there goes round and round. No clause speaks of the
-/// choices: they are a hint, to be judged by whoever follows them.
+/// A fair run that goes on for ever: it comes to a state, and from there goes round and round. The choices lead so
+/// (`GoesRound`).
 #[derive(Drop, Debug)]
 pub struct FairCycle {
     /// The choices to the state where it begins to go round.
@@ -43,7 +45,7 @@ pub enum FairRuns {
 pub struct Liveness {
     /// The states from which no ending can be reached, by their places among those that were met, ascending.
     pub endless: Vec<usize>,
-    /// The choices to the first of these, if there is one: a hint, as the paths of endings are.
+    /// The choices to the first of these, if there is one; they lead there (`LeadsToFirst`).
     pub path: Vec<usize>,
     /// Whether every fair run ends.
     pub fair_runs: FairRuns,
@@ -56,8 +58,11 @@ fn round_of(
     ways: &[usize],
     cycle: Cycle,
 ) -> Result<FairCycle, AllocError>
+    requires { AreWaysIn moves.now (length moves.now) ways.now }
     ensures threads { IfOk result (λ r. r.threads.items ≡ cycle.threads.items) }
     ensures states { IfOk result (λ r. r.states ≡ length cycle.states.items) }
+    ensures path { IfOk result (λ r. IsPathTo moves.now (length ways.now) r.path.items cycle.start) }
+    ensures walk { IfOk result (λ r. AreChoicesOf moves.now cycle.walk.items r.walk.items) }
 {
     let path = path_to(alloc, moves, ways, cycle.start as usize)?;
     let walk = choices_of(alloc, moves, cycle.walk.as_slice())?;
@@ -71,7 +76,9 @@ fn round_of(
 
 /// What is known of the fair runs of a graph.
 fn fair_runs_of(alloc: Global, graph: &Graph, ways: &[usize]) -> Result<FairRuns, AllocError>
-    requires { All (IsWithin graph.now.states) graph.now.moves.items }
+    requires within { All (IsWithin graph.now.states) graph.now.moves.items }
+    requires ways { AreWaysIn graph.now.moves.items (length graph.now.moves.items) ways.now }
+    requires len { length ways.now ≡ graph.now.states }
     ensures { IfOk result (SaysOfGraph graph.now) }
 {
     match judge(alloc, graph)? {
@@ -81,6 +88,16 @@ fn fair_runs_of(alloc: Global, graph: &Graph, ways: &[usize]) -> Result<FairRuns
             Ok(FairRuns::GoOn(round))
         }
         Fairness::Unknown => Ok(FairRuns::Unknown),
+    }
+}
+
+/// The first of these places, or 0 where there is none.
+fn first_of(places: &[usize]) -> usize
+    ensures { (p : ℕ) → slice_get places.now 0 ≡ Some p → result ≡ p }
+{
+    match places.first() {
+        Some(first) => *first,
+        None => 0,
     }
 }
 
@@ -103,10 +120,11 @@ fn liveness_of<F: Follows>(
     if let Wish::End = follower.states(graph.states, 0) {
         return Ok(None);
     }
-    let ways = ways_in(alloc, graph.states, graph.moves.as_slice())?;
+    let moves = graph.moves.as_slice();
+    let ways = ways_in(alloc, graph.states, moves)?;
     let fair_runs = fair_runs_of(alloc, graph, ways.as_slice())?;
-    let first = endless.first().copied().unwrap_or(0);
-    let path = path_to(alloc, graph.moves.as_slice(), ways.as_slice(), first)?;
+    let first = first_of(endless.as_slice());
+    let path = path_to(alloc, moves, ways.as_slice(), first)?;
     Ok(Some(Liveness {
         endless,
         path,

@@ -50,7 +50,7 @@ pub trait Meets {
         ensures gives_up { IfOk result (λ told. told ≡ false → CanGetStuck (system self.now)) };
 
     /// Puts the next states of the one at this place into the table, of which each state can be met, and notes the moves
-    /// to them. It answers no, and puts none, where it cannot tell them.
+    /// to them. It answers no, puts none and notes none where it cannot tell them.
     fn next(
         &self,
         alloc: Global,
@@ -64,6 +64,7 @@ pub trait Meets {
             (λ ks s. GoesOn (system self.now) (holds self.now table.new) (equal self.now) ks at s moves.old.items moves.new.items)) }
         ensures none { IfOk result (λ told. told ≡ false → OfStateAt (system self.now) (holds self.now table.old) at
             (λ ks s. holds self.now table.new ks)) }
+        ensures kept { IfOk result (λ told. told ≡ false → moves.new.items ≡ moves.old.items) }
         ensures gives_up { IfOk result (λ told. told ≡ false → OfStateAt (system self.now) (holds self.now table.old) at
             (λ ks s. AllGetStuck (system self.now) s)) };
 
@@ -81,4 +82,7 @@ pub trait Meets {
     /// Equal states stand for the same.
     ghost alike: { (t : Self) (x y : State) → equal t x y ≡ true → (w : World) (left : ℕ → ℕ)
         → (system t).stands x w left → (system t).stands y w left };
+
+    /// What equals another is equalled by it.
+    ghost symmetric: { (t : Self) (x y : State) → equal t x y ≡ true → equal t y x ≡ true };
 }

@@ -2,6 +2,7 @@
 ghost use Rattle.std.specs.Prelude.{◌≡◌, ◌<◌, ◌^◌, OnOk};
 ghost use Rattle.indexmap.specs.IndexSet.{index_set_len};
 ghost use Rattle.search_reach.specs.Explored.{Gains, Notes};
+ghost use Rattle.search_reach.specs.Meeting.{equal_back};
 
 use crate::{Explores, Meets, Next};
 use indexmap::IndexSet;
@@ -53,6 +54,8 @@ impl<T: Explores> Meets for Plain<'_, T> {
     ghost holds = { λ p table ks. table.keys ≡ ks };
 
     ghost alike = { λ p. T.same p.system.now };
+
+    ghost symmetric = { λ p. equal_back T.State.eq T.State.Eq.laws };
 
     fn table(&self, alloc: Global) -> IndexSet<T::State> {
         IndexSet::new(alloc)

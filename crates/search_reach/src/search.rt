@@ -5,9 +5,11 @@ ghost use Rattle.search_reach.specs.Explored.{IsWhole};
 ghost use Rattle.search_reach.specs.Found.{IsSearched};
 ghost use Rattle.search_reach.specs.Levels.{HasGoneThrough, IsBehind, IsLeveled, levels_by};
 ghost use Rattle.search_reach.specs.Meeting.{IsBegun, IsReached};
+ghost use Rattle.search_reach.specs.Moved.{IsMoved};
 ghost use Rattle.search_reach.specs.Sought.{SeeksAmong};
 ghost use Rattle.search_reach.specs.Stack.{IsOpened};
 ghost use Rattle.search_reach.specs.Told.{Obeys, OfCount};
+ghost use Rattle.search_reach.specs.Ways.{AreNumbered};
 
 use crate::plain::Plain;
 use crate::seeking::has_sought;
@@ -274,6 +276,8 @@ pub fn reach_all<T: Explores, Q: Seeks<T::Ending>, F: Follows>(
 ) -> Result<Found<T::State>, AllocError>
     ensures found { IfOk result (IsSearched (T.system system.now) most (F.wish follower.new)) }
     ensures whole { IfOk result (λ f. IsWhole (T.system system.now) T.State.eq f.met.keys f.moves.items f.verdict) }
+    ensures moved { IfOk result (λ f. AreNumbered f.verdict (index_set_len f.met)
+        → IsMoved (T.system system.now) T.State.eq f.met.keys f.moves.items) }
     ensures seeks { IfOk result (λ f. SeeksAmong (T.system system.now) (Q.sought sought.now) f.verdict f.met.keys) }
     ensures levels { IfOk result (λ f. HasGoneThrough (T.system system.now) f.met.keys f.levels) }
     ensures leveled { IfOk result (λ f. IsLeveled order f.levels (f.met.keys ≡ [])) }

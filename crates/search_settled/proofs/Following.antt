@@ -9,6 +9,7 @@ use Rattle.schedule.specs.Scheduled.{after_event, hears_any, or_started}
 use Rattle.schedule.proofs.Basics.{put-other}
 use Rattle.search_settled.specs.Settled.{Settles, IsReached, AreTame}
 use Rattle.search_reach.specs.declared.explores.Next.{Next}
+use Rattle.search_reach.proofs.Ascending.{ascend-none, ascend-same, ascend-more}
 use Rattle.search_settled.specs.Next.{IsAt, IsNextBy, IsNextOf, IsSomewhere, IsStuckAfter, HasNext}
 use Rattle.search_settled.specs.declared.flat.Flat.{Flat}
 use Rattle.search_settled.specs.Known.{AllComeFrom}
@@ -148,7 +149,11 @@ module _ {X T E V A G H M : Type 0} (k : ThreadSystem X T E V A G H M) where
   Below c i xs = HasNextBelow k c i xs
 
   pub below-none : (c : Flat G H) → Below c 0 []
-  below-none c = record { all = λ z at n low. absurd (omega (arith, low)); sound = λ z at x among. absurd (omega (arith, among.1)) }
+  below-none c = record {
+    all = λ z at n low. absurd (omega (arith, low));
+    sound = λ z at x among. absurd (omega (arith, among.1));
+    ascend = ascend-none;
+  }
 
   later : (z : State X T) (n : ℕ) (e : E) (xs : List (Next (Flat G H))) (y : Next (Flat G H))
       → (x : Next (Flat G H)) × Contains xs x × (x.thread ≡ n) × IsNextBy k z n e x.state
@@ -180,6 +185,7 @@ module _ {X T E V A G H M : Type 0} (k : ThreadSystem X T E V A G H M) where
       | inr same ↦ absurd (none z (thread-at c z is i t at) e (subst (λ j. k.system.wants (z.threads j) ≡ Calls e) same wants))
     ];
     sound = so.sound;
+    ascend = ascend-same i xs so.ascend;
   }
 
   -- a thread that wants one
@@ -198,6 +204,7 @@ module _ {X T E V A G H M : Type 0} (k : ThreadSystem X T E V A G H M) where
       | inr same ↦ (let a = some z (thread-at c z is i t at) in
           subst (λ v. IsNextOf k z v) same (record { event = a.0; wants = a.1; next = here z is }))
     ];
+    ascend = ascend-more i xs new refl so.ascend;
   }
     where
       new : Next (Flat G H)
@@ -219,6 +226,7 @@ module _ {X T E V A G H M : Type 0} (k : ThreadSystem X T E V A G H M) where
   below-all c i xs so past = record {
     all = λ z is n e wants. so.all z is n (low z is n e wants) e wants;
     sound = so.sound;
+    ascend = so.ascend.ascend;
   }
     where
       low : (z : State X T) (is : IsAt k c z) (n : ℕ) (e : E) → k.system.wants (z.threads n) ≡ Calls e → n < i

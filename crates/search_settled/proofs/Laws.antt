@@ -199,6 +199,7 @@ module _ {X T E V A G H M O : Type 0} (k : ThreadSystem X T E V A G H M) (ends :
         goes_on = λ w stands x among. going w stands.0 stands.1 x.thread (record { next = x; among = among; is = refl });
         all = all;
         comes = comes;
+        ascend = next.ascend;
       }
 
     pub ending-is : NobodyTurns k.system ends → (c : Flat G H) (r : Option O)

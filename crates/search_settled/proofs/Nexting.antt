@@ -12,6 +12,7 @@ use Rattle.schedule.specs.System.{State}
 use Rattle.search_table.specs.declared.parts.Parts.{Parts}
 use Rattle.search_table.specs.Tables.{AreThreads, IsRow, HasEqual, Grows}
 use Rattle.search_reach.specs.declared.explores.Next.{Next}
+use Rattle.search_reach.proofs.Ascending.{ascend-alike}
 use Rattle.search_settled.specs.declared.flat.Flat.{Flat}
 use Rattle.search_settled.specs.declared.met.NextRow.{NextRow}
 use Rattle.search_settled.specs.declared.met.Turn.{Turn}
@@ -118,6 +119,7 @@ module _ {X T E V A G H M : Type 0} (k : ThreadSystem X T E V A G H M) where
       | inr same ↦ (let r = so.sound z is old (Contains-push xs old) in
           subst (λ v. IsNextOf k z v) same (record { event = r.event; wants = r.wants; next = next-alike f y alike z n r.event r.next }))
     ];
+    ascend = ascend-alike i xs old new refl so.ascend;
   }
     where
       old : Next (Flat G H)

@@ -6,6 +6,7 @@ use Rattle.schedule.specs.Scheduled.{after_event}
 use Rattle.search_settled.specs.Settled.{Settles, IsReached}
 use Rattle.search_settled.specs.Threads.{ThreadSystem}
 use Rattle.search_reach.specs.declared.explores.Next.{Next}
+use Rattle.search_reach.specs.Search.{AscendBelow}
 use Rattle.search_settled.specs.Next.{IsAt, IsNextBy, IsNextOf}
 use Rattle.search_settled.specs.declared.flat.Flat.{Flat}
 
@@ -122,6 +123,7 @@ module _ {X T E V A G H M : Type 0} (k : ThreadSystem X T E V A G H M) where
     pub all : (z : State X T) → IsAt k c z → (n : ℕ) → n < i → (e : E) → k.system.wants (z.threads n) ≡ Calls e
         → (x : Next (Flat G H)) × Contains xs x × (x.thread ≡ n) × IsNextBy k z n e x.state
     pub sound : (z : State X T) → IsAt k c z → (x : Next (Flat G H)) → Contains xs x → IsNextOf k z x
+    pub ascend : AscendBelow i xs
 
   -- With what was put to them, they are those by the event of one thread more.
   abbrev pub HasOneMore : Flat G H → ℕ → List (Next (Flat G H)) → List (Next (Flat G H)) → Type 0

@@ -4,6 +4,7 @@ use Rattle.schedule.specs.System.{Want.Turns, Want.Calls, System, State}
 use Rattle.schedule.specs.Scheduled.{after_event}
 use Rattle.search_settled.specs.declared.flat.Flat.{Flat}
 use Rattle.search_reach.specs.declared.explores.Next.{Next}
+use Rattle.search_reach.specs.Search.{Ascend}
 use Rattle.search_settled.specs.Settled.{ComesToRest, ComesToRestBy, IsReached}
 use Rattle.search_settled.specs.Threads.{ThreadSystem, IsFlat}
 
@@ -46,11 +47,12 @@ module _ {X T E V A G H M : Type 0} (k : ThreadSystem X T E V A G H M) where
     pub wants : k.system.wants (z.threads x.thread) ≡ Calls event
     pub next : IsNextBy z x.thread event x.state
 
-  -- For each thread that wants an event there is one of these, and each of these is of such a thread.
+  -- For each thread that wants an event there is one of these, and each of these is of such a thread, in their order.
   pub record HasNext (c : Flat G H) (xs : List (Next (Flat G H))) : Type 0 where
     pub all : (z : State X T) → IsAt c z → (n : ℕ) (e : E) → k.system.wants (z.threads n) ≡ Calls e
         → (x : Next (Flat G H)) × Contains xs x × (x.thread ≡ n) × IsNextBy z n e x.state
     pub sound : (z : State X T) → IsAt c z → (x : Next (Flat G H)) → Contains xs x → IsNextOf z x
+    pub ascend : Ascend xs
 
   -- This is how it has ended, if it has.
   pub record HasEnded {O : Type 0} (ends : State X T → O → Type 0) (c : Flat G H) (r : Option O) : Type 0 where

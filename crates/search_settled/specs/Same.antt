@@ -1,8 +1,8 @@
 -- Flat states that are equal are the same state.
 use Rattle.std.specs.Prelude.{ℕ, ◌≡◌, ◌&&◌, zero, suc, Bool, true, List, [], ◌∷◌, length, Some, refl}
 use Rattle.std.proofs.Common.{sym, ap, ◌∙◌, true≢false}
-use Rattle.std.specs.Cmp.{first_so, second_so}
-use Rattle.std.specs.Cmp.Lexicographic.{pointwise}
+use Rattle.std.specs.Cmp.{first_so, second_so, IsEquivalence, partial_equiv_from_equiv}
+use Rattle.std.specs.Cmp.Lexicographic.{pointwise, lists_per}
 use Rattle.std.specs.List.{slice_get}
 use Rattle.schedule.specs.System.{State}
 use Rattle.search_settled.specs.declared.flat.Flat.{Flat}
@@ -30,6 +30,15 @@ module _ {H : Type 0} (eq : H → H → Bool) where
 -- Flat states that are equal.
 abbrev pub flat_eq : {G H : Type 0} → (G → G → Bool) → (H → H → Bool) → Flat G H → Flat G H → Bool
 flat_eq eq_shared eq_thread x y = eq_shared x.shared y.shared && pointwise eq_thread x.threads.items y.threads.items
+
+-- the other way round
+pub flat_eq_back : {G H : Type 0} (eq_shared : G → G → Bool) (eq_thread : H → H → Bool) → IsEquivalence eq_shared → IsEquivalence eq_thread
+    → (x y : Flat G H) → flat_eq eq_shared eq_thread x y ≡ true → flat_eq eq_shared eq_thread y x ≡ true
+flat_eq_back eq_shared eq_thread shared thread x y e =
+    let per = lists_per (partial_equiv_from_equiv thread) in
+    let a = shared.symm y.shared x.shared ∙ first_so (eq_shared x.shared y.shared) (pointwise eq_thread x.threads.items y.threads.items) e in
+    let b = per.symm y.threads.items x.threads.items ∙ second_so (eq_shared x.shared y.shared) (pointwise eq_thread x.threads.items y.threads.items) e in
+    ap (λ t. t && pointwise eq_thread y.threads.items x.threads.items) a ∙ b
 
 pub flat_alike : {X T E V A G H M : Type 0} (eq_shared : G → G → Bool) (eq_thread : H → H
     → Bool) (k : ThreadSystem X T E V A G H M)

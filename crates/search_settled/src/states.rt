@@ -3,7 +3,7 @@ ghost use Rattle.std.specs.Prelude.{◌≡◌, IfOk, IfSome, OnOk, vec_len};
 ghost use Rattle.indexmap.specs.IndexSet.{index_set_len};
 ghost use Rattle.search_reach.specs.Found.{AreEndings};
 ghost use Rattle.search_reach.specs.Levels.{IsLeveled};
-ghost use Rattle.search_reach.specs.Liveness.{IsCount, IsLiveWhereAll};
+ghost use Rattle.search_reach.specs.Liveness.{IsCount, IsLiveWhereAll, HasWays};
 ghost use Rattle.search_reach.specs.Sought.{SeeksIn};
 ghost use Rattle.search_reach.specs.Told.{Obeys};
 ghost use Rattle.search_table.specs.Tables.{AreStates};
@@ -59,7 +59,7 @@ impl<M: Moves> Meets for Turns<'_, M> {
     ghost use Rattle.search_settled.specs.declared.flat.Flat.{Flat as FlatState};
     ghost use Rattle.search_settled.specs.Known.{HasStates};
     ghost use Rattle.search_settled.specs.Turns.{turns};
-    ghost use Rattle.search_settled.specs.Same.{flat_eq, flat_alike, stands_alike};
+    ghost use Rattle.search_settled.specs.Same.{flat_eq, flat_eq_back, flat_alike, stands_alike};
 
     type Table = Tables<M::Shared, M::Thread>;
 
@@ -78,6 +78,8 @@ impl<M: Moves> Meets for Turns<'_, M> {
     ghost alike = { λ t x y e. stands_alike (M.threads t.system.now) x y
         (flat_alike M.Shared.eq M.Thread.eq (M.threads t.system.now)
         (M.same_shared t.system.now) (M.same_thread t.system.now) x y e) };
+
+    ghost symmetric = { λ t. flat_eq_back M.Shared.eq M.Thread.eq M.Shared.Eq.laws M.Thread.Eq.laws };
 
     fn table(&self, alloc: Global) -> Tables<M::Shared, M::Thread> {
         Tables {
@@ -165,6 +167,7 @@ pub fn search_all<M: Moves, Q: Seeks<M::Ending>, F: Follows>(
 ) -> Result<Ended<M::Ending>, AllocError>
     ensures found { IfOk result (AreEndings (turns M.Moves system.now) M.Ending.eq most (F.wish follower.new)) }
     ensures paths { IfOk result (λ r. vec_len r.paths ≡ index_set_len r.endings) }
+    ensures ways { IfOk result (HasWays (turns M.Moves system.now) (flat_eq M.Shared.eq M.Thread.eq)) }
     ensures count { IfOk result
         (λ r. IsCount (turns M.Moves system.now) (flat_eq M.Shared.eq M.Thread.eq) r.states) }
     ensures live { IfOk result

@@ -24,6 +24,12 @@ returns-clause-found g c =
 pub returns-clause-paths : goal.returns-clause-paths
 returns-clause-paths g c = c.search_all.ensures.paths
 
+pub returns-clause-ways : goal.returns-clause-ways
+returns-clause-ways g c =
+    let s = c.in_ok-searched.searched in
+    IfOk-weaker c.search_all.result _ _ (λ ended ways.
+    record { searched = s; call = c.in_ok-searched.ensures.call; dump_is = c.in_ok-searched.ensures.dump; ways = ways }) c.search_all.ensures.ways
+
 pub returns-clause-count : goal.returns-clause-count
 returns-clause-count g c =
     IfOk-weaker c.search_all.result _ _ (λ ended count. counted_by is_same_state (λ s. StandsForState (threads s)) IsStuck

@@ -26,6 +26,12 @@ returns-clause-found g c =
 pub returns-clause-paths : goal.returns-clause-paths
 returns-clause-paths g c = c.search_race_free.ensures.paths
 
+pub returns-clause-ways : goal.returns-clause-ways
+returns-clause-ways g c =
+    let s = c.in_ok-searched.searched in
+    IfOk-weaker c.search_race_free.result _ _ (λ free ways.
+    record { searched = s; call = c.in_ok-searched.ensures.call; dump_is = c.in_ok-searched.ensures.dump; ways = ways }) c.search_race_free.ensures.ways
+
 pub returns-clause-count : goal.returns-clause-count
 returns-clause-count g c =
     IfOk-weaker c.search_race_free.result _ _ (λ free count. counted_by is_same_owned (λ s. StandsBefore (threads s)) (λ s w. IsStuck s w ⊎ SomeRace (threads s))

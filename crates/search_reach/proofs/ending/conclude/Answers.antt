@@ -1,10 +1,13 @@
-use Rattle.std.proofs.Common.{ℕ, length, ap, refl, sym, subst, ◌∙◌}
+use Rattle.std.proofs.Common.{ℕ, length, inl, ap, refl, sym, subst, ◌∙◌}
 use Rattle.std.specs.List.{AllZip}
 use Rattle.std.proofs.lemmas.Slice.Zip.{AllZip-long}
 use Rattle.search_reach.specs.Search.{IsMarkedSo, IsAll, IsSound, HasAllEnds, AreEnds, CanGetStuck}
 use Rattle.search_reach.specs.Found.{IsFound}
+use Rattle.search_reach.specs.Moved.{ArePathsTo}
+use Rattle.search_reach.specs.Ways.{AreNumbered}
+use Rattle.search_reach.proofs.Leading.{ways-are}
 use Rattle.search_reach.proofs.Gathering.{endings-of_all}
-use Rattle.search_reach.proofs.Living.{moves-within, live, found-after, live-after, sought-back, sought-forth}
+use Rattle.search_reach.proofs.Living.{moves-within, live, found-after, live-after, leads-endless, leads-round, numbered-before, sought-back, sought-forth}
 use Rattle.search_reach.proofs.Leveling.{gone-within}
 use Rattle.search_reach.proofs.Passing.{seeks-in}
 use Rattle.search_reach.specs.Told.{Obeys}
@@ -63,7 +66,7 @@ returns-clause-live g c =
     (λ v l said. live k (g.T.Meets.equal m) r.states (record { states = c.count-states.result; moves = c.args.reached.moves })
     (g.met.T.Meets.alike m) (r.whole v) c.as_slice-2.result.now (c.count-states.ensures.len r.states r.held)
     (c.count-states.ensures.distinct r.states r.held)
-    (subst (λ l. AllZip (IsMarkedSo k) r.states l) (sym c.as_slice-2.ensures.value) gathered.marks_are) l said)
+    (subst (λ l. AllZip (IsMarkedSo k) r.states l) (sym c.as_slice-2.ensures.value) gathered.marks_are) (r.moved (inl v)) l said)
 
 pub returns-clause-obeys : goal.returns-clause-obeys
 returns-clause-obeys g c before so =
@@ -88,3 +91,23 @@ returns-clause-levels g c =
     let r = c.requires in
     let gathered = c.in_ok-endings.ensures.gathered r.states r.held r.found.sound in
     gone-within k g.T.Ending.PartialEq.eq r.states c.in_ok-endings.field-0.endings.keys c.args.reached.levels r.gone_through gathered.all
+
+pub returns-clause-ways : goal.returns-clause-ways
+returns-clause-ways g c =
+    let m = c.args.system.now in
+    let k = g.T.Meets.system m in
+    let eq = g.T.Meets.equal m in
+    let r = c.requires in
+    let len = c.count-states.ensures.len r.states r.held in
+    let moves = c.args.reached.moves.items in
+    record {
+      endings = λ few. ways-are k eq r.states moves
+          (r.moved (numbered-before _ _ _ _ _ _ _ c.in_ok-verdict.ensures.judged (length r.states)
+          (subst (λ (n : ℕ). AreNumbered c.in_ok-verdict.verdict n) len few)))
+          c.in_ok-paths.paths.items c.in_ok-endings.field-0.firsts.items c.in_ok-endings.field-0.endings.keys
+          (subst (λ (n : ℕ). ArePathsTo moves n c.in_ok-paths.paths.items c.in_ok-endings.field-0.firsts.items) len
+          (subst (ArePathsTo moves c.count-states.result c.in_ok-paths.paths.items) c.as_slice.ensures.value c.in_ok-paths.ensures.paths))
+          (c.in_ok-endings.ensures.firsts r.states r.held r.found.sound);
+      endless = leads-endless k eq c.count-states.result c.in_ok-verdict.verdict c.in_ok-verdict.liveness (returns-clause-live g c);
+      round = leads-round k eq c.count-states.result c.in_ok-verdict.verdict c.in_ok-verdict.liveness (returns-clause-live g c);
+    }

@@ -19,6 +19,7 @@ conclude-requires g c = record {
   held = refl;
   found = c.requires.found;
   whole = c.requires.whole;
+  moved = c.requires.moved;
   seeks = c.requires.seeks;
   gone_through = c.requires.levels;
 }

@@ -1,8 +1,12 @@
-use Rattle.std.proofs.Common.{◌≤◌, ◌+◌}
+use Rattle.std.proofs.Common.{◌≤◌, ◌-◌}
+use Rattle.search_reach.proofs.Choosing.{AreFrom}
 use Rattle.search_reach.proofs.path.choice_of.Given as goal
 
-abbrev pub invariant-loop-at : goal.invariant-loop-at
-invariant-loop-at l = l.choice + l.at ≤ l.place
+abbrev pub invariant-loop-choice : goal.invariant-loop-choice
+invariant-loop-choice l = record {
+  low : l.choice ≤ l.place;
+  are : AreFrom l.moves l.place l.m.from l.choice;
+}
 
-abbrev pub decreases-loop-at : goal.decreases-loop-at
-decreases-loop-at l = l.at
+abbrev pub decreases-loop-choice : goal.decreases-loop-choice
+decreases-loop-choice l = l.place - l.choice

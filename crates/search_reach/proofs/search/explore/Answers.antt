@@ -1,4 +1,5 @@
 use Rattle.std.proofs.Common.{ℕ, ◌<◌, arith, sym, refl, ◌∙◌, rules}
+use Rattle.search_reach.proofs.Moving.{unique}
 use Rattle.search_reach.proofs.Meeting.{met-at, going-first, going-more, going-sought, going-told, gone-through, sound-after, reached-all, reached-many, reached-stuck}
 use Rattle.search_reach.proofs.search.explore.Goals as goal
 
@@ -67,7 +68,8 @@ returns-then-not-branch g c =
     record {
       reached = reached-stuck k eq has sought (λ (j : ℕ). j < c.loop-at.at) c.loop-at.moves.items so.standing c.args.most _ _
           (gone-through k eq has sought c.loop-at.at c.loop-at.moves.items c.loop-at.levels so) c.loop-at.at (g.T.Meets.holds m c.next.new.table)
-          c.next.new.moves.items (omega (arith, is)) (c.in_ok-next.ensures.none c.if-not-branch.true) (c.in_ok-next.ensures.gives_up c.if-not-branch.true);
+          c.next.new.moves.items (omega (arith, is)) (c.in_ok-next.ensures.none c.if-not-branch.true)
+          (c.in_ok-next.ensures.kept c.if-not-branch.true) (c.in_ok-next.ensures.gives_up c.if-not-branch.true);
       levels = λ e. cc e;
       obeys = λ ks held b n. absurd (c.loop-at.invariant.wished b n);
     }
@@ -86,7 +88,8 @@ loop-at-preserved g c =
       going = going-more (g.T.Meets.system m) (g.T.Meets.equal m) (g.T.Meets.holds m c.loop-at.table) (g.Q.Seeks.sought c.args.sought.now) c.loop-at.at
           c.loop-at.moves.items c.loop-at.levels c.loop-at.invariant.going c.count-met.result c.count-met.ensures.len (g.T.Meets.holds m c.next.new.table)
           c.next.new.moves.items (omega arith) (c.in_ok-next.ensures.next c.if-not-branch.false) c.count-known.result c.count-known.ensures.len
-          (g.met.T.Meets.alike m) c.behind-levels.result c.behind-levels.ensures _ c.if-branch.false c.in_ok-has_sought.ensures;
+          (g.met.T.Meets.alike m) c.behind-levels.result c.behind-levels.ensures
+          (λ ks held. unique (g.T.Meets.equal m) (g.met.T.Meets.symmetric m) ks (c.count-known.ensures.distinct ks held)) _ c.if-branch.false c.in_ok-has_sought.ensures;
       wished = λ b n. search rules;
     }
 
@@ -97,7 +100,8 @@ returns-then-branch g c =
       reached = going-sought (g.T.Meets.system m) (g.T.Meets.equal m) (g.T.Meets.holds m c.loop-at.table) (g.Q.Seeks.sought c.args.sought.now)
           c.loop-at.at c.loop-at.moves.items c.loop-at.levels c.loop-at.invariant.going c.count-met.result c.count-met.ensures.len
           (g.T.Meets.holds m c.next.new.table) c.next.new.moves.items (omega arith) (c.in_ok-next.ensures.next c.if-not-branch.false)
-          c.count-known.result c.count-known.ensures.len (g.met.T.Meets.alike m) c.behind-levels.result c.behind-levels.ensures c.args.most _ _
+          c.count-known.result c.count-known.ensures.len (g.met.T.Meets.alike m) c.behind-levels.result c.behind-levels.ensures
+          (λ ks held. unique (g.T.Meets.equal m) (g.met.T.Meets.symmetric m) ks (c.count-known.ensures.distinct ks held)) c.args.most _ _
           c.if-branch.true c.in_ok-has_sought.ensures;
       levels = λ e. cc e;
       obeys = λ ks held b n. absurd (c.loop-at.invariant.wished b n);
@@ -110,7 +114,8 @@ returns-in-End g c =
       reached = going-told (g.T.Meets.system m) (g.T.Meets.equal m) (g.T.Meets.holds m c.loop-at.table) (g.Q.Seeks.sought c.args.sought.now)
           c.loop-at.at c.loop-at.moves.items c.loop-at.levels c.loop-at.invariant.going c.count-met.result c.count-met.ensures.len
           (g.T.Meets.holds m c.next.new.table) c.next.new.moves.items (omega arith) (c.in_ok-next.ensures.next c.if-not-branch.false)
-          c.count-known.result c.count-known.ensures.len (g.met.T.Meets.alike m) c.behind-levels.result c.behind-levels.ensures c.args.most _ _
+          c.count-known.result c.count-known.ensures.len (g.met.T.Meets.alike m) c.behind-levels.result c.behind-levels.ensures
+          (λ ks held. unique (g.T.Meets.equal m) (g.met.T.Meets.symmetric m) ks (c.count-known.ensures.distinct ks held)) c.args.most _ _
           c.if-branch.false c.in_ok-has_sought.ensures (sym c.in-End.ensures.wish);
       levels = λ e. cc e;
       obeys = λ ks held b n. (refl, sym (c.in-End.ensures.hears.told (c.loop-at.invariant.wished b) n ∙ c.count-known.ensures.len ks held));

@@ -1,7 +1,8 @@
 use Rattle.std.proofs.Common.{arith, rules, subst, sym}
 use Rattle.search_reach.specs.Stack.{IsOpened}
 use Rattle.search_reach.proofs.Meeting.{met-at, met-known, sound-after, reached-all, reached-stuck, reached-sought, reached-told}
-use Rattle.search_reach.proofs.Stacking.{Off, deep-first, deep-more, deep-all, below-met}
+use Rattle.search_reach.proofs.Moving.{unique}
+use Rattle.search_reach.proofs.Stacking.{Off, deep-first, deep-more, deep-all, below-met, not-before}
 use Rattle.search_reach.proofs.search.explore_deep.Goals as goal
 
 pub loop-at-init : goal.loop-at-init
@@ -55,7 +56,7 @@ returns-then-not-branch-clause-reached g c =
     let is = c.count-met.ensures.len (so.standing).states (so.standing).held in
     reached-stuck k eq has sought (Off c.loop-at.stack.items) c.loop-at.moves.items so.standing c.args.most _ _ tt c.in-Some.at
     (g.T.Meets.holds m c.next.new.table) c.next.new.moves.items (omega (arith, is, low)) (c.in_ok-next.ensures.none c.if-not-branch.true)
-    (c.in_ok-next.ensures.gives_up c.if-not-branch.true)
+    (c.in_ok-next.ensures.kept c.if-not-branch.true) (c.in_ok-next.ensures.gives_up c.if-not-branch.true)
 
 pub has_sought-requires : goal.has_sought-requires
 has_sought-requires g c =
@@ -81,7 +82,10 @@ returns-then-branch-clause-reached g c =
     let low = below-met k eq has sought c.loop-at.stack.items c.pop.new.self.items c.in-Some.at c.loop-at.gone c.loop-at.moves.items so
     c.in-Some.ensures.items c.count-met.result c.count-met.ensures.len (omega arith) in
     reached-sought k eq has sought (Off c.loop-at.stack.items) c.loop-at.moves.items so.standing c.count-met.result c.count-met.ensures.len c.in-Some.at
-    (g.T.Meets.holds m c.next.new.table) c.next.new.moves.items low (c.in_ok-next.ensures.next c.if-not-branch.false) c.args.most _ _ tt _ c.if-branch.true
+    (g.T.Meets.holds m c.next.new.table) c.next.new.moves.items low (c.in_ok-next.ensures.next c.if-not-branch.false)
+    (λ ks held. unique eq (g.met.T.Meets.symmetric m) ks (c.count-known.ensures.distinct ks held))
+    (not-before k eq has sought c.loop-at.stack.items c.pop.new.self.items c.in-Some.at c.loop-at.gone c.loop-at.moves.items so c.in-Some.ensures.items
+    c.count-met.result c.count-met.ensures.len) c.args.most _ _ tt _ c.if-branch.true
     c.in_ok-has_sought.ensures
 
 pub open_places-requires-in-loop-at : goal.open_places-requires-in-loop-at
@@ -111,7 +115,8 @@ loop-at-preserved g c =
     record {
       deep = deep-more k eq has sought c.loop-at.stack.items c.pop.new.self.items c.in-Some.at c.loop-at.gone c.loop-at.moves.items so
           c.in-Some.ensures.items c.count-met.result c.count-met.ensures.len (g.T.Meets.holds m c.next.new.table) c.next.new.moves.items low
-          (c.in_ok-next.ensures.next c.if-not-branch.false) c.count-known.result c.count-known.ensures.len _ c.if-branch.false c.in_ok-has_sought.ensures
+          (c.in_ok-next.ensures.next c.if-not-branch.false) c.count-known.result c.count-known.ensures.len
+          (λ ks held. unique eq (g.met.T.Meets.symmetric m) ks (c.count-known.ensures.distinct ks held)) _ c.if-branch.false c.in_ok-has_sought.ensures
           c.open_places-in-loop-at.new.stack.items c.in_ok-open_places-2.ensures;
       wished = λ b n. search rules;
     }
@@ -127,5 +132,8 @@ returns-in-End-clause-reached g c =
     let low = below-met k eq has sought c.loop-at.stack.items c.pop.new.self.items c.in-Some.at c.loop-at.gone c.loop-at.moves.items so
     c.in-Some.ensures.items c.count-met.result c.count-met.ensures.len (omega arith) in
     reached-told k eq has sought (Off c.loop-at.stack.items) c.loop-at.moves.items so.standing c.count-met.result c.count-met.ensures.len c.in-Some.at
-    (g.T.Meets.holds m c.next.new.table) c.next.new.moves.items low (c.in_ok-next.ensures.next c.if-not-branch.false) c.args.most _ _ tt _ c.if-branch.false
+    (g.T.Meets.holds m c.next.new.table) c.next.new.moves.items low (c.in_ok-next.ensures.next c.if-not-branch.false)
+    (λ ks held. unique eq (g.met.T.Meets.symmetric m) ks (c.count-known.ensures.distinct ks held))
+    (not-before k eq has sought c.loop-at.stack.items c.pop.new.self.items c.in-Some.at c.loop-at.gone c.loop-at.moves.items so c.in-Some.ensures.items
+    c.count-met.result c.count-met.ensures.len) c.args.most _ _ tt _ c.if-branch.false
     c.in_ok-has_sought.ensures (sym c.in-End.ensures.wish)

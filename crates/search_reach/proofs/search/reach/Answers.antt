@@ -6,6 +6,7 @@ pub returns-then-not-branch-clause-reached : goal.returns-then-not-branch-clause
 returns-then-not-branch-clause-reached g c =
     let m = c.args.system.now in
     reached-none (g.T.Meets.system m) (g.T.Meets.equal m) (g.T.Meets.holds m c.first.new.table) (g.Q.Seeks.sought c.args.sought.now) _ c.args.most _
+    (search rules)
     (c.in_ok-first.ensures.none c.if-not-branch.true) (c.in_ok-first.ensures.gives_up c.if-not-branch.true)
 
 pub has_sought-requires : goal.has_sought-requires

@@ -1,6 +1,8 @@
-use Rattle.std.proofs.Common.{refl, sym, subst}
+use Rattle.std.proofs.Common.{length, refl, sym, subst}
 use Rattle.search_reach.specs.Sought.{SeeksAmong}
 use Rattle.search_reach.specs.Levels.{HasGoneThrough}
+use Rattle.search_reach.specs.Moved.{IsMoved}
+use Rattle.search_reach.specs.Ways.{AreNumbered}
 use Rattle.search_reach.proofs.search.reach_all.Goals as goal
 
 pub returns-clause-seeks : goal.returns-clause-seeks
@@ -15,3 +17,10 @@ returns-clause-levels g c =
 
 pub returns-clause-obeys : goal.returns-clause-obeys
 returns-clause-obeys g c = c.in_ok-reached.ensures.obeys c.in_ok-reached.reached.table.keys refl
+
+pub returns-clause-moved : goal.returns-clause-moved
+returns-clause-moved g c =
+    let r = c.in_ok-reached.ensures.reached in
+    let reached = c.in_ok-reached.reached in
+    subst (λ l. AreNumbered reached.verdict (length l) → IsMoved (g.T.Explores.system c.args.system.now) g.T.State.PartialEq.eq l reached.moves.items)
+    (sym r.held) r.moved
