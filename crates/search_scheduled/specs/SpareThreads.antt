@@ -1,8 +1,10 @@
 -- The threads that runs didn't start, and the runs that begin with them.
-use Rattle.std.specs.Prelude.{ℕ, ◌≡◌, List, [], OnOk}
+use Rattle.std.specs.Prelude.{ℕ, ◌≡◌, List, [], Option, IfSome, OnOk}
+use Rattle.std.specs.Global.{Vec}
 use Rattle.std.specs.List.{All}
 use Rattle.std.specs.declared.result.Result.{Result}
 use Rattle.types.specs.declared.parts.Parts.{Parts}
+use Rattle.validate_typing.specs.Image.{opening_image}
 use Rattle.interp_machine.specs.Program.{program_of}
 use Rattle.interp_trait.specs.Turns.{Meaning, spawn_types}
 use Rattle.interp.specs.Threads.{meaning_in}
@@ -46,9 +48,14 @@ module _ {T : Type 0} (meaning : T → Meaning) where
   abbrev pub LeavesUnused : Course T → List T → Type 0
   LeavesUnused c unused = (run : Run) → CameAlong meaning run c → All (IsUnused run) unused
 
+-- What was kept are the bytes of the module's memory before the first instruction.
+abbrev pub HoldsImage : Parts → Option (Vec ℕ) → Type 0
+HoldsImage m kept = IfSome kept (λ image. image.items ≡ opening_image m)
+
 -- Spares for the runs of a module with this budget.
-abbrev pub HoldsSpares : Parts → ℕ → Spares → Type 0
-HoldsSpares m budget spares = AreSpares meaning_in m budget spares.threads.items
+pub record HoldsSpares (m : Parts) (budget : ℕ) (spares : Spares) : Type 0 where
+  pub threads : AreSpares meaning_in m budget spares.threads.items
+  pub image : HoldsImage m spares.image
 
 -- Threads that are spares where the module can start threads were put behind those that were there, unless memory was
 -- refused.

@@ -105,8 +105,8 @@ fn course_of<'m>(
 {
     let module = request.module();
     show_distinct_names(module);
-    let threads = threads_of(alloc, request, spares)?;
-    let memory = opening(alloc, module)?;
+    let threads = threads_of(alloc, request, &mut spares.threads)?;
+    let memory = opening(alloc, module, &mut spares.image)?;
     Ok(Course::new(alloc, threads, memory, request.call().fuel, limit))
 }
 

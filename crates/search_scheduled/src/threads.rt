@@ -1,12 +1,12 @@
 //! What a run begins with: its threads before their first turn, and the memory.
-ghost use Rattle.std.specs.Prelude.{◌≡◌, ℕ, [], length, IfErr, IfOk, OnOk};
+ghost use Rattle.std.specs.Prelude.{◌≡◌, ℕ, [], None, length, IfErr, IfOk, OnOk};
 ghost use Rattle.types.specs.declared.parts.Parts.{Parts};
 ghost use Rattle.types.specs.declared.limits.TheConstants.{MOST_SPAWNED};
 ghost use Rattle.interp.specs.Threads.{meaning_in};
 ghost use Rattle.spawn_host.specs.Entries.{StartsThreads};
 ghost use Rattle.spawn_host.specs.Runs.{opening_memory};
 ghost use Rattle.replay.specs.Threads.{AreSpares, AreOthers, AreThreadsFor};
-ghost use Rattle.search_scheduled.specs.SpareThreads.{HoldsSpares, TakesBack};
+ghost use Rattle.search_scheduled.specs.SpareThreads.{HoldsImage, HoldsSpares, TakesBack};
 
 use crate::fault::SearchFault;
 use interp::Thread;
@@ -16,43 +16,25 @@ use std::alloc::{AllocError, Global};
 use types::MOST_SPAWNED;
 use validate_module::ValidModule;
 
-/// Threads of a module that can be spawned and that no run has started, for one run after another. A run takes 63 of
-/// them, and those that it didn't start come back: so that hardly more threads are made than are started.
+/// What the runs of a module leave for the next one. Its threads are some that can be spawned and that no run has
+/// started: a run takes 63 of them, and those that it didn't start come back, so that hardly more threads are made than
+/// are started. Its image has the bytes of the memory before the first instruction, once a run has begun.
 #[derive(Drop)]
 pub struct Spares<'m> {
     pub threads: Vec<Thread<'m>>,
+    pub image: Option<Vec<u8>>,
 }
 
 impl<'m> Spares<'m> {
-    /// None yet.
+    /// Nothing yet.
     pub fn new(alloc: Global) -> Spares<'m>
-        ensures none { result.threads.items ≡ [] }
-        ensures spares { (m : Parts) (budget : ℕ) → AreSpares meaning_in m budget result.threads.items }
+        ensures none { (result.threads.items ≡ []) × (result.image ≡ None) }
+        ensures spares { (m : Parts) (budget : ℕ) → HoldsSpares m budget result }
     {
         Spares {
             threads: Vec::new(alloc),
+            image: None,
         }
-    }
-
-    /// Takes 63 of them. Where there are fewer, 63 more are made before.
-    fn take(
-        &mut self,
-        alloc: Global,
-        module: &'m ValidModule,
-        fuel: u64,
-    ) -> Result<Vec<Thread<'m>>, AllocError>
-        requires starts { StartsThreads «module».now.parts }
-        requires spares { HoldsSpares «module».now.parts fuel self.old }
-        ensures count { IfOk result (λ taken. length taken.items ≡ MOST_SPAWNED) }
-        ensures taken { IfOk result (λ taken. AreSpares meaning_in «module».now.parts fuel taken.items) }
-        ensures left { OnOk result (HoldsSpares «module».now.parts fuel self.new) }
-    {
-        if self.threads.len() < MOST_SPAWNED {
-            let mut more = spawnable_threads(alloc, module, fuel)?;
-            self.threads.append(&mut more)?;
-        }
-        let kept = self.threads.len() - MOST_SPAWNED;
-        self.threads.split_off(kept)
     }
 
     /// Takes back the threads that a run of the module didn't start.
@@ -72,19 +54,40 @@ impl<'m> Spares<'m> {
     }
 }
 
+/// Takes 63 of the threads that can be spawned. Where there are fewer, 63 more are made before.
+fn take<'m>(
+    alloc: Global,
+    module: &'m ValidModule,
+    fuel: u64,
+    spares: &mut Vec<Thread<'m>>,
+) -> Result<Vec<Thread<'m>>, AllocError>
+    requires starts { StartsThreads «module».now.parts }
+    requires spares { AreSpares meaning_in «module».now.parts fuel spares.old.items }
+    ensures count { IfOk result (λ taken. length taken.items ≡ MOST_SPAWNED) }
+    ensures taken { IfOk result (λ taken. AreSpares meaning_in «module».now.parts fuel taken.items) }
+    ensures left { OnOk result (AreSpares meaning_in «module».now.parts fuel spares.new.items) }
+{
+    if spares.len() < MOST_SPAWNED {
+        let mut more = spawnable_threads(alloc, module, fuel)?;
+        spares.append(&mut more)?;
+    }
+    let kept = spares.len() - MOST_SPAWNED;
+    spares.split_off(kept)
+}
+
 /// The threads that can be spawned, where the module can start threads, and else none.
 fn others_of<'m>(
     alloc: Global,
     module: &'m ValidModule,
     fuel: u64,
-    spares: &mut Spares<'m>,
+    spares: &mut Vec<Thread<'m>>,
 ) -> Result<Vec<Thread<'m>>, AllocError>
-    requires { HoldsSpares «module».now.parts fuel spares.old }
+    requires { AreSpares meaning_in «module».now.parts fuel spares.old.items }
     ensures others { IfOk result (λ others. AreOthers meaning_in «module».now.parts fuel others.items) }
-    ensures spares { OnOk result (HoldsSpares «module».now.parts fuel spares.new) }
+    ensures spares { OnOk result (AreSpares meaning_in «module».now.parts fuel spares.new.items) }
 {
     if module.starts_threads() {
-        return spares.take(alloc, module, fuel);
+        return take(alloc, module, fuel, spares);
     }
     Ok(Vec::new(alloc))
 }
@@ -93,11 +96,11 @@ fn others_of<'m>(
 pub(crate) fn threads_of<'m>(
     alloc: Global,
     request: &Request<'m, '_>,
-    spares: &mut Spares<'m>,
+    spares: &mut Vec<Thread<'m>>,
 ) -> Result<Vec<Thread<'m>>, AllocError>
-    requires { HoldsSpares request.now.parts request.now.fuel spares.old }
+    requires { AreSpares meaning_in request.now.parts request.now.fuel spares.old.items }
     ensures threads { IfOk result (λ threads. AreThreadsFor meaning_in request.now threads.items) }
-    ensures spares { OnOk result (HoldsSpares request.now.parts request.now.fuel spares.new) }
+    ensures spares { OnOk result (AreSpares meaning_in request.now.parts request.now.fuel spares.new.items) }
 {
     let first = first_thread(alloc, request)?;
     let mut threads = others_of(alloc, request.module(), request.call().fuel, spares)?;
@@ -105,13 +108,24 @@ pub(crate) fn threads_of<'m>(
     Ok(threads)
 }
 
-/// The memory of a module before the first instruction.
-pub(crate) fn opening(alloc: Global, module: &ValidModule) -> Result<OneMemory, SearchFault>
+/// The memory of a module before the first instruction. Its bytes are kept for the next run.
+pub(crate) fn opening(
+    alloc: Global,
+    module: &ValidModule,
+    kept: &mut Option<Vec<u8>>,
+) -> Result<OneMemory, SearchFault>
+    requires { HoldsImage «module».now.parts kept.old }
     ensures memory { IfOk result (λ memory. memory ≡ opening_memory «module».now.parts) }
     ensures fault { IfErr result (λ fault. fault ≡ SearchFault.NoMemory) }
+    ensures kept { OnOk result (HoldsImage «module».now.parts kept.new) }
 {
-    let image = module.image(alloc)?;
-    match OneMemory::open(alloc, &image, module.pages_max()) {
+    let image = match kept.take() {
+        Some(image) => image,
+        None => module.image(alloc)?,
+    };
+    let opened = OneMemory::open(alloc, &image, module.pages_max());
+    *kept = Some(image);
+    match opened {
         Ok(memory) => Ok(memory),
         Err(_) => Err(SearchFault::NoMemory),
     }

@@ -1,12 +1,13 @@
 use Rattle.std.proofs.Common.{ℕ, sym, subst}
 use Rattle.types.specs.declared.parts.Parts.{Parts}
-use Rattle.search_scheduled.specs.SpareThreads.{HoldsSpares}
+use Rattle.interp.specs.Threads.{meaning_in}
+use Rattle.replay.specs.Threads.{AreSpares}
 use Rattle.search_scheduled.proofs.threads.threads_of.Goals as goal
 
 pub others_of-requires : goal.others_of-requires
 others_of-requires c =
-    subst (λ (m : Parts). HoldsSpares m c.call.result.fuel c.args.spares.now) (sym c.«module».ensures)
-    (subst (λ (fuel : ℕ). HoldsSpares c.args.request.now.parts fuel c.args.spares.now) c.call.ensures.call.fuel_is c.requires)
+    subst (λ (m : Parts). AreSpares meaning_in m c.call.result.fuel c.args.spares.now.items) (sym c.«module».ensures)
+    (subst (λ (fuel : ℕ). AreSpares meaning_in c.args.request.now.parts fuel c.args.spares.now.items) c.call.ensures.call.fuel_is c.requires)
 
 pub returns-clause-threads : goal.returns-clause-threads
 returns-clause-threads c = record {
