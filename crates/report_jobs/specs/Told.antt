@@ -33,6 +33,12 @@ use Rattle.report_jobs.specs.declared.running.Trouble.TheVariants as troubles
 use Rattle.report_jobs.specs.declared.replaying.Unfit.{Unfit}
 use Rattle.report_jobs.specs.declared.replaying.Unfit.TheVariants as unfits
 
+abbrev pub memory_line : List ℕ
+memory_line = codes "no memory\n"
+
+abbrev pub output_line : List ℕ
+output_line = codes "file fault: standard output\n"
+
 -- The line that says which line of a text isn't that of a record.
 abbrev pub unread_line : RecordFault → List ℕ
 unread_line (records.Header line) = codes "record refused: header line " ++ (decimal line ++ 10 ∷ [])
@@ -51,8 +57,8 @@ misfit_line replays.NoMemory = codes "record refused: no memory" ++ 10 ∷ []
 abbrev pub unfit_line : Unfit → List ℕ
 unfit_line (unfits.Unread fault) = unread_line fault
 unfit_line (unfits.Misfit fault) = misfit_line fault
-unfit_line unfits.NoMemory = codes "no memory" ++ 10 ∷ []
-unfit_line unfits.Output = codes "file fault: standard output" ++ 10 ∷ []
+unfit_line unfits.NoMemory = memory_line
+unfit_line unfits.Output = output_line
 
 -- The bytes are a valid module's text, this is what is wrong with the others as a record of a run of it, and the line
 -- of it was told.
@@ -64,9 +70,6 @@ pub record TellsWhatIsWrong (bytes saved : List ℕ) (err : WriterChange) : Type
   pub is : IsUnfit parts saved unfit
   pub refuses : unfit_status unfit ≡ 4
   pub line : Tells err.old err.new (unfit_line unfit)
-
-abbrev pub memory_line : List ℕ
-memory_line = codes "no memory" ++ 10 ∷ []
 
 -- The line that says why bytes give no valid module: with the number of what is wrong, and where that is.
 abbrev pub refusal_line : Refusal → List ℕ
@@ -115,7 +118,7 @@ abbrev pub trouble_line : Trouble → List ℕ → List ℕ
 trouble_line (troubles.Call fault) path = call_line fault
 trouble_line troubles.NoThread path = codes "no thread" ++ 10 ∷ []
 trouble_line troubles.NoMemory path = memory_line
-trouble_line troubles.Output path = codes "file fault: standard output" ++ 10 ∷ []
+trouble_line troubles.Output path = output_line
 trouble_line troubles.Save path = codes "file fault: " ++ (path ++ 10 ∷ [])
 trouble_line troubles.SaveMemory path = codes "file fault: " ++ (path ++ 10 ∷ [])
 

@@ -10,6 +10,7 @@ use Rattle.report_command.specs.declared.command_line.Misuse.TheVariants as misu
 use Rattle.report_command.specs.declared.command_line.Usage.{Usage}
 use Rattle.report_command.specs.declared.command_line.Usage.TheVariants as usages
 use Rattle.report_command.specs.Views.{path_of}
+use Rattle.report_jobs.specs.Told.{memory_line, output_line}
 use Rattle.report_jobs.specs.Trapped.{Tells}
 use Rattle.report_program.specs.declared.closing.Lost.{Lost}
 use Rattle.report_program.specs.declared.closing.Lost.TheVariants as losts
@@ -17,12 +18,6 @@ use Rattle.report_program.specs.declared.reading.Unread.{Unread}
 use Rattle.report_program.specs.declared.reading.Unread.TheVariants as unreads
 use Rattle.report_program.specs.declared.stop.Stop.{Stop}
 use Rattle.report_program.specs.declared.stop.Stop.TheVariants as stops
-
-abbrev pub memory_text : List ℕ
-memory_text = codes "no memory\n"
-
-abbrev pub output_text : List ℕ
-output_text = codes "file fault: standard output\n"
 
 abbrev pub unkept_text : List ℕ → List ℕ
 unkept_text path = codes "note: no run was found to keep: " ++ path ++ codes " is as it was\n"
@@ -66,7 +61,7 @@ stop_by path (unreads.File kind) = stops.File path kind
 
 -- What is said of a job that isn't done. Of wrong words that is the text of their error.
 abbrev pub TellsStop : Stop → Bool → Option (List ℕ) → Option (List ℕ) → Type 0
-TellsStop stops.NoMemory explain old new = Tells old new memory_text
+TellsStop stops.NoMemory explain old new = Tells old new memory_line
 TellsStop (stops.File path kind) explain old new = Tells old new (file_text path.now (why_if explain kind))
 TellsStop (stops.Usage usage) explain old new = Unit {0}
 
@@ -108,7 +103,7 @@ path_text (Some path) = path.now
 abbrev pub TellsLost : Job → Option Lost → Option Lost → Bool → Option (List ℕ) → Option (List ℕ) → Type 0
 TellsLost job None None is_closed old new = new ≡ old
 TellsLost job (Some losts.Lines) memory true old new = new ≡ old
-TellsLost job (Some losts.Lines) memory false old new = Tells old new output_text
+TellsLost job (Some losts.Lines) memory false old new = Tells old new output_line
 TellsLost job (Some losts.File) memory is_closed old new = Tells old new (file_text (path_text (record_path job)) None)
 TellsLost job None (Some lost) is_closed old new = Tells old new (file_text (path_text (memory_path job)) None)
 

@@ -1,7 +1,8 @@
 //! What is said, each text in one piece where there is memory for that, and the statuses that go with it.
 ghost use Rattle.std.specs.Prelude.{◌≡◌, ◌++◌, ◌⊎◌, true, false};
 ghost use Rattle.report_jobs.specs.Trapped.{Tells};
-ghost use Rattle.report_program.specs.Messages.{file_text, memory_text, output_text, reason_text, unkept_text};
+ghost use Rattle.report_jobs.specs.Told.{memory_line, output_line};
+ghost use Rattle.report_program.specs.Messages.{file_text, reason_text, unkept_text};
 ghost use Rattle.report_program.specs.Messages.{why_if, why_text, IsUsageStatus};
 
 use crate::Noted;
@@ -38,7 +39,7 @@ fn say_around<E: Write>(
 
 /// Says that there was too little memory, and answers the status.
 pub(crate) fn tell_no_memory<E: Write>(err: &mut E) -> u8
-    ensures told { Tells (E.contents err.old) (E.contents err.new) memory_text }
+    ensures told { Tells (E.contents err.old) (E.contents err.new) memory_line }
     ensures status { result ≡ 5 }
 {
     say(err, b"no memory\n");
@@ -109,7 +110,7 @@ pub(crate) fn tell_unkept<E: Write>(alloc: Global, err: &mut E, path: &str)
 
 /// Says that standard output failed, unless nobody is left to read it, and answers the status.
 pub(crate) fn tell_output_fault<E: Write>(err: &mut E, is_closed: bool) -> u8
-    ensures told { is_closed ≡ false → Tells (E.contents err.old) (E.contents err.new) output_text }
+    ensures told { is_closed ≡ false → Tells (E.contents err.old) (E.contents err.new) output_line }
     ensures silent { is_closed ≡ true → err.new ≡ err.old }
     ensures status { result ≡ 5 }
 {
