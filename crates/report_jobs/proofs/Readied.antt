@@ -29,7 +29,7 @@ of_refused refusal status says either = record {
 pub of_unlaid : (why : Why) → IsStatusOfUnready (Unlaid why) 3
 of_unlaid why = record {
   refused = λ bytes over file is two. absurd (omega (arith, two));
-  cannot = λ bytes over file is three. is;
+  cannot = λ bytes over file is three. (why, is);
 }
 
 pub of_no_memory : IsStatusOfUnready NoMemory 5
@@ -68,5 +68,5 @@ module _ (bytes over : List ℕ) (m : Parts) (text : IsModuleText bytes m) where
 
     pub without_bytes : (u : Unready) → IsUnreadyModule m file.addr over u → IsUnready bytes (Some file) over u
     without_bytes (Refused refusal) h = absurd h
-    without_bytes (Unlaid why) h = record { parts = m; text = text; valid = valid; cannot = (why, h) }
+    without_bytes (Unlaid why) h = record { parts = m; text = text; valid = valid; cannot = h }
     without_bytes NoMemory h = tt

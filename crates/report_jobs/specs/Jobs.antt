@@ -183,22 +183,26 @@ IsUnreadyModule m addr over (unready.Refused refusal) = ⊥
 IsUnreadyModule m addr over (unready.Unlaid why) = unlaid m addr (length over) ≡ Some why
 IsUnreadyModule m addr over unready.NoMemory = Unit {0}
 
--- Bytes are to be laid over the opening memory of a module, which can't be.
-abbrev pub CannotLay : Parts → Option MemoryFile → List ℕ → Type 0
-CannotLay m None over = ⊥
-CannotLay m (Some file) over = (why : Unlaid) × (unlaid m file.addr (length over) ≡ Some why)
+-- Bytes are to be laid over the opening memory of a module, which can't be for this reason.
+abbrev pub CannotLayFor : Parts → Option MemoryFile → List ℕ → Unlaid → Type 0
+CannotLayFor m None over why = ⊥
+CannotLayFor m (Some file) over why = unlaid m file.addr (length over) ≡ Some why
 
--- Bytes can't be laid over the opening memory of the module that these bytes spell.
-pub record CannotLayOver (bytes : List ℕ) (file : Option MemoryFile) (over : List ℕ) : Type 0 where
+-- There is a reason for which they can't be.
+abbrev pub CannotLay : Parts → Option MemoryFile → List ℕ → Type 0
+CannotLay m file over = (why : Unlaid) × CannotLayFor m file over why
+
+-- For this reason bytes can't be laid over the opening memory of the module that these bytes spell.
+pub record CannotLayOver (bytes : List ℕ) (file : Option MemoryFile) (over : List ℕ) (why : Unlaid) : Type 0 where
   pub parts : Parts
   pub text : IsModuleText bytes parts
   pub valid : IsValid parts
-  pub cannot : CannotLay parts file over
+  pub cannot : CannotLayFor parts file over why
 
 -- Why no module was made.
 abbrev pub IsUnready : List ℕ → Option MemoryFile → List ℕ → Unready → Type 0
 IsUnready bytes file over (unready.Refused refusal) = IsRefused bytes refusal
-IsUnready bytes file over (unready.Unlaid why) = CannotLayOver bytes file over
+IsUnready bytes file over (unready.Unlaid why) = CannotLayOver bytes file over why
 IsUnready bytes file over unready.NoMemory = Unit {0}
 
 -- They are, and no function of it can be called so, or the others can't be laid over its opening memory.
@@ -214,7 +218,7 @@ pub record IsStatusOfUnready (u : Unready) (status : ℕ) : Type 0 where
   pub refused : (bytes over : List ℕ) (file : Option MemoryFile) → IsUnready bytes file over u → status ≡ 2
       → IsNoValidModule bytes
   pub cannot : (bytes over : List ℕ) (file : Option MemoryFile) → IsUnready bytes file over u → status ≡ 3
-      → CannotLayOver bytes file over
+      → (why : Unlaid) × CannotLayOver bytes file over why
 
 -- What the status of a check says: 0 of an accepted module, 2 of a refused one. 5 is that memory or a stream failed.
 pub record Checks (bytes : List ℕ) (form : Form) (out : WriterChange) (status : ℕ) : Type 0 where

@@ -10,7 +10,7 @@ returns-in-Err-clause-refused g c = λ two.
 pub returns-in-Err-clause-cannot : goal.returns-in-Err-clause-cannot
 returns-in-Err-clause-cannot g c = λ three.
     let x = c.decline.ensures.refused.cannot c.args.module.now c.args.over.now c.args.job.now.memory_in c.in-Err.ensures.err three in
-    record { parts = x.parts; text = x.text; valid = x.valid; cannot = inr x.cannot }
+    record { parts = x.1.parts; text = x.1.text; valid = x.1.valid; cannot = inr (x.0, x.1.cannot) }
 
 pub returns-in-Err-clause-told : goal.returns-in-Err-clause-told
 returns-in-Err-clause-told g c = λ two.
