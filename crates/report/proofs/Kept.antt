@@ -10,10 +10,10 @@ use Rattle.report_command.specs.declared.search.Search.{Search}
 use Rattle.report_jobs.specs.Asked.{IsAskedBy}
 use Rattle.report_jobs.specs.Prints.{WriterChange, KeepsRecord}
 use Rattle.report.specs.SearchObjects.{HasFirst, HasFound, HasKnown, HasLast, KeepsFound, KeepsMade}
-use Rattle.report.specs.Searches.{Finds, IsFindKept}
+use Rattle.report_searches.specs.Searches.{Finds, IsFindKept}
 use Rattle.report.specs.declared.found.FoundRun.{FoundRun}
-use Rattle.report.specs.declared.whole.Whole.{Whole}
-use Rattle.report.proofs.Sought.{known_is_sought}
+use Rattle.report_searches.specs.declared.whole.Whole.{Whole}
+use Rattle.report_searches.proofs.Sought.{known_is_sought}
 
 module _ (q : Requested) (s : Search) (asked : IsAskedBy s.call q) (save : WriterChange) where
   of_call : (made : MadeRun) → IsFind q s.sought.limit made

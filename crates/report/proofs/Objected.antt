@@ -11,18 +11,18 @@ use Rattle.report_jobs.specs.Asked.{IsAskedBy}
 use Rattle.report_jobs.specs.Prints.{WriterChange, KeepsRecord, change}
 use Rattle.report_json.specs.declared.raced.RunRaces.{RunRaces}
 use Rattle.report_json.specs.declared.raced.RunRaces.TheVariants as said
-use Rattle.report.specs.Prints.{stops_behind}
+use Rattle.report_searches.specs.Prints.{stops_behind}
 use Rattle.replay_text.specs.declared.parts.RecordParts.{RecordParts}
 use Rattle.report_looks.specs.Raced.{SaysRaceIn}
-use Rattle.report.specs.Racing.{keeps_race}
+use Rattle.report_searches.specs.Racing.{keeps_race}
 use Rattle.report.specs.SearchObjects.{AreFoundIn, AreRacesIn, HasFound, KeepsFound, KeepsRaced, ObjectOfAll, WritesBeside, WritesRaced, WritesTold, races_alone}
-use Rattle.report.specs.Searches.{KeepsNoneOrRace}
+use Rattle.report_searches.specs.Searches.{KeepsNoneOrRace}
 use Rattle.report.specs.declared.all_object.Told.{Told}
 use Rattle.report.specs.declared.found.FoundRun.{FoundRun}
-use Rattle.report.specs.declared.whole.Racing.{Racing}
-use Rattle.report.specs.declared.whole.Racing.TheVariants.{Unasked, Never, Found, Unknown}
-use Rattle.report.specs.declared.whole.Whole.{Whole}
-use Rattle.report.proofs.Pairs.{race_kept}
+use Rattle.report_searches.specs.declared.whole.Racing.{Racing}
+use Rattle.report_searches.specs.declared.whole.Racing.TheVariants.{Unasked, Never, Found, Unknown}
+use Rattle.report_searches.specs.declared.whole.Whole.{Whole}
+use Rattle.report_searches.proofs.Pairs.{race_kept}
 
 -- a race beside what was found
 pub raced_of : (m : Parts) (raced : Option MadeRun) (t : Told) (out : WriterChange) (race : Race) (made : MadeRun) → t.whole.now.racing ≡ Found race

@@ -1,13 +1,5 @@
 pub mod Jobs
 pub mod Searched
 pub mod Silent
-pub mod Complete
-pub mod Early
-pub mod Drawn
-pub mod Endless
-pub mod Searches
-pub mod Racing
-pub mod Prints
-pub mod DrawnRaces
 pub mod SearchObjects
 pub mod Written

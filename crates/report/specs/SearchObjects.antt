@@ -45,21 +45,21 @@ use Rattle.report_json.specs.declared.races.RacePair.{RacePair}
 use Rattle.report_json.specs.declared.raced.RacingThreads.{RacingThreads}
 use Rattle.report_json.specs.declared.raced.RunRaces.{RunRaces}
 use Rattle.report_json.specs.declared.raced.RunRaces.TheVariants as said
-use Rattle.report.specs.Drawn.{cut_in, late_in, singles_in}
-use Rattle.report.specs.Endless.{HasNoEndless, IsFilled, IsKnown, path_of}
-use Rattle.report.specs.Prints.{IsFirstSought, choices_at, stops_behind, IsAllWell}
-use Rattle.report.specs.DrawnRaces.{SaysRaceOf}
+use Rattle.report_searches.specs.Drawn.{cut_in, late_in, singles_in}
+use Rattle.report_searches.specs.Endless.{HasNoEndless, IsFilled, IsKnown, path_of}
+use Rattle.report_searches.specs.Prints.{IsFirstSought, choices_at, stops_behind, IsAllWell}
+use Rattle.report_searches.specs.DrawnRaces.{SaysRaceOf}
 use Rattle.report_looks.specs.Raced.{SaysObject}
-use Rattle.report.specs.Racing.{keeps_race}
-use Rattle.report.specs.declared.all.EndlessRun.{EndlessRun}
+use Rattle.report_searches.specs.Racing.{keeps_race}
+use Rattle.report_searches.specs.declared.all.EndlessRun.{EndlessRun}
 use Rattle.report.specs.declared.all_object.Told.{Told}
 use Rattle.report.specs.declared.racy_object.RacyRun.{RacyRun}
-use Rattle.report.specs.declared.all.EndlessRun.TheVariants.{ToNoEnd, Round}
+use Rattle.report_searches.specs.declared.all.EndlessRun.TheVariants.{ToNoEnd, Round}
 use Rattle.report.specs.declared.found.FoundRun.{FoundRun}
-use Rattle.report.specs.declared.whole.Racing.{Racing}
-use Rattle.report.specs.declared.whole.Racing.TheVariants.{Unasked, Never, Unknown}
-use Rattle.report.specs.declared.whole.Racing.TheVariants as racings
-use Rattle.report.specs.declared.whole.Whole.{Whole}
+use Rattle.report_searches.specs.declared.whole.Racing.{Racing}
+use Rattle.report_searches.specs.declared.whole.Racing.TheVariants.{Unasked, Never, Unknown}
+use Rattle.report_searches.specs.declared.whole.Racing.TheVariants as racings
+use Rattle.report_searches.specs.declared.whole.Whole.{Whole}
 
 -- A size, and those of a run that was shrunk, where that is asked for.
 abbrev pub size_of : Size → RunSize

@@ -7,10 +7,10 @@ use Rattle.report_command.specs.declared.form.Form.{Form}
 use Rattle.report_command.specs.declared.form.Form.TheVariants.{Lines, Json}
 use Rattle.report_command.specs.declared.search.Search.{Search}
 use Rattle.report_jobs.specs.Prints.{WriterChange}
-use Rattle.report.specs.DrawnRaces.{PrintsDrawnRaces}
-use Rattle.report.specs.Prints.{PrintsAll, PrintsDrawn}
+use Rattle.report_searches.specs.DrawnRaces.{PrintsDrawnRaces}
+use Rattle.report_searches.specs.Prints.{PrintsAll, PrintsDrawn}
 use Rattle.report.specs.Written.{WritesAll, WritesDrawn, WritesDrawnRaces}
-use Rattle.report.specs.Searches.{Finds, IsWellAt}
+use Rattle.report_searches.specs.Searches.{Finds, IsWellAt}
 
 abbrev pub AllIn : Form → Parts → Search → ℕ → WriterChange → WriterChange → ℕ → Type 0
 AllIn Lines m s most out save status = PrintsAll m s most out save status

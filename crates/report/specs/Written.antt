@@ -7,10 +7,10 @@ use Rattle.search_finds.specs.declared.met.Table.{Table}
 use Rattle.report_command.specs.declared.search.Search.{Search}
 use Rattle.report_jobs.specs.Asked.{IsAskedBy}
 use Rattle.report_jobs.specs.Prints.{WriterChange}
-use Rattle.report.specs.Prints.{IsStatusOf}
-use Rattle.report.specs.Racing.{IsWhole}
+use Rattle.report_searches.specs.Prints.{IsStatusOf}
+use Rattle.report_searches.specs.Racing.{IsWhole}
 use Rattle.report.specs.SearchObjects.{ObjectOfAll, ObjectOfDrawn, ObjectOfDrawnRaces}
-use Rattle.report.specs.declared.whole.Whole.{Whole}
+use Rattle.report_searches.specs.declared.whole.Whole.{Whole}
 
 -- What was written is the object of what was found of all runs of the module by the call that was asked for.
 pub record WritesAll (m : Parts) (s : Search) (most : ℕ) (out save : WriterChange) (status : ℕ) : Type 0 where

@@ -4,22 +4,22 @@ ghost use Rattle.report_jobs.specs.Asked.{IsAskedBy};
 ghost use Rattle.report_jobs.specs.Prints.{IsObjectOf, changed};
 ghost use Rattle.report_jobs.specs.Silence.{Stays};
 ghost use Rattle.search_finds.specs.Finds.{IsFind};
-ghost use Rattle.report.specs.Racing as known;
+ghost use Rattle.report_searches.specs.Racing as known;
 ghost use Rattle.report.specs.Written.{WritesAll};
-ghost use Rattle.report.specs.Searches.{Finds, IsOfSystem, IsWellAt};
+ghost use Rattle.report_searches.specs.Searches.{Finds, IsOfSystem, IsWellAt};
 ghost use Rattle.report.specs.SearchObjects as specified;
 ghost use Rattle.report.specs.SearchObjects.{AreFoundIn, IsEndIn, KeepsFound, KeepsMade, KeepsRaced};
 ghost use Rattle.report.specs.SearchObjects.{WritesBeside, WritesRaced, WritesTold};
 
-use crate::asked::{Asked, no_memory};
 use crate::found::{FoundRun, behind_of};
-use crate::raced::{keeps_race, trouble_of};
-use crate::whole::{FirstLook, Racing, Whole, first_look, whole_of};
 use race_history::is_history;
 use report_command::{Search, Sought};
 use report_jobs::{Trouble, keep};
 use report_json::{Complete, Found, RacingThreads, RunEnd, RunRaces, write_complete};
 use report_looks::{CodeBytes, pair_of};
+use report_searches::{
+    Asked, FirstLook, Racing, Whole, first_look, keeps_race, no_memory, trouble_of, whole_of,
+};
 use search_finds::{Hears, run_round};
 use search_modules::{Hands, Race, race_choices};
 use search_races::watched;

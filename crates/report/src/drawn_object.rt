@@ -5,21 +5,21 @@ ghost use Rattle.report_command.specs.Searches.{IsSearchInRange};
 ghost use Rattle.report_jobs.specs.Asked.{IsAskedBy};
 ghost use Rattle.report_jobs.specs.Prints.{changed};
 ghost use Rattle.report_jobs.specs.Silence.{Stays};
-ghost use Rattle.report.specs.Drawn.{cut_in};
+ghost use Rattle.report_searches.specs.Drawn.{cut_in};
 ghost use Rattle.report.specs.Written.{WritesDrawn};
-ghost use Rattle.report.specs.Searches.{Finds, IsOfSystem};
+ghost use Rattle.report_searches.specs.Searches.{Finds, IsOfSystem};
 ghost use Rattle.report.specs.SearchObjects as specified;
 ghost use Rattle.report.specs.SearchObjects.{AreRunsOf, IsMetOf, WritesFound, WritesNone, WritesTable};
 
 use crate::all_object::{end_in, keep_made};
-use crate::asked::{jobs_of, no_memory};
 use crate::found::{FoundRun, run_found};
-use crate::raced::trouble_of;
-use crate::table::{cut_in_all, late_of, singles_of, status_of_none};
 use report_command::{Search, Sought};
 use report_jobs::Trouble;
 use report_json::{
     Coverage, Drawn, DrawnEnd, DrawnRuns, Found, FoundAs, MetEnding, RunRaces, write_drawn,
+};
+use report_searches::{
+    cut_in_all, jobs_of, late_of, no_memory, singles_of, status_of_none, trouble_of,
 };
 use search_finds::{Halt, Hears, Met, SearchResult, Table, first_found};
 use spawn_host::Request;

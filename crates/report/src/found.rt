@@ -1,22 +1,18 @@
 //! What a search finds, before it is told: the run to an ending that is looked for, or one that never ends.
 ghost use Rattle.std.specs.Prelude.{◌≡◌, None, IfOk, IfErr, IfSome};
 ghost use Rattle.search_finds.specs.Finds.{IsFind};
-ghost use Rattle.report.specs.Prints.{IsStatusOf};
-ghost use Rattle.report.specs.Searches.{IsOfSystem};
+ghost use Rattle.report_searches.specs.Prints.{IsStatusOf};
+ghost use Rattle.report_searches.specs.Searches.{IsOfSystem};
 ghost use Rattle.report.specs.SearchObjects as specified;
 ghost use Rattle.report.specs.SearchObjects.{HasEndless, HasFilled, HasFound, HasOne, HasRun};
 
-use crate::all::{
-    EndlessRun, SoughtEnding, choices_in, course_of, endless_run, filled, first_sought,
-    stops_behind,
-};
-use crate::asked::no_memory;
-use crate::complete::are_well;
-use crate::smaller::smaller_if_asked;
-use crate::whole::Whole;
 use report_command::{Search, Sought};
 use report_jobs::Trouble;
 use report_json::{FoundAs, RunSize, Shrunk};
+use report_searches::{
+    EndlessRun, SoughtEnding, Whole, are_well, choices_in, course_of, endless_run, filled, first_sought,
+    no_memory, smaller_if_asked, stops_behind,
+};
 use search_finds::{Hears, Size, entries_leading, run_round, run_to, size_of};
 use search_scheduled::MadeRun;
 use spawn_host::Request;

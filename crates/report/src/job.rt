@@ -10,11 +10,11 @@ ghost use Rattle.report.specs.Searched.{HasSearched};
 ghost use Rattle.report.specs.Jobs.{Performs};
 ghost use Rattle.report.specs.Silent.{writes_file};
 
-use crate::asked::Asked;
 use crate::searching::search_module;
 use report_command::{Job, Search};
 use report_jobs::{Streams, complain, load, perform_plain, refuse};
 use report_looks::{CodeBytes, races_saved, show_saved};
+use report_searches::Asked;
 use search_finds::Hears;
 use spawn_host::own_function;
 use std::alloc::Global;

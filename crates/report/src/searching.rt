@@ -3,21 +3,18 @@ ghost use Rattle.std.specs.Prelude.{◌≡◌, IfOk, IfErr, Some, true, false, i
 ghost use Rattle.report_command.specs.Searches.{IsSearchInRange};
 ghost use Rattle.report_jobs.specs.Asked.{IsAskedBy};
 ghost use Rattle.report_jobs.specs.Troubles.{IsTroubleOf};
-ghost use Rattle.report.specs.Searches.{Finds, IsOfSystem, IsWellAt};
+ghost use Rattle.report_searches.specs.Searches.{Finds, IsOfSystem, IsWellAt};
 ghost use Rattle.report.specs.Searched.{AllIn, DrawnIn, DrawnRacesIn, IsDrawn, IsDrawnForRaces, IsPrintedOf};
 ghost use Rattle.report_jobs.specs.Prints.{changed};
 ghost use Rattle.report_jobs.specs.Silence.{Stays};
 ghost use Rattle.report.specs.Silent.{IfRefusedCall};
 
-use crate::all::search_all_orders;
 use crate::all_object::write_all_orders;
-use crate::asked::{Asked, jobs_of};
-use crate::drawn::search_drawn;
 use crate::drawn_object::write_drawn_runs;
-use crate::drawn_races::search_drawn_races;
 use crate::racy_object::write_drawn_races;
 use report_command::{Form, Search};
 use report_jobs::{Trouble, args_of, request_of};
+use report_searches::{Asked, jobs_of, search_all_orders, search_drawn, search_drawn_races};
 use search_finds::Hears;
 use search_modules::Hands;
 use spawn_host::Request;

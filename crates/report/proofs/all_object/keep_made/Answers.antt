@@ -2,7 +2,7 @@ use Rattle.std.proofs.Common.{Option, sym, subst, ◌∙◌}
 use Rattle.search_scheduled.specs.declared.running.MadeRun.{MadeRun}
 use Rattle.report_jobs.specs.Prints.{changed}
 use Rattle.report.specs.SearchObjects.{KeepsMade}
-use Rattle.report.proofs.Pairs.{if_on}
+use Rattle.report_searches.proofs.Pairs.{if_on}
 use Rattle.report.proofs.all_object.keep_made.Goals as goal
 
 pub returns-in-Some-clause-kept : goal.returns-in-Some-clause-kept

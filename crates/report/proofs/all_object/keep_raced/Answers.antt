@@ -1,7 +1,7 @@
 use Rattle.std.proofs.Common.{false, ◌∙◌}
 use Rattle.report_jobs.specs.Prints.{changed}
 use Rattle.report.proofs.Objected.{raced_kept}
-use Rattle.report.proofs.Pairs.{if_on}
+use Rattle.report_searches.proofs.Pairs.{if_on}
 use Rattle.report.proofs.all_object.keep_raced.Goals as goal
 
 pub returns-in-Some-clause-kept : goal.returns-in-Some-clause-kept

@@ -1,10 +1,10 @@
 use Rattle.std.proofs.Common.{◌≡◌, ◌∙◌, Result, Ok, Err, refl, sym, ap, subst}
 use Rattle.std.specs.Prelude.{IfErr, IsErrAnd, is_some}
-use Rattle.report.specs.Searches.{IsOfSystem}
+use Rattle.report_searches.specs.Searches.{IsOfSystem}
 use Rattle.report_jobs.specs.Prints.{change}
 use Rattle.report.proofs.Kept.{found_kept}
 use Rattle.report.proofs.Objected.{object_by, quiet_by, race_or_none, raced_in}
-use Rattle.report.proofs.Wholly.{and_none, finds_all, well_by}
+use Rattle.report_searches.proofs.Wholly.{and_none, finds_all, well_by}
 use Rattle.report.proofs.all_object.write_all_orders.Goals as goal
 
 -- the error that a call handed on

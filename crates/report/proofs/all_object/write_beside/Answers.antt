@@ -4,7 +4,7 @@ use Rattle.report_json.specs.declared.raced.RacingThreads.{RacingThreads}
 use Rattle.report_json.specs.declared.raced.RunRaces.TheVariants.{Between}
 use Rattle.report_jobs.specs.Prints.{changed}
 use Rattle.report.specs.SearchObjects.{WritesTold}
-use Rattle.report.proofs.Pairs.{is_shown_by}
+use Rattle.report_searches.proofs.Pairs.{is_shown_by}
 use Rattle.report.proofs.RacePairs.{object_pair}
 use Rattle.report.proofs.all_object.write_beside.Goals as goal
 

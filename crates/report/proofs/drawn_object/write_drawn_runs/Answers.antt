@@ -3,7 +3,7 @@ use Rattle.std.proofs.lemmas.Result.{IfOk-weaker}
 use Rattle.report_jobs.specs.Prints.{changed}
 use Rattle.report.specs.Written.{WritesDrawn}
 use Rattle.report.specs.SearchObjects.{WritesNone}
-use Rattle.report.proofs.Counted.{cut_within}
+use Rattle.report_searches.proofs.Counted.{cut_within}
 use Rattle.report.proofs.Kept.{last_kept}
 use Rattle.report.proofs.drawn_object.write_drawn_runs.Goals as goal
 

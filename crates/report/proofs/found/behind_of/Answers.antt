@@ -1,13 +1,13 @@
 use Rattle.std.proofs.Common.{ℕ, ◌≡◌, ◌∙◌, Option, None, ap, subst, sym, inl, inr, true≢false}
 use Rattle.spawn_host.specs.Requests.{Requested}
 use Rattle.report_command.specs.declared.search.Search.{Search}
-use Rattle.report.specs.Prints.{IsStatusOf}
-use Rattle.report.specs.declared.whole.Whole.{Whole}
+use Rattle.report_searches.specs.Prints.{IsStatusOf}
+use Rattle.report_searches.specs.declared.whole.Whole.{Whole}
 use Rattle.report.specs.SearchObjects.{HasFound, HasNothing}
 use Rattle.report.specs.declared.found.Behind.{Behind}
 use Rattle.report.specs.declared.found.FoundRun.{FoundRun}
-use Rattle.report.proofs.Printed.{first_is_sought, status_0, status_1, well_has_none}
-use Rattle.report.proofs.Sought.{none_of}
+use Rattle.report_searches.proofs.Printed.{first_is_sought, status_0, status_1, well_has_none}
+use Rattle.report_searches.proofs.Sought.{none_of}
 use Rattle.report.proofs.found.behind_of.Goals as goal
 
 -- where nothing was found, with a status

@@ -1,7 +1,7 @@
 use Rattle.std.proofs.Common.{◌∙◌, sym, refl, true≢false}
 use Rattle.std.proofs.lemmas.Result.{IfOk-weaker}
 use Rattle.report.specs.SearchObjects.{HasEndless, HasFilled}
-use Rattle.report.proofs.Sought.{alike_self}
+use Rattle.report_searches.proofs.Sought.{alike_self}
 use Rattle.report.proofs.found.known_found.Goals as goal
 
 pub returns-then-not-is_free-clause-has : goal.returns-then-not-is_free-clause-has

@@ -1,5 +1,5 @@
 use Rattle.std.proofs.Common.{◌∙◌}
-use Rattle.report.proofs.Pairs.{if_on}
+use Rattle.report_searches.proofs.Pairs.{if_on}
 use Rattle.report.proofs.racy_object.keep_racy.Goals as goal
 
 pub returns-clause-kept : goal.returns-clause-kept

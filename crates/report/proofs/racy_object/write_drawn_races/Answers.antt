@@ -8,8 +8,8 @@ use Rattle.report_jobs.specs.Prints.{changed}
 use Rattle.report_json.specs.declared.raced.RunRaces.TheVariants as said
 use Rattle.report.specs.Written.{WritesDrawnRaces}
 use Rattle.report.specs.SearchObjects.{WritesNone, WritesRacy}
-use Rattle.report.proofs.Counted.{cut_within}
-use Rattle.report.proofs.DrawnRaces.{none_races, race_is_kept, says_in}
+use Rattle.report_searches.proofs.Counted.{cut_within}
+use Rattle.report_searches.proofs.DrawnRaces.{none_races, race_is_kept, says_in}
 use Rattle.report.proofs.RacePairs.{racy_pair}
 use Rattle.report.proofs.racy_object.write_drawn_races.Goals as goal
 

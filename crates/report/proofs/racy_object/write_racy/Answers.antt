@@ -3,7 +3,7 @@ use Rattle.std.proofs.lemmas.Grind.{common_steps}
 use Rattle.std.proofs.lemmas.Result.{IfOk-weaker}
 use Rattle.report_jobs.specs.Prints.{changed}
 use Rattle.report.specs.SearchObjects.{WritesRacy, WritesRacyTable}
-use Rattle.report.proofs.Pairs.{is_shown_by}
+use Rattle.report_searches.proofs.Pairs.{is_shown_by}
 use Rattle.report.proofs.RacePairs.{object_pair}
 use Rattle.report.proofs.racy_object.write_racy.Goals as goal
 

@@ -7,7 +7,7 @@ use Rattle.report_jobs.specs.Prints.{changed}
 use Rattle.report_jobs.specs.Troubles.{IsTroubleOf}
 use Rattle.report_jobs.specs.declared.running.Trouble.{Trouble}
 use Rattle.report.specs.Searched.{AllIn, DrawnIn, DrawnRacesIn, IsDrawn, IsDrawnForRaces, IsPrintedOf}
-use Rattle.report.specs.Searches.{Finds, IsOfSystem, IsWellAt}
+use Rattle.report_searches.specs.Searches.{Finds, IsOfSystem, IsWellAt}
 use Rattle.report.proofs.Asking.{of_system}
 use Rattle.report.proofs.searching.search_module.Goals as goal
 
