@@ -10,8 +10,8 @@ use report_command::{Search, Sought};
 use report_jobs::Trouble;
 use report_json::{FoundAs, RunSize, Shrunk};
 use report_searches::{
-    EndlessRun, SoughtEnding, Whole, are_well, choices_in, course_of, endless_run, filled, first_sought,
-    no_memory, smaller_if_asked, stops_behind,
+    EndlessRun, SoughtEnding, Whole, are_well, choices_in, course_of, endless_run, filled,
+    first_sought, no_memory, smaller_if_asked, stops_behind,
 };
 use search_finds::{Hears, Size, entries_leading, run_round, run_to, size_of};
 use search_scheduled::MadeRun;

@@ -28,8 +28,10 @@ mod smaller;
 mod table;
 mod whole;
 
-pub use all::{EndlessRun, SoughtEnding, search_all_orders};
-pub use all::{choices_in, course_of, endless_run, filled, first_sought, stops_behind};
+pub use all::{
+    EndlessRun, SoughtEnding, choices_in, course_of, endless_run, filled, first_sought,
+    search_all_orders, stops_behind,
+};
 pub use asked::{Asked, jobs_of, no_memory};
 pub use complete::are_well;
 pub use drawn::search_drawn;
