@@ -177,7 +177,7 @@ fn nothing(status: u8) -> Behind
 }
 
 /// The first ending that is looked for, by a run that ends so, or where none is a run that never ends; and the status,
-/// as `tell_behind` has it.
+/// as `report_searches` has it where it tells lines.
 pub(crate) fn behind_of<F: Hears>(
     alloc: Global,
     request: &Request,
