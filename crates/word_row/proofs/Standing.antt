@@ -1,6 +1,6 @@
 -- A caller that stands alone on its seat, and the events that it may try.
 use prog.Atomic.{either}
-use Rattle.std.proofs.Common.{ℕ, ◌≡◌, ◌+◌, ◌*◌, ◌^◌, ◌<◌, ◌≤◌, ◌∙◌, Bool, true, false, Option, Some, length, subst, sym, ap, eqb, arith}
+use Rattle.std.proofs.Common.{ℕ, ◌≡◌, ◌+◌, ◌*◌, ◌^◌, ◌<◌, ◌≤◌, ◌∙◌, Bool, true, false, Option, length, subst, sym, ap, eqb, arith}
 use Rattle.atomic_table.specs.Table.{Me, Allows}
 use Rattle.atomic_table.specs.Seated.{TableId}
 use Rattle.types.specs.declared.event.Event.{Event}
@@ -12,7 +12,7 @@ use Rattle.shared_memory.specs.Memory.{Memory}
 use Rattle.shared_memory.specs.History.{memory_after}
 use Rattle.shared_memory_on_table.specs.declared.view.Caller.{Caller}
 use Rattle.shared_memory_on_table.specs.declared.view.View.{View}
-use Rattle.shared_memory_on_table.specs.Moves.{IsOne, caller_in}
+use Rattle.shared_memory_on_table.specs.Moves.{caller_in}
 use Rattle.shared_memory_on_table.specs.Rule.{StandsAlone}
 use Rattle.word_row.specs.Answers.{end_of, is_access, place_of, Makes, IsMadeBy, exchange_answer, size_answer, word_answer}
 use Rattle.word_row.specs.Rule.{FetchesAs, IsRow, KeptRow, MayTry, Steps, StepsAs, StoresAs}

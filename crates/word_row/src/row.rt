@@ -170,7 +170,7 @@ impl<B: Naming> WordRow<B> {
     }
 
     // An access that lies within the memory seen: by a single step on its word where that makes the event, whatever
-    // the word is.
+    // the word is; otherwise by a load of its word and, where it changes that, an exchange.
     #[inline(always)]
     fn touch<M: Making>(&self, caller: &mut StandingCaller<B>, event: Event) -> Reply
         requires making { M.event ≡ event }
@@ -181,38 +181,25 @@ impl<B: Naming> WordRow<B> {
         ensures tried { MakesTry true B.opening None event result caller.old caller.new }
         ensures single { is_single event ≡ true → result ≢ Again }
     {
+        let row = &self.board.shared;
         match event {
             Event::Store { width, value, .. } if width == 8 => {
-                steps::store::<B, M>(&self.board.shared, caller, event, value);
-                Reply::Done
+                steps::store::<B, M>(row, caller, event, value);
+                return Reply::Done;
             }
             Event::Rmw {
                 op,
                 addr,
                 width,
                 value,
-            } => match single_of(op, addr, width, value) {
-                Some(single) => {
-                    let word = steps::fetch::<B, M>(&self.board.shared, caller, event, single);
-                    Reply::Value(lane(word, addr, width))
+            } => {
+                if let Some(single) = single_of(op, addr, width, value) {
+                    let word = steps::fetch::<B, M>(row, caller, event, single);
+                    return Reply::Value(lane(word, addr, width));
                 }
-                None => self.replace::<M>(caller, event),
-            },
-            _ => self.replace::<M>(caller, event),
+            }
+            _ => {}
         }
-    }
-
-    // An access that lies within the memory seen, by a load of its word and, where it changes that, an exchange.
-    #[inline(always)]
-    fn replace<M: Making>(&self, caller: &mut StandingCaller<B>, event: Event) -> Reply
-        requires making { M.event ≡ event }
-        requires event { IsEvent event }
-        requires right { is_of_queue event ≡ true → caller.old.has_queue_right ≡ true }
-        requires access { is_access event ≡ true }
-        requires within { EndsWithin B.opening event caller.old }
-        ensures tried { MakesTry true B.opening None event result caller.old caller.new }
-    {
-        let row = &self.board.shared;
         let word = steps::read::<B, M>(row, caller, event);
         match by_word(event, word) {
             Next::Answer(reply) => reply,

@@ -1,7 +1,7 @@
-use Rattle.std.proofs.Common.{◌^◌, ◌<◌, ◌≡◌, Some, true, eqb, sym, ap, ◌∙◌, arith}
+use Rattle.std.proofs.Common.{true, arith}
 use Rattle.shared_memory_on_table.specs.Moves.{caller_in}
 use Rattle.word_row.specs.Answers.{place_of, exchange_answer}
-use Rattle.word_row.proofs.Access.{answered_try, lost_try}
+use Rattle.word_row.proofs.Access.{lost_try}
 use Rattle.word_row.proofs.Standing.{exchanging, stepped}
 use Rattle.word_row.proofs.steps.exchange.Goals as goal
 

@@ -1,4 +1,4 @@
-use Rattle.std.proofs.Common.{◌^◌, ◌<◌, Some, false, arith}
+use Rattle.std.proofs.Common.{Some, false, arith}
 use Rattle.word_row.specs.Answers.{place_of, made_reply}
 use Rattle.word_row.proofs.Standing.{putting, stepped}
 use Rattle.word_row.proofs.steps.store.Goals as goal

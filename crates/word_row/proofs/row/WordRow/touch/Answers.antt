@@ -4,10 +4,13 @@ use Rattle.types.specs.declared.event.Event.TheVariants.{Rmw, Store}
 use Rattle.types.specs.declared.event.Reply.TheVariants.{Value, Done}
 use Rattle.shared_memory.specs.Events.{IsEvent, is_of_queue}
 use Rattle.shared_memory.specs.History.{memory_after}
+use Rattle.shared_memory.specs.Memory.{Memory}
 use Rattle.shared_memory_on_table.specs.Rule.{MakesTry}
-use Rattle.word_row.specs.Answers.{IsMadeBy, end_of, is_access, made_reply, place_of}
+use Rattle.word_row.specs.Answers.{IsMadeBy, end_of, made_reply, place_of, word_answer}
 use Rattle.word_row.proofs.Singles.{store_made}
-use Rattle.word_row.proofs.Access.{answered_try}
+use Rattle.word_row.proofs.Access.{answered_try, shows, try-after, still_within}
+use Rattle.word_row.proofs.Settling.{word_is_answer}
+use Rattle.word_row.proofs.row.WordRow.touch.Goals.{in-Store+else-width-eq8, in-Rmw+in_default-single_of, in-Size-1}
 use Rattle.word_row.proofs.row.WordRow.touch.Goals as goal
 
 pub store-requires-clause-makes : goal.store-requires-clause-makes
@@ -47,24 +50,6 @@ pub fetch-word-requires-clause-within : goal.fetch-word-requires-clause-within
 fetch-word-requires-clause-within g c =
     subst (λ (e : Event). end_of e ≤ length (memory_after g.B.Naming.opening c.args.caller.now.seen).bytes) c.in-Rmw.is c.requires.within
 
-pub replace-requires-clause-event : goal.replace-requires-clause-event
-replace-requires-clause-event g c = subst IsEvent c.in-Rmw.is c.requires.event
-
-pub replace-requires-clause-right : goal.replace-requires-clause-right
-replace-requires-clause-right g c = subst (λ (e : Event). is_of_queue e ≡ true → c.args.caller.now.has_queue_right ≡ true) c.in-Rmw.is c.requires.right
-
-pub replace-requires-clause-access : goal.replace-requires-clause-access
-replace-requires-clause-access g c = subst (λ (e : Event). is_access e ≡ true) c.in-Rmw.is c.requires.access
-
-pub replace-requires-clause-within : goal.replace-requires-clause-within
-replace-requires-clause-within g c =
-    subst (λ (e : Event). end_of e ≤ length (memory_after g.B.Naming.opening c.args.caller.now.seen).bytes) c.in-Rmw.is c.requires.within
-
-pub returns-in-None-clause-tried : goal.returns-in-None-clause-tried
-returns-in-None-clause-tried g c =
-    subst (λ (e : Event). MakesTry true g.B.Naming.opening None e c.replace.result c.args.caller.now c.replace.new.caller) (sym c.in-Rmw.is)
-    c.replace.ensures.tried
-
 pub returns-in-Store-clause-tried : goal.returns-in-Store-clause-tried
 returns-in-Store-clause-tried g c =
     let e : Event = Store c.in-Store.addr c.in-Store.width c.in-Store.reach c.in-Store.value in
@@ -79,3 +64,60 @@ returns-in-Some-clause-tried g c =
     (subst (λ (w : Event). MakesTry true g.B.Naming.opening None w (made_reply e word) c.args.caller.now c.fetch-word.new.caller) (sym c.in-Rmw.is)
     (answered_try g.B.Naming.opening false e (Some (made_reply e word)) (place_of e) word c.args.caller.now c.fetch-word.new.caller
     (made_reply e word) c.fetch-word.ensures refl tt))
+
+pub exchange-requires-clause-within : goal.exchange-requires-clause-within
+exchange-requires-clause-within g c =
+    let opening : Memory = g.B.Naming.opening in
+    let event : Event = c.match-event.event in
+    let word : ℕ = c.read-word.result in
+    let sh = shows opening false event (word_answer event word) (place_of event) word c.args.caller.now c.read-word.new.caller c.read-word.ensures
+    (c.in-Exchange.ensures 0).0 in
+    let same : c.match-event.event ≡ c.args.event =
+    elim c.match-event.branch [
+      | in-Store+else-width-eq8 w ↦ w.event-is ∙ sym w.in-Store.is
+      | in-Rmw+in_default-single_of w ↦ w.event-is ∙ sym w.in-Rmw.is
+      | in-Size-1 w ↦ w.event-is
+    ] in
+    let within = subst (λ (e : Event). end_of e ≤ length (memory_after opening c.args.caller.now.seen).bytes) (sym same) c.requires.within in
+    still_within opening event (place_of event) word c.args.caller.now c.read-word.new.caller c.args.self.now.row.stored sh within
+
+pub exchange-requires-clause-change : goal.exchange-requires-clause-change
+exchange-requires-clause-change g c = (c.in-Exchange.ensures g.B.Naming.opening.max).1
+
+pub exchange-requires-clause-word : goal.exchange-requires-clause-word
+exchange-requires-clause-word g c =
+    let event : Event = c.match-event.event in
+    let word : ℕ = c.read-word.result in
+    (shows g.B.Naming.opening false event (word_answer event word) (place_of event) word c.args.caller.now c.read-word.new.caller c.read-word.ensures
+    (c.in-Exchange.ensures 0).0).word
+
+pub returns-in-Answer-clause-tried : goal.returns-in-Answer-clause-tried
+returns-in-Answer-clause-tried g c =
+    let event : Event = c.match-event.event in
+    let word : ℕ = c.read-word.result in
+    let same : c.match-event.event ≡ c.args.event =
+    elim c.match-event.branch [
+      | in-Store+else-width-eq8 w ↦ w.event-is ∙ sym w.in-Store.is
+      | in-Rmw+in_default-single_of w ↦ w.event-is ∙ sym w.in-Rmw.is
+      | in-Size-1 w ↦ w.event-is
+    ] in
+    subst (λ (e : Event). MakesTry true g.B.Naming.opening None e c.in-Answer.reply c.args.caller.now c.read-word.new.caller) same
+    (answered_try g.B.Naming.opening false event (word_answer event word) (place_of event) word c.args.caller.now c.read-word.new.caller
+    c.in-Answer.reply c.read-word.ensures (c.in-Answer.ensures 0) (word_is_answer event word))
+
+pub returns-in-Exchange-clause-tried : goal.returns-in-Exchange-clause-tried
+returns-in-Exchange-clause-tried g c =
+    let opening : Memory = g.B.Naming.opening in
+    let event : Event = c.match-event.event in
+    let word : ℕ = c.read-word.result in
+    let sh = shows opening false event (word_answer event word) (place_of event) word c.args.caller.now c.read-word.new.caller c.read-word.ensures
+    (c.in-Exchange.ensures 0).0 in
+    let same : c.match-event.event ≡ c.args.event =
+    elim c.match-event.branch [
+      | in-Store+else-width-eq8 w ↦ w.event-is ∙ sym w.in-Store.is
+      | in-Rmw+in_default-single_of w ↦ w.event-is ∙ sym w.in-Rmw.is
+      | in-Size-1 w ↦ w.event-is
+    ] in
+    subst (λ (e : Event). MakesTry true opening None e c.exchange.result c.args.caller.now c.exchange.new.caller) same
+    (try-after opening event (place_of event) word c.args.caller.now c.read-word.new.caller c.exchange.new.caller c.exchange.result sh
+    c.exchange.ensures.tried)
