@@ -9,5 +9,5 @@ returns c = record {
   callers = λ config left stands.
       let Are : List Caller → Type 0 = λ xs. HasCallers c.args.thread.now.parts.now xs config in
       subst Are (sym c.in_ok-callers.ensures) (c.callers-open.ensures config left stands);
-  kept = c.in_ok-kept.ensures;
+  kept = c.in_ok-kept.ensures.kept;
 }
