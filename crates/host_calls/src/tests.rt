@@ -2,7 +2,7 @@
 
 use crate::{HostFault, Plan, endings_of, functions_of, is_well, replay_of, run_of};
 use replay_text::write_record;
-use report_choice::Way;
+use selection::Way;
 use spawn_host::{CallFault, EndState};
 use std::alloc::Global;
 use std::test::Fail;

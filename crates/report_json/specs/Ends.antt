@@ -10,7 +10,7 @@ use Rattle.types.specs.declared.outcome.Outcome.TheVariants as outcomes
 use Rattle.types.specs.declared.outcome.ThreadReport.{ThreadReport}
 use Rattle.types.specs.Outcomes.{trap_words, trap_number, stop_words, stop_number}
 use Rattle.replay_forms.specs.Texts.{hex_text}
-use Rattle.report_lines.specs.Ends.{status_of}
+use Rattle.search_endings.specs.Ends.{status_of}
 use Rattle.report_json.specs.declared.places.Place.{Place}
 use Rattle.report_json.specs.declared.ends.RunEnd.{RunEnd}
 use Rattle.report_json.specs.Json.{Json, Field, null, number, text, list, is, is_given, are_some, numbered, object_of}

@@ -13,7 +13,7 @@ use crate::ends::{Outcomes, put_bytes};
 use crate::found::Found;
 use crate::object::{ToJson, put, put_list, send_two, write_line};
 use crate::raced::{RunRaces, count_races, put_races};
-use report_choice::Way;
+use selection::Way;
 use search_endings::Ending;
 use serde::Serializer;
 use show_text::Unwritten;

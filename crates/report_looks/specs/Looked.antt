@@ -13,10 +13,10 @@ use Rattle.types.specs.declared.outcome.ThreadReport.{ThreadReport}
 use Rattle.race_history.specs.declared.race.Race.{Race}
 use Rattle.replay_text.specs.declared.parts.RecordParts.{RecordParts}
 use Rattle.replay_text.specs.Versions.{header_count}
-use Rattle.report_choice.specs.declared.choice.Choice.{Choice}
-use Rattle.report_choice.specs.declared.choice.Look.{Look}
-use Rattle.report_choice.specs.declared.choice.Span.{Span}
-use Rattle.report_choice.specs.Choices.{span_of}
+use Rattle.selection.specs.declared.choice.Choice.{Choice}
+use Rattle.selection.specs.declared.choice.Look.{Look}
+use Rattle.selection.specs.declared.choice.Span.{Span}
+use Rattle.selection.specs.Choices.{span_of}
 use Rattle.report_command.specs.declared.places.Data.{Data}
 use Rattle.report_command.specs.declared.places.Data.TheVariants.{At, Named}
 use Rattle.report_command.specs.declared.places.When.{When}

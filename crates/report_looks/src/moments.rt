@@ -9,7 +9,7 @@ use crate::printing::{MOST_MARKS, moment_of, races_in};
 use crate::wanted::Here;
 use race_history::Race;
 use replay_text::Record;
-use report_choice::{Look, touched};
+use selection::{Look, touched};
 use report_command::View;
 use show_events::{MomentText, failure_of, part_around};
 use show_moments::{Bytes, MomentView, write_moment};

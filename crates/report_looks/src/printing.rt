@@ -14,7 +14,7 @@ use crate::wanted::{Asked, Here, Wanted};
 use race_history::{Race, is_history};
 use replay::replay_watched;
 use replay_text::Record;
-use report_choice::{Choice, Look, Span};
+use selection::{Choice, Look, Span};
 use report_command::View;
 use show_events::{write_page, write_trace};
 use show_moments::{Moment, MomentView, write_moment};

@@ -1,6 +1,6 @@
 -- What a command line asks for, with colors as standard output takes them, and explained as standard error does.
 use Rattle.std.specs.Prelude.{ℕ, ◌≡◌, Bool, List}
-use Rattle.report_choice.specs.declared.choice.Color.{Color}
+use Rattle.selection.specs.declared.choice.Color.{Color}
 use Rattle.report_command.specs.declared.command_line.Job.{Job}
 use Rattle.report_command.specs.declared.command_line.Job.TheVariants.{Check, Run, Replay, Show, Races, Search}
 use Rattle.report_command.specs.declared.command_line.Order.{Order}

@@ -17,7 +17,7 @@ use crate::complete::{Complete, are_well, write_complete};
 use crate::drawn::tell_made;
 use crate::raced::tell_race;
 use crate::whole::{Whole, first_look, whole_of};
-use report_choice::{Find, Target};
+use selection::{Find, Target};
 use report_command::{Search, Sought};
 use report_jobs::{Trouble, keep, print};
 use report_lines::{write_for_ever, write_found_ending, write_no_end, write_without_run};

@@ -2,7 +2,7 @@
 ghost use Rattle.std.specs.Prelude.{◌≡◌};
 ghost use Rattle.report_searches.specs.Early as specified;
 
-use report_choice::{Find, Sought};
+use selection::{Find, Sought};
 use report_command::Search;
 use search_endings::Ending;
 use search_finds::is_looked_for;

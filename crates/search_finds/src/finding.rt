@@ -14,7 +14,7 @@ use crate::hears::Hears;
 use crate::judging::{EndsSo, Judges};
 use crate::search::{JudgedEnding, RunMaker};
 use crate::{Table, ending_of};
-use report_choice::{Sought, Way};
+use selection::{Sought, Way};
 use search_reach::Wish;
 use search_scheduled::{MadeRun, SearchFault, Spares, run_along, run_with_spares};
 use search_strategies::{Along, Drawn, Watch, Watched};

@@ -2,7 +2,7 @@
 ghost use Rattle.std.specs.Prelude.{◌≡◌, ◌↔◌, Bool, IfOk, true};
 
 use crate::{ending_of, is_looked_for};
-use report_choice::Sought;
+use selection::Sought;
 use search_endings::Ending;
 use search_scheduled::MadeRun;
 use std::alloc::{AllocError, Global};

@@ -1,7 +1,7 @@
 //! What is searched.
 ghost use Rattle.std.specs.Prelude.{◌<◌};
 
-use report_choice::Sought;
+use selection::Sought;
 use search_endings::Ending;
 use spawn_host::Request;
 

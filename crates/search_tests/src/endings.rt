@@ -3,7 +3,7 @@
 use crate::modules::{LOOKING, LOST_UPDATE};
 use crate::runs::{FUEL, LIMIT, Trouble, WAYS, ending_drawn, load, run};
 use interp_trait::OpenGate;
-use report_choice::Way;
+use selection::Way;
 use report_runs::record_run;
 use search_endings::Ending;
 use search_finds::{Table, ending_of, has_line_with};

@@ -6,7 +6,7 @@ ghost use Rattle.search_finds.specs.Finds.{IsFind};
 use crate::modules::LOST_UPDATE;
 use crate::runs::{FUEL, LIMIT, Trouble, load};
 use replay::replay;
-use report_choice::{Find, Sought, Target, Way};
+use selection::{Find, Sought, Target, Way};
 use search_finds::{
     Halt, Met, SearchResult, Size, Table, first_found, have_one_ending, shrunk, size_of,
 };

@@ -3,7 +3,7 @@
 use crate::modules::{LOOKING, LOST_UPDATE};
 use crate::runs::{Trouble, WAYS, load, run, run_drawn};
 use replay_text::Record;
-use report_choice::Way;
+use selection::Way;
 use search_scheduled::MadeRun;
 use search_strategies::Along;
 use std::alloc::{AllocError, Global};

@@ -2,7 +2,7 @@
 
 use binary::read;
 use replay::{ReplayFault, replay};
-use report_choice::Way;
+use selection::Way;
 use search_endings::Ending;
 use search_finds::ending_of;
 use search_scheduled::{MadeRun, SearchFault, run_along};

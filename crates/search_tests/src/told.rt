@@ -2,7 +2,7 @@
 
 use crate::modules::LOST_UPDATE;
 use crate::runs::{FUEL, LIMIT, Trouble, load};
-use report_choice::{Find, Sought, Target, Way};
+use selection::{Find, Sought, Target, Way};
 use search_finds::{Halt, Hears, SearchResult, Size, first_found};
 use search_reach::{Follows, Wish};
 use search_strategies::Watch;

@@ -15,8 +15,8 @@ use Rattle.types.specs.declared.parts.Parts.{Parts}
 use Rattle.types.specs.declared.value.ValType.{ValType}
 use Rattle.waiters.specs.declared.kept.KeptQueue.{KeptQueue}
 use Rattle.race_history.specs.declared.race.Race.{Race}
-use Rattle.report_choice.specs.declared.choice.Span.{Span}
-use Rattle.report_choice.specs.Choices.{touched}
+use Rattle.selection.specs.declared.choice.Span.{Span}
+use Rattle.selection.specs.Choices.{touched}
 use Rattle.validate.specs.Operands.{OwnOperandsAt}
 use Rattle.validate_module.specs.Own.{FindsLocals}
 use Rattle.show_text.specs.declared.context.Context.{Context}

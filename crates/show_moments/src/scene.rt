@@ -16,7 +16,7 @@ use crate::texts::{dump_text, listed_text, queue_text};
 use crate::values::{FrameNumber, FrameSpot, has_parts, is_pointer, is_signed, number_of};
 use interp::CodePlace;
 use race_history::Race;
-use report_choice::{Span, touched};
+use selection::{Span, touched};
 use shared_memory::Sleeper;
 use show_frames::{Frame, FrameValue};
 use show_named::DataMap;

@@ -4,7 +4,7 @@ ghost use Rattle.show_data.specs.Within.{NamesWithin};
 ghost use Rattle.show_units.specs.Spans.{holds};
 ghost use Rattle.show_named.specs.Names.{IsDataText};
 
-use report_choice::touched;
+use selection::touched;
 use show_data::{Sought, name_at, place_of, read_data};
 use show_frames::{Frame, read_frame, read_functions};
 use show_lines::DebugSections;

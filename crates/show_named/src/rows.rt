@@ -5,7 +5,7 @@ ghost use Rattle.show_named.specs.Rows.{AddsEntries, AddsEntry, IsEntryText, Wri
 
 use crate::data_map::DataMap;
 use crate::folds::{HowOften, Listing, Piece, Rounds};
-use report_choice::{Color, Look};
+use selection::{Color, Look};
 use show_rows::{Shown, Story, chosen_entries};
 use show_text::{Sheet, Unwritten};
 use std::alloc::{AllocError, Global};

@@ -5,7 +5,7 @@ use crate::data::{KINDS, LATE, NAMES, RECORD, SMALL, TOLD, TOLD_2, TWO, TWO_RECO
 use crate::made::{module_of, record_of, rows_of};
 use interp::CodePlace;
 use replay_text::Record;
-use report_choice::{Choice, Color, Look, Span};
+use selection::{Choice, Color, Look, Span};
 use show_lines::{SourceFile, Sources};
 use show_rows::{CodeMap, Row, Shown, write_rows};
 use std::alloc::Global;

@@ -1,7 +1,7 @@
 -- Whether the last write at some addresses is a thread's own.
 use Rattle.std.proofs.Common.{◌≡◌, ℕ, List, Some, length, slice_get, slice_index_or, sym, ap, ◌∙◌}
 use Rattle.types.specs.declared.event.Entry.{Entry}
-use Rattle.report_choice.specs.declared.choice.Span.{Span}
+use Rattle.selection.specs.declared.choice.Span.{Span}
 use Rattle.show_writes.specs.declared.lasts.Act.TheVariants as acts
 use Rattle.show_writes.specs.Lasts.{HasNone, IsLast}
 use Rattle.show_writes.proofs.Waiting.{entry_of, same_last}

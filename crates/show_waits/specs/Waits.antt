@@ -8,7 +8,7 @@ use Rattle.types.specs.declared.outcome.Outcome.{Outcome}
 use Rattle.types.specs.declared.outcome.Outcome.TheVariants as outcomes
 use Rattle.types.specs.declared.outcome.ThreadReport.{ThreadReport}
 use Rattle.types.specs.Outcomes.{outcome_text}
-use Rattle.report_choice.specs.declared.choice.Span.{Span}
+use Rattle.selection.specs.declared.choice.Span.{Span}
 use Rattle.show_rows.specs.declared.listing.Shown.{Shown}
 use Rattle.show_rows.specs.declared.listing.Story.{Story}
 use Rattle.show_rows.specs.Listing.{line_at}

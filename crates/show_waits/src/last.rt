@@ -3,7 +3,7 @@ ghost use Rattle.std.specs.Prelude.{◌≡◌, IfOk, OnOk, string_bytes};
 ghost use Rattle.show_writes.specs.declared.lasts.Act.TheVariants as acts;
 ghost use Rattle.show_waits.specs.Lasts.{SaysLast, WritesLast, unwritten_text};
 
-use report_choice::Span;
+use selection::Span;
 use show_named::{DataMap, named_text};
 use show_rows::{Shown, Story};
 use show_text::Unwritten;

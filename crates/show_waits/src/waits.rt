@@ -5,7 +5,7 @@ ghost use Rattle.show_waits.specs.Waits.{IsOwn, SaysNowhere, SaysOther, SaysStan
 
 use crate::cycles::write_cycles;
 use crate::last::last_text;
-use report_choice::Span;
+use selection::Span;
 use show_named::{DataMap, named_text};
 use show_rows::{Shown, Story};
 use show_text::Unwritten;

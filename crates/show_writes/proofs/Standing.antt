@@ -9,8 +9,8 @@ use Rattle.std.specs.Option.{is_some}
 use Rattle.types.specs.declared.event.Entry.{Entry}
 use Rattle.types.specs.declared.event.Event.TheVariants.{Size}
 use Rattle.types.specs.declared.event.Reply.TheVariants.{Value}
-use Rattle.report_choice.specs.Choices.{touched}
-use Rattle.report_choice.specs.declared.choice.Span.{Span}
+use Rattle.selection.specs.Choices.{touched}
+use Rattle.selection.specs.declared.choice.Span.{Span}
 use Rattle.show_writes.specs.declared.stands.Stand.{Stand}
 use Rattle.show_writes.specs.Stands.{TouchesAt, Stands, IsStand, is_touch}
 

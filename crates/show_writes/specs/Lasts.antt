@@ -7,7 +7,7 @@ use Rattle.types.specs.declared.event.Question.TheVariants.{Notify}
 use Rattle.race_history.specs.Accesses.{access_of, is_out_of_bounds, HasByte}
 use Rattle.race_history.specs.declared.access.Access.{Access}
 use Rattle.race_history.specs.declared.access.Kind.TheVariants.{Plain}
-use Rattle.report_choice.specs.declared.choice.Span.{Span}
+use Rattle.selection.specs.declared.choice.Span.{Span}
 use Rattle.show_writes.specs.declared.lasts.Act.{Act}
 use Rattle.show_writes.specs.declared.lasts.Act.TheVariants as acts
 

@@ -3,8 +3,8 @@ use Rattle.std.specs.Prelude.{ℕ, ◌≡◌, ◌≢◌, ◌==◌, ◌&&◌, ◌
 use Rattle.std.specs.List.{slice_get}
 use Rattle.std.specs.Option.{is_some}
 use Rattle.types.specs.declared.event.Entry.{Entry}
-use Rattle.report_choice.specs.Choices.{touched}
-use Rattle.report_choice.specs.declared.choice.Span.{Span}
+use Rattle.selection.specs.Choices.{touched}
+use Rattle.selection.specs.declared.choice.Span.{Span}
 use Rattle.show_writes.specs.declared.stands.Stand.{Stand}
 
 -- An entry of the thread that touches bytes, or waits or wakes at an address.

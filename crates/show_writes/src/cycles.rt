@@ -4,7 +4,7 @@ ghost use Rattle.show_writes.specs.Cycles.{AreWaits, IsCycle, IsStopped, IsWait,
 
 use crate::lasts::{Act, last_of};
 use crate::stands::{is_same, stand_of};
-use report_choice::Span;
+use selection::Span;
 use std::alloc::{AllocError, Global};
 use types::{Entry, Outcome, ThreadReport};
 

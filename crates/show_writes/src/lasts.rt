@@ -3,7 +3,7 @@ ghost use Rattle.std.specs.Prelude.{◌≡◌, ◌↔◌, true, None, IfSome};
 ghost use Rattle.show_writes.specs.Lasts.{Does, HasNone, IsLast, Notifies, Writes};
 
 use race_history::{Kind, access_of};
-use report_choice::Span;
+use selection::Span;
 use types::{Entry, Event, Question, Reply};
 
 /// What an entry does that is sought.

@@ -1,9 +1,9 @@
 //! At which bytes a thread stands.
 ghost use Rattle.std.specs.Prelude.{◌≡◌, ◌↔◌, true, None, IfSome};
-ghost use Rattle.report_choice.specs.Choices.{touched};
+ghost use Rattle.selection.specs.Choices.{touched};
 ghost use Rattle.show_writes.specs.Stands.{IsStand, TouchesNothing};
 
-use report_choice::{Span, touched};
+use selection::{Span, touched};
 use types::Entry;
 
 /// Where a thread stands: the bytes that it touched last, or waited for, and since when it touched no others.

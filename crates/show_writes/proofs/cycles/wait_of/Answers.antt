@@ -1,5 +1,5 @@
 use Rattle.std.proofs.Common.{ℕ, ◌≡◌, Option, None, refl, sym, subst, ◌∙◌, true≢false, rules}
-use Rattle.report_choice.specs.declared.choice.Span.{Span}
+use Rattle.selection.specs.declared.choice.Span.{Span}
 use Rattle.show_writes.specs.Cycles.{IsStopped, IsWait, StandsElsewhere}
 use Rattle.show_writes.proofs.Waiting.{entry_of, no_other, same_stand, same_writer}
 use Rattle.show_writes.proofs.cycles.wait_of.Goals as goal

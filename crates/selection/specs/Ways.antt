@@ -1,8 +1,8 @@
 -- The strategy by which a run is drawn.
 use Rattle.std.specs.Prelude.{ℕ, ◌%◌, slice_index_or}
-use Rattle.report_choice.specs.declared.way.Way.{Way}
-use Rattle.report_choice.specs.declared.way.Way.TheVariants as ways
-use Rattle.report_choice.specs.declared.way.TheConstants.{MIX}
+use Rattle.selection.specs.declared.way.Way.{Way}
+use Rattle.selection.specs.declared.way.Way.TheVariants as ways
+use Rattle.selection.specs.declared.way.TheConstants.{MIX}
 
 -- The strategy of the run of this number: of a mix that of the table at the number's place, else itself.
 abbrev pub way_of : Way → ℕ → Way

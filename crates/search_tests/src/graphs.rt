@@ -1,5 +1,5 @@
 //! Small graphs whose answers are known: two threads that spin, lock and wait.
-use crate::{Fairness, judge};
+use search_fairness::{Fairness, judge};
 use search_graph::{Graph, Move, cannot_end, is_graph};
 use std::alloc::{AllocError, Global};
 use std::test::Fail;

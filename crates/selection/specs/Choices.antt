@@ -6,8 +6,8 @@ use Rattle.types.specs.declared.event.Event.{Event}
 use Rattle.types.specs.declared.event.Event.TheVariants.{Load, Store, Rmw, Cmpxchg, Ask}
 use Rattle.types.specs.declared.event.Question.TheVariants.{Wait, Notify}
 use Rattle.types.specs.declared.event.Entry.{Entry}
-use Rattle.report_choice.specs.declared.choice.Span.{Span}
-use Rattle.report_choice.specs.declared.choice.Choice.{Choice}
+use Rattle.selection.specs.declared.choice.Span.{Span}
+use Rattle.selection.specs.declared.choice.Choice.{Choice}
 
 -- So many addresses from this one on, as far as there are addresses.
 abbrev pub span_of : ℕ → ℕ → Span

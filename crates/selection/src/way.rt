@@ -1,6 +1,6 @@
 //! The strategies of a search along drawn schedules.
 ghost use Rattle.std.specs.Prelude.{◌≡◌};
-ghost use Rattle.report_choice.specs.Ways.{way_of};
+ghost use Rattle.selection.specs.Ways.{way_of};
 
 /// The largest depth.
 pub const MOST_DEPTH: u32 = 32;

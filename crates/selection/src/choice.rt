@@ -2,8 +2,8 @@
 
 ghost use Rattle.std.specs.Prelude.{◌≡◌, ◌≤◌, ◌==◌, IfSome};
 ghost use Rattle.std.specs.List.{list_any};
-ghost use Rattle.report_choice.specs.Choices as specified;
-ghost use Rattle.report_choice.specs.Choices.{is_chosen, is_chosen_line, is_chosen_thread, is_chosen_address};
+ghost use Rattle.selection.specs.Choices as specified;
+ghost use Rattle.selection.specs.Choices.{is_chosen, is_chosen_line, is_chosen_thread, is_chosen_address};
 
 use types::{Entry, Event, Question};
 
