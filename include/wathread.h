@@ -10,8 +10,8 @@
  * A buffer that is too small gets no bytes; the length that is wanted stands in the answer, whatever the buffer's. So a
  * call with a length of 0 asks how much is wanted.
  *
- * The statuses are those of the program, and the text is an object of JSON with a line feed (docs/PROFILE.md has its
- * shape, docs/wathread.schema.json its schema); where memory is refused there is none. Link with lib/libwathread.a.
+ * The statuses are those of the program, and the text is an object of JSON with a line feed (docs/JSON.md has its shape,
+ * docs/wathread.schema.json its schema); where memory is refused there is none. Link with lib/libwathread.a.
  */
 #ifndef WATHREAD_H
 #define WATHREAD_H
@@ -43,7 +43,7 @@ enum wathread_kind {
     WATHREAD_I32 = 2,           /* it returned an i32 */
     WATHREAD_I64 = 3,           /* it returned an i64 */
     WATHREAD_TRAP = 4,          /* number: 1 unreachable, 2 divide by zero, 3 overflow, 4 out of bounds, and others:
-                                   docs/PROFILE.md has the list */
+                                   docs/LIMITS.md has the list */
     WATHREAD_STOP = 5           /* number: 1 out of fuel, 2 asleep for good, 3 record full */
 };
 
