@@ -157,49 +157,49 @@ class Page:
     def check_needed(self):
         """Goes from definition to definition: all that one names is read, and each that is read is named."""
         ahead, kinds = self.roots()
-        read, unread = self.read, self.unread
-        views = {it for it in read if it[1].startswith("impl ")}
-        traits = {it for it in read if it[0].endswith(".rt") and self.has(it, "trait %s\\b")}
-        laws = {it for it in read if it[0].endswith(".rt") and self.has(it, "fn %s\\(")}
-        known = {name.split()[-1] for path, name in read if path.endswith(".rt")} | STANDARD
-        for kind in sorted(kinds - known - {name for path, name in unread}):
+        views = {it for it in self.read if it[1].startswith("impl ")}
+        laws = {it for it in self.read if it[0].endswith(".rt") and self.has(it, "fn %s\\(")}
+        known = {name.split()[-1] for path, name in self.read if path.endswith(".rt")} | STANDARD
+        for kind in sorted(kinds - known - {name for path, name in self.unread}):
             self.tell("%s is in no row, and the functions speak of it" % kind)
         for kind in sorted((known | kinds) & viewed() - {name.split()[-1] for path, name in views}):
             self.tell("the view of %s is in no row" % kind)
-        by_name = {}
-        for it in read:
-            by_name.setdefault(it[1], set()).add(it)
         # A view or a law is named by no definition; it stands for those of its type, or of what it is about.
-        ahead |= {(it, DOCUMENT) for it in read if it in views | laws or it[1] in kinds}
-        reached, ahead = set(), sorted(ahead)
+        ahead = sorted(ahead | {(it, DOCUMENT) for it in self.read if it in views | laws or it[1] in kinds})
+        reached = set()
         while ahead:
-            (path, name), by = heapq.heappop(ahead)
-            if (path, name) in reached:
+            it, by = heapq.heappop(ahead)
+            if it in reached:
                 continue
-            reached.add((path, name))
-            if (path, name) in unread:
+            reached.add(it)
+            if it in self.unread:
                 continue
-            if (path, name) not in read:
-                self.tell("%s of %s is in no row, and %s names it" % (name, path, by))
-            lines = self.file(path).definitions.get(name, [])
-            if (path, name) in views | traits:
-                members = r"\s*ghost (Value|view)\b" if (path, name) in views else r"\s*ghost (?!use\b)"
-                lines = [line for line in lines if re.match(members, line)]
-            for it in self.needed(path, lines) - reached:
-                heapq.heappush(ahead, (it, "%s of %s" % (name, path)))
-            if path.endswith(".rt") and (path, name) not in views | traits | laws:
-                for kind in kinds_in(code(lines)[1:]):
-                    if kind not in known:
-                        self.tell("%s of %s has a %s, of which no row says what it is" % (name, path, kind))
-                    for it in by_name.get(kind, set()) - reached:
-                        heapq.heappush(ahead, (it, name))
-        for path, name in sorted({*read, *unread} - reached):
+            if it not in self.read:
+                self.tell("%s of %s is in no row, and %s names it" % (it[1], it[0], by))
+            for other in self.named_by(it, known, it in laws) - reached:
+                heapq.heappush(ahead, (other, "%s of %s" % (it[1], it[0])))
+        for path, name in sorted({*self.read, *self.unread} - reached):
             if name not in kinds:
                 self.tell("%s of %s is in a row, and nothing names it" % (name, path))
 
+    def named_by(self, it, known, is_law):
+        """What a definition names: of a view what it gives, of a trait its members without functions."""
+        path, name = it
+        lines = self.file(path).definitions.get(name, [])
+        if name.startswith("impl ") or path.endswith(".rt") and self.has(it, "trait %s\\b"):
+            members = r"\s*ghost (Value|view)\b" if name.startswith("impl ") else r"\s*ghost (?!use\b)"
+            return self.needed(path, [line for line in lines if re.match(members, line)])
+        found = self.needed(path, lines)
+        if path.endswith(".rt") and not is_law:
+            for kind in kinds_in(code(lines)[1:]):
+                if kind not in known:
+                    self.tell("%s of %s has a %s, of which no row says what it is" % (name, path, kind))
+                found |= {other for other in self.read if other[1] == kind}
+        return found
+
     def has(self, it, pattern):
         path, name = it
-        return re.search(pattern % re.escape(name), "\n".join(self.lines_of(path, name)))
+        return re.search(pattern % re.escape(name), "\n".join(self.file(path).definitions.get(name, [])))
 
     def check_fields(self):
         """Each field that the table of pieces names is one of `EndsRun`, or of a record that is one of its fields."""

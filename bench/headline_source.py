@@ -90,7 +90,7 @@ class Source:
                 above = []
 
     def read_items(self):
-        """Structures, enumerations, functions, traits and views of a program's file, up to the brace that closes them."""
+        """Structures, enumerations, functions, traits and views of a program's file, up to the brace at their end."""
         at = 0
         while at < len(self.lines):
             found = ITEM.match(self.lines[at])

@@ -3,9 +3,9 @@
 
 It says of each what refused it: a proof, as it must be, and of which functions; the front end, before any proof, so
 that the bug shows nothing; a name alone, which the bug took away from a proof file; or nothing. Last it notes that in
-planted/tried.tsv (a bug, the day, and what refused it; or a crate, and the day when all of its bugs compiled) and writes
-planted/TRIED.md from it; with --list it does this alone. With --part it takes the crates of the Kth of N parts, which
-have about as many bugs each.
+planted/tried.tsv (a bug, the day, and what refused it; or a crate, and the day when all of its bugs compiled) and
+writes planted/TRIED.md from it; with --list it does this alone. With --part it takes the crates of the Kth of N parts,
+which have about as many bugs each.
 
 The libraries below a crate are built first, in the crates' out/, where a check hasn't left them. Crates are tried side
 by side, as many as processors and memory hold; RT_JOBS=1 takes one at a time. All of them take hours.
@@ -237,7 +237,7 @@ def known():
 
 
 def note(found):
-    """Notes what came of bugs, or of crates, today, leaves out those that aren't there any more, and writes the list."""
+    """Notes what came of bugs, or of crates, today, leaves out those that aren't there now, and writes the list."""
     today = datetime.date.today().isoformat()
     noted = {**known(), **{name: (today, what) for name, what in found.items()}}
     crates = [it for it in sorted(os.listdir(f"{TOP}/planted")) if bugs_of(it)]
