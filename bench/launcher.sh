@@ -203,6 +203,7 @@ if command -v rt >/dev/null; then
     git init -q . && commit
     SAME='the shipped program is the one that was built, byte for byte'
     DIFFERS="the shipped program isn't the one that was built"
+    COST=$'\ngate: [0-9]+ processor minutes, [0-9]+ by the clock\n'
     PROVED=$'wathread: [^\n]*proving and building the program[^\n]*(\nwathread: proving and building: [^\n]*)*\nwathread: proved and built in [^\n]*'
     # shellcheck disable=SC2016
     ends 130 '' 'wathread: no program is shipped: proving and building .*' \
@@ -216,16 +217,16 @@ if command -v rt >/dev/null; then
     ends 0 "$SAME" "$PROVED" ./wathread --prove
     rm -rf crates/wathread/out
     ends 0 '' "$TOOK" "${bare[@]}" ./wathread
-    ends 0 ".*$SAME"$'\n1 passed, 0 failed' '.*' .ci/run
+    ends 0 ".*$SAME${COST}1 passed, 0 failed" '.*' .ci/run
     printf damage | dd of=release/wathread-x86_64-linux.xz bs=1 seek=1000 conv=notrunc 2>/dev/null
-    ends 1 ".*$DIFFERS: $DAMAGED"$'\n1 passed, 0 failed' '.*' .ci/run
+    ends 1 ".*$DIFFERS: $DAMAGED${COST}1 passed, 0 failed" '.*' .ci/run
     pack "$PWD" "$(type -P true)"
-    ends 0 ".*$DIFFERS: it was built by that of a trial"$'\n1 passed, 0 failed' '.*' .ci/run
+    ends 0 ".*$DIFFERS: it was built by that of a trial${COST}1 passed, 0 failed" '.*' .ci/run
     sed -i "s/^toolchain .*/toolchain $(rt version)/" release/wathread-x86_64-linux.sum
-    ends 1 ".*$DIFFERS: they differ"$'\n1 passed, 0 failed' '.*' .ci/run
+    ends 1 ".*$DIFFERS: they differ${COST}1 passed, 0 failed" '.*' .ci/run
     ends 1 "$DIFFERS: they differ" "$PROVED" ./wathread --prove
     sed -i 's/^sources ./sources g/' release/wathread-x86_64-linux.sum
-    ends 0 ".*$DIFFERS: it is of other sources"$'\n1 passed, 0 failed' '.*' .ci/run
+    ends 0 ".*$DIFFERS: it is of other sources${COST}1 passed, 0 failed" '.*' .ci/run
     rm -rf crates/wathread/out
     ends 0 '' "${PROVED/: /: the shipped program is of other sources: }" ./wathread
     echo 'fn wrong() -> u8 ensures { result ≡ 1 } { 2 }' >>crates/wathread/src/main.rt

@@ -1,9 +1,10 @@
 #!/usr/bin/env python3
-"""planted.sh [CRATE | CRATE/BUG ..] [--part K/N] [--front]: tries planted/, as the gate tries must-fail/.
+"""planted.sh [CRATE | CRATE/BUG ..] [--part K/N] [--front | --list]: tries planted/, as the gate tries must-fail/.
 
 It says of each what refused it: a proof, as it must be, and of which functions; the front end, before any proof, so
-that the bug shows nothing; a name alone, which the bug took away from a proof file; or nothing. Last it writes
-planted/TRIED.md, the list of when each crate's bugs were tried. With --part it takes the crates of the Kth of N parts,
+that the bug shows nothing; a name alone, which the bug took away from a proof file; or nothing. Last it notes that in
+planted/tried.tsv (a bug, the day, and what refused it; or a crate, and the day when all of its bugs compiled) and
+writes planted/TRIED.md from it; with --list it does this alone. With --part it takes the crates of the Kth of N parts,
 which have about as many bugs each.
 
 The libraries below a crate are built first, in the crates' out/, where a check hasn't left them. Crates are tried side
@@ -26,18 +27,26 @@ import threading
 import gate
 
 TOP = os.path.dirname(os.path.dirname(os.path.abspath(__file__)))
-LIST = f"{TOP}/planted/TRIED.md"
-HEAD = """# When the planted bugs were tried
+LIST, KEPT = f"{TOP}/planted/TRIED.md", f"{TOP}/planted/tried.tsv"
+MOST = 1000
+HEAD = f"""# When the planted bugs were tried
 
-`bench/planted.sh` tries the bugs of this folder and writes this list. A bug that is not refused by a proof shows
-nothing: it stands in the last column. `Compile` is when all of a crate's bugs were last seen to compile (`--front`).
+`bench/planted.sh` tries the bugs of this folder, notes in `tried.tsv` what refused each, and writes this list from it.
 The gate tries those of the crates' `must-fail` each time; they are not listed here.
 
-| Crate | Bugs | Compile | Tried | Refused by a proof | On | What refused the others |
-|---|---|---|---|---|---|---|
+At most {MOST:,} lie here. Those stay that a proof refused, since they show what a contract says; of a function of a
+public contract without such a one, the most telling that was never tried; and of a crate with few, some of its inner
+functions. Others went: a second one of the same function, those whose place is gone, those of crates with far more than
+others, and those that no proof refused (a name alone that was taken away, or the front end), which show nothing. Who
+adds one tries it.
+
+`Compile` is when all of a crate's bugs were last seen to compile (`--front`).
+
 """
+COLUMNS = ("Crate", "Bugs", "Refused by a proof", "Tried", "Never tried", "What refused the others", "Compile")
 PROOF, NAME, FRONT, NOTHING, MISFIT = "a proof", "a name alone", "the front end", "nothing", "it doesn't fit"
 UNPROVED = "the crate isn't proved without it"
+COMPILES = "compile"
 
 
 def bugs_of(crate):
@@ -203,7 +212,7 @@ def refused_by_front_end(rt, crate, bugs):
 def front(rt, wanted):
     """Prints which of the wanted bugs don't compile, and notes the crates of which all do."""
     rt.rtlib.guarded()
-    known, bad = rows(), 0
+    compiled, bad = {}, 0
     for crate in rt.rtlib.crates_below(TOP):
         if crate.name not in wanted:
             continue
@@ -214,54 +223,56 @@ def front(rt, wanted):
         many = len(wanted[crate.name])
         print(f"{crate.name}: {many - len(refused)} of {many} compile", flush=True)
         if not refused and many == len(bugs_of(crate.name)):
-            row = known.setdefault(f"`{crate.name}`", [""] * 6)
-            row[1] = datetime.date.today().isoformat()
-            write_rows(known)
+            compiled[crate.name] = COMPILES
+            note(compiled)
     return int(bad > 0)
 
 
-def rows():
-    """The rows of the list, by their first column."""
-    try:
-        with open(LIST) as file:
-            found = [[cell.strip() for cell in line.split("|")[1:-1]] for line in file if line.startswith("| `")]
-    except OSError:
-        found = []
-    return {it[0]: (it[1:] + [""] * 6)[:6] for it in found}
+def known():
+    """What is noted: by bug, as CRATE/BUG, or by crate, the day and what came of it."""
+    if not os.path.exists(KEPT):
+        return {}
+    with open(KEPT) as file:
+        return {name: (day, what) for name, day, what in (line.rstrip("\n").split("\t") for line in file)}
 
 
-def write_list(wanted, results):
-    """Writes what was tried today into the list. Where only some of a crate's bugs were tried, these have a row."""
-    known, today = rows(), datetime.date.today().isoformat()
-    for crate, bugs in wanted.items():
-        ended = {it: results[crate, it] for it in bugs if (crate, it) in results}
-        if not ended:
-            continue
-        is_whole = len(ended) == len(bugs_of(crate))
-        others = collections.defaultdict(list)
-        for it, (by, _) in ended.items():
-            if by != PROOF:
-                others[by].append(it)
-        said = "; ".join(f"{by}: {', '.join(names)}" for by, names in others.items())
-        refused = sum(by == PROOF for by, _ in ended.values())
-        compiled = known.get(f"`{crate}`", ["", ""])[1]
-        if is_whole:
-            known = {it: row for it, row in known.items() if not it.startswith(f"`{crate}`")}
-        key = f"`{crate}`" if is_whole else f"`{crate}`: {', '.join(ended)}"
-        known[key] = ["", compiled if is_whole else "", str(len(ended)), str(refused), today, said]
-    write_rows(known)
+def note(found):
+    """Notes what came of bugs, or of crates, today, leaves out those that aren't there now, and writes the list."""
+    today = datetime.date.today().isoformat()
+    noted = {**known(), **{name: (today, what) for name, what in found.items()}}
+    crates = [it for it in sorted(os.listdir(f"{TOP}/planted")) if bugs_of(it)]
+    there = {*crates, *(f"{crate}/{bug}" for crate in crates for bug in bugs_of(crate))}
+    noted = {name: noted[name] for name in sorted(noted) if name in there}
+    with open(KEPT, "w") as file:
+        file.writelines(f"{name}\t{day}\t{what}\n" for name, (day, what) in noted.items())
+    write_list(crates, noted)
 
 
-def write_rows(known):
-    """Writes the list, with a row for each crate that has bugs here."""
-    folders = [it for it in sorted(os.listdir(f"{TOP}/planted")) if bugs_of(it)]
+def write_list(crates, noted):
+    """Writes the list: a row for each crate that has bugs here, and how many there are in all."""
+    rows = [row_of(crate, noted) for crate in crates]
+    every, refused, never = (sum(row[at] for row in rows) for at in (1, 2, 4))
     with open(LIST, "w") as file:
-        file.write(HEAD)
-        for crate in folders:
-            known.setdefault(f"`{crate}`", [""] * 6)
-            for key in sorted(it for it in known if it.startswith(f"`{crate}`")):
-                cells = [key, str(len(bugs_of(crate))), *known[key][1:]]
-                file.write(f"| {' | '.join(cells)} |\n".replace("  ", " "))
+        file.write(f"{HEAD}In all there are {every}: {refused} were refused by a proof, {never} were never tried.\n\n")
+        file.write(f"| {' | '.join(COLUMNS)} |\n|{'---|' * len(COLUMNS)}\n")
+        file.writelines(f"| {' | '.join(map(str, row))} |\n".replace("  ", " ") for row in rows)
+    if every > MOST:
+        print(f"planted.sh: {every} bugs, and at most {MOST} are to lie there", file=sys.stderr)
+
+
+def row_of(crate, noted):
+    """The cells of a crate's row."""
+    bugs = bugs_of(crate)
+    tried = {it: noted[f"{crate}/{it}"] for it in bugs if f"{crate}/{it}" in noted}
+    days = sorted({day for day, _ in tried.values()})
+    others = collections.defaultdict(list)
+    for it, (_, what) in tried.items():
+        if what != PROOF:
+            others[what].append(it)
+    said = "; ".join(f"{what}: {', '.join(names)}" for what, names in others.items())
+    refused = sum(what == PROOF for _, what in tried.values())
+    span = " to ".join([*days[:1], *days[1:][-1:]])
+    return f"`{crate}`", len(bugs), refused, span, len(bugs) - len(tried), said, noted.get(crate, ("", ""))[0]
 
 
 def part(crates, which):
@@ -280,8 +291,10 @@ def part(crates, which):
 
 
 def main(words):
-    which, is_front = None, "--front" in words
-    words = [it for it in words if it != "--front"]
+    which, is_front, is_list = None, "--front" in words, "--list" in words
+    words = [it for it in words if it not in ("--front", "--list")]
+    if is_list:
+        return note({})
     if "--part" in words:
         at = words.index("--part")
         which, words = "".join(words[at + 1 : at + 2]), words[:at] + words[at + 2 :]
@@ -300,7 +313,7 @@ def main(words):
     if is_front:
         return front(gate.rt_module(), wanted)
     results = try_all(gate.rt_module(), wanted)
-    write_list(wanted, results)
+    note({f"{crate}/{bug}": by for (crate, bug), (by, _) in results.items()})
     many, refused = sum(map(len, wanted.values())), sum(by == PROOF for by, _ in results.values())
     print(f"{refused} of {many} refused by a proof")
     return int(refused < many)
