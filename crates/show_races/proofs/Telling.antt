@@ -1,5 +1,5 @@
 -- What is told of a race.
-use Rattle.std.proofs.Common.{◌≡◌, ◌∙◌, ◌<◌, nat_lt, ℕ, List, ◌++◌, Option, Some, length, get_or, refl, sym, ap, subst, codes}
+use Rattle.std.proofs.Common.{◌≡◌, ◌∙◌, ◌<◌, nat_lt, ℕ, List, ◌++◌, Option, Some, length, get_or, sym, ap, subst, codes}
 use Rattle.std.specs.Fmt.{decimal}
 use Rattle.std.specs.List.{AllZip, concat, slice_get}
 use Rattle.std.specs.Io.KnownBytes.{Appends}
