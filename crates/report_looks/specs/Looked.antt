@@ -39,7 +39,7 @@ use Rattle.show_rows.specs.declared.rows.Row.{Row}
 use Rattle.show_rows.specs.declared.listing.Shown.{Shown}
 use Rattle.show_rows.specs.declared.listing.Story.{Story}
 use Rattle.show_rows.specs.Listing.{IsStoryOf}
-use Rattle.show_waits.specs.Lasts.{WritesLast}
+use Rattle.show_named.specs.LastTexts.{WritesLast}
 use Rattle.show_waits.specs.Waits.{WritesWaits}
 use Rattle.report_looks.specs.declared.wanted.Asked.{Asked}
 use Rattle.report_looks.specs.declared.wanted.Here.{Here}

@@ -6,8 +6,8 @@ ghost use Rattle.std.specs.Cmp.Rules.{hashing};
 ghost use Rattle.std.proofs.Common.{rules};
 
 use crate::digest::{of_shared, of_standing};
+use crate::walker::RestingThread;
 use search_memory::Changes;
-use search_walkers::RestingThread;
 use std::alloc::{AllocError, Global};
 use std::hash::{Hash, Hasher};
 use waiters::KeptQueue;

@@ -6,7 +6,7 @@ use Rattle.std.specs.Fmt.{decimal}
 use Rattle.std.specs.Io.KnownBytes.{Appends}
 use Rattle.race_history.specs.declared.race.Race.{Race}
 use Rattle.show_rows.specs.Listing.{line_at}
-use Rattle.show_races.specs.Written.{IsEntryText}
+use Rattle.show_rows.specs.Entries.{IsEntryText}
 use Rattle.show_moments.specs.declared.standing.ThreadSnapshot.{ThreadSnapshot}
 use Rattle.show_moments.specs.declared.standing.OpenFunction.{OpenFunction}
 use Rattle.show_moments.specs.Opened.{IsOpenFunction}

@@ -38,9 +38,9 @@ use Rattle.show_frames.specs.declared.kinds.Kind.{Kind}
 use Rattle.show_frames.specs.declared.values.FrameValue.{FrameValue}
 use Rattle.show_text.specs.Plain.{plain_text}
 use Rattle.show_named.specs.declared.data_map.DataMap.{DataMap}
-use Rattle.show_races.specs.Written.{IsEntryText}
-use Rattle.show_waits.specs.Lasts.{SaysLast}
-use Rattle.show_writes.specs.declared.lasts.Act.TheVariants as acts
+use Rattle.show_rows.specs.Entries.{IsEntryText}
+use Rattle.show_named.specs.LastTexts.{SaysLast}
+use Rattle.show_named.specs.declared.lasts.Act.TheVariants as acts
 use Rattle.show_moments.specs.declared.moment.Moment.{Moment}
 use Rattle.show_moments.specs.declared.scene.MomentView.{MomentView}
 use Rattle.show_moments.specs.declared.scene.Scene.{Scene}

@@ -1,4 +1,5 @@
 pub mod Chosen
 mod Read
 pub mod Saying
+pub mod Texts
 pub mod Zipped
