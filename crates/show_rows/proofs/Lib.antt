@@ -1,4 +1,5 @@
 pub mod Chosen
 mod Read
 pub mod Saying
+pub mod Words
 pub mod Zipped
