@@ -6,10 +6,9 @@ ghost use Rattle.report_lines.specs.Lines.{thread_line, thread_lines, pages_line
 ghost use Rattle.search_endings.specs.Ends as specified;
 ghost use Rattle.search_endings.specs.Ends.{status_of};
 
-use replay_forms::hex_digit;
 use search_endings::is_done;
 use std::io::{self, Write};
-use types::ThreadReport;
+use types::{Outcome, ThreadReport};
 
 /// Whether all threads ended well.
 fn all_done(reports: &[ThreadReport]) -> bool
@@ -96,7 +95,7 @@ pub(crate) fn write_hex<W: Write>(out: &mut W, bytes: &[u8]) -> io::Result<()>
     ensures { Wrote W.contents out.old out.new result (hex_bytes bytes.now) }
 {
     for byte in bytes {
-        out.write_all(&[b' ', hex_digit(*byte / 16), hex_digit(*byte % 16)])?;
+        write!(out, " {byte:02x}")?;
     }
     Ok(())
 }

@@ -2,4 +2,5 @@ pub mod Chosen
 mod Read
 pub mod Saying
 pub mod Texts
+pub mod Words
 pub mod Zipped

@@ -3,7 +3,7 @@ ghost use Rattle.std.specs.Prelude.{◌≤◌};
 ghost use Rattle.report_command.specs.Jobs.{IsInRange};
 ghost use Rattle.report_jobs.specs.Plain.{IsPlain};
 
-use crate::answers::is_answer;
+use crate::mutants::answers::is_answer;
 use report_command::{CallWords, EndLook, Form, Job, RunJob};
 use report_jobs::{Streams, perform_plain};
 use std::alloc::{AllocError, Global};

@@ -14,11 +14,10 @@
 //! ```
 //!
 //! Standard error has how many came to which status.
-#![tactic(auto)]
 
 mod answers;
 mod case;
 mod changes;
 mod trials;
 
-pub use case::try_case;
+pub(crate) use case::try_case;

@@ -1,6 +1,6 @@
 //! The texts of a case, and whether each comes to what is wanted.
 
-use crate::reading::{KEPT, comes_to};
+use crate::records::reading::{KEPT, comes_to};
 use std::alloc::AllocError;
 use test_cases::{Case, Edit, Stop, Tally, edited, read_file};
 
@@ -93,7 +93,7 @@ fn has_rows(case: &Case) -> bool {
 }
 
 /// Reads each text of a case, counts them, and says of each that comes to something else than wanted.
-pub fn try_case(rt: &HostRuntime, case: &Case, tally: &mut Tally) -> Result<(), Stop> {
+pub(crate) fn try_case(rt: &HostRuntime, case: &Case, tally: &mut Tally) -> Result<(), Stop> {
     let text = text_of(rt, case)?;
     if !has_rows(case) {
         let wanted = case.get("fault").unwrap_or(KEPT);

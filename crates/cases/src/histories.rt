@@ -9,9 +9,8 @@
 //!
 //! The words of a history are those that `bench/races.py` explains, which makes histories and judges them by the
 //! definition.
-#![tactic(auto)]
 
 mod spelled;
 mod trial;
 
-pub use trial::try_case;
+pub(crate) use trial::try_case;

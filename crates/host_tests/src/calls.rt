@@ -1,6 +1,6 @@
 //! Each call with ample memory, and with what it refuses.
 
-use crate::{HostFault, Plan, endings_of, functions_of, is_well, replay_of, run_of};
+use host_calls::{HostFault, Plan, endings_of, functions_of, is_well, replay_of, run_of};
 use replay_text::write_record;
 use selection::Way;
 use spawn_host::{CallFault, EndState};

@@ -20,9 +20,8 @@
 //! ```text
 //! fault WHY              it is no record for this reason; without this line it is one, which is written as it was read
 //! ```
-#![tactic(auto)]
 
 mod reading;
 mod texts;
 
-pub use texts::try_case;
+pub(crate) use texts::try_case;

@@ -1,7 +1,7 @@
 //! One case: the fronts of a module, changed modules, and changed records of its run.
 
-use crate::changes::{Numbers, change};
-use crate::trials::{Called, Over, module_is_right, record_is_right, run};
+use crate::mutants::changes::{Numbers, change};
+use crate::mutants::trials::{Called, Over, module_is_right, record_is_right, run};
 use std::sync::Wait;
 use std::thread::Threads;
 use test_cases::{Case, Stop, Tally, read_file};
@@ -147,7 +147,7 @@ fn try_example<R: Threads + Wait + Sync>(
 ///
 /// # Errors
 /// Where memory is refused, the module can't be read, or the case names none, or no function.
-pub fn try_case<R: Threads + Wait + Sync>(
+pub(crate) fn try_case<R: Threads + Wait + Sync>(
     rt: &HostRuntime,
     threads: &R,
     case: &Case,

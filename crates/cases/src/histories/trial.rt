@@ -1,6 +1,6 @@
 //! The races of one history, and of all of a case.
 
-use crate::spelled::history_of;
+use crate::histories::spelled::history_of;
 use race_history::{is_history, races_of};
 use std::alloc::{AllocError, Global};
 use test_cases::{Case, Tally};
@@ -44,7 +44,7 @@ fn try_row(rt: &HostRuntime, title: &str, row: &str, tally: &mut Tally) -> Resul
 ///
 /// # Errors
 /// Where memory is refused.
-pub fn try_case(rt: &HostRuntime, case: &Case, tally: &mut Tally) -> Result<(), AllocError> {
+pub(crate) fn try_case(rt: &HostRuntime, case: &Case, tally: &mut Tally) -> Result<(), AllocError> {
     let rows = case.all(rt.alloc(), "races")?;
     for row in rows.iter() {
         try_row(rt, case.title, row, tally)?;
