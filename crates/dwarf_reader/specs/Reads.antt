@@ -1,5 +1,5 @@
 -- When bytes are refused.
-use Rattle.std.specs.Prelude.{◌≡◌, ℕ, List, Result, Ok, Err}
+use Rattle.std.specs.Prelude.{◌≡◌, ℕ, List}
 use Rattle.dwarf_reader.specs.declared.cursor.Cursor.{Cursor}
 use Rattle.dwarf_reader.specs.declared.fault.Fault.{Fault}
 use Rattle.dwarf_reader.specs.declared.fault.Fault.TheVariants.{Unreadable}

@@ -1,4 +1,4 @@
-use Rattle.std.proofs.Common.{◌≡◌, ℕ, ◌<◌, List, length, take, drop, None, sym, ap, arith}
+use Rattle.std.proofs.Common.{◌≡◌, ◌<◌, length, take, None, sym, ap, arith}
 use Rattle.std.proofs.lemmas.Grind.{common_steps}
 use Rattle.std.specs.List.{position, position_or_len}
 use Rattle.dwarf_reader.specs.Strings.{is_zero}
