@@ -41,7 +41,7 @@ fn try_module(
 /// Writes what is shown of the module that a case names.
 fn tell_lines(rt: &HostRuntime, case: &Case, given: &mut String) -> Result<(), Stop> {
     let module = read_file(rt, case.get("module").unwrap_or(""))?;
-    Ok(show_lines_cases::tell(rt.alloc(), *case, &module, given)?)
+    Ok(dwarf_cases::tell(rt.alloc(), *case, &module, given)?)
 }
 
 /// Tries a case of what is shown of a module.

@@ -27,8 +27,8 @@ use Rattle.report_command.specs.declared.show.View.{View}
 use Rattle.report_command.specs.declared.show.View.TheVariants as views
 use Rattle.report_command.specs.Views.{path_of}
 use Rattle.report_jobs.specs.Prints.{WriterChange}
-use Rattle.show_data.specs.declared.place.Place.{Place}
-use Rattle.show_data.specs.Within.{IsWithinOne}
+use Rattle.dwarf_data.specs.declared.place.Place.{Place}
+use Rattle.dwarf_data.specs.Within.{IsWithinOne}
 use Rattle.show_events.specs.Written.{WritesPage, WritesTrace}
 use Rattle.show_events.specs.declared.run.MomentText.{MomentText}
 use Rattle.show_moments.specs.declared.moment.Moment.{Moment}

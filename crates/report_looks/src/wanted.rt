@@ -8,11 +8,11 @@ ghost use Rattle.report_looks.specs.Looked as looked;
 ghost use Rattle.report_looks.specs.Looked.{AreAddresses, IsAsked, IsLookAt, IsWanted};
 ghost use Rattle.report_looks.specs.Silent.{IsUnrefused};
 
+use dwarf_data::{Place, Sought};
 use replay_text::RecordParts;
-use selection::{Choice, Look, Span};
 use report_command::{At, Data, LastWrite, ShowLook, View, When};
 use report_jobs::Unfit;
-use show_data::{Place, Sought};
+use selection::{Choice, Look, Span};
 use show_moments::Bytes;
 use show_named::DataMap;
 use std::alloc::{AllocError, Global};

@@ -32,10 +32,10 @@ use Rattle.show_rows.specs.Around.{around_text, lines_around}
 use Rattle.show_rows.specs.declared.around.Around.{Around}
 use Rattle.show_rows.specs.declared.code.CodeMap.{CodeMap}
 use Rattle.interp.specs.declared.place.CodePlace.{CodePlace}
-use Rattle.show_units.specs.Spans.{holds}
-use Rattle.show_frames.specs.declared.frames.Frame.{Frame}
-use Rattle.show_frames.specs.declared.kinds.Kind.{Kind}
-use Rattle.show_frames.specs.declared.values.FrameValue.{FrameValue}
+use Rattle.dwarf_units.specs.Spans.{holds}
+use Rattle.dwarf_frames.specs.declared.frames.Frame.{Frame}
+use Rattle.dwarf_frames.specs.declared.kinds.Kind.{Kind}
+use Rattle.dwarf_frames.specs.declared.values.FrameValue.{FrameValue}
 use Rattle.show_text.specs.Plain.{plain_text}
 use Rattle.show_named.specs.declared.data_map.DataMap.{DataMap}
 use Rattle.show_rows.specs.Entries.{IsEntryText}
