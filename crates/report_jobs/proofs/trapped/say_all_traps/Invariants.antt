@@ -1,5 +1,5 @@
 use Rattle.report_jobs.proofs.Trapping.{IsLeft}
-use Rattle.report_jobs.proofs.trapped.say_traps.Given as goal
+use Rattle.report_jobs.proofs.trapped.say_all_traps.Given as goal
 
 abbrev pub invariant-loop-thread : goal.invariant-loop-thread
 invariant-loop-thread g l =
