@@ -5,9 +5,8 @@ ghost use Rattle.search_endings.specs.Ends as specified;
 ghost use Rattle.search_finds.specs.Finds.{IsLookedFor, IsFoundBy, IsUnexpected, HasFailure, ComesToAnother};
 
 use crate::has_line_with;
+use search_endings::{Ending, is_done};
 use selection::{Find, Sought};
-use search_endings::is_done;
-use search_endings::Ending;
 use std::alloc::{AllocError, Global};
 use types::Outcome;
 

@@ -20,6 +20,6 @@ loop-byte-preserved g c =
     let padded : Appends old new (32 ∷ padded_integral (format_spec 32 0 4 2 (2 ^ 64 - 1)) false [] (digits 16 false b)) = search rules in
     let wrote : Appends old new (lines.hex_byte b) = rw (hex_byte false b small) at padded in
     let next : lines.hex_bytes (take (k + 1) bytes) ≡ lines.hex_bytes (take k bytes) ++ lines.hex_byte b
-        = ap lines.hex_bytes (take_more bytes k 0 c.loop-byte-test.true) ∙ flat_map-append lines.hex_byte (take k bytes) (b ∷ []) in
+    = ap lines.hex_bytes (take_more bytes k 0 c.loop-byte-test.true) ∙ flat_map-append lines.hex_byte (take k bytes) (b ∷ []) in
     subst (λ (text : List ℕ). Appends first new text) (sym next)
-        (appends_then first old new (lines.hex_bytes (take k bytes)) (lines.hex_byte b) c.loop-byte.invariant wrote)
+    (appends_then first old new (lines.hex_bytes (take k bytes)) (lines.hex_byte b) c.loop-byte.invariant wrote)
