@@ -6,11 +6,11 @@ use Rattle.report_command.specs.declared.places.Data.{Data}
 use Rattle.report_command.specs.declared.places.Data.TheVariants.{At, Named}
 use Rattle.report_command.specs.declared.places.When.{When}
 use Rattle.report_command.specs.declared.places.When.TheVariants.{Line, End, Trap}
-use Rattle.report_command.specs.Found.{number_in}
+use Rattle.report_command.specs.Found.{decimal_of}
 
 -- An address: decimal digits, or hexadecimal ones behind `0x`.
 abbrev pub IsAddress : List ℕ → ℕ → Type 0
-IsAddress text addr = (addr ≡ number_in text)
+IsAddress text addr = (addr ≡ decimal_of text)
     ⊎ ((digits : List ℕ) × (text ≡ codes "0x" ++ digits) × (addr ≡ digits_value 16 (without_leading_plus digits)))
 
 -- The end of a span: a number, or where none is given the highest.
@@ -27,7 +27,7 @@ pub record IsSpan (text : List ℕ) (span : Span) : Type 0 where
 abbrev pub IsBytes : List ℕ → ℕ → ℕ → Type 0
 IsBytes text addr count =
     (first : List ℕ) × (last : List ℕ) × (text ≡ first ++ codes ":" ++ last) × IsAddress first addr
-    × (count ≡ number_in last)
+    × (count ≡ decimal_of last)
 
 -- The addresses of so many bytes, one at least.
 abbrev pub IsSpanOf : ℕ → ℕ → Span → Type 0
@@ -45,10 +45,10 @@ IsData Spells text (Named words) = words.now ≡ text
 
 -- A thread's number, alone or behind a `t`.
 abbrev pub IsThread : List ℕ → ℕ → Type 0
-IsThread text n = (n ≡ number_in text) ⊎ ((digits : List ℕ) × (text ≡ codes "t" ++ digits) × (n ≡ number_in digits))
+IsThread text n = (n ≡ decimal_of text) ⊎ ((digits : List ℕ) × (text ≡ codes "t" ++ digits) × (n ≡ decimal_of digits))
 
 -- A moment: a line of the record, or a word.
 abbrev pub IsMoment : List ℕ → When → Type 0
-IsMoment text (Line line) = line ≡ number_in text
+IsMoment text (Line line) = line ≡ decimal_of text
 IsMoment text End = text ≡ codes "end"
 IsMoment text Trap = text ≡ codes "trap"

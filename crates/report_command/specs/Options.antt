@@ -2,7 +2,6 @@
 use Rattle.std.specs.Prelude.{ℕ, ◌≡◌, ◌≢◌, ◌⊎◌, ◌||◌, Bool, true, false, List, map, ◌++◌, codes}
 use Rattle.std.specs.Prelude.{Option, Some, None, is_some, option_map, IfSome, MatchOption}
 use Rattle.std.specs.Borrow.{Bor}
-use Rattle.std.specs.List.{AllZip}
 use Rattle.clap.specs.Words.{first_value, rows_of, subcommand_name_of, subcommand_rows_of}
 use Rattle.clap.specs.Words.{HasMatchesOf, app_of, IsParsedFrom}
 use Rattle.clap.specs.declared.builder.command.Command.{Command}
@@ -38,8 +37,8 @@ use Rattle.report_command.specs.declared.places.When.{When}
 use Rattle.report_command.specs.declared.places.When.TheVariants.{End}
 use Rattle.report_command.specs.Addresses.{IsAddress, IsBytes, IsData, IsMoment, IsSpan, IsStretch, IsThread}
 use Rattle.report_command.specs.declared.search.Search.{Search}
-use Rattle.report_command.specs.Found.{HasNo, is_given, HasText, HasTextIfAny, HasTexts, number_in, HasFlag, IsWord}
-use Rattle.report_command.specs.Found.{HasNumber, HasNumberIfAny, HasNumberOr}
+use Rattle.report_command.specs.Found.{HasNo, is_given, HasText, HasTextIfAny, HasTexts, decimal_of, HasFlag, IsWord}
+use Rattle.report_command.specs.Found.{HasNumber, HasNumberIfAny, HasNumberOr, IsReadIfAny, AreRead}
 use Rattle.report_command.specs.Results.{IsSpelledBy}
 
 -- The call of a run and of a search.
@@ -70,8 +69,7 @@ IsMemoryFile text file = ((file.path.now ≡ text) × (file.addr ≡ 0))
 
 -- What is laid over the memory of a run, or nothing.
 abbrev pub AsksMemoryIn : Found → Option MemoryFile → Type 0
-AsksMemoryIn f None = HasNo f (codes "memory-in")
-AsksMemoryIn f (Some file) = (text : List ℕ) × (first_value f (codes "memory-in") ≡ Some text) × IsMemoryFile text file
+AsksMemoryIn f file = IsReadIfAny IsMemoryFile f (codes "memory-in") file
 
 -- `check`
 pub record AsksCheck (f : Found) (file : Bor (List ℕ)) (form : Form) : Type 0 where
@@ -146,16 +144,11 @@ AsksColor f Never = first_value f (codes "color") ≡ Some (codes "never")
 AsksColor f Auto =
     (first_value f (codes "color") ≢ Some (codes "always")) × (first_value f (codes "color") ≢ Some (codes "never"))
 
--- The values of an argument, one for each of its texts; none where it isn't given.
-abbrev pub AsksEach : {T : Type 0} → (List ℕ → T → Type 0) → Found → List ℕ → List T → Type 0
-AsksEach Parses f name values = (texts : List (Bor (List ℕ))) × HasTexts f name texts
-    × AllZip (λ text value. Parses text.now value) texts values
-
 -- Which entries of a record are shown, how, and what is made of it. Bytes may be given by their addresses, or by words.
 pub record AsksLook (f : Found) (how : ShowLook) : Type 0 where
-  pub lines : AsksEach IsSpan f (codes "lines") how.lines.items
-  pub threads : AsksEach IsThread f (codes "thread") how.threads.items
-  pub bytes : AsksEach (IsData IsSpan) f (codes "addr") how.bytes.items
+  pub lines : AreRead IsSpan f (codes "lines") how.lines.items
+  pub threads : AreRead IsThread f (codes "thread") how.threads.items
+  pub bytes : AreRead (IsData IsSpan) f (codes "addr") how.bytes.items
   pub width : HasNumber f (codes "width") how.width
   pub color : AsksColor f how.color
   pub source : HasTextIfAny f (codes "source") how.source
@@ -181,7 +174,7 @@ abbrev pub IsWay : List ℕ → Way → Type 0
 IsWay word Mix = word ≡ codes "mix"
 IsWay word Random = word ≡ codes "random"
 IsWay word Spin = word ≡ codes "spin"
-IsWay word (Priorities depth) = (digits : List ℕ) × (word ≡ codes "pct:" ++ digits) × (depth ≡ number_in digits)
+IsWay word (Priorities depth) = (digits : List ℕ) × (word ≡ codes "pct:" ++ digits) × (depth ≡ decimal_of digits)
 
 abbrev pub AsksWay : Found → Way → Type 0
 AsksWay f way = (word : List ℕ) × (first_value f (codes "strategy") ≡ Some word) × IsWay word way
@@ -203,8 +196,7 @@ IsFindOf words NoEnd = Unit {0}
 IsFindOf words ForEver = Unit {0}
 
 abbrev pub AsksResult : Found → Option Outcome → Type 0
-AsksResult f None = HasNo f (codes "expect")
-AsksResult f (Some result) = (words : List ℕ) × (first_value f (codes "expect") ≡ Some words) × IsSpelledBy words result
+AsksResult f result = IsReadIfAny IsSpelledBy f (codes "expect") result
 
 pub record AsksTarget (f : Found) (target : Target) : Type 0 where
   pub find : AsksFind f target.find

@@ -28,11 +28,11 @@ path_of (Page path) = Some path
 path_of (Trace path) = Some path
 
 -- In which form it is printed.
-abbrev pub form_of : View → Form
-form_of Object = Json
-form_of Rows = Lines
-form_of Unfolded = Lines
-form_of (Moment at) = Lines
-form_of (Write write) = Lines
-form_of (Page path) = Lines
-form_of (Trace path) = Lines
+abbrev pub view_form : View → Form
+view_form Object = Json
+view_form Rows = Lines
+view_form Unfolded = Lines
+view_form (Moment at) = Lines
+view_form (Write write) = Lines
+view_form (Page path) = Lines
+view_form (Trace path) = Lines

@@ -5,7 +5,7 @@ ghost use Rattle.report_command.specs.Jobs.{IsInRange};
 ghost use Rattle.report_command.specs.Options.{is_explained, texts_in};
 ghost use Rattle.report_program.specs.Coloring.{IsColored, IsPlanOf};
 
-use report_command::{Color, EndLook, Job, Misuse, Order, ShowLook, Usage, asked, misused};
+use report_command::{Color, EndLook, Job, Order, ShowLook, Usage, asked, not_text};
 use std::env;
 use std::io::{ErrorKind, IsTerminal};
 
@@ -17,7 +17,7 @@ pub fn words_of(rt: &HostRuntime) -> Result<Vec<String>, Usage> {
     match env::args(rt) {
         Ok(words) => Ok(words.collect(rt.alloc())?),
         Err(error) if error.kind() == ErrorKind::OutOfMemory => Err(Usage::NoMemory),
-        Err(_) => Err(misused(rt.alloc(), Misuse::NotText)),
+        Err(_) => Err(not_text(rt.alloc())),
     }
 }
 
