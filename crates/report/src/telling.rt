@@ -21,8 +21,8 @@ use report_jobs::Trouble;
 use report_json::{FoundAs, RunRaces};
 use report_searches::{
     FoundRun, KeptRace, KeptRun, Raced, Whole, trouble_of, write_behind, write_complete,
-    write_cut_of, write_found, write_if_found, write_if_kept, write_kept as write_kept_lines,
-    write_raced, write_raceless, write_run, write_shrunk, write_table,
+    write_cut_of, write_found, write_if_found, write_if_kept, write_kept_lines, write_raced,
+    write_raceless, write_run, write_shrunk, write_table,
 };
 use search_finds::Table;
 use std::alloc::Global;

@@ -104,7 +104,7 @@ fn write_made<W: Write>(out: &mut W, made: &Option<MadeRun>, dump: u32) -> Resul
 }
 
 /// Writes the lines of what is kept of what was found, behind its first one.
-pub fn write_kept<W: Write>(out: &mut W, kept: &KeptRun, dump: u32) -> Result<(), Trouble>
+pub fn write_kept_lines<W: Write>(out: &mut W, kept: &KeptRun, dump: u32) -> Result<(), Trouble>
     ensures lines { Wrote W.contents out.old out.new result (kept_text dump kept.now) }
     ensures trouble { IfErr result IsOfSystem }
 {
@@ -122,7 +122,7 @@ pub fn write_if_kept<W: Write>(
     ensures trouble { IfErr result IsOfSystem }
 {
     match kept {
-        Some(kept) => write_kept(out, kept, dump),
+        Some(kept) => write_kept_lines(out, kept, dump),
         None => Ok(()),
     }
 }
