@@ -106,7 +106,8 @@ returns-in-AllMade-clause-tells g c =
     let save = changed g.S.Write.contents c.args.save.now c.args.save.now in
     let noted = subst (λ (p : Parts). AreNotedBy (IsPassed (says_in p) s.sought c.in-Ok.searched.halt) q s.sought table) c.module.ensures
     c.in-Ok.ensures.noted in
-    if_both c.end_raceless.result (λ status. EndsNone s.form s.sought table false (Some said.Unknown) (raceless_text false s.sought table) status (change headed after))
+    if_both c.end_raceless.result
+    (λ status. EndsNone s.form s.sought table false (Some said.Unknown) (raceless_text false s.sought table) status (change headed after))
     (IsStatusOfTable s.sought table) (TellsDrawnRaces q.parts s (change before after) save)
     (λ status rest is. record {
       request = q;
@@ -138,7 +139,8 @@ returns-clause-tells g c =
     let save = changed g.S.Write.contents c.args.save.now c.args.save.now in
     let noted = subst (λ (p : Parts). AreNotedBy (IsPassed (says_in p) s.sought c.in-Ok.searched.halt) q s.sought table) c.module.ensures
     c.in-Ok.ensures.noted in
-    if_both c.end_raceless-in-Told.result (λ status. EndsNone s.form s.sought table true (Some said.Unknown) (raceless_text true s.sought table) status (change headed after))
+    if_both c.end_raceless-in-Told.result
+    (λ status. EndsNone s.form s.sought table true (Some said.Unknown) (raceless_text true s.sought table) status (change headed after))
     (IsStatusOfTable s.sought table) (TellsDrawnRaces q.parts s (change before after) save)
     (λ status rest is. record {
       request = q;
