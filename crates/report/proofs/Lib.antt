@@ -1,6 +1,4 @@
 mod Plain
 mod Asking
 mod Silent
-mod RacePairs
-mod Kept
-mod Objected
+mod AllTold

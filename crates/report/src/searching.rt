@@ -1,29 +1,131 @@
-//! Searches by the program, in lines or as an object.
-ghost use Rattle.std.specs.Prelude.{◌≡◌, IfOk, IfErr, Some, true, false, is_some};
+//! Searches by the program: what comes of one is decided here, and told by `telling` in the form that is asked for.
+ghost use Rattle.std.specs.Prelude.{◌≡◌, ◌≤◌, IfOk, IfErr, Some, None, true, false, is_some};
 ghost use Rattle.report_command.specs.Searches.{IsSearchInRange};
 ghost use Rattle.report_jobs.specs.Asked.{IsAskedBy};
 ghost use Rattle.report_jobs.specs.Troubles.{IsTroubleOf};
+ghost use Rattle.report_json.specs.declared.raced.RunRaces.TheVariants as said;
+ghost use Rattle.report_searches.specs.Drawn.{behind_text, cut_in};
+ghost use Rattle.report_searches.specs.DrawnRaces.{raceless_text};
 ghost use Rattle.report_searches.specs.Searches.{Finds, IsOfSystem, IsWellAt};
-ghost use Rattle.report.specs.Searched.{AllIn, DrawnIn, DrawnRacesIn, IsDrawn, IsDrawnForRaces, IsPrintedOf};
+ghost use Rattle.report.specs.Searched.{IsDrawn, IsDrawnForRaces, IsPrintedOf};
+ghost use Rattle.report.specs.Telling.{EndsNone};
+ghost use Rattle.report.specs.Told.{IsStatusOfTable, TellsAll, TellsDrawn, TellsDrawnRaces};
 ghost use Rattle.report_jobs.specs.Prints.{changed};
 ghost use Rattle.report_jobs.specs.Silence.{Stays};
 ghost use Rattle.report.specs.Silent.{IfRefusedCall};
 
-use crate::all_object::write_all_orders;
-use crate::drawn_object::write_drawn_runs;
-use crate::racy_object::write_drawn_races;
-use report_command::{Form, Search};
+use crate::objects::Told;
+use crate::telling::{
+    tell_all, tell_if_found, tell_kept, tell_none, tell_raced, tell_raceless, tell_racy, tell_run,
+    tell_table, tell_whole,
+};
+use report_command::Search;
 use report_jobs::{Trouble, args_of, request_of};
-use report_searches::{Asked, jobs_of, search_all_orders, search_drawn, search_drawn_races};
-use search_finds::Hears;
+use report_json::FoundAs;
+use report_searches::{
+    Asked, FoundRun, behind_of, first_look, jobs_of, keep_found, keep_made, keep_raced, keep_run,
+    kept_if_found, kept_of, kept_race, no_memory, raced_of, status_of_none, whole_of,
+};
+use search_finds::{Halt, Hears, SearchResult, Table, first_found, first_judged};
 use search_modules::Hands;
+use search_races::RaceJudge;
 use spawn_host::Request;
 use std::alloc::Global;
 use std::io::Write;
 use std::thread::Threads;
 use validate_module::ValidModule;
 
-/// Makes the runs that a search asks for, and prints what comes of them in the form that is asked for.
+/// What goes through every order of entries: so many threads, as is asked for, with so many states at most.
+#[derive(Drop)]
+struct Orders<'a, R> {
+    hands: Hands<'a, R>,
+    asked: Asked<'a>,
+    most: u32,
+}
+
+/// So many threads as a search asks for; depth first goes one alone.
+fn hands_of<'r, R: Threads>(rt: &'r R, search: &Search) -> Hands<'r, R> {
+    if search.deep {
+        return Hands { rt, jobs: 1 };
+    }
+    Hands {
+        rt,
+        jobs: jobs_of(rt, search),
+    }
+}
+
+/// Goes through all runs of a call: where no threads race by the orders that matter then, and else through every order
+/// of their entries. Tells a race that it found, the endings, whether these are all, what is known of races, what never
+/// ends, and what was found; and keeps the record of that, where one is wanted. Answers the status.
+fn search_orders<R: Threads + Sync, F: Hears, W: Write, S: Write>(
+    alloc: Global,
+    request: &Request,
+    orders: &Orders<R>,
+    follower: &mut F,
+    out: &mut W,
+    save: &mut S,
+) -> Result<u8, Trouble>
+    requires asked { IsAskedBy orders.now.asked.search.now.call request.now }
+    requires every_order { orders.now.asked.search.now.all ≡ Some orders.now.most }
+    ensures finds { IfOk result
+        (Finds request.now.parts orders.now.asked.search.now (changed S.contents save.old save.new)) }
+    ensures tells { IfOk result
+        (TellsAll request.now.parts orders.now.asked.search.now orders.now.most (changed W.contents out.old out.new)
+        (changed S.contents save.old save.new)) }
+    ensures well { IfOk result (IsWellAt request.now.parts orders.now.asked.search.now) }
+    ensures unwanted { is_some orders.now.asked.search.now.save ≡ false → Stays save.old save.new }
+    ensures trouble { IfErr result IsOfSystem }
+{
+    let Orders { hands, asked, most } = orders;
+    let search = asked.search;
+    let form = search.form;
+    let look = first_look(alloc, request, hands, search, *most, follower)?;
+    follower.end();
+    let raced = raced_of(alloc, request, *asked, &look)?;
+    tell_raced(alloc, form, &raced, out)?;
+    keep_raced(search, &raced, save)?;
+    let whole = whole_of(alloc, request, search, *most, look, follower)?;
+    follower.end();
+    tell_whole(form, &whole, *most, out)?;
+    let behind = behind_of(alloc, request, search, &whole)?;
+    tell_if_found(form, &behind.found, out)?;
+    let kept = kept_if_found(alloc, request, search, behind.found, follower)?;
+    let told = Told {
+        whole: &whole,
+        raced: &raced,
+        kept: &kept,
+        most: *most,
+        status: behind.status,
+        dump: search.sought.dump,
+    };
+    tell_all(alloc, form, told, out)?;
+    keep_found(search, &kept, save)?;
+    Ok(behind.status)
+}
+
+/// Tells that none of drawn runs was found, and answers the status: 0 where all is well, and else 1.
+fn end_without<W: Write>(
+    alloc: Global,
+    search: &Search,
+    table: &Table,
+    is_told: bool,
+    out: &mut W,
+) -> Result<u8, Trouble>
+    requires { cut_in table.now ≤ table.now.runs }
+    ensures tells { IfOk result (λ status. EndsNone search.now.form search.now.sought table.now is_told None
+        (behind_text is_told search.now.sought table.now) status (changed W.contents out.old out.new)) }
+    ensures status { IfOk result (IsStatusOfTable search.now.sought table.now) }
+    ensures trouble { IfErr result IsOfSystem }
+{
+    let sought = &search.sought;
+    let status = status_of_none(alloc, sought, table)?;
+    tell_none(alloc, search.form, sought, table, is_told, status, out)?;
+    Ok(status)
+}
+
+/// Makes the runs that a search asks for, tells the table of their endings, and the run that was found, or that none was;
+/// and keeps the record of what was found, where one is wanted. Answers the status: 1 where a run was found or an ending
+/// has a trap or a stop, and else 0.
 fn search_for_endings<R: Threads + Sync, F: Hears, W: Write, S: Write>(
     rt: &R,
     alloc: Global,
@@ -36,18 +138,58 @@ fn search_for_endings<R: Threads + Sync, F: Hears, W: Write, S: Write>(
     requires range { IsSearchInRange search.now }
     requires asked { IsAskedBy search.now.call request.now }
     ensures finds { IfOk result (Finds request.now.parts search.now (changed S.contents save.old save.new)) }
-    ensures prints { IfOk result (DrawnIn search.now.form request.now.parts search.now
+    ensures tells { IfOk result (TellsDrawn request.now.parts search.now
         (changed W.contents out.old out.new) (changed S.contents save.old save.new)) }
     ensures unwanted { is_some search.now.save ≡ false → Stays save.old save.new }
     ensures trouble { IfErr result IsOfSystem }
 {
-    match search.form {
-        Form::Lines => search_drawn(rt, alloc, request, search, follower, out, save),
-        Form::Json => write_drawn_runs(rt, alloc, request, search, follower, out, save),
+    let sought = &search.sought;
+    let jobs = jobs_of(rt, search);
+    let searched = match first_found(rt, alloc, request, sought, jobs, follower) {
+        Ok(searched) => searched,
+        Err(fault) => return Err(no_memory(fault)),
+    };
+    let SearchResult { table, halt } = searched;
+    follower.end();
+    tell_table(search.form, sought, &table, out)?;
+    match halt {
+        Halt::Found(found) => {
+            tell_run(search.form, found.run, out)?;
+            let run = FoundRun {
+                found_as: FoundAs::Run(found.run),
+                made: Some(found.made),
+            };
+            let kept = kept_of(alloc, request, search, run, follower)?;
+            tell_kept(alloc, search.form, sought, &table, &kept, out)?;
+            keep_made(search, &kept.made, save)?;
+            Ok(1)
+        }
+        Halt::AllMade => end_without(alloc, search, &table, false, out),
+        Halt::Told => end_without(alloc, search, &table, true, out),
     }
 }
 
-/// Does the same where a run with a race is looked for.
+/// Tells that none of drawn runs has a race, and answers the status, as `end_without`.
+fn end_raceless<W: Write>(
+    alloc: Global,
+    search: &Search,
+    table: &Table,
+    is_told: bool,
+    out: &mut W,
+) -> Result<u8, Trouble>
+    requires { cut_in table.now ≤ table.now.runs }
+    ensures tells { IfOk result (λ status. EndsNone search.now.form search.now.sought table.now is_told (Some said.Unknown)
+        (raceless_text is_told search.now.sought table.now) status (changed W.contents out.old out.new)) }
+    ensures status { IfOk result (IsStatusOfTable search.now.sought table.now) }
+    ensures trouble { IfErr result IsOfSystem }
+{
+    let sought = &search.sought;
+    let status = status_of_none(alloc, sought, table)?;
+    tell_raceless(alloc, search.form, sought, table, is_told, status, out)?;
+    Ok(status)
+}
+
+/// The same up to the first run with a race: tells that and its race, or that none has one.
 fn search_for_races<R: Threads + Sync, F: Hears, W: Write, S: Write>(
     rt: &R,
     alloc: Global,
@@ -62,14 +204,34 @@ fn search_for_races<R: Threads + Sync, F: Hears, W: Write, S: Write>(
     requires races { asked.search.now.races ≡ true }
     ensures finds { IfOk result
         (Finds request.now.parts asked.entry.search.now (changed S.contents save.old save.new)) }
-    ensures prints { IfOk result (DrawnRacesIn asked.entry.search.now.form request.now.parts asked.entry.search.now
+    ensures tells { IfOk result (TellsDrawnRaces request.now.parts asked.entry.search.now
         (changed W.contents out.old out.new) (changed S.contents save.old save.new)) }
     ensures unwanted { is_some asked.entry.search.now.save ≡ false → Stays save.old save.new }
     ensures trouble { IfErr result IsOfSystem }
 {
-    match asked.search.form {
-        Form::Lines => search_drawn_races(rt, alloc, request, asked, follower, out, save),
-        Form::Json => write_drawn_races(rt, alloc, request, asked, follower, out, save),
+    let search = asked.search;
+    let sought = &search.sought;
+    let jobs = jobs_of(rt, search);
+    let judge = RaceJudge {
+        module: request.module(),
+    };
+    let searched = match first_judged(rt, alloc, request, sought, &judge, jobs, follower) {
+        Ok(searched) => searched,
+        Err(fault) => return Err(no_memory(fault)),
+    };
+    let SearchResult { table, halt } = searched;
+    follower.end();
+    tell_table(search.form, sought, &table, out)?;
+    match halt {
+        Halt::Found(found) => {
+            tell_run(search.form, found.run, out)?;
+            let kept = kept_race(alloc, request, asked, found, follower)?;
+            tell_racy(alloc, search.form, sought, &table, &kept, out)?;
+            keep_run(search, &kept.racy.made, save)?;
+            Ok(1)
+        }
+        Halt::AllMade => end_raceless(alloc, search, &table, false, out),
+        Halt::Told => end_raceless(alloc, search, &table, true, out),
     }
 }
 
@@ -88,10 +250,10 @@ fn search_runs<R: Threads + Sync, F: Hears, W: Write, S: Write>(
     ensures finds { IfOk result
         (Finds request.now.parts asked.entry.search.now (changed S.contents save.old save.new)) }
     ensures prints { asked.entry.search.now.races ≡ false
-        → IfOk result (DrawnIn asked.entry.search.now.form request.now.parts asked.entry.search.now
+        → IfOk result (TellsDrawn request.now.parts asked.entry.search.now
         (changed W.contents out.old out.new) (changed S.contents save.old save.new)) }
     ensures races { asked.entry.search.now.races ≡ true
-        → IfOk result (DrawnRacesIn asked.entry.search.now.form request.now.parts asked.entry.search.now
+        → IfOk result (TellsDrawnRaces request.now.parts asked.entry.search.now
         (changed W.contents out.old out.new) (changed S.contents save.old save.new)) }
     ensures unwanted { is_some asked.entry.search.now.save ≡ false → Stays save.old save.new }
     ensures trouble { IfErr result IsOfSystem }
@@ -100,39 +262,6 @@ fn search_runs<R: Threads + Sync, F: Hears, W: Write, S: Write>(
         return search_for_races(rt, alloc, request, asked, follower, out, save);
     }
     search_for_endings(rt, alloc, request, asked.search, follower, out, save)
-}
-
-/// Goes through every order of entries, and prints what comes of that in the form that is asked for.
-fn search_orders<R: Threads + Sync, F: Hears, W: Write, S: Write>(
-    rt: &R,
-    alloc: Global,
-    request: &Request,
-    asked: Asked,
-    most: u32,
-    follower: &mut F,
-    out: &mut W,
-    save: &mut S,
-) -> Result<u8, Trouble>
-    requires asked { IsAskedBy asked.search.now.call request.now }
-    requires every_order { asked.search.now.all ≡ Some most }
-    ensures finds { IfOk result
-        (Finds request.now.parts asked.entry.search.now (changed S.contents save.old save.new)) }
-    ensures prints { IfOk result (AllIn asked.entry.search.now.form request.now.parts asked.entry.search.now most
-        (changed W.contents out.old out.new) (changed S.contents save.old save.new)) }
-    ensures well { IfOk result (IsWellAt request.now.parts asked.entry.search.now) }
-    ensures unwanted { is_some asked.entry.search.now.save ≡ false → Stays save.old save.new }
-    ensures trouble { IfErr result IsOfSystem }
-{
-    let jobs = if asked.search.deep {
-        1
-    } else {
-        jobs_of(rt, asked.search)
-    };
-    let hands = Hands { rt, jobs };
-    match asked.search.form {
-        Form::Lines => search_all_orders(alloc, request, &hands, asked, most, follower, out, save),
-        Form::Json => write_all_orders(alloc, request, &hands, asked, most, follower, out, save),
-    }
 }
 
 /// Searches as is asked for: through drawn runs, or through every order of entries; and prints lines or an object.
@@ -163,7 +292,14 @@ pub fn search_module<R: Threads + Sync, F: Hears, W: Write, S: Write>(
     let args = args_of(alloc, module, &search.call)?;
     let request = request_of(module, &search.call, &args);
     match search.all {
-        Some(most) => search_orders(rt, alloc, &request, asked, most, follower, out, save),
+        Some(most) => {
+            let orders = Orders {
+                hands: hands_of(rt, search),
+                asked,
+                most,
+            };
+            search_orders(alloc, &request, &orders, follower, out, save)
+        }
         None => search_runs(rt, alloc, &request, asked, follower, out, save),
     }
 }

@@ -91,7 +91,12 @@ fn next_write(shown: &Shown, kinds: &[Kind], race: Race) -> Option<NextWrite>
 }
 
 /// Two entries that race.
-pub fn pair_of<'a>(shown: &'a Shown, story: &'a Story, kinds: &[Kind], race: Race) -> RacePair<'a>
+pub(crate) fn pair_of<'a>(
+    shown: &'a Shown,
+    story: &'a Story,
+    kinds: &[Kind],
+    race: Race,
+) -> RacePair<'a>
     requires { IsWithin shown.now.record.now.log race }
     ensures { IsPairOf shown.now story.now kinds.now race result }
 {

@@ -1,5 +1,6 @@
 //! The races of a recorded run by the program: what is printed, or why there is nothing to print.
 ghost use Rattle.std.specs.Prelude.{◌≡◌, ◌≤◌, ◌<◌, ◌⊎◌, true, false, length, All, IfOk, IfErr, OnOk};
+ghost use Rattle.report_looks.specs.Sighted.{AreTold};
 ghost use Rattle.show_races.specs.Told.{IsWithin};
 ghost use Rattle.report_jobs.specs.Jobs.{IsNoRecordOf, IsNoValidModule, IsUnfit};
 ghost use Rattle.report_jobs.specs.Silence.{IsRefusal, Stays};
@@ -12,10 +13,10 @@ ghost use Rattle.report_looks.specs.Raced.{IsRaceFree, IsRacy, OfModule, PrintsR
 
 use crate::pairing::write_pairs;
 use crate::showing::{CodeBytes, SeenRun, rows_of, unfit_of};
-use race_history::is_history;
+use crate::sighting::races_in;
 use report_command::Form;
 use report_jobs::{Streams, Unfit, load, refuse, reject};
-use show_races::{Races, races_shown, write_races};
+use show_races::{Races, write_races};
 use show_rows::{CodeMap, Shown, Story};
 use show_text::Unwritten;
 use std::alloc::Global;
@@ -119,7 +120,7 @@ fn write_told<W: Write>(
     }
 }
 
-/// Writes the races of a run, and answers whether there are any. A log of more threads than 64 is none of `races_of`'s.
+/// Writes the races of a run, and answers whether there are any.
 fn write_seen<W: Write>(
     alloc: Global,
     module: &ValidModule,
@@ -141,12 +142,7 @@ fn write_seen<W: Write>(
         rows: seen.rows.as_slice(),
         code: &code,
     };
-    let log = shown.record.log.as_slice();
-    if !is_history(log) {
-        return Err(Unwritten::NoMemory);
-    }
-    let story = Story::new(alloc, log)?;
-    let races = races_shown(alloc, shown, &story, most as usize)?;
-    write_told(alloc, shown, &story, &races, form, out)?;
-    Ok(is_racy(&races))
+    let told = races_in(alloc, shown, most as usize)?;
+    write_told(alloc, shown, &told.story, &told.races, form, out)?;
+    Ok(is_racy(&told.races))
 }

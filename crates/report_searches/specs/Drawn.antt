@@ -1,8 +1,7 @@
--- What is printed of a search of drawn runs.
+-- What is said of a table of drawn runs.
 use Rattle.std.specs.Prelude.{ℕ, ◌-◌, ◌/◌, ◌==◌, leb, if◌then◌else◌, Bool, true, false, List, [], ◌++◌, length, codes}
 use Rattle.std.specs.Prelude.{count_by, sum_by}
 use Rattle.std.specs.List.{flat_map, list_any}
-use Rattle.std.specs.Fmt.{decimal}
 use Rattle.types.specs.declared.outcome.Outcome.{Outcome}
 use Rattle.types.specs.declared.outcome.Outcome.TheVariants as outcomes
 use Rattle.types.specs.declared.outcome.Stop.TheVariants as stops
@@ -11,7 +10,6 @@ use Rattle.selection.specs.declared.sought.Sought.{Sought}
 use Rattle.selection.specs.Ways.{way_of}
 use Rattle.search_finds.specs.declared.met.Met.{Met}
 use Rattle.search_finds.specs.declared.met.Table.{Table}
-use Rattle.search_finds.specs.declared.size.Size.{Size}
 use Rattle.report_lines.specs.Drawn.{met_line, stopped_line, unseen_line}
 
 -- The lines of the table: of each ending how often it was met in how many runs, in which first and how that was drawn.
@@ -21,17 +19,6 @@ table_line s runs met =
 
 abbrev pub table_lines : Sought → Table → List ℕ
 table_lines s table = flat_map (table_line s table.runs) table.met.items
-
--- How large a run is; and how large one was that was shrunk, and is.
-abbrev pub size_text : Size → List ℕ
-size_text size = decimal size.entries ++ codes " entries, " ++ decimal size.switches ++ codes " switches"
-
-abbrev pub sizes_line : Size → Size → List ℕ
-sizes_line was is = size_text was ++ codes " -> " ++ size_text is ++ codes "\n"
-
-abbrev pub sizes_if : Bool → Size → Size → List ℕ
-sizes_if true was is = sizes_line was is
-sizes_if false was is = []
 
 -- A thread found the log full; and a run that ended so was cut. So many runs of a table were.
 abbrev pub found_it_full : Outcome → Bool

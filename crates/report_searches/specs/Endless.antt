@@ -1,4 +1,4 @@
--- Runs that never end, of a search through every order of entries: which are looked for, and what is told of one.
+-- Runs that never end, of a search through every order of entries: which are looked for, and what is known of one.
 use Rattle.std.specs.Prelude.{ℕ, ◌≡◌, ◌≢◌, ◌⊎◌, ◌||◌, Bool, false, true, List, [], Option, Some, is_some}
 use Rattle.search_reach.specs.declared.liveness.FairCycle.{FairCycle}
 use Rattle.search_reach.specs.declared.liveness.FairRuns.TheVariants.{GoOn}
@@ -6,7 +6,6 @@ use Rattle.search_reach.specs.declared.liveness.Liveness.{Liveness}
 use Rattle.selection.specs.declared.sought.Find.{Find}
 use Rattle.selection.specs.declared.sought.Find.TheVariants as finds
 use Rattle.selection.specs.declared.sought.Target.{Target}
-use Rattle.report_lines.specs.Found.{no_end_line, for_ever_line}
 use Rattle.report_searches.specs.declared.all.EndlessRun.{EndlessRun}
 use Rattle.report_searches.specs.declared.all.EndlessRun.TheVariants.{ToNoEnd, Round}
 
@@ -56,14 +55,10 @@ IsKnownIn t l (Round path round) =
 abbrev pub IsKnown : Target → Option Liveness → EndlessRun → Type 0
 IsKnown t o run = (l : Liveness) × (o ≡ Some l) × IsKnownIn t l run
 
--- The choices to where it is sure never to end; and the line that says after how many entries that is.
+-- The choices to where it is sure never to end.
 abbrev pub path_of : EndlessRun → List ℕ
 path_of (ToNoEnd path) = path.now
 path_of (Round path round) = path.now
-
-abbrev pub endless_line : EndlessRun → ℕ → List ℕ
-endless_line (ToNoEnd path) entries = no_end_line entries
-endless_line (Round path round) entries = for_ever_line entries
 
 -- Both come to where none ends, or both go round.
 abbrev pub IsAlike : EndlessRun → EndlessRun → Type 0

@@ -29,7 +29,7 @@ fn write_row<W: Write>(out: &mut W, sought: &Sought, runs: u64, met: &Met) -> io
 }
 
 /// The table of the endings, in the order of their first runs.
-pub(crate) fn write_table<W: Write>(out: &mut W, sought: &Sought, table: &Table) -> io::Result<()>
+pub fn write_table<W: Write>(out: &mut W, sought: &Sought, table: &Table) -> io::Result<()>
     ensures { Wrote W.contents out.old out.new result (table_lines sought.now table.now) }
 {
     let rows = table.met.as_slice();
@@ -116,7 +116,7 @@ pub fn cut_in_all(table: &Table) -> u64
 }
 
 /// The line of runs that were cut at the end of their log, where there are some.
-pub(crate) fn write_cut_of<W: Write>(out: &mut W, sought: &Sought, table: &Table) -> io::Result<()>
+pub fn write_cut_of<W: Write>(out: &mut W, sought: &Sought, table: &Table) -> io::Result<()>
     requires { cut_in table.now ≤ table.now.runs }
     ensures { Wrote W.contents out.old out.new result (cut_line (cut_in table.now) sought.now.limit) }
 {

@@ -6,7 +6,8 @@ use Rattle.report_jobs.specs.Arguments.{texts_in}
 use Rattle.report_jobs.specs.Prints.{changed}
 use Rattle.report_jobs.specs.Troubles.{IsTroubleOf}
 use Rattle.report_jobs.specs.declared.running.Trouble.{Trouble}
-use Rattle.report.specs.Searched.{AllIn, DrawnIn, DrawnRacesIn, IsDrawn, IsDrawnForRaces, IsPrintedOf}
+use Rattle.report.specs.Searched.{IsDrawn, IsDrawnForRaces, IsPrintedOf}
+use Rattle.report.specs.Told.{TellsAll, TellsDrawn, TellsDrawnRaces}
 use Rattle.report_searches.specs.Searches.{Finds, IsOfSystem, IsWellAt}
 use Rattle.report.proofs.Asking.{of_system}
 use Rattle.report.proofs.searching.search_module.Goals as goal
@@ -49,7 +50,7 @@ returns-clause-drawn g c =
     let s = c.args.asked.search.now in
     let out = changed g.W.Write.contents c.args.out.now c.search_runs.new.out in
     let save = changed g.S.Write.contents c.args.save.now c.search_runs.new.save in
-    of_parts false c.search_runs.result c.request_of-request.result.parts m (λ p. DrawnIn s.form p s out save) (IsDrawn m s out save) s.races
+    of_parts false c.search_runs.result c.request_of-request.result.parts m (λ p. TellsDrawn p s out save) (IsDrawn m s out save) s.races
     c.request_of-request.ensures.parts (λ status is _ no. is no) c.search_runs.ensures.prints
 
 pub returns-clause-drawn_races : goal.returns-clause-drawn_races
@@ -58,7 +59,7 @@ returns-clause-drawn_races g c =
     let s = c.args.asked.search.now in
     let out = changed g.W.Write.contents c.args.out.now c.search_runs.new.out in
     let save = changed g.S.Write.contents c.args.save.now c.search_runs.new.save in
-    of_parts true c.search_runs.result c.request_of-request.result.parts m (λ p. DrawnRacesIn s.form p s out save) (IsDrawnForRaces m s out save) s.races
+    of_parts true c.search_runs.result c.request_of-request.result.parts m (λ p. TellsDrawnRaces p s out save) (IsDrawnForRaces m s out save) s.races
     c.request_of-request.ensures.parts (λ status is _ yes. is yes) c.search_runs.ensures.races
 
 pub returns-clause-trouble : goal.returns-clause-trouble
@@ -75,7 +76,7 @@ returns-in-Some-clause-prints g c =
     let s = c.args.asked.search.now in
     let out = changed g.W.Write.contents c.args.out.now c.search_orders.new.out in
     let save = changed g.S.Write.contents c.args.save.now c.search_orders.new.save in
-    IfOk-weaker c.search_orders.result (AllIn s.form r s c.in-Some.most out save) (IsPrintedOf m s out save)
-    (λ status so most is. subst (λ (n : ℕ). AllIn s.form m s n out save status) (cc (sym c.in-Some.is ∙ is))
-    (subst (λ (p : Parts). AllIn s.form p s c.in-Some.most out save status) c.request_of-request.ensures.parts so))
-    c.search_orders.ensures.prints
+    IfOk-weaker c.search_orders.result (TellsAll r s c.in-Some.most out save) (IsPrintedOf m s out save)
+    (λ status so most is. subst (λ (n : ℕ). TellsAll m s n out save status) (cc (sym c.in-Some.is ∙ is))
+    (subst (λ (p : Parts). TellsAll p s c.in-Some.most out save status) c.request_of-request.ensures.parts so))
+    c.search_orders.ensures.tells
