@@ -60,7 +60,7 @@ AsksForm f form = HasFlag f (codes "json") (is_json form)
 pub record AsksEndLook (f : Found) (look : EndLook) : Type 0 where
   pub dump_is : HasNumber f (codes "dump") look.dump
   pub units_is : HasFlag f (codes "units") look.units
-  pub callers_is : HasFlag f (codes "explain") look.callers
+  pub traps_is : HasFlag f (codes "explain") look.traps
   pub form_is : AsksForm f look.form
 
 -- A path with an address behind its last `@`, or a path alone.

@@ -9,7 +9,7 @@ ghost use Rattle.search_endings.specs.Ends.{status_of};
 use replay_forms::hex_digit;
 use search_endings::is_done;
 use std::io::{self, Write};
-use types::ThreadReport;
+use types::{Outcome, ThreadReport};
 
 /// Whether all threads ended well.
 fn all_done(reports: &[ThreadReport]) -> bool
