@@ -1,9 +1,11 @@
 //! What is asked for of a record, with its own places and addresses; or why it has no such thing.
-ghost use Rattle.std.specs.Prelude.{◌≡◌, ◌++◌, ◌∷◌, [], IfErr, IfOk, OnOk, position};
+ghost use Rattle.std.specs.Prelude.{◌≡◌, ◌++◌, ◌∷◌, [], IfErr, IfOk, None, OnOk, position};
 ghost use Rattle.std.specs.List.{AllZip};
 ghost use Rattle.selection.specs.Choices as chosen;
 ghost use Rattle.report_command.specs.declared.show.View.TheVariants as views;
 ghost use Rattle.show_named.specs.declared.data_map.DataMap.{DataMap};
+ghost use Rattle.report_jobs.specs.declared.replaying.Unfit.TheVariants as unfits;
+ghost use Rattle.report_looks.specs.declared.wanted.Unshown.TheVariants as unshown;
 ghost use Rattle.report_looks.specs.Looked as looked;
 ghost use Rattle.report_looks.specs.Looked.{AreAddresses, IsAsked, IsLookAt, IsWanted};
 ghost use Rattle.report_looks.specs.Silent.{IsUnrefused};
@@ -11,40 +13,32 @@ ghost use Rattle.report_looks.specs.Silent.{IsUnrefused};
 use dwarf_data::{Place, Sought};
 use replay_text::RecordParts;
 use report_command::{At, Data, LastWrite, ShowLook, View, When};
-use report_jobs::Unfit;
+use report_jobs::{Absent, Unfit};
 use selection::{Choice, Look, Span};
 use show_moments::Bytes;
 use show_named::DataMap;
+use show_rows::Stood;
 use std::alloc::{AllocError, Global};
-use std::fmt::{self, Formatter, Write};
 use types::{Entry, Event, Outcome, Question, ThreadReport};
 
-/// What a record of a run has not that is asked for.
-#[derive(Clone, Copy, PartialEq, Eq, Debug)]
-pub(crate) enum Absent {
-    /// No static data has the name, or the module has no debug section.
-    NoData,
-    /// Data at different places has it.
-    SeveralData,
-    /// No thread trapped.
-    NoTrap,
-}
-
-impl fmt::Display for Absent {
-    fn fmt<W: Write>(&self, f: &mut Formatter<W>) -> fmt::Result {
-        f.write_str(match self {
-            Absent::NoData => "no static data of this name; a debug section has names",
-            Absent::SeveralData => "data at several addresses has this name",
-            Absent::NoTrap => "no thread trapped",
-        })
-    }
-}
-
 /// Why nothing is shown.
-#[derive(Drop)]
+#[derive(Clone, Copy)]
 pub(crate) enum Unshown {
-    Unfit(Unfit),
+    /// The record is of no run, or memory or the stream failed; and what the thread of the entry that doesn't fit does in
+    /// place of it, where there is such an entry.
+    Unfit { unfit: Unfit, stood: Option<Stood> },
+    /// The record has not what is asked for.
     Absent(Absent),
+}
+
+/// Too little memory was left.
+pub(crate) fn no_memory() -> Unshown
+    ensures { result ≡ unshown.Unfit unfits.NoMemory None }
+{
+    Unshown::Unfit {
+        unfit: Unfit::NoMemory,
+        stood: None,
+    }
 }
 
 /// A moment of a record: how many entries are before it, whether it is the end, and the bytes that are shown of it.
@@ -134,7 +128,7 @@ pub(crate) fn span_of(alloc: Global, map: &DataMap, data: Data) -> Result<Span, 
         Ok(Sought::One(place)) => Ok(addresses_of(place)),
         Ok(Sought::Nothing) => Err(Unshown::Absent(Absent::NoData)),
         Ok(Sought::Several) => Err(Unshown::Absent(Absent::SeveralData)),
-        Err(_) => Err(Unshown::Unfit(Unfit::NoMemory)),
+        Err(_) => Err(no_memory()),
     }
 }
 
@@ -219,7 +213,7 @@ fn spans_of(alloc: Global, map: &DataMap, all: &[Data]) -> Result<Vec<Span>, Uns
         };
         match put(&mut spans, span) {
             Ok(()) => {}
-            Err(_) => return Err(Unshown::Unfit(Unfit::NoMemory)),
+            Err(_) => return Err(no_memory()),
         }
     }
     Ok(spans)
@@ -260,6 +254,6 @@ pub(crate) fn asked_of<'a>(
     };
     match look_at(alloc, how, addrs) {
         Ok(look) => Ok(Asked { wanted, look }),
-        Err(_) => Err(Unshown::Unfit(Unfit::NoMemory)),
+        Err(_) => Err(no_memory()),
     }
 }

@@ -3,7 +3,7 @@
 //! Proved: `has_race` answers of a recorded run whether two of its accesses race, by where its threads stand in a replay
 //! of it.
 //!
-//! - `watched` has the rows of a record's entries.
+//! - `rows_seen` has the rows of a record's entries, or why it has none; `watched` has the fault alone.
 //! - `RaceJudge` looks for a run with a race (`search_finds::Judges`).
 #![tactic(auto)]
 
@@ -11,4 +11,4 @@ mod judge;
 mod rows;
 
 pub use judge::{RaceJudge, has_race};
-pub use rows::watched;
+pub use rows::{Unseen, rows_seen, watched};

@@ -13,7 +13,7 @@ use Rattle.binary.proofs.Modules.{is_one}
 use Rattle.report_jobs.specs.declared.loading.Refusal.TheVariants.{Read, Validity}
 use Rattle.report_jobs.specs.Jobs.{IsInvalid, IsRefused, IsNoValidModule}
 
-of_invalid : (bytes : List ℕ) → IsInvalid bytes → IsNoValidModule bytes
+pub of_invalid : (bytes : List ℕ) → IsInvalid bytes → IsNoValidModule bytes
 of_invalid bytes x parts text valid = x.invalid (subst IsValid (is_one bytes parts x.parts text x.text) valid)
 
 module _ (bytes : List ℕ) where
