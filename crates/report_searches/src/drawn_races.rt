@@ -17,6 +17,7 @@ ghost use Rattle.report_searches.specs.Prints.{Tells};
 ghost use Rattle.report_searches.specs.Searches.{Finds, IsOfSystem, IsRaceKept};
 
 use crate::asked::{Asked, jobs_of, no_memory};
+use crate::judge::RaceJudge;
 use crate::raced::{trouble_of, write_pair};
 use crate::smaller::{smaller_racy, write_sizes_if};
 use crate::table::{status_of_none, write_cut_of, write_table, write_unseen_of};
@@ -24,7 +25,6 @@ use report_command::Sought;
 use report_jobs::{Trouble, keep, print};
 use report_lines::{write_found_run, write_stopped};
 use search_finds::{Found, Halt, Hears, SearchResult, Table, first_judged, size_of};
-use search_races::RaceJudge;
 use search_scheduled::MadeRun;
 use spawn_host::Request;
 use std::alloc::Global;

@@ -9,10 +9,10 @@ ghost use Rattle.report_searches.specs.DrawnRaces.{SaysRaceOf};
 ghost use Rattle.report_searches.specs.Searches.{IsOfSystem};
 
 use crate::asked::no_memory;
+use crate::judge::RaceJudge;
 use report_command::{Search, Sought};
 use report_jobs::Trouble;
 use search_finds::{Hears, Size, shrunk, shrunk_by};
-use search_races::RaceJudge;
 use search_scheduled::MadeRun;
 use spawn_host::Request;
 use std::alloc::Global;

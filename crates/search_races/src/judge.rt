@@ -8,8 +8,6 @@ ghost use Rattle.search_races.specs.Races.{Says, SaysOfRun};
 use crate::rows::watched;
 use race_history::{Race, is_history, races_of};
 use replay_text::Record;
-use search_finds::Judges;
-use search_scheduled::MadeRun;
 use show_races::kinds_of;
 use show_rows::{CodeMap, Shown};
 use std::alloc::{AllocError, Global};
@@ -55,20 +53,4 @@ pub fn has_race(alloc: Global, module: &ValidModule, record: &Record) -> Result<
         return Err(AllocError);
     }
     is_racy(alloc, shown)
-}
-
-/// Looks for a run of a module in which two accesses race.
-#[derive(Clone, Copy)]
-pub struct RaceJudge<'m> {
-    pub module: &'m ValidModule,
-}
-
-impl Judges for RaceJudge<'_> {
-    ghost use Rattle.search_races.specs.Races.{SaysOfRun};
-
-    ghost judges = { λ j made is. SaysOfRun j.«module».now.parts made.«record» is };
-
-    fn is_sought(&self, alloc: Global, made: &MadeRun) -> Result<bool, AllocError> {
-        has_race(alloc, self.module, &made.record)
-    }
 }
