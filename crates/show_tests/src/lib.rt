@@ -19,3 +19,5 @@ mod reasons;
 mod spans;
 #[cfg(test)]
 mod walks;
+#[cfg(test)]
+mod widths;
