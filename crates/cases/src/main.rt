@@ -12,6 +12,9 @@
 #![tactic(auto)]
 
 mod file;
+mod histories;
+mod mutants;
+mod records;
 mod subject;
 mod trial;
 

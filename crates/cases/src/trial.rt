@@ -1,6 +1,7 @@
 //! One case.
 
 use crate::subject::Subject;
+use crate::{histories, mutants, records};
 use std::alloc::AllocError;
 use std::sync::Wait;
 use std::thread::Threads;
@@ -40,7 +41,7 @@ fn try_module(
 /// Writes what is shown of the module that a case names.
 fn tell_lines(rt: &HostRuntime, case: &Case, given: &mut String) -> Result<(), Stop> {
     let module = read_file(rt, case.get("module").unwrap_or(""))?;
-    Ok(show_lines_cases::tell(rt.alloc(), *case, &module, given)?)
+    Ok(dwarf_cases::tell(rt.alloc(), *case, &module, given)?)
 }
 
 /// Tries a case of what is shown of a module.
@@ -62,9 +63,9 @@ pub(crate) fn try_case<'a, R: Threads + Wait + Sync>(
     match subject {
         Subject::Modules => Ok(try_module(rt, file, case, tally)?),
         Subject::Lines => try_lines(rt, file, case, tally),
-        Subject::Histories => Ok(race_history_cases::try_case(rt, case, tally)?),
-        Subject::Records => replay_text_cases::try_case(rt, case, tally),
+        Subject::Histories => Ok(histories::try_case(rt, case, tally)?),
+        Subject::Records => records::try_case(rt, case, tally),
         Subject::Runs => report_cases::try_case(rt, threads, file, case, tally),
-        Subject::Mutants => report_jobs_cases::try_case(rt, threads, case, tally),
+        Subject::Mutants => mutants::try_case(rt, threads, case, tally),
     }
 }

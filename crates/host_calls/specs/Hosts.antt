@@ -15,8 +15,8 @@ use Rattle.spawn_host.specs.Requests.{Requested}
 use Rattle.spawn_host.specs.declared.end.EndState.{EndState}
 use Rattle.replay.specs.Runs as runs
 use Rattle.replay.specs.Runs.{IsRunOf}
-use Rattle.report_choice.specs.declared.sought.Find.TheVariants as finds
-use Rattle.report_choice.specs.declared.sought.Sought.{Sought}
+use Rattle.selection.specs.declared.sought.Find.TheVariants as finds
+use Rattle.selection.specs.declared.sought.Sought.{Sought}
 use Rattle.report_jobs.specs.Jobs.{IsRefused}
 use Rattle.report_jobs.specs.declared.loading.Refusal.{Refusal}
 use Rattle.report_jobs.specs.declared.loading.Refusal.TheVariants as refusals

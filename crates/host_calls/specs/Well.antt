@@ -6,7 +6,7 @@ use Rattle.search_reach.specs.declared.search.Verdict.TheVariants as verdicts
 use Rattle.search_reach.specs.declared.liveness.FairRuns.TheVariants.{AllEnd}
 use Rattle.search_reach.specs.declared.liveness.Liveness.{Liveness}
 use Rattle.search_endings.specs.Endings.{Ending}
-use Rattle.report_lines.specs.Ends.{is_done}
+use Rattle.search_endings.specs.Ends.{is_done}
 
 -- All threads ended well; and in each of these endings they did.
 abbrev pub threads_end_well : Ending → Bool

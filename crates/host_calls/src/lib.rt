@@ -10,8 +10,6 @@ mod calls;
 mod fault;
 mod plan;
 mod requests;
-#[cfg(test)]
-mod tests;
 mod well;
 
 pub use calls::{endings_of, functions_of, replay_of, run_of};

@@ -2,8 +2,7 @@
 ghost use Rattle.std.specs.Prelude.{◌≡◌, ◌↔◌, true};
 ghost use Rattle.host_calls.specs.Well.{all_end_well, EndsForSure, IsSure, IsWell, threads_end_well};
 
-use report_lines::is_done;
-use search_endings::Ending;
+use search_endings::{Ending, is_done};
 use search_modules::{Ended, FairRuns, Liveness, Verdict};
 
 /// Whether all threads ended well.

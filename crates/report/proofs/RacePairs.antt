@@ -20,7 +20,7 @@ use Rattle.search_races.proofs.Told.{kinds_alike, told_of}
 use Rattle.report_looks.specs.Raced.{IsShownOf, SaysObject, SaysRaceIn}
 use Rattle.report.specs.SearchObjects.{WritesRacy}
 use Rattle.report.specs.declared.racy_object.RacyRun.{RacyRun}
-use Rattle.report_choice.specs.declared.sought.Sought.{Sought}
+use Rattle.selection.specs.declared.sought.Sought.{Sought}
 use Rattle.report_jobs.specs.Prints.{WriterChange}
 use Rattle.search_finds.specs.declared.met.Table.{Table}
 

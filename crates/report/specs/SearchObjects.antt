@@ -21,8 +21,8 @@ use Rattle.search_finds.specs.Sizes.{size_in}
 use Rattle.search_finds.specs.declared.met.Met.{Met}
 use Rattle.search_finds.specs.declared.met.Table.{Table}
 use Rattle.search_finds.specs.declared.size.Size.{Size}
-use Rattle.report_choice.specs.Ways.{way_of}
-use Rattle.report_choice.specs.declared.sought.Sought.{Sought}
+use Rattle.selection.specs.Ways.{way_of}
+use Rattle.selection.specs.declared.sought.Sought.{Sought}
 use Rattle.report_command.specs.declared.search.Search.{Search}
 use Rattle.report_jobs.specs.Prints.{WriterChange, KeepsRecord, IsObjectOf}
 use Rattle.report_json.specs.Json.{json_line}

@@ -1,6 +1,6 @@
 //! What a case has its command lines read.
 
-use show_lines::SourceFile;
+use dwarf_lines::SourceFile;
 use std::alloc::{AllocError, Global};
 use test_cases::{Case, Stop, from_hex, read_file};
 use test_modules::{I32, I64, PLAIN, SHARED, Small};

@@ -1,13 +1,13 @@
 //! The program on a command line: what it writes, and its status.
 ghost use Rattle.report_command.specs.Jobs.{IsInRange};
 
+use dwarf_lines::SourceFile;
 use report::{CodeBytes, Job, Streams, perform, show_saved};
 use report_command::{Form, Order, Usage, asked};
 use report_reasons::{Done, explain_done};
 use report_refusals::write_no_end;
 use search_finds::{Hears, Size};
 use search_reach::{Follows, Wish};
-use show_lines::SourceFile;
 use std::alloc::{AllocError, Global};
 use std::io::Write;
 use std::sync::Wait;

@@ -1,7 +1,7 @@
 -- Which numbers, addresses and moments the texts of `show` spell.
 use Rattle.std.specs.Prelude.{ℕ, ◌≡◌, ◌⊎◌, ◌+◌, ◌-◌, ◌^◌, ◌≤◌, List, [], ◌++◌, codes}
 use Rattle.std.specs.Str.Parse.{digits_value, without_leading_plus}
-use Rattle.report_choice.specs.declared.choice.Span.{Span}
+use Rattle.selection.specs.declared.choice.Span.{Span}
 use Rattle.report_command.specs.declared.places.Data.{Data}
 use Rattle.report_command.specs.declared.places.Data.TheVariants.{At, Named}
 use Rattle.report_command.specs.declared.places.When.{When}

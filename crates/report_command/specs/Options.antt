@@ -9,14 +9,14 @@ use Rattle.clap.specs.declared.builder.command.Command.{Command}
 use Rattle.clap.specs.declared.parser.matches.ArgMatches.{ArgMatches}
 use Rattle.clap.specs.declared.parser.matches.Found.{Found}
 use Rattle.types.specs.declared.outcome.Outcome.{Outcome}
-use Rattle.report_choice.specs.declared.way.Way.{Way}
-use Rattle.report_choice.specs.declared.way.Way.TheVariants.{Mix, Random, Priorities, Spin}
-use Rattle.report_choice.specs.declared.choice.Color.{Color}
-use Rattle.report_choice.specs.declared.choice.Color.TheVariants.{Auto, Always, Never}
-use Rattle.report_choice.specs.declared.sought.Find.{Find}
-use Rattle.report_choice.specs.declared.sought.Find.TheVariants.{Nothing, Failure, Words, NoEnd, ForEver}
-use Rattle.report_choice.specs.declared.sought.Target.{Target}
-use Rattle.report_choice.specs.declared.sought.Sought.{Sought}
+use Rattle.selection.specs.declared.way.Way.{Way}
+use Rattle.selection.specs.declared.way.Way.TheVariants.{Mix, Random, Priorities, Spin}
+use Rattle.selection.specs.declared.choice.Color.{Color}
+use Rattle.selection.specs.declared.choice.Color.TheVariants.{Auto, Always, Never}
+use Rattle.selection.specs.declared.sought.Find.{Find}
+use Rattle.selection.specs.declared.sought.Find.TheVariants.{Nothing, Failure, Words, NoEnd, ForEver}
+use Rattle.selection.specs.declared.sought.Target.{Target}
+use Rattle.selection.specs.declared.sought.Sought.{Sought}
 use Rattle.report_command.specs.declared.limits.TheConstants.{DEFAULT_STATES, DEFAULT_SHRINK_SECONDS}
 use Rattle.report_command.specs.declared.call.CallWords.{CallWords}
 use Rattle.report_command.specs.declared.command_line.RunJob.{RunJob}
@@ -60,7 +60,7 @@ AsksForm f form = HasFlag f (codes "json") (is_json form)
 pub record AsksEndLook (f : Found) (look : EndLook) : Type 0 where
   pub dump_is : HasNumber f (codes "dump") look.dump
   pub units_is : HasFlag f (codes "units") look.units
-  pub callers_is : HasFlag f (codes "explain") look.callers
+  pub traps_is : HasFlag f (codes "explain") look.traps
   pub form_is : AsksForm f look.form
 
 -- A path with an address behind its last `@`, or a path alone.

@@ -1,7 +1,7 @@
 -- The searches of the command line.
 use Rattle.std.specs.Prelude.{◌≤◌, ◌≢◌, IfSome}
 use Rattle.types.specs.declared.limits.TheConstants.{MOST_LIMIT, MOST_FUEL}
-use Rattle.report_choice.specs.declared.sought.Sought.{Sought}
+use Rattle.selection.specs.declared.sought.Sought.{Sought}
 use Rattle.report_command.specs.declared.limits.TheConstants.{MOST_DUMP, MOST_RUNS, MOST_STATES}
 use Rattle.report_command.specs.declared.search.Search.{Search}
 

@@ -27,20 +27,21 @@ pub struct EndLook {
     pub dump: u32,
     /// Whether lines have the units that each thread spent. An object always has them.
     pub units: bool,
-    /// Whether standard error says of a thread that trapped by which calls it came there.
-    pub callers: bool,
+    /// Whether standard error says which threads trapped, where, and by which calls they came there. An object always
+    /// has where.
+    pub traps: bool,
     pub form: Form,
 }
 
 impl EndLook {
     /// Lines without units, of these the first so many bytes of the memory, 0 to 4096.
     pub fn lines(dump: u32) -> EndLook
-        ensures { result ≡ record { dump = dump; units = false; callers = false; form = Lines } }
+        ensures { result ≡ record { dump = dump; units = false; traps = false; form = Lines } }
     {
         EndLook {
             dump,
             units: false,
-            callers: false,
+            traps: false,
             form: Form::Lines,
         }
     }
@@ -80,7 +81,7 @@ pub(crate) fn end_look_of(matches: &ArgMatches) -> Option<EndLook>
         Some(dump) if dump <= MOST_DUMP => Some(EndLook {
             dump,
             units: matches.get_flag("units"),
-            callers: matches.get_flag("explain"),
+            traps: matches.get_flag("explain"),
             form: form_of(matches),
         }),
         _ => None,

@@ -31,7 +31,7 @@ pub use form::{EndLook, Form};
 pub use memory::MemoryFile;
 pub use places::{Data, When};
 pub use races::RacesJob;
-pub use report_choice::{Color, Find, Look, Sought, Target, Way};
 pub use search::Search;
+pub use selection::{Color, Find, Look, Sought, Target, Way};
 pub use show::{At, LastWrite, ShowLook, View};
 pub use values::value_in;

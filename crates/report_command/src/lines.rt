@@ -3,7 +3,7 @@ ghost use Rattle.std.specs.Prelude.{◌≡◌, true, IfOk, IfSome};
 ghost use Rattle.report_command.specs.Options.{IsFindOf};
 ghost use Rattle.report_command.specs.Results.{IsSpelledBy};
 
-use report_choice::Find;
+use selection::Find;
 use std::alloc::{AllocError, Global};
 use types::{MOST_THREADS, Outcome, Stop, Trap, Value};
 

@@ -6,7 +6,7 @@ ghost use Rattle.report_command.specs.Addresses.{IsAddress, IsBytes, IsData, IsE
 ghost use Rattle.report_command.specs.Addresses.{IsStretch, IsThread};
 
 use crate::limits::{MOST_DUMP, MOST_LINE};
-use report_choice::Span;
+use selection::Span;
 use std::alloc::{AllocError, Global};
 use types::MOST_THREADS;
 

@@ -22,7 +22,7 @@ use crate::lines::{Standing, endless_of, result_of, standing_of};
 use crate::words::{number_of, short_if_any};
 use clap::ArgMatches;
 use clap::builder::ValueParser;
-use report_choice::{Find, MOST_DEPTH, Sought, Target, Way};
+use selection::{Find, MOST_DEPTH, Sought, Target, Way};
 use std::alloc::{AllocError, Global};
 use types::Outcome;
 

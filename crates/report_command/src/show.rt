@@ -23,7 +23,7 @@ use crate::places::{
 use crate::words::{short_of, texts_of};
 use clap::ArgMatches;
 use clap::builder::ValueParser;
-use report_choice::{Color, Span};
+use selection::{Color, Span};
 use std::alloc::{AllocError, Global};
 
 /// A moment of a record's run, at which threads and memory are shown.

@@ -14,7 +14,7 @@ use Rattle.report_lines.specs.Lines.{thread_line, pages_line, bytes_line, end_li
 use Rattle.spawn_host.specs.RunEnds.{EndsRun}
 use Rattle.report_first.specs.First.{IsFirstModule, IsNoFirstModule, is_aligned, first_outcome, first_parts, page_after}
 use Rattle.report_first.specs.Laws.{IsFirstEnd}
-use Rattle.report_lines.specs.Ends.{status_of}
+use Rattle.search_endings.specs.Ends.{status_of}
 use Rattle.report_first.specs.Printed.{first_lines, first_status, IsFirstRun}
 use Rattle.report_first.specs.declared.bytes_to_lines.TheConstants.{FUEL, LIMIT}
 use Rattle.report_first.specs.declared.bytes_to_lines.FirstFault.{FirstFault}

@@ -13,7 +13,7 @@ use Rattle.replay_text.specs.Text.{record_text}
 use Rattle.spawn_host.specs.declared.end.EndState.{EndState}
 use Rattle.replay.specs.Runs.{IsRunOf}
 use Rattle.report_lines.specs.Lines.{numbered, thread_lines, pages_line, bytes_line, functions_line, end_lines}
-use Rattle.report_lines.specs.Ends.{status_of}
+use Rattle.search_endings.specs.Ends.{status_of}
 use Rattle.report_json.specs.Json.{json_line}
 use Rattle.report_json.specs.Refusals.{accepted_json}
 use Rattle.report_json.specs.Ends.{run_json}
@@ -25,7 +25,7 @@ use Rattle.report_command.specs.declared.command_line.RunJob.{RunJob}
 use Rattle.replay.specs.Recorded.{RecordsRun}
 use Rattle.spawn_host.specs.RunEnds.{EndsRunOnWords}
 use Rattle.report_jobs.specs.Arguments.{AreSpelled, texts_in}
-use Rattle.report_jobs.specs.Trapped.{TellsTraps}
+use Rattle.report_jobs.specs.Trapped.{TellsTrapsIf}
 use Rattle.report_jobs.specs.declared.streams.Streams.{Streams}
 
 -- What a writer has before and after.
@@ -100,10 +100,10 @@ abbrev pub WritesEnd : Form → Bool → ℕ → EndState → WriterChange → T
 WritesEnd Lines units dump end out = Appends out.old out.new (end_text units end dump)
 WritesEnd Json units dump end out = WritesObject end dump out
 
--- It was printed as is asked for, the threads that trapped were told, and the status is its.
+-- It was printed as is asked for, the threads that trapped were told where that is asked for, and the status is its.
 pub record PrintsEnd (end : EndState) (look : EndLook) (out err : WriterChange) (status : ℕ) : Type 0 where
   pub written : WritesEnd look.form look.units look.dump end out
-  pub traps : TellsTraps 0 end.threads.items err.old err.new
+  pub traps : TellsTrapsIf look.traps end.threads.items err.old err.new
   pub status_is : status ≡ status_of end.threads.items
 
 -- What was written is the text of a record, where that is wanted.

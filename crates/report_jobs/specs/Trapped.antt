@@ -1,5 +1,5 @@
 -- What is told of threads that trapped.
-use Rattle.std.specs.Prelude.{◌≡◌, ℕ, ◌+◌, List, [], ◌∷◌, ◌++◌, Option, codes}
+use Rattle.std.specs.Prelude.{◌≡◌, Bool, true, false, ℕ, ◌+◌, List, [], ◌∷◌, ◌++◌, Option, codes}
 use Rattle.std.specs.Fmt.{decimal}
 use Rattle.std.specs.Io.KnownBytes.{Appends}
 use Rattle.types.specs.declared.value.Value.{Value}
@@ -36,6 +36,11 @@ abbrev pub TellsTraps : ℕ → List ThreadReport → Option (List ℕ) → Opti
 TellsTraps thread [] old new = new ≡ old
 TellsTraps thread (report ∷ reports) old new =
     (now : Option (List ℕ)) × TellsEnd thread report.outcome old now × TellsTraps (thread + 1) reports now new
+
+-- So it is told where that is asked for, and else nothing is.
+abbrev pub TellsTrapsIf : Bool → List ThreadReport → Option (List ℕ) → Option (List ℕ) → Type 0
+TellsTrapsIf true reports old new = TellsTraps 0 reports old new
+TellsTrapsIf false reports old new = new ≡ old
 
 -- The new text begins with the whole old one.
 abbrev pub IsAddedTo : List ℕ → List ℕ → Type 0

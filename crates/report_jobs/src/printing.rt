@@ -162,8 +162,8 @@ fn write_end<W: Write>(
     }
 }
 
-/// Prints how a run ended as is asked for, says which threads trapped, and answers the status: 0 where all threads
-/// ended well, 1 for a trap or stop.
+/// Prints how a run ended as is asked for, says which threads trapped where that is asked for, and answers the status: 0
+/// where all threads ended well, 1 for a trap or stop.
 pub(crate) fn print_end<W: Write, E: Write>(
     alloc: Global,
     out: &mut W,
@@ -180,7 +180,7 @@ pub(crate) fn print_end<W: Write, E: Write>(
     let traps = traps_of(alloc, whence, &end.threads);
     match write_end(alloc, out, end, look, traps.as_ref()) {
         Ok(()) => {
-            say_traps(alloc, err, traps.as_ref(), &end.threads, look.callers);
+            say_traps(alloc, err, traps.as_ref(), &end.threads, look.traps);
             Ok(status_of(&end.threads))
         }
         Err(unwritten) => Err(unwritten),

@@ -3,7 +3,7 @@ ghost use Rattle.std.specs.Prelude.{IfOk, OnOk, codes, ◌++◌};
 ghost use Rattle.std.specs.String.{string_bytes};
 ghost use Rattle.std.specs.Io.KnownBytes.{Appends};
 ghost use Rattle.types.specs.declared.outcome.Outcome.TheVariants as outcomes;
-ghost use Rattle.report_jobs.specs.Trapped.{IsAddedTo, IsTrapLine, TellsEnd, TellsTraps, trap_front};
+ghost use Rattle.report_jobs.specs.Trapped.{IsAddedTo, IsTrapLine, TellsEnd, TellsTraps, TellsTrapsIf, trap_front};
 
 use crate::telling::say;
 use arrayvec::ArrayVec;
@@ -51,13 +51,8 @@ fn add_callers(line: &mut String, traps: &Traps, thread: usize) -> Result<(), Al
     Ok(())
 }
 
-/// Adds where a thread trapped, as far as it is known, and if they are wanted the calls by which it came there.
-fn add_places(
-    line: &mut String,
-    traps: Option<&Traps>,
-    thread: usize,
-    callers: bool,
-) -> Result<(), AllocError>
+/// Adds where a thread trapped, as far as it is known, and the calls by which it came there.
+fn add_places(line: &mut String, traps: Option<&Traps>, thread: usize) -> Result<(), AllocError>
     ensures { IfOk result (λ _. IsAddedTo (string_bytes line.old) (string_bytes line.new)) }
 {
     let Some(traps) = traps else {
@@ -67,9 +62,7 @@ fn add_places(
         return Ok(());
     };
     write!(line, " at {site}")?;
-    if callers {
-        add_callers(line, traps, thread)?;
-    }
+    add_callers(line, traps, thread)?;
     Ok(())
 }
 
@@ -79,12 +72,11 @@ fn line_of(
     traps: Option<&Traps>,
     thread: usize,
     trap: Trap,
-    callers: bool,
 ) -> Result<String, AllocError>
     ensures { IfOk result (λ line. IsTrapLine thread trap (string_bytes line)) }
 {
     let mut line = format!(in alloc; "thread {thread}: trap {trap}")?;
-    add_places(&mut line, traps, thread, callers)?;
+    add_places(&mut line, traps, thread)?;
     line.push_str("\n")?;
     Ok(line)
 }
@@ -107,17 +99,10 @@ fn say_plain<E: Write>(err: &mut E, thread: usize, trap: Trap)
 }
 
 /// Says of a thread that trapped so and where; without the place where there is no memory for it.
-fn say_trap<E: Write>(
-    alloc: Global,
-    err: &mut E,
-    traps: Option<&Traps>,
-    thread: usize,
-    trap: Trap,
-    callers: bool,
-)
+fn say_trap<E: Write>(alloc: Global, err: &mut E, traps: Option<&Traps>, thread: usize, trap: Trap)
     ensures { TellsEnd thread (outcomes.Trap trap) (E.contents err.old) (E.contents err.new) }
 {
-    match line_of(alloc, traps, thread, trap, callers) {
+    match line_of(alloc, traps, thread, trap) {
         Ok(line) => {
             say(err, line.as_bytes());
         }
@@ -132,27 +117,40 @@ fn say_end<E: Write>(
     traps: Option<&Traps>,
     thread: usize,
     outcome: Outcome,
-    callers: bool,
 )
     ensures { TellsEnd thread outcome (E.contents err.old) (E.contents err.new) }
 {
     match outcome {
-        Outcome::Trap(trap) => say_trap(alloc, err, traps, thread, trap, callers),
+        Outcome::Trap(trap) => say_trap(alloc, err, traps, thread, trap),
         Outcome::Done(_) | Outcome::Stop(_) => {}
     }
 }
 
 /// Says of each thread that trapped so, a line each, in order of their numbers.
+fn say_all_traps<E: Write>(
+    alloc: Global,
+    err: &mut E,
+    traps: Option<&Traps>,
+    reports: &[ThreadReport],
+)
+    ensures { TellsTraps 0 reports.now (E.contents err.old) (E.contents err.new) }
+{
+    for (thread, report) in reports.iter().enumerate() {
+        say_end(alloc, err, traps, thread, report.outcome);
+    }
+}
+
+/// The same where that is asked for, and else nothing.
 pub(crate) fn say_traps<E: Write>(
     alloc: Global,
     err: &mut E,
     traps: Option<&Traps>,
     reports: &[ThreadReport],
-    callers: bool,
+    is_asked: bool,
 )
-    ensures { TellsTraps 0 reports.now (E.contents err.old) (E.contents err.new) }
+    ensures { TellsTrapsIf is_asked reports.now (E.contents err.old) (E.contents err.new) }
 {
-    for (thread, report) in reports.iter().enumerate() {
-        say_end(alloc, err, traps, thread, report.outcome, callers);
+    if is_asked {
+        say_all_traps(alloc, err, traps, reports);
     }
 }

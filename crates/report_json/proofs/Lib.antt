@@ -1,4 +1,3 @@
 pub mod Sent
 pub mod Fields
-pub mod Digits
 pub mod RowTexts

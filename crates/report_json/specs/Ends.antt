@@ -9,8 +9,8 @@ use Rattle.types.specs.declared.outcome.Outcome.{Outcome}
 use Rattle.types.specs.declared.outcome.Outcome.TheVariants as outcomes
 use Rattle.types.specs.declared.outcome.ThreadReport.{ThreadReport}
 use Rattle.types.specs.Outcomes.{trap_words, trap_number, stop_words, stop_number}
-use Rattle.replay_forms.specs.Texts.{hex_text}
-use Rattle.report_lines.specs.Ends.{status_of}
+use Rattle.hex.specs.Hex.{encode_lower}
+use Rattle.search_endings.specs.Ends.{status_of}
 use Rattle.report_json.specs.declared.places.Place.{Place}
 use Rattle.report_json.specs.declared.ends.RunEnd.{RunEnd}
 use Rattle.report_json.specs.Json.{Json, Field, null, number, text, list, is, is_given, are_some, numbered, object_of}
@@ -60,7 +60,7 @@ threads_json places reports = list (numbered (thread_json places) 0 reports)
 
 -- Bytes, where they are wanted: two digits of base 16 for each.
 abbrev pub bytes_field : Bool → List ℕ → Field
-bytes_field true bytes = is (codes "bytes") (text (hex_text bytes))
+bytes_field true bytes = is (codes "bytes") (text (encode_lower bytes))
 bytes_field false bytes = None
 
 -- How a run ended: its status, its threads, the page count, the first bytes, so many or all if there are fewer, where

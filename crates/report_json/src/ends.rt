@@ -1,10 +1,10 @@
 //! How threads and runs end.
 ghost use Rattle.std.specs.Prelude.{◌≡◌, [], ◌∷◌, OnOk, IfOk, take, nat_lt, IfErr};
 ghost use Rattle.std.specs.List.{list_all};
-ghost use Rattle.std.specs.String.{string_bytes};
-ghost use Rattle.replay_forms.specs.Texts.{Wrote, hex_text};
-ghost use Rattle.report_lines.specs.Ends as specified;
-ghost use Rattle.report_lines.specs.Ends.{status_of};
+ghost use Rattle.replay_forms.specs.Texts.{Wrote};
+ghost use Rattle.search_endings.specs.Ends as specified;
+ghost use Rattle.search_endings.specs.Ends.{status_of};
+ghost use Rattle.hex.specs.Hex.{encode_lower};
 ghost use Rattle.report_json.specs.Unwritten.{LeavesAs};
 ghost use Rattle.report_json.specs.Ends as ends;
 ghost use Rattle.report_json.specs.Ends.{result_json, outcome_json, bytes_field, run_json};
@@ -15,11 +15,10 @@ ghost use Rattle.types.specs.Outcomes.{trap_words, stop_words};
 
 use crate::object::{ToJson, given, put, put_if, put_some, send_one, send_two, some, write_line};
 use crate::places::Place;
-use replay_forms::hex_digit;
-use report_lines::is_done;
+use search_endings::is_done;
 use serde::Serializer;
 use show_text::Unwritten;
-use std::alloc::{AllocError, Global};
+use std::alloc::Global;
 use std::io::Write;
 use types::{Outcome, Stop, ThreadReport, Trap, Value};
 
@@ -147,27 +146,15 @@ impl ToJson for Outcomes<'_> {
     }
 }
 
-/// Bytes as digits of base 16.
-fn hex_of(alloc: Global, bytes: &[u8]) -> Result<String, AllocError>
-    ensures { IfOk result (λ digits. string_bytes digits ≡ hex_text bytes.now) }
-{
-    let mut digits = String::new(alloc);
-    for byte in bytes {
-        digits.push(char::from(hex_digit(*byte / 16)))?;
-        digits.push(char::from(hex_digit(*byte % 16)))?;
-    }
-    Ok(digits)
-}
-
 /// Bytes, which are printed as digits of base 16.
 #[derive(Clone, Copy)]
 struct Hex<'a>(&'a [u8]);
 
 impl ToJson for Hex<'_> {
-    ghost json = { λ h. text (hex_text h.0.now) };
+    ghost json = { λ h. text (encode_lower h.0.now) };
 
     fn send<S: Serializer>(&self, alloc: Global, out: &mut S) -> Result<(), S::Error> {
-        match hex_of(alloc, self.0) {
+        match hex::encode(alloc, self.0) {
             Ok(digits) => out.str(digits.as_str()),
             Err(_) => Err(out.custom("no memory")),
         }

@@ -2,8 +2,8 @@
 use Rattle.std.specs.Prelude.{ℕ, ◌==◌, if◌then◌else◌, List, [], ◌++◌, codes}
 use Rattle.std.specs.Fmt.{decimal}
 use Rattle.search_endings.specs.Endings.{Ending}
-use Rattle.report_choice.specs.declared.way.Way.{Way}
-use Rattle.report_choice.specs.declared.way.Way.TheVariants as ways
+use Rattle.selection.specs.declared.way.Way.{Way}
+use Rattle.selection.specs.declared.way.Way.TheVariants as ways
 use Rattle.report_lines.specs.declared.drawn.Often.{Often}
 use Rattle.report_lines.specs.Complete.{form_of, endings_text}
 use Rattle.report_lines.specs.Endings.{ending_line}

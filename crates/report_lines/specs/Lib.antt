@@ -1,5 +1,4 @@
 pub mod Lines
-pub mod Ends
 pub mod Endings
 pub mod Complete
 pub mod Drawn

@@ -7,8 +7,8 @@ ghost use Rattle.report_lines.specs.Drawn.{late_text, chance_text, unseen_line};
 
 use crate::complete::write_endings_count;
 use crate::endings::write_ending;
-use report_choice::Way;
 use search_endings::Ending;
+use selection::Way;
 use std::io::{self, Write};
 
 /// How often an ending was met, in how many runs, and in the run of which number first.

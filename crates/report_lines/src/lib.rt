@@ -19,4 +19,4 @@ pub use endings::{write_ending, write_endings};
 pub use found::{
     write_for_ever, write_found_ending, write_found_run, write_no_end, write_without_run,
 };
-pub use lines::{is_done, write_run};
+pub use lines::write_run;

@@ -3,19 +3,12 @@ ghost use Rattle.std.specs.Prelude.{◌≡◌, IfOk};
 ghost use Rattle.std.specs.List.{list_all};
 ghost use Rattle.replay_forms.specs.Texts.{Wrote};
 ghost use Rattle.report_lines.specs.Lines.{thread_line, thread_lines, pages_line, bytes_line, hex_bytes, end_lines};
-ghost use Rattle.report_lines.specs.Ends as specified;
-ghost use Rattle.report_lines.specs.Ends.{status_of};
+ghost use Rattle.search_endings.specs.Ends as specified;
+ghost use Rattle.search_endings.specs.Ends.{status_of};
 
-use replay_forms::hex_digit;
+use search_endings::is_done;
 use std::io::{self, Write};
 use types::{Outcome, ThreadReport};
-
-/// Whether a thread ended well: its function returned.
-pub fn is_done(outcome: Outcome) -> bool
-    ensures { result ≡ specified.is_done outcome }
-{
-    matches!(outcome, Outcome::Done(_))
-}
 
 /// Whether all threads ended well.
 fn all_done(reports: &[ThreadReport]) -> bool
@@ -102,7 +95,7 @@ pub(crate) fn write_hex<W: Write>(out: &mut W, bytes: &[u8]) -> io::Result<()>
     ensures { Wrote W.contents out.old out.new result (hex_bytes bytes.now) }
 {
     for byte in bytes {
-        out.write_all(&[b' ', hex_digit(*byte / 16), hex_digit(*byte % 16)])?;
+        write!(out, " {byte:02x}")?;
     }
     Ok(())
 }

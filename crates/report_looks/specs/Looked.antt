@@ -13,10 +13,10 @@ use Rattle.types.specs.declared.outcome.ThreadReport.{ThreadReport}
 use Rattle.race_history.specs.declared.race.Race.{Race}
 use Rattle.replay_text.specs.declared.parts.RecordParts.{RecordParts}
 use Rattle.replay_text.specs.Versions.{header_count}
-use Rattle.report_choice.specs.declared.choice.Choice.{Choice}
-use Rattle.report_choice.specs.declared.choice.Look.{Look}
-use Rattle.report_choice.specs.declared.choice.Span.{Span}
-use Rattle.report_choice.specs.Choices.{span_of}
+use Rattle.selection.specs.declared.choice.Choice.{Choice}
+use Rattle.selection.specs.declared.choice.Look.{Look}
+use Rattle.selection.specs.declared.choice.Span.{Span}
+use Rattle.selection.specs.Choices.{span_of}
 use Rattle.report_command.specs.declared.places.Data.{Data}
 use Rattle.report_command.specs.declared.places.Data.TheVariants.{At, Named}
 use Rattle.report_command.specs.declared.places.When.{When}
@@ -27,8 +27,8 @@ use Rattle.report_command.specs.declared.show.View.{View}
 use Rattle.report_command.specs.declared.show.View.TheVariants as views
 use Rattle.report_command.specs.Views.{path_of}
 use Rattle.report_jobs.specs.Prints.{WriterChange}
-use Rattle.show_data.specs.declared.place.Place.{Place}
-use Rattle.show_data.specs.Within.{IsWithinOne}
+use Rattle.dwarf_data.specs.declared.place.Place.{Place}
+use Rattle.dwarf_data.specs.Within.{IsWithinOne}
 use Rattle.show_events.specs.Written.{WritesPage, WritesTrace}
 use Rattle.show_events.specs.declared.run.MomentText.{MomentText}
 use Rattle.show_moments.specs.declared.moment.Moment.{Moment}
@@ -39,7 +39,7 @@ use Rattle.show_rows.specs.declared.rows.Row.{Row}
 use Rattle.show_rows.specs.declared.listing.Shown.{Shown}
 use Rattle.show_rows.specs.declared.listing.Story.{Story}
 use Rattle.show_rows.specs.Listing.{IsStoryOf}
-use Rattle.show_waits.specs.Lasts.{WritesLast}
+use Rattle.show_named.specs.LastTexts.{WritesLast}
 use Rattle.show_waits.specs.Waits.{WritesWaits}
 use Rattle.report_looks.specs.declared.wanted.Asked.{Asked}
 use Rattle.report_looks.specs.declared.wanted.Here.{Here}

@@ -2,7 +2,7 @@
 use Rattle.std.specs.Prelude.{ℕ, ◌≡◌, ◌-◌, ◌/◌, max, min, false, List, [], length, string_bytes, Some}
 use Rattle.std.specs.List.{AllZip}
 use Rattle.race_history.specs.declared.race.Race.{Race}
-use Rattle.report_choice.specs.declared.choice.Look.{Look}
+use Rattle.selection.specs.declared.choice.Look.{Look}
 use Rattle.report_command.specs.declared.show.View.{View}
 use Rattle.report_command.specs.declared.show.View.TheVariants as views
 use Rattle.show_events.specs.Around.{failure, part_around}

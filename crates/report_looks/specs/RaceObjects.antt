@@ -9,7 +9,7 @@ use Rattle.race_history.specs.declared.access.Kind.{Kind}
 use Rattle.race_history.specs.declared.access.Kind.TheVariants.{Plain, Atomic}
 use Rattle.race_history.specs.declared.race.Race.{Race}
 use Rattle.interp.specs.declared.place.CodePlace.{CodePlace}
-use Rattle.report_choice.specs.declared.choice.Look.{Look}
+use Rattle.selection.specs.declared.choice.Look.{Look}
 use Rattle.report_json.specs.Json.{json_line}
 use Rattle.report_json.specs.Rows.{races_json, row_text, rows_json, rows_text}
 use Rattle.report_json.specs.declared.places.Offset.{Offset}

@@ -2,8 +2,8 @@
 ghost use Rattle.std.specs.Prelude.{◌<◌, All, OnOk, length};
 ghost use Rattle.report_looks.specs.RaceObjects.{AddsRow, AddsRows, IsOffset, IsPlaceOf, IsRowOf, IsSource, WritesObject};
 
-use report_choice::Look;
 use report_json::{Offset, Place, Row, Source, begin_rows, end_rows, write_row};
+use selection::Look;
 use show_rows::{Shown, Spot, Story, chosen_entries};
 use show_text::Unwritten;
 use std::alloc::Global;

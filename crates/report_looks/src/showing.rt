@@ -12,11 +12,11 @@ ghost use Rattle.report_looks.specs.Silent.{IfUnshown, IsNoRefusal, IsUnshown};
 
 use crate::printing::print_asked;
 use crate::wanted::{Unshown, asked_of};
+use dwarf_lines::{SourceFile, Sources};
 use replay_text::{Record, RecordFault, read_record};
 use report_command::ShowLook;
 use report_jobs::{Streams, Unfit, load, misfit, refuse, reject};
 use search_races::watched;
-use show_lines::{SourceFile, Sources};
 use show_named::DataMap;
 use show_rows::{CodeMap, Row};
 use show_text::Unwritten;

@@ -1,18 +1,18 @@
 //! What is asked for of a record, with its own places and addresses; or why it has no such thing.
 ghost use Rattle.std.specs.Prelude.{◌≡◌, ◌++◌, ◌∷◌, [], IfErr, IfOk, OnOk, position};
 ghost use Rattle.std.specs.List.{AllZip};
-ghost use Rattle.report_choice.specs.Choices as chosen;
+ghost use Rattle.selection.specs.Choices as chosen;
 ghost use Rattle.report_command.specs.declared.show.View.TheVariants as views;
 ghost use Rattle.show_named.specs.declared.data_map.DataMap.{DataMap};
 ghost use Rattle.report_looks.specs.Looked as looked;
 ghost use Rattle.report_looks.specs.Looked.{AreAddresses, IsAsked, IsLookAt, IsWanted};
 ghost use Rattle.report_looks.specs.Silent.{IsUnrefused};
 
+use dwarf_data::{Place, Sought};
 use replay_text::RecordParts;
-use report_choice::{Choice, Look, Span};
 use report_command::{At, Data, LastWrite, ShowLook, View, When};
 use report_jobs::Unfit;
-use show_data::{Place, Sought};
+use selection::{Choice, Look, Span};
 use show_moments::Bytes;
 use show_named::DataMap;
 use std::alloc::{AllocError, Global};

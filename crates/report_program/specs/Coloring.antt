@@ -1,6 +1,6 @@
 -- What a command line asks for, with colors as standard output takes them, and explained as standard error does.
 use Rattle.std.specs.Prelude.{ℕ, ◌≡◌, Bool, List}
-use Rattle.report_choice.specs.declared.choice.Color.{Color}
+use Rattle.selection.specs.declared.choice.Color.{Color}
 use Rattle.report_command.specs.declared.command_line.Job.{Job}
 use Rattle.report_command.specs.declared.command_line.Job.TheVariants.{Check, Run, Replay, Show, Races, Search}
 use Rattle.report_command.specs.declared.command_line.Order.{Order}
@@ -12,8 +12,8 @@ abbrev pub IsColored : Bool → Job → Job → Type 0
 IsColored explain (Show file saved names how) new =
     (color : Color) × (new ≡ Show file saved names (record how { color = color }))
 IsColored explain (Check file form) new = new ≡ Check file form
-IsColored explain (Run job) new = new ≡ Run (record job { look = record job.look { callers = explain } })
-IsColored explain (Replay file saved look) new = new ≡ Replay file saved (record look { callers = explain })
+IsColored explain (Run job) new = new ≡ Run (record job { look = record job.look { traps = explain } })
+IsColored explain (Replay file saved look) new = new ≡ Replay file saved (record look { traps = explain })
 IsColored explain (Races job) new = new ≡ Races job
 IsColored explain (Search s) new = new ≡ Search s
 

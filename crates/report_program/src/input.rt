@@ -3,8 +3,8 @@
 use crate::sources::{FoundSources, SourcePlace, read_sources};
 use crate::stop::Stop;
 use crate::{Unread, read_memory, read_module, read_saved};
+use dwarf_lines::SourceFile;
 use report_command::{Job, RacesJob, RunJob, Search};
-use show_lines::SourceFile;
 
 /// What a job reads: a module, a record where one is replayed or shown, or what is laid over the memory of a run; and
 /// the file that has the names, where it is another one.

@@ -37,14 +37,14 @@ pub struct Plan<'a> {
     pub explain: bool,
 }
 
-/// The end of a run, where the calls of a thread that trapped are told or aren't.
-fn end_told(look: EndLook, callers: bool) -> EndLook
-    ensures { result ≡ record look { callers = callers } }
+/// The end of a run, where it is told which threads trapped or it isn't.
+fn end_told(look: EndLook, traps: bool) -> EndLook
+    ensures { result ≡ record look { traps = traps } }
 {
-    EndLook { callers, ..look }
+    EndLook { traps, ..look }
 }
 
-/// The job, with colors as standard output takes them, and with the calls of a thread that trapped where it is explained.
+/// The job, with colors as standard output takes them, and with where threads trapped where it is explained.
 fn colored<'a>(job: Job<'a>, is_terminal: bool, explain: bool) -> Job<'a>
     requires { IsInRange job }
     ensures range { IsInRange result }

@@ -1,7 +1,7 @@
 //! Files of source that debug information names.
 
 use crate::{Unread, read_front};
-use show_lines::{DebugSections, Source, SourceFile, read_lines};
+use dwarf_lines::{DebugSections, Source, SourceFile, read_lines};
 use std::alloc::{AllocError, Global};
 use std::fs::{self, File};
 use std::io;

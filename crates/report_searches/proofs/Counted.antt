@@ -9,7 +9,7 @@ use Rattle.search_finds.specs.Tables.{IsNoted}
 use Rattle.search_finds.specs.Noted.{AreNoted, IsTableOf}
 use Rattle.search_finds.specs.Noted.IsTableOf.{none, more}
 use Rattle.spawn_host.specs.Requests.{Requested}
-use Rattle.report_choice.specs.declared.sought.Sought.{Sought}
+use Rattle.selection.specs.declared.sought.Sought.{Sought}
 use Rattle.report_searches.specs.Drawn.{cut_in, is_cut, runs_if_cut}
 
 abbrev times : Met → ℕ

@@ -14,7 +14,7 @@ use Rattle.search_finds.specs.declared.finding.Halt.TheVariants as halts
 use Rattle.search_finds.specs.declared.met.Table.{Table}
 use Rattle.search_finds.proofs.Noting.{noted_weaker}
 use Rattle.search_races.specs.Races.{SaysOfRun}
-use Rattle.report_choice.specs.declared.sought.Sought.{Sought}
+use Rattle.selection.specs.declared.sought.Sought.{Sought}
 use Rattle.report_command.specs.declared.search.Search.{Search}
 use Rattle.report_lines.specs.Drawn.{cut_line}
 use Rattle.report_jobs.specs.Asked.{IsAskedBy}

@@ -12,8 +12,8 @@ use Rattle.search_finds.specs.Finds.{IsLookedFor}
 use Rattle.search_finds.specs.Noted.{AreNoted}
 use Rattle.search_finds.specs.declared.met.Table.{Table}
 use Rattle.search_scheduled.specs.declared.running.MadeRun.{MadeRun}
-use Rattle.report_choice.specs.declared.sought.Sought.{Sought}
-use Rattle.report_choice.specs.declared.sought.Target.{Target}
+use Rattle.selection.specs.declared.sought.Sought.{Sought}
+use Rattle.selection.specs.declared.sought.Target.{Target}
 use Rattle.report_command.specs.declared.search.Search.{Search}
 use Rattle.report_jobs.specs.Asked.{IsAskedBy}
 use Rattle.report_jobs.specs.Prints.{WriterChange, change}

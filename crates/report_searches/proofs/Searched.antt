@@ -1,7 +1,7 @@
 -- A run that ends as one that is looked for is looked for.
 use Rattle.std.proofs.Common.{ℕ, subst}
 use Rattle.spawn_host.specs.declared.end.EndState.{EndState}
-use Rattle.report_choice.specs.declared.sought.Sought.{Sought}
+use Rattle.selection.specs.declared.sought.Sought.{Sought}
 use Rattle.search_finds.specs.Endings.{HaveOneEnding}
 use Rattle.search_finds.specs.Finds.{IsLookedFor, EndsAsLookedFor}
 

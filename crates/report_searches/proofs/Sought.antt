@@ -1,6 +1,6 @@
 -- A run that never ends and is known is looked for.
 use Rattle.std.proofs.Common.{◌≡◌, Option, Some, None, inl, inr, refl}
-use Rattle.report_choice.specs.declared.sought.Target.{Target}
+use Rattle.selection.specs.declared.sought.Target.{Target}
 use Rattle.search_reach.specs.declared.liveness.Liveness.{Liveness}
 use Rattle.report_searches.specs.declared.all.EndlessRun.{EndlessRun}
 use Rattle.report_searches.specs.declared.all.EndlessRun.TheVariants.{ToNoEnd, Round}

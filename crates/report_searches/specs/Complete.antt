@@ -9,8 +9,8 @@ use Rattle.search_reach.specs.declared.liveness.FairRuns.TheVariants.{AllEnd, Go
 use Rattle.search_reach.specs.declared.liveness.Liveness.{Liveness}
 use Rattle.search_endings.specs.Endings.{Ending}
 use Rattle.search_finds.specs.Finds.{IsLookedFor}
-use Rattle.report_choice.specs.declared.sought.Sought.{Sought}
-use Rattle.report_lines.specs.Ends.{is_done}
+use Rattle.selection.specs.declared.sought.Sought.{Sought}
+use Rattle.search_endings.specs.Ends.{is_done}
 use Rattle.report_lines.specs.Endings.{ending_lines}
 use Rattle.report_lines.specs.Found.{entries_text}
 use Rattle.report_lines.specs.Complete.{endings_text, states_text, too_many_line, cannot_tell_line, told_line, cannot_end_line}

@@ -7,8 +7,8 @@ use Rattle.types.specs.declared.outcome.Outcome.{Outcome}
 use Rattle.types.specs.declared.outcome.Outcome.TheVariants as outcomes
 use Rattle.types.specs.declared.outcome.Stop.TheVariants as stops
 use Rattle.search_endings.specs.Endings.{Ending}
-use Rattle.report_choice.specs.declared.sought.Sought.{Sought}
-use Rattle.report_choice.specs.Ways.{way_of}
+use Rattle.selection.specs.declared.sought.Sought.{Sought}
+use Rattle.selection.specs.Ways.{way_of}
 use Rattle.search_finds.specs.declared.met.Met.{Met}
 use Rattle.search_finds.specs.declared.met.Table.{Table}
 use Rattle.search_finds.specs.declared.size.Size.{Size}

@@ -11,7 +11,7 @@ use Rattle.search_finds.specs.Noted.{AreNoted, AreNotedBy}
 use Rattle.search_finds.specs.Sizes.{size_in}
 use Rattle.search_finds.specs.declared.met.Table.{Table}
 use Rattle.search_races.specs.Races.{SaysOfRun}
-use Rattle.report_choice.specs.declared.sought.Sought.{Sought}
+use Rattle.selection.specs.declared.sought.Sought.{Sought}
 use Rattle.report_command.specs.declared.search.Search.{Search}
 use Rattle.report_lines.specs.Drawn.{cut_line, stopped_line}
 use Rattle.report_lines.specs.Found.{found_run_line}

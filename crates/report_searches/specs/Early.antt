@@ -1,7 +1,7 @@
 -- At which endings a search through all runs ends.
 use Rattle.std.specs.Prelude.{◌≡◌, ◌&&◌, ◌||◌, not, Bool, true, false, List, is_some}
-use Rattle.report_choice.specs.declared.sought.Find.{Find}
-use Rattle.report_choice.specs.declared.sought.Find.TheVariants.{Nothing, Failure, Words, NoEnd, ForEver}
+use Rattle.selection.specs.declared.sought.Find.{Find}
+use Rattle.selection.specs.declared.sought.Find.TheVariants.{Nothing, Failure, Words, NoEnd, ForEver}
 use Rattle.report_command.specs.declared.search.Search.{Search}
 use Rattle.search_endings.specs.Endings.{Ending}
 use Rattle.search_finds.specs.Finds.{IsLookedFor}

@@ -3,9 +3,9 @@ use Rattle.std.specs.Prelude.{ℕ, ◌≡◌, ◌≢◌, ◌⊎◌, ◌||◌, Bo
 use Rattle.search_reach.specs.declared.liveness.FairCycle.{FairCycle}
 use Rattle.search_reach.specs.declared.liveness.FairRuns.TheVariants.{GoOn}
 use Rattle.search_reach.specs.declared.liveness.Liveness.{Liveness}
-use Rattle.report_choice.specs.declared.sought.Find.{Find}
-use Rattle.report_choice.specs.declared.sought.Find.TheVariants as finds
-use Rattle.report_choice.specs.declared.sought.Target.{Target}
+use Rattle.selection.specs.declared.sought.Find.{Find}
+use Rattle.selection.specs.declared.sought.Find.TheVariants as finds
+use Rattle.selection.specs.declared.sought.Target.{Target}
 use Rattle.report_lines.specs.Found.{no_end_line, for_ever_line}
 use Rattle.report_searches.specs.declared.all.EndlessRun.{EndlessRun}
 use Rattle.report_searches.specs.declared.all.EndlessRun.TheVariants.{ToNoEnd, Round}

@@ -16,7 +16,7 @@ use Rattle.search_finds.specs.Leading.{LeadsTo}
 use Rattle.search_finds.specs.Noted.{AreNoted}
 use Rattle.search_finds.specs.Sizes.{size_in}
 use Rattle.search_finds.specs.declared.met.Table.{Table}
-use Rattle.report_choice.specs.declared.sought.Sought.{Sought}
+use Rattle.selection.specs.declared.sought.Sought.{Sought}
 use Rattle.report_command.specs.declared.search.Search.{Search}
 use Rattle.report_lines.specs.Drawn.{cut_line}
 use Rattle.report_lines.specs.Found.{found_run_line, found_ending_line, without_run_line}

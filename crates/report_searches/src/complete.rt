@@ -11,10 +11,10 @@ ghost use Rattle.report_searches.specs.Complete.{threads_end_well, all_end_well,
 use crate::whole::Racing;
 use report_command::Sought;
 use report_lines::{
-    is_done, write_cannot_end, write_cannot_tell, write_cycle, write_endings, write_fair_runs_end,
+    write_cannot_end, write_cannot_tell, write_cycle, write_endings, write_fair_runs_end,
     write_told, write_too_many, write_unknown,
 };
-use search_endings::Ending;
+use search_endings::{Ending, is_done};
 use search_reach::{Ended, FairRuns, Liveness, Verdict};
 use std::io::{self, Write};
 

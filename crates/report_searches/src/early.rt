@@ -2,11 +2,11 @@
 ghost use Rattle.std.specs.Prelude.{◌≡◌};
 ghost use Rattle.report_searches.specs.Early as specified;
 
-use report_choice::{Find, Sought};
 use report_command::Search;
 use search_endings::Ending;
 use search_finds::is_looked_for;
 use search_reach::Seeks;
+use selection::{Find, Sought};
 use std::alloc::{AllocError, Global};
 
 /// Looks for the endings that are looked for, where a search is to end at one.

@@ -1,3 +1,4 @@
 pub mod Endings
 pub mod Outcomes
 pub mod Equal
+pub mod Ends

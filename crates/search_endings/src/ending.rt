@@ -1,11 +1,19 @@
 //! How a run ends.
 ghost use Rattle.std.specs.Prelude.{◌≡◌, IfOk};
 ghost use Rattle.search_endings.specs.Endings.{ending_with, reported_ending, EqualEndingsAreTheSame};
+ghost use Rattle.search_endings.specs.Ends as specified;
 
 use std::alloc::{AllocError, Global};
 use std::hash::{Hash, Hasher};
 use std::marker::Model;
 use types::{Outcome, ThreadReport};
+
+/// Whether a thread ended well: its function returned.
+pub fn is_done(outcome: Outcome) -> bool
+    ensures { result ≡ specified.is_done outcome }
+{
+    matches!(outcome, Outcome::Done(_))
+}
 
 /// The outcomes of all threads that were started, in order of their numbers, the page count, and so many first bytes of
 /// the memory.

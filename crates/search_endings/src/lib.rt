@@ -8,4 +8,4 @@
 
 mod ending;
 
-pub use ending::{Ending, equal_endings_are_the_same};
+pub use ending::{Ending, equal_endings_are_the_same, is_done};

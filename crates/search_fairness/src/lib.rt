@@ -14,8 +14,6 @@ mod components;
 mod hints;
 mod judged;
 mod movers;
-#[cfg(test)]
-mod tests;
 mod walks;
 
 pub use hints::{Hint, find_hint};

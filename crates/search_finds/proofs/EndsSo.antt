@@ -1,7 +1,7 @@
 -- Runs that are looked for by how they end.
 use Rattle.std.proofs.Common.{◌≡◌, ◌↔◌, Bool, IsTrue, true, false, refl, subst, sym, true≢false}
 use Rattle.spawn_host.specs.Requests.{Requested}
-use Rattle.report_choice.specs.declared.sought.Sought.{Sought}
+use Rattle.selection.specs.declared.sought.Sought.{Sought}
 use Rattle.search_scheduled.specs.declared.running.MadeRun.{MadeRun}
 use Rattle.search_finds.specs.Finds.{EndsAsLookedFor, HasNoneLookedFor, IsFound, IsLookedFor}
 use Rattle.search_finds.specs.Judged.{IsFindBy, IsPassed}

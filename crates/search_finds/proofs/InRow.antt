@@ -2,7 +2,7 @@
 use Rattle.std.proofs.Common.{ℕ, ◌≡◌, ◌+◌, Bool, List, [], ◌∷◌, ◌++◌, Option, Some, None, IfSome, refl, length, length-append, subst, arith}
 use Rattle.std.specs.Option.{option_to_list}
 use Rattle.spawn_host.specs.Requests.{Requested}
-use Rattle.report_choice.specs.declared.sought.Sought.{Sought}
+use Rattle.selection.specs.declared.sought.Sought.{Sought}
 use Rattle.search_scheduled.specs.declared.running.MadeRun.{MadeRun}
 use Rattle.search_endings.specs.Endings.{Ending}
 use Rattle.search_finds.specs.Drawing.{AreOfRunsBack, AreOfRunsBy, HasPointsAmong, IsDrawnAmong, IsEndingAmong, IsMetBy, IsRunOfNumber}

@@ -10,7 +10,7 @@ use Rattle.search_finds.specs.Noted.{AreMet, AreNoted, AreNotedBy, IsTableOf}
 use Rattle.search_finds.specs.Noted.IsTableOf.{none, more}
 use Rattle.search_finds.specs.Drawing.{AreOfRuns, AreOfRunsBy, IsMetBy}
 use Rattle.spawn_host.specs.Requests.{Requested}
-use Rattle.report_choice.specs.declared.sought.Sought.{Sought}
+use Rattle.selection.specs.declared.sought.Sought.{Sought}
 use Rattle.search_finds.proofs.InRow.{one_more, last_of}
 
 pub noted_all : (P : ℕ → Ending → Type 0) (run : ℕ) (e : Ending) (is_new : Bool) (old new : Table) → IsNoted run e is_new old new → P run e

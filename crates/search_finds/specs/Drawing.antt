@@ -2,9 +2,9 @@
 use Rattle.std.specs.Prelude.{ℕ, ◌≡◌, ◌≢◌, ◌+◌, Bool, List, [], ◌∷◌, Option, length, max, min}
 use Rattle.types.specs.declared.event.Entry.{Entry}
 use Rattle.spawn_host.specs.Requests.{Requested}
-use Rattle.report_choice.specs.declared.sought.Sought.{Sought}
-use Rattle.report_choice.specs.declared.way.Way.{Way}
-use Rattle.report_choice.specs.declared.way.Way.TheVariants as ways
+use Rattle.selection.specs.declared.sought.Sought.{Sought}
+use Rattle.selection.specs.declared.way.Way.{Way}
+use Rattle.selection.specs.declared.way.Way.TheVariants as ways
 use Rattle.search_strategies.specs.Given.{along, chosen}
 use Rattle.search_strategies.specs.Places.{ChoosesBy}
 use Rattle.search_strategies.specs.Runs.{drawn_choice, drawn_heard, strategy_of}

@@ -5,16 +5,16 @@ use Rattle.types.specs.declared.outcome.Outcome.{Outcome}
 use Rattle.spawn_host.specs.declared.end.EndState.{EndState}
 use Rattle.replay.specs.Runs.{IsRunOf}
 use Rattle.spawn_host.specs.Requests.{Requested}
-use Rattle.report_lines.specs.Ends.{is_done}
+use Rattle.search_endings.specs.Ends.{is_done}
 use Rattle.search_scheduled.specs.Headers.{IsOfRequest}
 use Rattle.search_scheduled.specs.declared.running.MadeRun.{MadeRun}
 use Rattle.search_endings.specs.Endings.{Ending}
 use Rattle.search_finds.specs.declared.met.Table.{Table}
 use Rattle.search_finds.specs.Endings.{ending_left}
 use Rattle.search_finds.specs.Words.{HasLineWith}
-use Rattle.report_choice.specs.declared.sought.Find.{Find}
-use Rattle.report_choice.specs.declared.sought.Find.TheVariants as finds
-use Rattle.report_choice.specs.declared.sought.Sought.{Sought}
+use Rattle.selection.specs.declared.sought.Find.{Find}
+use Rattle.selection.specs.declared.sought.Find.TheVariants as finds
+use Rattle.selection.specs.declared.sought.Sought.{Sought}
 
 -- Its record is of a run of the module by the call that is requested, which left what it says.
 pub record IsFind (q : Requested) (limit : ℕ) (made : MadeRun) : Type 0 where

@@ -1,7 +1,7 @@
 -- What is said of runs by a judge: a relation of a run and the answer whether it is looked for.
 use Rattle.std.specs.Prelude.{ℕ, ◌<◌, Bool, true, false, IsTrue}
 use Rattle.spawn_host.specs.Requests.{Requested}
-use Rattle.report_choice.specs.declared.sought.Sought.{Sought}
+use Rattle.selection.specs.declared.sought.Sought.{Sought}
 use Rattle.search_scheduled.specs.declared.running.MadeRun.{MadeRun}
 use Rattle.search_finds.specs.Finds.{IsFind}
 use Rattle.search_finds.specs.declared.finding.Halt.{Halt}

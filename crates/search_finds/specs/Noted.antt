@@ -3,7 +3,7 @@ use Rattle.std.specs.Prelude.{ℕ, ◌≡◌, ◌+◌, List, [], ◌∷◌, ◌+
 use Rattle.spawn_host.specs.Requests.{Requested}
 use Rattle.search_scheduled.specs.declared.running.MadeRun.{MadeRun}
 use Rattle.search_endings.specs.Endings.{Ending}
-use Rattle.report_choice.specs.declared.sought.Sought.{Sought}
+use Rattle.selection.specs.declared.sought.Sought.{Sought}
 use Rattle.search_finds.specs.declared.met.Table.{Table}
 use Rattle.search_finds.specs.Drawing.{AreOfRuns, AreOfRunsBy, IsMetEnding}
 use Rattle.search_finds.specs.Tables.{IsNoted}

@@ -2,9 +2,9 @@
 ghost use Rattle.std.specs.Prelude.{◌≡◌, ◌↔◌, Bool, IfOk, true};
 
 use crate::{ending_of, is_looked_for};
-use report_choice::Sought;
 use search_endings::Ending;
 use search_scheduled::MadeRun;
+use selection::Sought;
 use std::alloc::{AllocError, Global};
 
 /// Says of each run that is made whether it is the one that is looked for.

@@ -7,7 +7,7 @@
 //! were made, and none is looked for, where a search stops at the first; or the follower's last wish was to end.
 //! The size of a run is exact, and `shrunk` answers a run by the same call that ends alike and is no larger.
 //!
-//! - `report_choice::Sought` says which runs are made, and what is looked for; `is_looked_for` whether an ending is.
+//! - `selection::Sought` says which runs are made, and what is looked for; `is_looked_for` whether an ending is.
 //! - `Table` counts the endings that were met (`search_endings::Ending`).
 //! - `first_found` makes them one by one and notes their endings, up to the first that is looked for, or until it is
 //!   told to end; `Halt` says which. `run_of_number` makes one of them.

@@ -1,8 +1,8 @@
 //! What is searched.
 ghost use Rattle.std.specs.Prelude.{◌<◌};
 
-use report_choice::Sought;
 use search_endings::Ending;
+use selection::Sought;
 use spawn_host::Request;
 
 /// The ending of a run, and whether the run is looked for.

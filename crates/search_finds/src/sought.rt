@@ -1,13 +1,12 @@
 //! What is looked for.
 ghost use Rattle.std.specs.Prelude.{◌≡◌, ◌↔◌, true, IfOk};
 ghost use Rattle.std.specs.List.{list_all};
-ghost use Rattle.report_lines.specs.Ends as specified;
+ghost use Rattle.search_endings.specs.Ends as specified;
 ghost use Rattle.search_finds.specs.Finds.{IsLookedFor, IsFoundBy, IsUnexpected, HasFailure, ComesToAnother};
 
 use crate::has_line_with;
-use report_choice::{Find, Sought};
-use report_lines::is_done;
-use search_endings::Ending;
+use search_endings::{Ending, is_done};
+use selection::{Find, Sought};
 use std::alloc::{AllocError, Global};
 use types::Outcome;
 

@@ -25,15 +25,6 @@ pub struct Changes {
     pub changes: Vec<ChangedByte>,
 }
 
-/// A copy.
-pub(crate) fn copied(alloc: Global, changes: &[ChangedByte]) -> Result<Vec<ChangedByte>, AllocError>
-    ensures { IfOk result (λ v. v.items ≡ changes.now) }
-{
-    let mut all = Vec::with_capacity(alloc, changes.len())?;
-    all.extend_from_slice(changes)?;
-    Ok(all)
-}
-
 impl Changes {
     ghost use Rattle.std.specs.Prelude.{ℕ, List};
 
@@ -48,7 +39,7 @@ impl Changes {
         Ok(Changes {
             len: self.len,
             max: self.max,
-            changes: copied(alloc, self.changes.as_slice())?,
+            changes: Vec::from_slice(alloc, self.changes.as_slice())?,
         })
     }
 }

@@ -6,7 +6,7 @@ ghost use Rattle.shared_memory.specs.Memory.{loaded, pages, reply_of, reply_to_q
 ghost use Rattle.shared_memory_sequential.specs.Opening.{IsSized};
 ghost use Rattle.search_memory.specs.Memories.{memory_at, memory_of, AreWritten, StayDifferences};
 
-use crate::beside::{Changes, copied};
+use crate::beside::Changes;
 use crate::bytes::{byte_at, with_byte};
 use std::alloc::{AllocError, Global};
 use types::{Event, PAGE_SIZE, Question, Reply};
@@ -120,7 +120,7 @@ impl Beside<'_> {
     {
         let changed = self.changed;
         let len = self.len();
-        let mut changes = copied(alloc, changed.changes.as_slice())?;
+        let mut changes = Vec::from_slice(alloc, changed.changes.as_slice())?;
         let mut rest = value;
         for i in 0..usize::from(width) {
             let at = addr as usize + i;

@@ -13,9 +13,9 @@ use Rattle.search_settled.specs.Settled.{Settles}
 use Rattle.search_settled.specs.Next.{IsBeginning}
 use Rattle.search_runs.specs.Called.{Called, Walker as Thread, system_of, first_state, first_shared}
 use Rattle.search_settled.specs.declared.flat.Flat.{Flat}
-use Rattle.search_walkers.specs.Walkers.{RestsAt}
-use Rattle.search_walkers.specs.declared.walker.RestingThread.{RestingThread}
-use Rattle.search_walkers.specs.declared.walker.RestingThread.TheVariants as standings
+use Rattle.search_parts.specs.Walkers.{RestsAt}
+use Rattle.search_parts.specs.declared.walker.RestingThread.{RestingThread}
+use Rattle.search_parts.specs.declared.walker.RestingThread.TheVariants as standings
 use Rattle.search_parts.specs.Sharing.{Shares}
 use Rattle.search_parts.specs.Parts.{IsRested}
 use Rattle.search_parts.specs.Threads.{threads_of}

@@ -26,7 +26,7 @@ use Rattle.search_reach.specs.declared.search.Verdict.{Verdict}
 use Rattle.search_parts.specs.Parts.{IsLost}
 use Rattle.search_parts.specs.declared.shared.Common.{Common}
 use Rattle.search_parts.specs.declared.shared.HashedThread.{HashedThread as SharedWalker}
-use Rattle.search_walkers.specs.Rests.{RunsOn}
+use Rattle.search_parts.specs.Rests.{RunsOn}
 use Rattle.search_modules.specs.declared.called.Searched.{Searched}
 use Rattle.search_modules.specs.Moved.{called, threads, IsStuck}
 use Rattle.search_modules.specs.Endings.{HasEveryEnding, HasEveryEndingWithin, HasSought, AllCanEndSo, IsWorkerOf, BeginsUnknown, CanBeLost}

@@ -8,9 +8,9 @@ use Rattle.schedule_threads.specs.Shared.{Shared}
 use Rattle.search_runs.specs.Called.{Walker as Thread, system_of}
 use Rattle.search_runs.proofs.Tame.{missing}
 use Rattle.search_settled.specs.Flat.{RestsAfter, ComesAfter, BeginsAfter}
-use Rattle.search_walkers.specs.Walkers.{RestsAt}
-use Rattle.search_walkers.specs.declared.walker.RestingThread.{RestingThread}
-use Rattle.search_walkers.specs.declared.walker.RestingThread.TheVariants as standings
+use Rattle.search_parts.specs.Walkers.{RestsAt}
+use Rattle.search_parts.specs.declared.walker.RestingThread.{RestingThread}
+use Rattle.search_parts.specs.declared.walker.RestingThread.TheVariants as standings
 use Rattle.search_parts.specs.Sharing.{started_in}
 use Rattle.search_parts.specs.Parts.{IsRested, IsAfter}
 use Rattle.search_parts.specs.declared.event.Effect.{Effect}

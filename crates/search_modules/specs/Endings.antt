@@ -16,7 +16,7 @@ use Rattle.search_threads.specs.Unlimited.{Unlimited.Going}
 use Rattle.search_reach.specs.Found.{Claims}
 use Rattle.search_reach.specs.declared.search.Verdict.{Verdict}
 use Rattle.search_reach.specs.declared.search.Verdict.TheVariants as verdicts
-use Rattle.search_walkers.specs.Rests.{RunsOn}
+use Rattle.search_parts.specs.Rests.{RunsOn}
 use Rattle.search_runs.specs.Called.{Called, Walker as Thread}
 use Rattle.search_endings.specs.Endings.{Ending, reported_ending}
 use Rattle.search_runs.specs.Ends.{HasEndedSo}

@@ -9,8 +9,8 @@ use Rattle.schedule_threads.specs.Shared.{Shared}
 use Rattle.search_runs.specs.Called.{Called, Walker as Thread, system_of}
 use Rattle.search_settled.specs.Threads.{ThreadSystem}
 use Rattle.search_settled.specs.Flat.{IsMadeBy}
-use Rattle.search_walkers.specs.Walkers.{RestsAt}
-use Rattle.search_walkers.specs.declared.walker.RestingThread.{RestingThread}
+use Rattle.search_parts.specs.Walkers.{RestsAt}
+use Rattle.search_parts.specs.declared.walker.RestingThread.{RestingThread}
 use Rattle.search_parts.specs.Parts.{IsAfter, IsLost}
 use Rattle.search_parts.specs.Threads.{threads_of}
 use Rattle.search_parts.specs.declared.event.Effect.{Effect}

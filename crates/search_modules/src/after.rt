@@ -7,8 +7,7 @@ ghost use Rattle.search_settled.specs.Flat.{IsStuckByStart};
 ghost use Rattle.search_modules.specs.Moved.{threads, IsAfterSome, ThreadRestsThen, IsStuckThen, IsStuck};
 
 use crate::called::Searched;
-use search_parts::{Effect, SharedWalker, is_untouched, rest_after};
-use search_walkers::RestingThread;
+use search_parts::{Effect, RestingThread, SharedWalker, is_untouched, rest_after};
 use std::alloc::{AllocError, Global};
 
 /// Where thread m comes to rest that stood so before an event of thread n, or nothing where that can't be told.

@@ -5,9 +5,8 @@ ghost use Rattle.search_settled.specs.Next.{IsBeginning};
 ghost use Rattle.search_modules.specs.Moved.{threads, IsStuck};
 
 use crate::called::Searched;
-use search_parts::{Common, SharedWalker, first_common, first_threads};
+use search_parts::{Common, SharedWalker, begin, first_common, first_threads};
 use search_settled::Flat;
-use search_walkers::begin;
 use std::alloc::{AllocError, Global};
 
 /// Where all threads come to rest in the beginning, or nothing where that can't be told, since thread 0 has spent its

@@ -22,15 +22,6 @@ fn worker_of(valid: &ValidModule) -> Option<usize>
     Some(thread_start(valid))
 }
 
-/// A copy.
-fn copied(alloc: Global, args: &[Value]) -> Result<Vec<Value>, AllocError>
-    ensures { IfOk result (λ v. v.items ≡ args.now) }
-{
-    let mut all = Vec::with_capacity(alloc, args.len())?;
-    all.extend_from_slice(args)?;
-    Ok(all)
-}
-
 /// What is searched: the call that is requested, of which so many first bytes are looked at in the end.
 ///
 /// # Errors
@@ -48,7 +39,7 @@ pub(crate) fn searched<'m>(
     let valid = request.module();
     let _parts = valid.parts();
     let opening = valid.image(alloc)?;
-    let args = copied(alloc, request.call().args)?;
+    let args = Vec::from_slice(alloc, request.call().args)?;
     Ok(Searched {
         valid,
         opening,

@@ -7,8 +7,8 @@ use Rattle.schedule.specs.System.{Want.Turns, Want.Awaits}
 use Rattle.schedule.specs.Scheduled.{hears_any}
 use Rattle.search_settled.specs.Settled.{ComesTo, Settles, MakesTurns}
 use Rattle.search_runs.specs.Called.{Called, Walker, system_of}
-use Rattle.search_walkers.specs.Walkers.{RestsAt, patience}
-use Rattle.search_walkers.specs.declared.walker.RestingThread.{RestingThread}
+use Rattle.search_parts.specs.Walkers.{RestsAt, patience}
+use Rattle.search_parts.specs.declared.walker.RestingThread.{RestingThread}
 use Rattle.search_parts.specs.Parts.{IsRested}
 
 pub at_rest : (w : WithTables) (b : Called) (s : RestingThread) (v : Walker) → IsRested w b s v → RestsAt w b v s

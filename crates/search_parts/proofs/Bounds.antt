@@ -28,7 +28,7 @@ use Rattle.search_runs.specs.Ends.{HasEndedSo}
 use Rattle.validate_typing.specs.Tabled.{WithTables}
 use Rattle.search_memory.specs.contracts.beside.ChangesPartialEq.TheImpl as memories
 use Rattle.waiters.specs.contracts.kept.KeptQueuePartialEq.TheImpl as queues
-use Rattle.search_walkers.specs.contracts.walker.RestingThreadPartialEq.TheImpl as standings
+use Rattle.search_parts.specs.contracts.walker.RestingThreadPartialEq.TheImpl as standings
 use Rattle.search_parts.proofs.Standings.{same_standing}
 use Rattle.search_parts.proofs.SharedParts.{same_memory, same_queue}
 use Rattle.search_parts.specs.Parts.{IsRested}

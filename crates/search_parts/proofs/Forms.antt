@@ -39,10 +39,10 @@ use Rattle.search_memory.proofs.Forms.{one_form}
 use Rattle.search_threads.specs.Unlimited.{Unlimited.Missing as NoThread, Unlimited.Going as Goes}
 use Rattle.search_threads.specs.Unlimited.{Unlimited.Leaving as Leaves, Unlimited.Away as Left}
 use Rattle.search_runs.specs.Called.{Walker}
-use Rattle.search_walkers.specs.Walkers.{StandsForThread}
-use Rattle.search_walkers.specs.declared.walker.RestingThread.{RestingThread}
-use Rattle.search_walkers.specs.declared.walker.RestingThread.TheVariants.{Missing, Going, Ended, Leaving, Away}
-use Rattle.search_walkers.specs.contracts.walker.RestingThreadPartialEq.TheImpl as standing_eq
+use Rattle.search_parts.specs.Walkers.{StandsForThread}
+use Rattle.search_parts.specs.declared.walker.RestingThread.{RestingThread}
+use Rattle.search_parts.specs.declared.walker.RestingThread.TheVariants.{Missing, Going, Ended, Leaving, Away}
+use Rattle.search_parts.specs.contracts.walker.RestingThreadPartialEq.TheImpl as standing_eq
 use Rattle.search_parts.specs.Same.{AreAtOnePlace, AreWhereTheyAre}
 
 -- ---- memories and queues

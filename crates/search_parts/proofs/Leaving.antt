@@ -16,9 +16,9 @@ use Rattle.search_runs.specs.Called.{Called, Walker as Thread}
 use Rattle.search_endings.specs.Endings.{Ending}
 use Rattle.search_runs.specs.Ends.{HasEndedSo}
 use Rattle.search_runs.proofs.Tame.{missing}
-use Rattle.search_walkers.specs.Walkers.{StandsForThread}
-use Rattle.search_walkers.specs.declared.walker.RestingThread.{RestingThread}
-use Rattle.search_walkers.specs.declared.walker.RestingThread.TheVariants.{Missing, Going, Ended, Leaving, Away}
+use Rattle.search_parts.specs.Walkers.{StandsForThread}
+use Rattle.search_parts.specs.declared.walker.RestingThread.{RestingThread}
+use Rattle.search_parts.specs.declared.walker.RestingThread.TheVariants.{Missing, Going, Ended, Leaving, Away}
 use Rattle.search_parts.specs.declared.shared.Common.{Common}
 use Rattle.search_parts.specs.declared.shared.HashedThread.{HashedThread}
 use Rattle.search_parts.specs.Endings.{outcome_away, outcome_at, HaveLeft, IsOneHere}

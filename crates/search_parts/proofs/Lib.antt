@@ -8,3 +8,6 @@ pub mod Untouching
 pub mod Standings
 pub mod SharedParts
 pub mod Accessing
+pub mod Giving
+pub mod Walking
+pub mod Placing

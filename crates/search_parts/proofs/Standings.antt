@@ -13,10 +13,10 @@ use Rattle.interp.specs.Kept.{IsOf}
 use Rattle.interp.specs.declared.kept.Kept.{Kept}
 use Rattle.interp.specs.contracts.kept.KeptPartialEq.TheImpl as kept_eq
 use Rattle.search_runs.specs.Called.{Walker}
-use Rattle.search_walkers.specs.Walkers.{StandsForThread}
-use Rattle.search_walkers.specs.declared.walker.RestingThread.{RestingThread}
-use Rattle.search_walkers.specs.declared.walker.RestingThread.TheVariants.{Missing, Going, Ended, Leaving, Away}
-use Rattle.search_walkers.specs.contracts.walker.RestingThreadPartialEq.TheImpl as standing_eq
+use Rattle.search_parts.specs.Walkers.{StandsForThread}
+use Rattle.search_parts.specs.declared.walker.RestingThread.{RestingThread}
+use Rattle.search_parts.specs.declared.walker.RestingThread.TheVariants.{Missing, Going, Ended, Leaving, Away}
+use Rattle.search_parts.specs.contracts.walker.RestingThreadPartialEq.TheImpl as standing_eq
 use Rattle.search_endings.specs.Outcomes.{untrue, same_list, same_value, same_outcome}
 use Rattle.search_parts.specs.Values.{same_caller, same_progress}
 

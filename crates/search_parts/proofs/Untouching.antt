@@ -11,8 +11,8 @@ use Rattle.schedule.proofs.Basics.{put-other}
 use Rattle.schedule_threads.specs.Shared.{Shared, queue_by}
 use Rattle.search_threads.specs.Budgets.{started_without}
 use Rattle.search_runs.specs.Called.{Called, Walker, system_of, reply_by, answer_by, begun_at}
-use Rattle.search_walkers.specs.Walkers.{RestsAt}
-use Rattle.search_walkers.specs.declared.walker.RestingThread.{RestingThread}
+use Rattle.search_parts.specs.Walkers.{RestsAt}
+use Rattle.search_parts.specs.declared.walker.RestingThread.{RestingThread}
 use Rattle.search_parts.specs.Parts.{IsAfter}
 use Rattle.search_parts.specs.declared.event.Begun.{Begun}
 use Rattle.search_parts.specs.declared.event.Effect.{Effect}

@@ -1,8 +1,8 @@
 -- How the threads of a state have left.
 use Rattle.std.specs.Prelude.{◌≡◌, List, Contains, map, Option, Some, None}
 use Rattle.types.specs.declared.outcome.Outcome.{Outcome}
-use Rattle.search_walkers.specs.declared.walker.RestingThread.{RestingThread}
-use Rattle.search_walkers.specs.declared.walker.RestingThread.TheVariants.{Missing, Going, Ended, Leaving, Away}
+use Rattle.search_parts.specs.declared.walker.RestingThread.{RestingThread}
+use Rattle.search_parts.specs.declared.walker.RestingThread.TheVariants.{Missing, Going, Ended, Leaving, Away}
 use Rattle.search_parts.specs.declared.shared.HashedThread.{HashedThread}
 
 -- The outcome of a thread that has left.

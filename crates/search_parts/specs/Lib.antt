@@ -3,6 +3,8 @@ pub mod Parts
 pub mod Endings
 pub mod Untouched
 pub mod Same
-pub mod Rests
+pub mod RestsAfter
 pub mod Threads
 pub mod Values
+pub mod Rests
+pub mod Walkers

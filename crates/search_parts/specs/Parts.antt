@@ -17,9 +17,9 @@ use Rattle.interp_trait.specs.Turns.{spawned_in}
 use Rattle.search_threads.specs.Unlimited.{Unlimited.Going}
 use Rattle.search_runs.specs.Called.{Called, Walker as Thread, system_of}
 use Rattle.search_runs.specs.Theorems.{CanReach}
-use Rattle.search_walkers.specs.Walkers.{IsOf, StandsForThread}
-use Rattle.search_walkers.specs.Rests.{RunsOn}
-use Rattle.search_walkers.specs.declared.walker.RestingThread.{RestingThread}
+use Rattle.search_parts.specs.Walkers.{IsOf, StandsForThread}
+use Rattle.search_parts.specs.Rests.{RunsOn}
+use Rattle.search_parts.specs.declared.walker.RestingThread.{RestingThread}
 use Rattle.search_parts.specs.Sharing.{Shares, Makes}
 use Rattle.search_parts.specs.declared.shared.Common.{Common}
 use Rattle.search_parts.specs.declared.event.Effect.{Effect}

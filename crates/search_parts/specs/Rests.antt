@@ -1,77 +1,109 @@
--- Where threads of a call come to rest after an event, whatever is called of the module.
-use Rattle.std.specs.Prelude.{ℕ, ◌≡◌, ◌⊎◌, List, Option, Some, None}
+-- Where threads of a module come to rest, whatever is called of it.
+use Rattle.std.specs.Prelude.{ℕ, ◌≡◌, List, map, Option}
 use Rattle.types.specs.declared.event.Answer.{Answer}
 use Rattle.types.specs.declared.event.Event.{Event}
+use Rattle.types.specs.declared.event.Reply.{Reply}
+use Rattle.types.specs.declared.parts.Body.{Body}
+use Rattle.types.specs.declared.parts.FuncType.{FuncType}
 use Rattle.types.specs.declared.value.Value.{Value}
+use Rattle.types.specs.Values.{type_of}
 use Rattle.validate_typing.specs.Tabled.{WithTables}
-use Rattle.schedule.specs.System.{State, Want.Awaits, put}
-use Rattle.schedule.specs.Scheduled.{after_event, hears_any}
-use Rattle.schedule_threads.specs.Shared.{Shared}
+use Rattle.schedule.specs.Machine.{Thread.Runs}
+use Rattle.schedule.specs.System.{Want.Calls, Want.Awaits}
+use Rattle.schedule_machine.specs.Threads.{called}
+use Rattle.interp.specs.declared.kept.Kept.{Kept}
+use Rattle.interp.specs.declared.thread.Thread.{Thread}
+use Rattle.interp.specs.Kept.{IsKept, RunsBy}
+use Rattle.interp.specs.Starts.{IsFunction, start_of}
+use Rattle.interp.specs.Threads as threads
 use Rattle.interp_machine.specs.Config.{Config}
-use Rattle.interp_trait.specs.Turns.{spawned_in}
+use Rattle.interp_machine.specs.State.{State, At}
+use Rattle.interp_trait.specs.declared.turn.Given.{Given}
 use Rattle.search_threads.specs.Unlimited.{Unlimited.Going}
-use Rattle.search_runs.specs.Called.{Called, Walker as Thread, system_of, reply_by}
-use Rattle.search_walkers.specs.Walkers.{IsOf, RestsAt}
-use Rattle.search_walkers.specs.Rests.{RunsOn}
-use Rattle.search_walkers.specs.declared.walker.RestingThread.{RestingThread}
-use Rattle.search_parts.specs.Parts.{AreWorkers, IsRested, IsAfter, IsLost}
-use Rattle.search_parts.specs.declared.event.Begun.{Begun}
-use Rattle.search_parts.specs.declared.event.Effect.{Effect}
+use Rattle.search_settled.specs.Settled.{MakesTurns}
+use Rattle.search_runs.specs.Called.{Called, Walker, system_of}
+use Rattle.search_parts.specs.Walkers.{IsOf, RestsAt, StandsForThread, MayBeGiven, given_to, patience}
+use Rattle.search_parts.specs.declared.walker.RestingThread.{RestingThread}
+
+-- A thread makes more turns of its own than there is patience for.
+abbrev pub RunsOn : Called → Walker → Type 0
+RunsOn b v = MakesTurns (system_of b) patience v
+
+-- It is so of each thread with this state and so many units.
+abbrev pub OfRunning : Thread → (WithTables → Called → State → ℕ → Type 0) → Type 0
+OfRunning t so = (w : WithTables) (b : Called) (x : State) (left : ℕ) → IsOf b w → RunsBy w t
+    → threads.StandsFor t (Runs x left) → so w b x left
+
+abbrev pub ComesToRestAt : Thread → RestingThread → Type 0
+ComesToRestAt t s = OfRunning t (λ w b x left. RestsAt w b (Going x) s)
+
+abbrev pub SpendsAll : Thread → Type 0
+SpendsAll t = OfRunning t (λ w b x left. MakesTurns (system_of b) left (Going x))
+
+-- What a thread wants.
+abbrev pub IsWantedAt : WithTables → Kept → Option Event → Type 0
+IsWantedAt w k o = (b : Called) (c : Config) → IsOf b w → IsKept w k c → o ≡ called ((system_of b).wants (Going (At c)))
+
+abbrev pub IsWantedOf : WithTables → RestingThread → Option Event → Type 0
+IsWantedOf w s o = (b : Called) (v : Walker) → IsOf b w → StandsForThread w s v → o ≡ called ((system_of b).wants v)
+
+-- Whatever the one stands for, the other stands for.
+abbrev pub StandsForAll : RestingThread → RestingThread → Type 0
+StandsForAll x y = (w : WithTables) (v : Walker) → StandsForThread w x v → StandsForThread w y v
 
 module _ (w : WithTables) where
-  -- What is so of each thread that a spawn starts.
-  abbrev pub CanStart : Option ℕ → Type 0
-  CanStart worker = (begins : List Value → Config) × AreWorkers w.parts begins worker
+  -- A function of the module is called with arguments that fit it: what is so of each thread that begins in it.
+  abbrev pub CanBegin : ℕ → List Value → Type 0
+  CanBegin own args = (t : FuncType) × (body : Body) × IsFunction w.parts own t body × (map type_of args ≡ t.params)
 
-  abbrev pub OfStarted : Option ℕ → Begun → (Called → Thread → Type 0) → Type 0
-  OfStarted worker begun so = (b : Called) → IsOf b w → AreWorkers w.parts b.worker worker
-      → so b (Going (spawned_in b.worker begun.id begun.arg))
+  abbrev pub OfBegun : ℕ → List Value → (Called → Walker → Type 0) → Type 0
+  OfBegun own args so = (b : Called) (t : FuncType) (body : Body) → IsOf b w → IsFunction w.parts own t body
+      → so b (Going (At (start_of w.parts t body args)))
 
-  abbrev pub StartsAndRests : Option ℕ → Begun → RestingThread → Type 0
-  StartsAndRests worker begun s = OfStarted worker begun (λ b v. RestsAt w b v s)
+  abbrev pub BeginsAndRests : ℕ → List Value → RestingThread → Type 0
+  BeginsAndRests own args s = OfBegun own args (λ b v. RestsAt w b v s)
 
-  abbrev pub StartsAndRunsOn : Option ℕ → Begun → Type 0
-  StartsAndRunsOn worker begun = OfStarted worker begun (λ b v. RunsOn b v ⊎ (worker ≡ None))
+  abbrev pub BeginsAndRunsOn : ℕ → List Value → Type 0
+  BeginsAndRunsOn own args = OfBegun own args RunsOn
 
-  -- A thread at rest stands so, and awaits an answer if it is given one: what is so of each then.
-  abbrev pub AwaitsAny : Called → Thread → Option Answer → Type 0
-  AwaitsAny b v answer = (a : Answer) → answer ≡ Some a → (system_of b).wants v ≡ Awaits
+  -- It is so of each thread that was given this.
+  abbrev pub OfGiven : Kept → ℕ → Given → (Called → Walker → Type 0) → Type 0
+  OfGiven k fuel given so = (b : Called) (c : Config) → IsOf b w → MayBeGiven w k fuel given c
+      → so b (given_to b (Going (At c)) given)
 
-  abbrev pub CanBeTold : RestingThread → Option Answer → Type 0
-  CanBeTold s answer = (b : Called) × (v : Thread) × IsOf b w × IsRested w b s v × AwaitsAny b v answer
+  abbrev pub IsGivenAndRests : Kept → ℕ → Given → RestingThread → Type 0
+  IsGivenAndRests k fuel given s = OfGiven k fuel given (λ b v. RestsAt w b v s)
 
-  abbrev pub OfTold : RestingThread → Option Answer → (Called → Thread → Type 0) → Type 0
-  OfTold before answer so = (b : Called) (v : Thread) → IsOf b w → IsRested w b before v → AwaitsAny b v answer
-      → so b (hears_any (system_of b) v answer)
+  abbrev pub IsGivenAndRunsOn : Kept → ℕ → Given → Type 0
+  IsGivenAndRunsOn k fuel given = OfGiven k fuel given RunsOn
 
-  abbrev pub IsToldAndRests : RestingThread → Option Answer → RestingThread → Type 0
-  IsToldAndRests before answer s = OfTold before answer (λ b v. RestsAt w b v s)
+  -- A thread that stands so wants an event: what is so of each once it has taken this reply.
+  abbrev pub WantsSomeEvent : RestingThread → Type 0
+  WantsSomeEvent s = (b : Called) × (v : Walker) × IsOf b w × StandsForThread w s v × (e : Event)
+      × ((system_of b).wants v ≡ Calls e)
 
-  abbrev pub IsToldAndRunsOn : RestingThread → Option Answer → Type 0
-  IsToldAndRunsOn before answer = OfTold before answer RunsOn
+  abbrev pub OfTaker : RestingThread → Reply → (Called → Walker → Type 0) → Type 0
+  OfTaker before reply so = (b : Called) (v : Walker) (e : Event) → IsOf b w → StandsForThread w before v
+      → (system_of b).wants v ≡ Calls e
+      → so b ((system_of b).takes v reply)
 
-  -- Thread m stands so before an event of thread n: what is so of each once thread n has its reply, and of the state
-  -- after the event.
-  module _ (worker : Option ℕ) (made : Effect) (n : ℕ) (before : RestingThread) (m : ℕ) where
-    abbrev pub IsSomewhereAfter : Type 0
-    IsSomewhereAfter = (b : Called) × (z : State Shared Thread) × (e : Event) × IsAfter w worker made n before m b z e
+  abbrev pub TakesAndRests : RestingThread → Reply → RestingThread → Type 0
+  TakesAndRests before reply s = OfTaker before reply (λ b v. RestsAt w b v s)
 
-    abbrev pub OfReplied : (Called → Thread → Type 0) → Type 0
-    OfReplied so = (b : Called) (z : State Shared Thread) (e : Event) → IsAfter w worker made n before m b z e
-        → so b (put z.threads n ((system_of b).takes (z.threads n) (reply_by z.shared n e)) m)
+  abbrev pub TakesAndRunsOn : RestingThread → Reply → Type 0
+  TakesAndRunsOn before reply = OfTaker before reply RunsOn
 
-    abbrev pub IsRepliedAndRests : RestingThread → Type 0
-    IsRepliedAndRests s = OfReplied (λ b v. RestsAt w b v s)
+  -- A thread that stands so awaits an answer: what is so of each once it has heard this one.
+  abbrev pub CanHear : RestingThread → Type 0
+  CanHear s = (b : Called) × (v : Walker) × IsOf b w × StandsForThread w s v × ((system_of b).wants v ≡ Awaits)
 
-    abbrev pub IsRepliedAndRunsOn : Type 0
-    IsRepliedAndRunsOn = OfReplied RunsOn
+  abbrev pub OfHearer : RestingThread → Answer → (Called → Walker → Type 0) → Type 0
+  OfHearer before answer so = (b : Called) (v : Walker) → IsOf b w → StandsForThread w before v
+      → (system_of b).wants v ≡ Awaits
+      → so b ((system_of b).hears v answer)
 
-    abbrev pub OfAfter : (Called → State Shared Thread → Type 0) → Type 0
-    OfAfter so = (b : Called) (z : State Shared Thread) (e : Event) → IsAfter w worker made n before m b z e
-        → so b (after_event (system_of b) z n e)
+  abbrev pub HearsAndRests : RestingThread → Answer → RestingThread → Type 0
+  HearsAndRests before answer s = OfHearer before answer (λ b v. RestsAt w b v s)
 
-    abbrev pub RestsThen : RestingThread → Type 0
-    RestsThen s = OfAfter (λ b z. RestsAt w b (z.threads m) s)
-
-    abbrev pub IsLostThen : Type 0
-    IsLostThen = OfAfter (λ b z. IsLost worker b z m)
+  abbrev pub HearsAndRunsOn : RestingThread → Answer → Type 0
+  HearsAndRunsOn before answer = OfHearer before answer RunsOn

@@ -9,10 +9,10 @@ use Rattle.search_memory.specs.Memories.{memory_of, HasDifferences}
 use Rattle.search_memory.specs.declared.beside.Changes.{Changes}
 use Rattle.search_memory.specs.contracts.beside.ChangesPartialEq.TheImpl as memories
 use Rattle.search_runs.specs.Called.{Walker}
-use Rattle.search_walkers.specs.Walkers.{StandsForThread}
-use Rattle.search_walkers.specs.declared.walker.RestingThread.{RestingThread}
-use Rattle.search_walkers.specs.declared.walker.RestingThread.TheVariants.{Missing, Going, Ended, Leaving, Away}
-use Rattle.search_walkers.specs.contracts.walker.RestingThreadPartialEq.TheImpl as standings
+use Rattle.search_parts.specs.Walkers.{StandsForThread}
+use Rattle.search_parts.specs.declared.walker.RestingThread.{RestingThread}
+use Rattle.search_parts.specs.declared.walker.RestingThread.TheVariants.{Missing, Going, Ended, Leaving, Away}
+use Rattle.search_parts.specs.contracts.walker.RestingThreadPartialEq.TheImpl as standings
 
 abbrev pub EqualMemoriesAreTheSame : Type 0
 EqualMemoriesAreTheSame =

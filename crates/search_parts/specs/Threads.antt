@@ -17,7 +17,7 @@ use Rattle.search_settled.specs.Threads.{ThreadSystem}
 use Rattle.search_settled.specs.Next.{IsSomewhere, HasEnded}
 use Rattle.search_settled.specs.Flat.{IsEventOf}
 use Rattle.search_race_free.specs.Wanted.{next_access}
-use Rattle.search_walkers.specs.declared.walker.RestingThread.{RestingThread}
+use Rattle.search_parts.specs.declared.walker.RestingThread.{RestingThread}
 use Rattle.search_parts.specs.Sharing.{Shares, Makes, started_in}
 use Rattle.search_parts.specs.Parts.{IsRested, IsThreadIn}
 use Rattle.search_parts.specs.declared.event.Effect.{Effect}

@@ -7,8 +7,8 @@ use Rattle.schedule.specs.System.{State}
 use Rattle.schedule.specs.Scheduled.{after_event}
 use Rattle.schedule_threads.specs.Shared.{Shared}
 use Rattle.search_runs.specs.Called.{Called, Walker as Thread, system_of}
-use Rattle.search_walkers.specs.Walkers.{RestsAt}
-use Rattle.search_walkers.specs.declared.walker.RestingThread.{RestingThread}
+use Rattle.search_parts.specs.Walkers.{RestsAt}
+use Rattle.search_parts.specs.declared.walker.RestingThread.{RestingThread}
 use Rattle.search_parts.specs.Parts.{IsAfter}
 use Rattle.search_parts.specs.declared.event.Begun.{Begun}
 use Rattle.search_parts.specs.declared.event.Effect.{Effect}

@@ -8,10 +8,11 @@ ghost use Rattle.search_memory.specs.Memories.{memory_of};
 ghost use Rattle.search_runs.specs.Accesses.{no_bytes, in_bounds, access_by};
 ghost use Rattle.search_parts.specs.Threads.{IsInCall, IsAccessIn};
 
+use crate::plain::is_plain;
 use crate::shared::{Common, HashedThread};
+use crate::wants::wanted;
 use search_memory::{Changes, holds};
 use search_settled::Access;
-use search_walkers::{is_plain, wanted};
 use std::alloc::{AllocError, Global};
 use types::{Event, Question};
 use validate_module::ValidModule;

@@ -1,9 +1,9 @@
 //! Numbers by which states are told apart quickly. Nothing rests on them: what is equal is compared as a whole.
 
+use crate::walker::RestingThread;
 use interp::Kept;
 use interp_state::{Progress, word};
 use search_memory::Changes;
-use search_walkers::RestingThread;
 use std::hash::{FoldHasher, Hash, Hasher};
 use types::{Outcome, Value};
 use waiters::KeptQueue;

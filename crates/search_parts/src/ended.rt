@@ -9,9 +9,9 @@ ghost use Rattle.search_settled.specs.declared.flat.Flat.{Flat};
 
 use crate::shared::Common;
 use crate::shared_walker::SharedWalker;
+use crate::walker::RestingThread;
 use search_endings::Ending;
 use search_memory::memory;
-use search_walkers::RestingThread;
 use std::alloc::{AllocError, Global};
 use types::Outcome;
 

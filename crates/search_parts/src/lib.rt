@@ -1,24 +1,37 @@
-//! The parts of a state of a search: what a module's threads share, and each of them at rest; what an event makes of
-//! them, and how they have ended. What is equal in a search is the same, and what is the same is equal.
+//! The parts of a state of a search: what a module's threads share, and each of them at rest, in few bytes; what an event
+//! makes of them, and how they have ended. What is equal in a search is the same, and what is the same is equal.
 //!
-//! Proved: `make_event` and `rest_after` give what an event makes of memory, queue and threads, and `next_access` what it
-//! does with the memory. What is equal is the same, and what is the same is equal, of threads where they stand at the
-//! same places (`same.rt`). `ending_at` gives how a state has ended, where all threads that were started have left.
+//! Proved: a thread at rest stands for its thread, wants the thread's event, and comes to rest where the thread does;
+//! `make_event` and `rest_after` give what an event makes of memory, queue and threads, and `next_access` what it does with
+//! the memory. It is given up only where a thread makes a million turns of its own. What is equal is the same, and what is the
+//! same is equal, of threads where they stand at the same places (`same.rt`). `ending_at` gives how a state has ended,
+//! where all threads that were started have left.
+//!
+//! `specs/Walkers.antt` says which thread without a budget (crate `search_threads`) a thread at rest stands for, and where
+//! it comes to rest; `specs/Rests.antt` where threads do, whatever is called of the module, and `specs/RestsAfter.antt`
+//! where those of a call do after an event.
 #![tactic(auto)]
 
 mod access;
+mod beginning;
 mod digest;
 mod ended;
 mod event;
 mod opening;
+mod plain;
+mod rest;
 mod resting;
 mod same;
 mod shared;
 mod shared_walker;
 mod stepping;
+mod taking;
 mod untouched;
+mod walker;
+mod wants;
 
 pub use access::next_access;
+pub use beginning::begin;
 pub use ended::ending_at;
 pub use event::{Begun, Effect};
 pub use opening::{first_common, first_threads};
@@ -31,3 +44,4 @@ pub use shared::{Common, HashedThread};
 pub use shared_walker::SharedWalker;
 pub use stepping::make_event;
 pub use untouched::is_untouched;
+pub use walker::RestingThread;

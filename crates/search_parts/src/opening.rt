@@ -7,8 +7,8 @@ ghost use Rattle.search_parts.specs.declared.shared.HashedThread.{HashedThread};
 
 use crate::shared::Common;
 use crate::shared_walker::SharedWalker;
+use crate::walker::RestingThread;
 use search_memory::Changes;
-use search_walkers::RestingThread;
 use std::alloc::{AllocError, Global};
 use types::MOST_THREADS;
 use waiters::Queue;

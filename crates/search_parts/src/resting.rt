@@ -2,7 +2,7 @@
 
 ghost use Rattle.std.specs.Prelude.{◌≡◌, ◌<◌, None, IfOk, IfSome};
 ghost use Rattle.types.specs.declared.limits.TheConstants.{MOST_THREADS};
-ghost use Rattle.search_parts.specs.Rests.{
+ghost use Rattle.search_parts.specs.RestsAfter.{
   CanStart,
   StartsAndRests,
   StartsAndRunsOn,
@@ -16,8 +16,10 @@ ghost use Rattle.search_parts.specs.Rests.{
   IsLostThen,
 };
 
+use crate::beginning::begin;
 use crate::event::{Begun, Effect};
-use search_walkers::{RestingThread, begin, hear, take};
+use crate::taking::{hear, take};
+use crate::walker::RestingThread;
 use std::alloc::{AllocError, Global};
 use types::{Answer, Value};
 use validate_module::ValidModule;

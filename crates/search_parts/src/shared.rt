@@ -1,13 +1,12 @@
 //! A state's parts: what threads share, and a thread at rest.
 
-ghost use Rattle.std.specs.Prelude.{◌≡◌, IfOk};
 ghost use Rattle.std.specs.Hash as fed;
 ghost use Rattle.std.specs.Cmp.Rules.{hashing};
 ghost use Rattle.std.proofs.Common.{rules};
 
 use crate::digest::{of_shared, of_standing};
+use crate::walker::RestingThread;
 use search_memory::Changes;
-use search_walkers::RestingThread;
 use std::alloc::{AllocError, Global};
 use std::hash::{Hash, Hasher};
 use waiters::KeptQueue;
@@ -18,15 +17,6 @@ pub struct Common {
     pub digest: u64,
     pub memory: Changes,
     pub queue: KeptQueue,
-}
-
-/// A copy.
-fn copied<T: Copy>(alloc: Global, all: &[T]) -> Result<Vec<T>, AllocError>
-    ensures { IfOk result (λ v. v.items ≡ all.now) }
-{
-    let mut copy = Vec::with_capacity(alloc, all.len())?;
-    copy.extend_from_slice(all)?;
-    Ok(copy)
 }
 
 impl Common {
@@ -55,9 +45,9 @@ impl Common {
         ensures queue { IfOk result (λ c. queue_of c.queue ≡ queue_of self.now.queue) }
     {
         let queue = KeptQueue {
-            alive: copied(alloc, self.queue.alive.as_slice())?,
-            sleepers: copied(alloc, self.queue.sleepers.as_slice())?,
-            args: copied(alloc, self.queue.args.as_slice())?,
+            alive: Vec::from_slice(alloc, self.queue.alive.as_slice())?,
+            sleepers: Vec::from_slice(alloc, self.queue.sleepers.as_slice())?,
+            args: Vec::from_slice(alloc, self.queue.args.as_slice())?,
             threads: self.queue.threads,
         };
         Ok(Common {

@@ -3,7 +3,7 @@
 ghost use Rattle.std.specs.Prelude.{◌≡◌, IfOk};
 
 use crate::shared::HashedThread;
-use search_walkers::RestingThread;
+use crate::walker::RestingThread;
 use std::alloc::{AllocError, Global};
 use std::hash::{Hash, Hasher};
 use std::marker::Model;
@@ -80,7 +80,7 @@ impl Hash for SharedWalker {
     ghost use Rattle.std.specs.Hash as fed;
     ghost use Rattle.std.proofs.Common.{ap};
     ghost use Rattle.std.proofs.lemmas.Bool.{eqb-true};
-    ghost use Rattle.search_walkers.specs.contracts.walker.RestingThreadPartialEq.TheImpl as standings;
+    ghost use Rattle.search_parts.specs.contracts.walker.RestingThreadPartialEq.TheImpl as standings;
 
     ghost hash_input = { λ t. fed.u64 t.digest };
 

@@ -5,8 +5,8 @@ ghost use Rattle.search_parts.specs.Threads.{IsInCall, IsEventIn};
 
 use crate::event::{Effect, enter, thread_begun};
 use crate::shared::{Common, HashedThread};
+use crate::wants::wanted;
 use search_memory::step;
-use search_walkers::wanted;
 use std::alloc::{AllocError, Global};
 use validate_module::ValidModule;
 use waiters::Queue;

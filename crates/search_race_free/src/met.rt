@@ -1,5 +1,5 @@
 //! The states that were met, in a table: each by what is shared with what is owned, and by its threads.
-ghost use Rattle.std.specs.Prelude.{◌≡◌, IfOk, OnOk};
+ghost use Rattle.std.specs.Prelude.{IfOk, OnOk};
 ghost use Rattle.search_table.specs.Tables.{AreStates, Grows};
 ghost use Rattle.search_race_free.specs.Met.{IsHeldRow, AreHeldRows, IsStateAt};
 
@@ -65,15 +65,6 @@ pub(crate) fn held_rows<S: Eq + Hash + Drop, T: Eq + Hash + Drop>(
     Ok(rows)
 }
 
-/// A copy.
-fn copied(alloc: Global, owned: &[Touch]) -> Result<Vec<Touch>, AllocError>
-    ensures { IfOk result (λ v. v.items ≡ owned.now) }
-{
-    let mut all = Vec::with_capacity(alloc, owned.len())?;
-    all.extend_from_slice(owned)?;
-    Ok(all)
-}
-
 /// The state at a place, made of its parts.
 pub(crate) fn state_at<M: Accesses>(
     alloc: Global,
@@ -95,7 +86,7 @@ pub(crate) fn state_at<M: Accesses>(
     };
     let shared = system.copied(alloc, &held.shared)?;
     let threads = threads_of(alloc, system, &table.parts, numbers)?;
-    let owned = copied(alloc, held.owned.as_slice())?;
+    let owned = Vec::from_slice(alloc, held.owned.as_slice())?;
     let flat = Flat { shared, threads };
     Ok(Some(Owning { flat, owned }))
 }

@@ -1,10 +1,10 @@
 -- The strategy of a drawn run, which is a function of its seed and its number.
 use Rattle.std.specs.Prelude.{ℕ, List, Option, Some, length, min}
 use Rattle.types.specs.declared.event.Event.{Event}
-use Rattle.report_choice.specs.Ways.{way_of}
-use Rattle.report_choice.specs.declared.way.Way.{Way}
-use Rattle.report_choice.specs.declared.way.Way.TheVariants as ways
-use Rattle.report_choice.specs.declared.way.TheConstants.{MOST_DEPTH}
+use Rattle.selection.specs.Ways.{way_of}
+use Rattle.selection.specs.declared.way.Way.{Way}
+use Rattle.selection.specs.declared.way.Way.TheVariants as ways
+use Rattle.selection.specs.declared.way.TheConstants.{MOST_DEPTH}
 use Rattle.search_strategies.specs.Draws.{draws_of, number_below, behind}
 use Rattle.search_strategies.specs.Priorities.{priorities_of, by_priority}
 use Rattle.search_strategies.specs.Spinning.{spinning_of, spin, read_at, spin_heard}

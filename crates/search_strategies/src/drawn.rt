@@ -7,7 +7,7 @@ use crate::pct::Pct;
 use crate::random::Random;
 use crate::spin::Spin;
 use crate::strategy::Strategy;
-use report_choice::{MOST_DEPTH, Way};
+use selection::{MOST_DEPTH, Way};
 use types::Entry;
 
 /// The strategy by which a run is drawn.

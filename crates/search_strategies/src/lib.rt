@@ -8,7 +8,7 @@
 //! else (`Draws`, the PCG generator's): `strategy_of` and `drawn_choice` for the ways of drawn runs (specs/Runs.antt),
 //! which are `at_random` (Draws.antt), `by_priority` (Priorities.antt) and `spin` (Spinning.antt); `chosen`, `rounds` and
 //! `along` for choices that are given (Given.antt). So run number I of a seed is the same run on every machine. One that
-//! answers nobody gives the run up (`Watched`). `docs/PROFILE.md` says how each chooses.
+//! answers nobody gives the run up (`Watched`). `docs/SEARCHES.md` says how each chooses.
 #![tactic(auto)]
 
 mod along;

@@ -1,7 +1,7 @@
 //! Priorities that change at few points (Burckhardt, Kothari, Musuvathi, Nagarakatte: A randomized scheduler with
 //! probabilistic guarantees of finding bugs. ASPLOS 2010).
 ghost use Rattle.std.specs.Prelude.{◌≡◌, ◌<◌, ◌≤◌, ◌+◌, ◌-◌, [], length, slice_index, slice_set, IfSome};
-ghost use Rattle.report_choice.specs.declared.way.TheConstants.{MOST_DEPTH};
+ghost use Rattle.selection.specs.declared.way.TheConstants.{MOST_DEPTH};
 ghost use Rattle.search_strategies.specs.Places.{ChoosesBy};
 ghost use Rattle.search_strategies.specs.Priorities.{priorities_of, by_priority, fall};
 ghost use Rattle.std.specs.List.{range_with_len};
@@ -11,7 +11,7 @@ ghost use Rattle.search_strategies.specs.Priorities as specified;
 use crate::draws::Draws;
 use crate::strategy::Strategy;
 use arrayvec::ArrayVec;
-use report_choice::MOST_DEPTH;
+use selection::MOST_DEPTH;
 use std::marker::Model;
 use types::{Entry, MOST_THREADS};
 

@@ -3,11 +3,11 @@
 use crate::modules::{LOOKING, LOST_UPDATE};
 use crate::runs::{FUEL, LIMIT, Trouble, WAYS, ending_drawn, load, run};
 use interp_trait::OpenGate;
-use report_choice::Way;
 use report_runs::record_run;
 use search_endings::Ending;
 use search_finds::{Table, ending_of, has_line_with};
 use search_strategies::Along;
+use selection::Way;
 use spawn_host::Call;
 use std::alloc::Global;
 use std::process::Abort;

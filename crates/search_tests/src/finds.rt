@@ -6,11 +6,11 @@ ghost use Rattle.search_finds.specs.Finds.{IsFind};
 use crate::modules::LOST_UPDATE;
 use crate::runs::{FUEL, LIMIT, Trouble, load};
 use replay::replay;
-use report_choice::{Find, Sought, Target, Way};
 use search_finds::{
     Halt, Met, SearchResult, Size, Table, first_found, have_one_ending, shrunk, size_of,
 };
 use search_scheduled::MadeRun;
+use selection::{Find, Sought, Target, Way};
 use spawn_host::{Call, EndState, Request};
 use std::alloc::Global;
 use std::process::Abort;

@@ -3,9 +3,9 @@
 use crate::modules::{LOOKING, LOST_UPDATE};
 use crate::runs::{Trouble, WAYS, load, run, run_drawn};
 use replay_text::Record;
-use report_choice::Way;
 use search_scheduled::MadeRun;
 use search_strategies::Along;
+use selection::Way;
 use std::alloc::{AllocError, Global};
 use std::process::Abort;
 use std::test::Fail;

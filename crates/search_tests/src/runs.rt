@@ -2,11 +2,11 @@
 
 use binary::read;
 use replay::{ReplayFault, replay};
-use report_choice::Way;
 use search_endings::Ending;
 use search_finds::ending_of;
 use search_scheduled::{MadeRun, SearchFault, run_along};
 use search_strategies::{Drawn, Strategy};
+use selection::Way;
 use spawn_host::{Call, CallFault, Request};
 use std::alloc::{AllocError, Global};
 use types::Value;

@@ -2,10 +2,10 @@
 
 use crate::modules::LOST_UPDATE;
 use crate::runs::{FUEL, LIMIT, Trouble, load};
-use report_choice::{Find, Sought, Target, Way};
 use search_finds::{Halt, Hears, SearchResult, Size, first_found};
 use search_reach::{Follows, Wish};
 use search_strategies::Watch;
+use selection::{Find, Sought, Target, Way};
 use spawn_host::{Call, Request};
 use std::alloc::Global;
 use std::test::Fail;

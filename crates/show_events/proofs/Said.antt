@@ -7,7 +7,7 @@ use Rattle.types.specs.declared.outcome.ThreadReport.{ThreadReport}
 use Rattle.types.specs.declared.value.Value.{Value}
 use Rattle.replay_text.specs.declared.parts.RecordParts.{RecordParts}
 use Rattle.race_history.specs.declared.race.Race.{Race}
-use Rattle.report_choice.specs.declared.choice.Look.{Look}
+use Rattle.selection.specs.declared.choice.Look.{Look}
 use Rattle.show_text.specs.declared.words.Words.{Words}
 use Rattle.show_text.specs.Words.{words_text}
 use Rattle.show_text.specs.Rows.{RowText}

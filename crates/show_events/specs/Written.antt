@@ -2,7 +2,7 @@
 use Rattle.std.specs.Prelude.{ℕ, List, ◌++◌, length, codes, Option}
 use Rattle.std.specs.Io.KnownBytes.{Appends}
 use Rattle.race_history.specs.declared.race.Race.{Race}
-use Rattle.report_choice.specs.declared.choice.Look.{Look}
+use Rattle.selection.specs.declared.choice.Look.{Look}
 use Rattle.show_rows.specs.declared.listing.Shown.{Shown}
 use Rattle.show_rows.specs.Listing.{chosen}
 use Rattle.show_events.specs.Around.{around, failure}

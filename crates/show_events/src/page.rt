@@ -10,7 +10,7 @@ use crate::script::SCRIPT;
 use crate::style::{BODY, STYLE};
 use crate::write_events;
 use race_history::Race;
-use report_choice::Look;
+use selection::Look;
 use show_rows::{Shown, chosen_entries};
 use show_text::Unwritten;
 use std::alloc::Global;

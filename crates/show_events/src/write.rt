@@ -14,7 +14,7 @@ use crate::event::{EntryEvent, entry_event, finish_event, name_event, start_even
 use crate::line::{Front, write_line};
 use crate::links::{Link, LinkKind, Links};
 use race_history::Race;
-use report_choice::Look;
+use selection::Look;
 use show_rows::{Shown, Story, chosen_entries};
 use show_text::Unwritten;
 use std::alloc::{AllocError, Global};

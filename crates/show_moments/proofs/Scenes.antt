@@ -6,12 +6,12 @@ use Rattle.std.specs.Fmt.{decimal}
 use Rattle.std.specs.Io.KnownBytes.{Appends}
 use Rattle.race_history.specs.declared.race.Race.{Race}
 use Rattle.show_rows.specs.Listing.{line_at}
-use Rattle.show_races.specs.Written.{IsEntryText}
+use Rattle.show_rows.specs.Entries.{IsEntryText}
 use Rattle.show_moments.specs.declared.standing.ThreadSnapshot.{ThreadSnapshot}
 use Rattle.show_moments.specs.declared.standing.OpenFunction.{OpenFunction}
 use Rattle.show_moments.specs.Opened.{IsOpenFunction}
-use Rattle.show_frames.specs.declared.frames.Frame.{Frame}
-use Rattle.show_frames.specs.declared.values.FrameValue.{FrameValue}
+use Rattle.dwarf_frames.specs.declared.frames.Frame.{Frame}
+use Rattle.dwarf_frames.specs.declared.values.FrameValue.{FrameValue}
 use Rattle.show_rows.specs.Spots.{named_offset}
 use Rattle.show_moments.specs.Scenes.{Seen, AddsFunction, AddsFunctions, AddsOpened, AddsOther, AddsRace, AddsRaces}
 use Rattle.show_moments.specs.Scenes.{AddsThread, AddsThreads, AddsValue, AddsValues, IsFunctionText, IsValueText}

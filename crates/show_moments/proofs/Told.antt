@@ -6,9 +6,9 @@ use Rattle.std.specs.Io.KnownBytes.{Appends, Keeps}
 use Rattle.types.specs.declared.event.Entry.{Entry}
 use Rattle.types.specs.declared.limits.TheConstants.{MOST_THREADS}
 use Rattle.race_history.specs.declared.race.Race.{Race}
-use Rattle.report_choice.specs.declared.choice.Span.{Span}
-use Rattle.show_waits.specs.Lasts.{SaysLast}
-use Rattle.show_writes.specs.declared.lasts.Act.TheVariants as acts
+use Rattle.selection.specs.declared.choice.Span.{Span}
+use Rattle.show_named.specs.LastTexts.{SaysLast}
+use Rattle.show_named.specs.declared.lasts.Act.TheVariants as acts
 use Rattle.show_text.specs.declared.words.Words.{Words}
 use Rattle.show_text.specs.Words.{words_text}
 use Rattle.show_rows.specs.declared.listing.Story.{Story}

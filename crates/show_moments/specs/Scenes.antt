@@ -15,8 +15,8 @@ use Rattle.types.specs.declared.parts.Parts.{Parts}
 use Rattle.types.specs.declared.value.ValType.{ValType}
 use Rattle.waiters.specs.declared.kept.KeptQueue.{KeptQueue}
 use Rattle.race_history.specs.declared.race.Race.{Race}
-use Rattle.report_choice.specs.declared.choice.Span.{Span}
-use Rattle.report_choice.specs.Choices.{touched}
+use Rattle.selection.specs.declared.choice.Span.{Span}
+use Rattle.selection.specs.Choices.{touched}
 use Rattle.validate.specs.Operands.{OwnOperandsAt}
 use Rattle.validate_module.specs.Own.{FindsLocals}
 use Rattle.show_text.specs.declared.context.Context.{Context}
@@ -32,15 +32,15 @@ use Rattle.show_rows.specs.Around.{around_text, lines_around}
 use Rattle.show_rows.specs.declared.around.Around.{Around}
 use Rattle.show_rows.specs.declared.code.CodeMap.{CodeMap}
 use Rattle.interp.specs.declared.place.CodePlace.{CodePlace}
-use Rattle.show_units.specs.Spans.{holds}
-use Rattle.show_frames.specs.declared.frames.Frame.{Frame}
-use Rattle.show_frames.specs.declared.kinds.Kind.{Kind}
-use Rattle.show_frames.specs.declared.values.FrameValue.{FrameValue}
+use Rattle.dwarf_units.specs.Spans.{holds}
+use Rattle.dwarf_frames.specs.declared.frames.Frame.{Frame}
+use Rattle.dwarf_frames.specs.declared.kinds.Kind.{Kind}
+use Rattle.dwarf_frames.specs.declared.values.FrameValue.{FrameValue}
 use Rattle.show_text.specs.Plain.{plain_text}
 use Rattle.show_named.specs.declared.data_map.DataMap.{DataMap}
-use Rattle.show_races.specs.Written.{IsEntryText}
-use Rattle.show_waits.specs.Lasts.{SaysLast}
-use Rattle.show_writes.specs.declared.lasts.Act.TheVariants as acts
+use Rattle.show_rows.specs.Entries.{IsEntryText}
+use Rattle.show_named.specs.LastTexts.{SaysLast}
+use Rattle.show_named.specs.declared.lasts.Act.TheVariants as acts
 use Rattle.show_moments.specs.declared.moment.Moment.{Moment}
 use Rattle.show_moments.specs.declared.scene.MomentView.{MomentView}
 use Rattle.show_moments.specs.declared.scene.Scene.{Scene}

@@ -3,14 +3,14 @@ use Rattle.std.specs.Prelude.{ℕ, ℤ, pos, negsuc, ◌+◌, ◌-◌, ◌/◌, 
 use Rattle.std.specs.Prelude.{List, ◌++◌, codes, Option, Some, None, option_map, option_and_then, string_bytes}
 use Rattle.std.specs.List.{slice_get}
 use Rattle.std.specs.Fmt.{decimal}
-use Rattle.show_units.specs.declared.locations.Base.{Base}
-use Rattle.show_units.specs.declared.locations.Base.TheVariants as base
-use Rattle.show_units.specs.declared.locations.Location.{Location}
-use Rattle.show_units.specs.declared.locations.Location.TheVariants as location
-use Rattle.show_frames.specs.declared.frames.Chain.{Chain}
-use Rattle.show_frames.specs.declared.kinds.Kind.{Kind}
-use Rattle.show_frames.specs.declared.kinds.Kind.TheVariants as kind
-use Rattle.show_frames.specs.declared.values.FrameValue.{FrameValue}
+use Rattle.dwarf_units.specs.declared.locations.Base.{Base}
+use Rattle.dwarf_units.specs.declared.locations.Base.TheVariants as base
+use Rattle.dwarf_units.specs.declared.locations.Location.{Location}
+use Rattle.dwarf_units.specs.declared.locations.Location.TheVariants as location
+use Rattle.dwarf_frames.specs.declared.frames.Chain.{Chain}
+use Rattle.dwarf_frames.specs.declared.kinds.Kind.{Kind}
+use Rattle.dwarf_frames.specs.declared.kinds.Kind.TheVariants as kind
+use Rattle.dwarf_frames.specs.declared.values.FrameValue.{FrameValue}
 use Rattle.show_text.specs.Plain.{plain_text}
 use Rattle.show_rows.specs.Rows.{number_in}
 use Rattle.show_rows.specs.Spots.{source_text, spot_text}

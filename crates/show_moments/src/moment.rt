@@ -7,7 +7,7 @@ ghost use Rattle.show_moments.specs.Moments as specified;
 ghost use Rattle.show_moments.specs.Moments.{bytes_of, StandsIn, Sees, SeesLeave, SeesCame, SeesWanted, IsRound};
 ghost use Rattle.show_moments.specs.Moments.{IsOfSame, KeepsRound, standing_at};
 
-use crate::standing::{ThreadSnapshot, copied, standing_of};
+use crate::standing::{ThreadSnapshot, standing_of};
 use interp::Thread;
 use interp_trait::Turn;
 use replay_walk::{Walk, Watch};
@@ -81,7 +81,7 @@ fn front(bytes: &[u8], count: usize) -> &[u8]
 fn bytes_in(alloc: Global, memory: &[u8], wanted: Bytes) -> Result<Vec<u8>, AllocError>
     ensures { IfOk result (λ bytes. bytes.items ≡ bytes_of memory.now wanted) }
 {
-    copied(
+    Vec::from_slice(
         alloc,
         front(behind(memory, wanted.addr), wanted.count as usize),
     )
@@ -189,7 +189,7 @@ impl Moment<'_> {
         self.here = standings(self.alloc, &walk.threads)?;
         self.queue = Some(walk.stage.queue.keep(self.alloc)?);
         self.bytes = bytes_in(self.alloc, walk.memory.bytes(), self.wanted)?;
-        self.memory = copied(self.alloc, walk.memory.bytes())?;
+        self.memory = Vec::from_slice(self.alloc, walk.memory.bytes())?;
         Ok(())
     }
 

@@ -28,15 +28,6 @@ pub struct OpenFunction<'a> {
     pub operands: &'a [u64],
 }
 
-/// A copy.
-pub(crate) fn copied<T: Copy>(alloc: Global, items: &[T]) -> Result<Vec<T>, AllocError>
-    ensures { IfOk result (λ v. v.items ≡ items.now) }
-{
-    let mut all = Vec::with_capacity(alloc, items.len())?;
-    all.extend_from_slice(items)?;
-    Ok(all)
-}
-
 /// Where a thread stands.
 ///
 /// # Errors
@@ -45,7 +36,7 @@ pub(crate) fn standing_of(alloc: Global, thread: &Thread) -> Result<ThreadSnapsh
     ensures { IfOk result (StandsAs thread.now) }
 {
     let open = thread.callers();
-    let callers = copied(alloc, open)?;
+    let callers = Vec::from_slice(alloc, open)?;
     let kept = thread.keep(alloc)?;
     Ok(ThreadSnapshot {
         place: thread.place(),

@@ -4,10 +4,10 @@ ghost use Rattle.std.specs.Prelude.{◌≡◌, ◌<◌, ◌^◌};
 ghost use Rattle.show_moments.specs.Values as specified;
 
 use crate::standing::OpenFunction;
-use show_frames::{Chain, FrameValue, Kind};
+use dwarf_frames::{Chain, FrameValue, Kind};
+use dwarf_units::{Base, Location};
 use show_rows::{Spot, number_in};
 use show_text::Plain;
-use show_units::{Base, Location};
 use std::fmt::{self, Formatter};
 
 /// A power of two.

@@ -6,7 +6,7 @@ use Rattle.std.specs.List.{AllZip, concat, slice_get}
 use Rattle.std.specs.Io.KnownBytes.{Keeps}
 use Rattle.types.specs.declared.event.Entry.{Entry}
 use Rattle.types.specs.declared.event.Question.{Question}
-use Rattle.report_choice.specs.declared.choice.Look.{Look}
+use Rattle.selection.specs.declared.choice.Look.{Look}
 use Rattle.show_text.specs.declared.context.Context.TheVariants.{Asked}
 use Rattle.show_text.specs.declared.words.Words.{Words}
 use Rattle.show_text.specs.Woken.{woken_in}

@@ -1,10 +1,10 @@
 -- What data is called, beside the words of an entry.
 use Rattle.std.specs.Prelude.{ℕ, ◌≡◌, ◌⊎◌, List, [], ◌++◌, codes, find, Some, IsSome}
 use Rattle.types.specs.declared.event.Event.{Event}
-use Rattle.report_choice.specs.Choices.{touched}
-use Rattle.report_choice.specs.declared.choice.Span.{Span}
+use Rattle.selection.specs.Choices.{touched}
+use Rattle.selection.specs.declared.choice.Span.{Span}
 use Rattle.show_text.specs.Plain.{plain_text}
-use Rattle.show_units.specs.Spans.{holds}
+use Rattle.dwarf_units.specs.Spans.{holds}
 use Rattle.show_named.specs.declared.data_map.DataMap.{DataMap}
 
 -- A name stands behind `at`. Only what touches, or waits or wakes at, an address of static data has one.

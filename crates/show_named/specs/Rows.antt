@@ -3,12 +3,12 @@ use Rattle.std.specs.Prelude.{ℕ, ◌≡◌, Bool, List, [], ◌∷◌, ◌++�
 use Rattle.std.specs.List.{slice_get}
 use Rattle.std.specs.Io.KnownBytes.{Keeps}
 use Rattle.types.specs.declared.event.Entry.{Entry}
-use Rattle.report_choice.specs.declared.choice.Look.{Look}
+use Rattle.selection.specs.declared.choice.Look.{Look}
 use Rattle.show_text.specs.Rows.{RowText, AddsRow}
 use Rattle.show_rows.specs.declared.listing.Shown.{Shown}
 use Rattle.show_rows.specs.declared.listing.Story.{Story}
+use Rattle.show_rows.specs.Entries.{entry_text}
 use Rattle.show_rows.specs.Listing.{IsStoryOf, Says, chosen}
-use Rattle.show_races.specs.Written.{entry_text}
 use Rattle.show_named.specs.declared.data_map.DataMap.{DataMap}
 use Rattle.show_named.specs.Names.{IsDataText}
 

@@ -1,15 +1,15 @@
 //! The static data of a module, and what is known of its frames, by its debug section.
 ghost use Rattle.std.specs.Prelude.{◌≡◌, IfOk, IsSome, OnSome, find, string_bytes};
-ghost use Rattle.show_data.specs.Within.{NamesWithin};
-ghost use Rattle.show_units.specs.Spans.{holds};
+ghost use Rattle.dwarf_data.specs.Within.{NamesWithin};
+ghost use Rattle.dwarf_units.specs.Spans.{holds};
 ghost use Rattle.show_named.specs.Names.{IsDataText};
 
-use report_choice::touched;
-use show_data::{Sought, name_at, place_of, read_data};
-use show_frames::{Frame, read_frame, read_functions};
-use show_lines::DebugSections;
+use dwarf_data::{Sought, name_at, place_of, read_data};
+use dwarf_frames::{Frame, read_frame, read_functions};
+use dwarf_lines::DebugSections;
+use dwarf_units::{InfoSections, Spans, Units, read_units};
+use selection::touched;
 use show_text::Plain;
-use show_units::{InfoSections, Spans, Units, read_units};
 use std::alloc::{AllocError, Global};
 use types::Event;
 

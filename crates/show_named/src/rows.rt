@@ -5,11 +5,10 @@ ghost use Rattle.show_named.specs.Rows.{AddsEntries, AddsEntry, IsEntryText, Wri
 
 use crate::data_map::DataMap;
 use crate::folds::{HowOften, Listing, Piece, Rounds};
-use report_choice::{Color, Look};
-use show_rows::{Shown, Story, chosen_entries};
+use selection::{Color, Look};
+use show_rows::{Behind, Shown, Story, chosen_entries};
 use show_text::{Sheet, Unwritten};
 use std::alloc::{AllocError, Global};
-use std::fmt::{self, Formatter};
 use std::io::Write;
 
 /// Writes the rows of the entries that are chosen, in their order: of each the line of the record, its thread, its words
@@ -221,25 +220,6 @@ impl Listing<'_, '_, '_, '_, '_, '_, '_, '_> {
             done = done + count;
         }
         Ok(())
-    }
-}
-
-/// A place behind an entry, where it is known.
-#[derive(Clone, Copy)]
-struct Behind<'a>(&'a str);
-
-impl fmt::Display for Behind<'_> {
-    ghost use Rattle.std.specs.Prelude.{Some};
-    ghost use Rattle.show_races.specs.Written.{behind};
-
-    ghost output = { λ b. Some (behind b.0.now) };
-
-    fn fmt<W: fmt::Write>(&self, f: &mut Formatter<W>) -> fmt::Result {
-        let place = self.0;
-        if place.is_empty() {
-            return Ok(());
-        }
-        write!(f, ", {place}")
     }
 }
 

@@ -2,4 +2,3 @@ pub mod Alike
 pub mod Firsts
 pub mod Laws
 pub mod Telling
-pub mod Texts

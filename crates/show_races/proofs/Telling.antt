@@ -1,5 +1,5 @@
 -- What is told of a race.
-use Rattle.std.proofs.Common.{◌≡◌, ◌∙◌, ◌<◌, nat_lt, ℕ, List, ◌++◌, Option, Some, length, get_or, refl, sym, ap, subst, codes}
+use Rattle.std.proofs.Common.{◌≡◌, ◌∙◌, ◌<◌, nat_lt, ℕ, List, ◌++◌, Option, Some, length, get_or, sym, ap, subst, codes}
 use Rattle.std.specs.Fmt.{decimal}
 use Rattle.std.specs.List.{AllZip, concat, slice_get}
 use Rattle.std.specs.Io.KnownBytes.{Appends}
@@ -7,26 +7,12 @@ use Rattle.std.proofs.lemmas.Option.{same_Some, slice_get-get_or}
 use Rattle.types.specs.declared.event.Entry.{Entry}
 use Rattle.race_history.specs.declared.access.Kind.{Kind}
 use Rattle.race_history.specs.declared.race.Race.{Race}
-use Rattle.show_text.specs.declared.words.Words.{Words}
-use Rattle.show_text.specs.Words.{words_text}
 use Rattle.show_rows.specs.declared.listing.Shown.{Shown}
 use Rattle.show_rows.specs.declared.listing.Story.{Story}
-use Rattle.show_rows.specs.Listing.{line_at, AreWordsOf, IsPlaceTextOf}
-use Rattle.show_rows.proofs.Saying.{says_of}
+use Rattle.show_rows.specs.Listing.{line_at}
 use Rattle.show_races.specs.declared.found.Races.{Races}
-use Rattle.show_races.specs.Written.{behind, end_text, entry_text, leads_text, name_text, order_text, IsEntryText, IsNextWrite, IsOrderText, SaysRace, TellsRaces}
-
-pub entry_says : (shown : Shown) (story : Story) (at : ℕ) (log : List Entry) (d : Entry) (said : Words) (words place text : List ℕ) (line : ℕ)
-    → log ≡ shown.record.now.log → at < length shown.record.now.log → AreWordsOf shown story at (get_or log at d) said
-    → line ≡ line_at shown at → words ≡ words_text said → IsPlaceTextOf shown story at place
-    → text ≡ codes "t" ++ (decimal (get_or log at d).thread ++ (codes " " ++ (words ++ (codes " on line " ++ (decimal line ++ behind place)))))
-    → IsEntryText shown story at text
-entry_says shown story at log d said words place text line same within of line_is words_are place_is is = (
-  record { line = line; thread = (get_or log at d).thread; words = words; place = place },
-  says_of shown story at log d said (record { line = line; thread = (get_or log at d).thread; words = words; place = place })
-      same within of line_is refl words_are place_is,
-  is,
-)
+use Rattle.show_rows.specs.Entries.{entry_text, IsEntryText}
+use Rattle.show_races.specs.Written.{end_text, leads_text, name_text, order_text, IsNextWrite, IsOrderText, SaysRace, TellsRaces}
 
 stands : (log whole : List Entry) (at : ℕ) (d : Entry) → log ≡ whole → at < length whole → slice_get whole at ≡ Some (get_or log at d)
 stands log whole at d same within = subst (λ (l : List Entry). slice_get l at ≡ Some (get_or log at d)) same

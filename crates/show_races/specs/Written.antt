@@ -1,6 +1,6 @@
 -- What is written of races.
 use Rattle.std.specs.Prelude.{ℕ, ◌≡◌, ◌<◌, ◌==◌, ◌&&◌, nat_lt, if◌then◌else◌, Bool, true, false}
-use Rattle.std.specs.Prelude.{List, [], ◌∷◌, ◌++◌, codes, length, Option, Some, None, option_and_then, slice_index_or}
+use Rattle.std.specs.Prelude.{List, [], ◌++◌, codes, length, Option, Some, None, option_and_then, slice_index_or}
 use Rattle.std.specs.List.{slice_get, AllZip, concat}
 use Rattle.std.specs.Fmt.{decimal}
 use Rattle.std.specs.Io.KnownBytes.{Appends}
@@ -13,21 +13,9 @@ use Rattle.race_history.specs.Accesses.{access_of}
 use Rattle.show_text.specs.Rows.{RowText}
 use Rattle.show_rows.specs.declared.listing.Shown.{Shown}
 use Rattle.show_rows.specs.declared.listing.Story.{Story}
+use Rattle.show_rows.specs.Entries.{entry_text}
 use Rattle.show_rows.specs.Listing.{line_at, Says}
 use Rattle.show_races.specs.declared.found.Races.{Races}
-
--- A place that isn't known leaves nothing.
-abbrev pub behind : List ℕ → List ℕ
-behind [] = []
-behind (b ∷ place) = codes ", " ++ (b ∷ place)
-
--- An entry: its thread, its words, its line of the record, and where it was made.
-abbrev pub entry_text : RowText → List ℕ
-entry_text row = codes "t" ++ (decimal row.thread ++ (codes " " ++ (row.words ++ (codes " on line "
-    ++ (decimal row.line ++ behind row.place)))))
-
-abbrev pub IsEntryText : Shown → Story → ℕ → List ℕ → Type 0
-IsEntryText shown story at text = (row : RowText) × Says shown story at row × (text ≡ entry_text row)
 
 abbrev pub access_at : List Entry → List Kind → ℕ → Option Access
 access_at log kinds at =

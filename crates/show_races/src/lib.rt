@@ -15,4 +15,4 @@ mod writing;
 pub use found::{Races, races_shown, racing_pairs};
 pub use kinds::kinds_of;
 pub use release::next_atomic_write;
-pub use writing::{entry_text, write_first, write_races};
+pub use writing::{write_first, write_races};

@@ -2,54 +2,16 @@
 
 ghost use Rattle.std.specs.Prelude.{◌≡◌, ◌<◌, All, IfOk, OnOk, length, string_bytes};
 ghost use Rattle.show_races.specs.Told.{IsWithin};
-ghost use Rattle.show_races.specs.Written.{IsEntryText, IsOrderText, SaysRace, TellsRaces, WritesFirst, name_text};
+ghost use Rattle.show_races.specs.Written.{IsOrderText, SaysRace, TellsRaces, WritesFirst, name_text};
 
 use crate::found::Races;
 use crate::release::next_atomic_write;
 use race_history::{Kind, Race};
-use show_rows::{Shown, Story};
+use show_rows::{Shown, Story, entry_text};
 use show_text::Unwritten;
 use std::alloc::{AllocError, Global};
 use std::fmt::{self, Formatter};
 use std::io::Write;
-
-/// A place behind an entry, where it is known.
-#[derive(Clone, Copy)]
-struct Behind<'a>(&'a str);
-
-impl fmt::Display for Behind<'_> {
-    ghost use Rattle.std.specs.Prelude.{Some};
-    ghost use Rattle.show_races.specs.Written.{behind};
-
-    ghost output = { λ b. Some (behind b.0.now) };
-
-    fn fmt<W: fmt::Write>(&self, f: &mut Formatter<W>) -> fmt::Result {
-        let place = self.0;
-        if place.is_empty() {
-            return Ok(());
-        }
-        write!(f, ", {place}")
-    }
-}
-
-/// An entry: its thread, its words, its line of the record and where it was made, as far as that is known.
-pub fn entry_text(
-    alloc: Global,
-    shown: Shown,
-    story: &Story,
-    at: usize,
-) -> Result<String, AllocError>
-    requires { at < length shown.record.now.log }
-    ensures { IfOk result (λ text. IsEntryText shown.entry story.now at (string_bytes text)) }
-{
-    let entry = &shown.record.log.as_slice()[at];
-    let (thread, line) = (entry.thread, shown.line_of(at));
-    let words = shown.words_at(story, at, entry).to_string(alloc)?;
-    let place = shown.place_text(alloc, story, at)?;
-    let behind = Behind(place.as_str());
-    let text = format!(in alloc; "t{thread} {words} on line {line}{behind}")?;
-    Ok(text)
-}
 
 /// What a race is called: two atomic accesses race where they are of other bytes.
 fn name_of(kinds: &[Kind], race: Race) -> &'static str

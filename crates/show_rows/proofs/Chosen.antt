@@ -8,8 +8,8 @@ use Rattle.std.specs.Io.KnownBytes.{Appends, Keeps}
 use Rattle.show_rows.specs.declared.listing.Shown.{Shown}
 use Rattle.show_rows.specs.declared.listing.Story.{Story}
 use Rattle.types.specs.declared.event.Entry.{Entry}
-use Rattle.report_choice.specs.declared.choice.Look.{Look}
-use Rattle.report_choice.specs.Choices.{is_chosen}
+use Rattle.selection.specs.declared.choice.Look.{Look}
+use Rattle.selection.specs.Choices.{is_chosen}
 use Rattle.show_rows.specs.Listing.{line_at, is_shown, AddsEntry, AddsEntries}
 
 -- The places from one on of the items that pass.

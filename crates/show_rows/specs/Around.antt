@@ -2,9 +2,9 @@
 use Rattle.std.specs.Prelude.{ℕ, ◌+◌, ◌-◌, ◌^◌, min, List, ◌++◌, codes, Option, Some, None}
 use Rattle.std.specs.Borrow.{Bor}
 use Rattle.std.specs.Fmt.{decimal}
-use Rattle.show_lines.specs.declared.table.Range.{Range}
-use Rattle.show_lines.specs.declared.sources.SourceLines.{SourceLines}
-use Rattle.show_lines.specs.Sources.{line_in}
+use Rattle.dwarf_lines.specs.declared.table.Range.{Range}
+use Rattle.dwarf_lines.specs.declared.sources.SourceLines.{SourceLines}
+use Rattle.dwarf_lines.specs.Sources.{line_in}
 use Rattle.show_text.specs.Plain.{plain_text}
 use Rattle.show_rows.specs.declared.around.Around.{Around}
 

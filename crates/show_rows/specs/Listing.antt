@@ -13,8 +13,8 @@ use Rattle.types.specs.declared.parts.Parts.{Parts}
 use Rattle.types.specs.declared.limits.TheConstants.{MOST_THREADS}
 use Rattle.interp.specs.declared.place.CodePlace.{CodePlace}
 use Rattle.replay_text.specs.Versions.{header_count}
-use Rattle.report_choice.specs.declared.choice.Look.{Look}
-use Rattle.report_choice.specs.Choices.{is_chosen}
+use Rattle.selection.specs.declared.choice.Look.{Look}
+use Rattle.selection.specs.Choices.{is_chosen}
 use Rattle.show_text.specs.declared.context.Context.{Context}
 use Rattle.show_text.specs.declared.context.Context.TheVariants.{Alone, Asked}
 use Rattle.show_text.specs.declared.words.Words.{Words}

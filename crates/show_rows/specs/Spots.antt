@@ -20,12 +20,12 @@ use Rattle.show_places.specs.declared.names.FunctionName.TheVariants as called
 use Rattle.show_places.specs.Bodies.{bodies_in}
 use Rattle.show_places.specs.Names.{IsCalled}
 use Rattle.show_places.specs.Sections.{Part, HasFirst, HasNone}
-use Rattle.show_lines.specs.declared.table.Range.{Range}
-use Rattle.show_lines.specs.contracts.header.SourcePartialEq.TheImpl as equal
-use Rattle.show_lines.specs.Lines.{holds, source_of}
+use Rattle.dwarf_lines.specs.declared.table.Range.{Range}
+use Rattle.dwarf_lines.specs.contracts.header.SourcePartialEq.TheImpl as equal
+use Rattle.dwarf_lines.specs.Lines.{holds, source_of}
 use Rattle.show_text.specs.Plain.{plain_text}
 use Rattle.show_rows.specs.declared.spot.Spot.{Spot}
-use Rattle.show_lines.specs.Sources.{IsTextOf, line_in}
+use Rattle.dwarf_lines.specs.Sources.{IsTextOf, line_in}
 use Rattle.show_rows.specs.declared.code.CodeMap.{CodeMap}
 
 abbrev pub name_text : FunctionName → List ℕ

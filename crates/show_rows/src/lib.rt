@@ -8,12 +8,14 @@
 
 mod around;
 mod code;
+mod entries;
 mod listing;
 mod rows;
 mod spot;
 
 pub use around::Around;
 pub use code::CodeMap;
+pub use entries::{Behind, entry_text};
 pub use listing::{Shown, Story, chosen_entries, write_rows};
 pub use rows::{Row, Rows, number_in};
 pub use spot::Spot;

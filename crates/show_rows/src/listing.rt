@@ -10,7 +10,7 @@ use crate::code::CodeMap;
 use crate::spot::CallSpot;
 use interp::CodePlace;
 use replay_text::RecordParts;
-use report_choice::{Color, Look};
+use selection::{Color, Look};
 use show_text::{Context, Sheet, Unwritten, Wakes, Words, contexts};
 use std::alloc::{AllocError, Global};
 use std::io::Write;

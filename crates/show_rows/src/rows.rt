@@ -1,6 +1,6 @@
 //! A row for each entry of a log.
 
-ghost use Rattle.std.specs.Prelude.{◌≡◌, ◌+◌, ◌≤◌, length, replicate, take, drop, None, IfOk, nat_le};
+ghost use Rattle.std.specs.Prelude.{◌≡◌, ◌≤◌, length, replicate, None, IfOk};
 ghost use Rattle.std.specs.List.{slice_get};
 ghost use Rattle.shared_memory.specs.Numbers.{le_number};
 ghost use Rattle.show_rows.specs.Rows as found;
@@ -80,36 +80,26 @@ fn touched(event: Event) -> Option<(u64, u8)>
     }
 }
 
-/// Whether so many bytes lie within the memory. Their end may pass the last address.
-fn is_within(bytes: &[u8], addr: u64, width: u8) -> bool
-    ensures { result ≡ nat_le (addr + width) (length bytes.now) }
+/// The number in at most 8 bytes.
+#[tactic(auto, using(crate::proofs::Words::le_word))]
+fn number_of(bytes: &[u8]) -> u64
+    requires { length bytes.now ≤ 8 }
+    ensures { result ≡ le_number bytes.now }
 {
-    let length = bytes.len() as u64;
-    addr <= length && u64::from(width) <= length - addr
-}
-
-/// The number in so many bytes, from the top down.
-fn number_at(bytes: &[u8], at: usize, width: usize) -> u64
-    requires inside { at + width ≤ length bytes.now }
-    requires narrow { width ≤ 8 }
-    ensures { result ≡ le_number (take width (drop at bytes.now)) }
-{
-    let mut number = 0;
-    for i in (0..width).rev() {
-        number = number * 256 + u64::from(bytes[at + i]);
-    }
-    number
+    let mut word = [0; 8];
+    word[..bytes.len()].copy_from_slice(bytes);
+    u64::from_le_bytes(word)
 }
 
 /// The number in so many bytes, if they lie within the memory.
 pub fn number_in(bytes: &[u8], addr: u64, width: u8) -> Option<u64>
     ensures { result ≡ found.number_in bytes.now (addr, width) }
 {
-    if width <= 8 && is_within(bytes, addr, width) {
-        Some(number_at(bytes, addr as usize, usize::from(width)))
-    } else {
-        None
+    if width > 8 {
+        return None;
     }
+    let touched = bytes.get(addr as usize..)?.get(..usize::from(width))?;
+    Some(number_of(touched))
 }
 
 /// The number in the bytes that an event touches, if they lie within the memory.

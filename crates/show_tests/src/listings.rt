@@ -3,10 +3,10 @@
 use crate::asserts::is_text;
 use crate::data::{KINDS, LATE, NAMES, RECORD, SMALL, TOLD, TOLD_2, TWO, TWO_RECORD, TWO_TEXT};
 use crate::made::{module_of, record_of, rows_of};
+use dwarf_lines::{SourceFile, Sources};
 use interp::CodePlace;
 use replay_text::Record;
-use report_choice::{Choice, Color, Look, Span};
-use show_lines::{SourceFile, Sources};
+use selection::{Choice, Color, Look, Span};
 use show_rows::{CodeMap, Row, Shown, write_rows};
 use std::alloc::Global;
 use std::process::Abort;

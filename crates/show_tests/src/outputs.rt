@@ -4,7 +4,7 @@ use crate::asserts::is_text;
 use crate::data::TOLD;
 use crate::made::{module_of, record_of, rows_of};
 use replay_text::Record;
-use report_choice::{Choice, Color, Look};
+use selection::{Choice, Color, Look};
 use show_events::{write_page, write_trace};
 use show_rows::{CodeMap, Shown};
 use std::alloc::Global;

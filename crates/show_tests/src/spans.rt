@@ -1,6 +1,6 @@
 //! Spans, as they are written, and what is in one.
 
-use report_choice::Span;
+use selection::Span;
 use std::test::Fail;
 
 static SPANS: [(&str, Option<Span>); 9] = [

@@ -3,8 +3,8 @@
 use crate::asserts::same_text;
 use crate::data::{OTHER, RECORD, SMALL};
 use crate::made::{module_of, record_of, rows_of};
+use dwarf_lines::{DebugSections, LineTable, read_lines};
 use replay::ReplayFault;
-use show_lines::{DebugSections, LineTable, read_lines};
 use show_places::{BodyPlaces, Named, code_places, function_name, read_names, section_of};
 use show_rows::Row;
 use std::alloc::{AllocError, Global};

@@ -7,6 +7,7 @@ ghost use Rattle.show_text.specs.declared.sheet.Unwritten.TheVariants as unwritt
 use std::alloc::AllocError;
 use std::fmt::{self, Formatter};
 use std::io::{self, Write};
+use unicode_width::UnicodeWidthStr;
 
 /// The columns of the number of a line, and what is before the first word of a thread.
 const LINE: usize = 7;
@@ -104,7 +105,7 @@ impl Sheet {
             (W.contents out.old) (W.contents out.new)) }
     {
         let is_colored = self.is_colored;
-        let at = self.layout(line, thread, words.len());
+        let at = self.layout(line, thread, words.width());
         let (margin, indent) = (Blanks(at.margin), Blanks(at.indent));
         let said = Said {
             is_colored,
@@ -121,7 +122,7 @@ impl Sheet {
         Ok(())
     }
 
-    /// How a row is laid out whose words have so many bytes.
+    /// How a row is laid out whose words take so many columns.
     fn layout(&self, line: u64, thread: u32, words: usize) -> Layout {
         let column = self.column_of(thread);
         let indent = column.saturating_mul(self.step).min(self.places);

@@ -1,7 +1,7 @@
 -- The words of a cycle, one wait after the other.
 use Rattle.std.proofs.Common.{◌≡◌, ℕ, List, [], ◌∷◌, ◌++◌, codes, append_assoc, sym, ap, ◌∙◌}
 use Rattle.std.specs.Fmt.{decimal}
-use Rattle.show_waits.specs.Cycles.{chain_text}
+use Rattle.show_waits.specs.CycleTexts.{chain_text}
 
 regroup : (x a b c d e f : List ℕ) → (x ++ (a ++ (b ++ (c ++ (d ++ e))))) ++ f ≡ x ++ ((a ++ (b ++ (c ++ d))) ++ (e ++ f))
 regroup x a b c d e f = simp append_assoc

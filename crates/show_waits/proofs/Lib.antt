@@ -1,3 +1,5 @@
 pub mod Chained
 pub mod Owned
+pub mod Standing
 pub mod Telling
+pub mod Waiting

@@ -10,17 +10,17 @@ use Rattle.types.specs.declared.outcome.Outcome.{Outcome}
 use Rattle.types.specs.declared.outcome.Outcome.TheVariants as outcomes
 use Rattle.types.specs.declared.outcome.ThreadReport.{ThreadReport}
 use Rattle.types.specs.Outcomes.{outcome_text}
-use Rattle.show_races.proofs.Texts.{AreWritten, all_written}
+use Rattle.show_rows.proofs.Texts.{AreWritten, all_written}
 use Rattle.show_rows.specs.declared.listing.Shown.{Shown}
 use Rattle.show_rows.specs.declared.listing.Story.{Story}
 use Rattle.show_rows.specs.Listing.{line_at}
 use Rattle.show_named.specs.declared.data_map.DataMap.{DataMap}
 use Rattle.show_named.specs.Rows.{IsEntryText}
-use Rattle.show_writes.specs.declared.lasts.Act.TheVariants as acts
-use Rattle.show_writes.specs.declared.stands.Stand.{Stand}
-use Rattle.show_writes.specs.Stands.{IsStand}
-use Rattle.show_waits.specs.Lasts.{SaysLast}
-use Rattle.show_waits.specs.Cycles.{AreCycles, WritesCycles}
+use Rattle.show_named.specs.declared.lasts.Act.TheVariants as acts
+use Rattle.show_waits.specs.declared.stands.Stand.{Stand}
+use Rattle.show_waits.specs.Stands.{IsStand}
+use Rattle.show_named.specs.LastTexts.{SaysLast}
+use Rattle.show_waits.specs.CycleTexts.{AreCycles, WritesCycles}
 use Rattle.show_waits.specs.Waits.{SaysEnd, SaysNowhere, SaysOther, SaysStand, SaysWait, times_text}
 
 -- the text, by the number of the line

@@ -1,31 +1,60 @@
--- What is told of threads that wait for one another in a cycle.
-use Rattle.std.specs.Prelude.{ℕ, ◌≡◌, ◌⊎◌, ◌++◌, [], ◌∷◌, List, Option, codes, length}
-use Rattle.std.specs.Fmt.{decimal}
-use Rattle.std.specs.List.{AllZip, concat, range_with_len}
-use Rattle.std.specs.Io.KnownBytes.{Appends}
-use Rattle.show_rows.specs.declared.listing.Shown.{Shown}
-use Rattle.show_writes.specs.Cycles.{AreWaits, IsCycle}
+-- Which threads wait for one another.
+use Rattle.std.specs.Prelude.{ℕ, ◌≡◌, ◌≢◌, ◌<◌, List, [], ◌∷◌, Option, None, Some, All, length, option_and_then}
+use Rattle.std.specs.List.{AllZip, range_with_len, slice_get}
+use Rattle.types.specs.declared.event.Entry.{Entry}
+use Rattle.types.specs.declared.outcome.Outcome.TheVariants as outcomes
+use Rattle.types.specs.declared.outcome.Stop.{Stop}
+use Rattle.types.specs.declared.outcome.ThreadReport.{ThreadReport}
+use Rattle.selection.specs.declared.choice.Span.{Span}
+use Rattle.show_named.specs.declared.lasts.Act.TheVariants as acts
+use Rattle.show_waits.specs.declared.stands.Stand.{Stand}
+use Rattle.show_named.specs.Lasts.{IsLast}
+use Rattle.show_waits.specs.Stands.{IsStand}
 
-abbrev pub wait_text : ℕ → ℕ → List ℕ
-wait_text n m = codes "t" ++ (decimal n ++ (codes " waits for t" ++ decimal m))
+-- The thread was stopped, by the reports of all.
+pub record IsStopped (ends : List ThreadReport) (n : ℕ) : Type 0 where
+  pub report : ThreadReport
+  pub at : slice_get ends n ≡ Some report
+  pub stop : Stop
+  pub is : report.outcome ≡ outcomes.Stop stop
+
+-- The thread stands at other bytes than these.
+pub record StandsElsewhere (m : ℕ) (log : List Entry) (addrs : Span) : Type 0 where
+  pub stand : Stand
+  pub is : IsStand m log stand
+  pub apart : stand.addrs ≢ addrs
+
+-- Thread n waits for thread m: both were stopped, to the bytes at which n stands m was the last one of the other threads
+-- to write, and m stands at others: it doesn't wait there itself.
+pub record WaitsFor (log : List Entry) (ends : List ThreadReport) (n m : ℕ) : Type 0 where
+  pub stopped : IsStopped ends n
+  pub stand : Stand
+  pub is : IsStand n log stand
+  pub place : ℕ
+  pub last : IsLast (acts.OtherWrite stand.addrs n) log (length log) place
+  pub writer : last.entry.thread ≡ m
+  pub other : IsStopped ends m
+  pub elsewhere : StandsElsewhere m log stand.addrs
+
+-- For whom a thread waits, or none.
+abbrev pub IsWait : List Entry → List ThreadReport → ℕ → Option ℕ → Type 0
+IsWait log ends n (Some m) = WaitsFor log ends n m
+IsWait log ends n None = (m : ℕ) → WaitsFor log ends n m → ⊥
+
+-- That of each thread, in order.
+abbrev pub AreWaits : List Entry → List ThreadReport → List (Option ℕ) → Type 0
+AreWaits log ends waits = AllZip (IsWait log ends) (range_with_len 0 (length ends)) waits
+
+abbrev pub wait_in : List (Option ℕ) → ℕ → Option ℕ
+wait_in waits n = option_and_then (λ wait. wait) (slice_get waits n)
 
 -- Thread n waits for the first of these, each of them for the next, and the last for thread `to`.
-abbrev pub chain_text : ℕ → List ℕ → ℕ → List ℕ
-chain_text n [] to = wait_text n to
-chain_text n (m ∷ ms) to = wait_text n m ++ (codes ", " ++ chain_text m ms to)
+abbrev pub IsChain : List (Option ℕ) → ℕ → List ℕ → ℕ → Type 0
+IsChain waits n [] to = wait_in waits n ≡ Some to
+IsChain waits n (m ∷ ms) to = (wait_in waits n ≡ Some m) × IsChain waits m ms to
 
-abbrev pub cycle_text : ℕ → List ℕ → List ℕ
-cycle_text n others = chain_text n others n ++ codes ": a cycle; where each stands, the next one was the last of the others to write\n"
-
--- A cycle is told at its thread of the lowest number; where a thread is that of none, nothing is.
-abbrev pub SaysCycle : List (Option ℕ) → ℕ → List ℕ → Type 0
-SaysCycle waits n text = ((others : List ℕ) × IsCycle waits n others × (text ≡ cycle_text n others))
-    ⊎ (((others : List ℕ) → IsCycle waits n others → ⊥) × (text ≡ []))
-
--- These are told of the threads in order, by whom each waits for.
-abbrev pub AreCycles : Shown → List (List ℕ) → Type 0
-AreCycles shown texts = (waits : List (Option ℕ)) × AreWaits shown.record.now.log shown.record.now.ends waits
-    × AllZip (SaysCycle waits) (range_with_len 0 (length shown.record.now.ends)) texts
-
-abbrev pub WritesCycles : Shown → Option (List ℕ) → Option (List ℕ) → Type 0
-WritesCycles shown old new = (texts : List (List ℕ)) × AreCycles shown texts × Appends old new (concat texts)
+-- Thread n waits in a cycle with these: they have higher numbers, and with n they are no more than all threads.
+pub record IsCycle (waits : List (Option ℕ)) (n : ℕ) (others : List ℕ) : Type 0 where
+  pub chain : IsChain waits n others n
+  pub higher : All (λ m. n < m) others
+  pub few : length others < length waits

@@ -1,3 +1,4 @@
+pub mod CycleTexts
 pub mod Cycles
-pub mod Lasts
+pub mod Stands
 pub mod Waits

@@ -8,18 +8,18 @@ use Rattle.types.specs.declared.outcome.Outcome.{Outcome}
 use Rattle.types.specs.declared.outcome.Outcome.TheVariants as outcomes
 use Rattle.types.specs.declared.outcome.ThreadReport.{ThreadReport}
 use Rattle.types.specs.Outcomes.{outcome_text}
-use Rattle.report_choice.specs.declared.choice.Span.{Span}
+use Rattle.selection.specs.declared.choice.Span.{Span}
 use Rattle.show_rows.specs.declared.listing.Shown.{Shown}
 use Rattle.show_rows.specs.declared.listing.Story.{Story}
 use Rattle.show_rows.specs.Listing.{line_at}
 use Rattle.show_named.specs.declared.data_map.DataMap.{DataMap}
 use Rattle.show_named.specs.Rows.{IsEntryText}
-use Rattle.show_writes.specs.declared.lasts.Act.TheVariants as acts
-use Rattle.show_writes.specs.declared.stands.Stand.{Stand}
-use Rattle.show_writes.specs.Lasts.{IsLast}
-use Rattle.show_writes.specs.Stands.{IsStand, TouchesNothing}
-use Rattle.show_waits.specs.Cycles.{AreCycles}
-use Rattle.show_waits.specs.Lasts.{SaysLast}
+use Rattle.show_named.specs.declared.lasts.Act.TheVariants as acts
+use Rattle.show_waits.specs.declared.stands.Stand.{Stand}
+use Rattle.show_named.specs.Lasts.{IsLast}
+use Rattle.show_waits.specs.Stands.{IsStand, TouchesNothing}
+use Rattle.show_waits.specs.CycleTexts.{AreCycles}
+use Rattle.show_named.specs.LastTexts.{SaysLast}
 
 abbrev pub times_text : ℕ → List ℕ
 times_text n = if n == 1 then codes "once" else decimal n ++ codes " times"

@@ -1,52 +1,103 @@
-//! The cycles in which threads wait for one another, as text.
-ghost use Rattle.std.specs.Prelude.{◌≡◌, IfOk, OnOk, string_bytes};
-ghost use Rattle.show_waits.specs.Cycles.{SaysCycle, WritesCycles, cycle_text};
+//! Which threads wait for one another.
+ghost use Rattle.std.specs.Prelude.{◌≡◌, ◌↔◌, ℕ, true, List, IfOk, MatchOption};
+ghost use Rattle.show_waits.specs.Cycles.{AreWaits, IsCycle, IsStopped, IsWait, StandsElsewhere, wait_in};
 
-use show_rows::Shown;
-use show_text::Unwritten;
-use show_writes::{cycle_from, waits_of};
+use crate::stands::{is_same, stand_of};
+use selection::Span;
+use show_named::{Act, last_of};
 use std::alloc::{AllocError, Global};
-use std::io::Write;
+use types::{Entry, Outcome, ThreadReport};
 
-/// The words of a cycle: of thread n and these others, in their order.
-fn words_of(alloc: Global, n: usize, others: &[usize]) -> Result<String, AllocError>
-    ensures { IfOk result (λ text. string_bytes text ≡ cycle_text n others.now) }
+/// Whether a thread was stopped.
+fn is_stopped(ends: &[ThreadReport], n: usize) -> bool
+    ensures { (result ≡ true) ↔ IsStopped ends.now n }
 {
-    let mut text = String::new(alloc);
-    let mut at = n;
-    for next in others {
-        text = format!(in alloc; "{text}t{at} waits for t{next}, ")?;
-        at = *next;
-    }
-    let text = format!(in alloc;
-        "{text}t{at} waits for t{n}: a cycle; where each stands, the next one was the last of the others to write\n"
-    )?;
-    Ok(text)
-}
-
-/// What is told of the cycle of a thread: nothing where it waits in none, or isn't the one of the lowest number.
-fn cycle_of(alloc: Global, waits: &[Option<usize>], n: usize) -> Result<String, AllocError>
-    ensures { IfOk result (λ text. SaysCycle waits.now n (string_bytes text)) }
-{
-    match cycle_from(alloc, waits, n)? {
-        Some(others) => words_of(alloc, n, others.as_slice()),
-        None => Ok(String::new(alloc)),
+    match ends.get(n) {
+        Some(report) => matches!(report.outcome, Outcome::Stop(_)),
+        None => false,
     }
 }
 
-/// Writes each cycle in which threads wait for one another.
-pub(crate) fn write_cycles<W: Write>(
+/// Whether a thread stands at other bytes than these.
+fn stands_elsewhere(log: &[Entry], m: usize, addrs: Span) -> bool
+    ensures { (result ≡ true) ↔ StandsElsewhere m log.now addrs }
+{
+    match stand_of(log, m) {
+        Some(stand) => !is_same(stand.addrs, addrs),
+        None => false,
+    }
+}
+
+/// The thread for which this one waits: where it stands, this was the last one of the others to write, both were
+/// stopped, and that one stands elsewhere.
+fn wait_of(log: &[Entry], ends: &[ThreadReport], n: usize) -> Option<usize>
+    ensures { IsWait log.now ends.now n result }
+{
+    if !is_stopped(ends, n) {
+        return None;
+    }
+    let stand = stand_of(log, n)?;
+    let at = last_of(log, log.len(), Act::OtherWrite(stand.addrs, n))?;
+    let writer = log[at].thread as usize;
+    if !is_stopped(ends, writer) {
+        return None;
+    }
+    if stands_elsewhere(log, writer, stand.addrs) {
+        Some(writer)
+    } else {
+        None
+    }
+}
+
+/// For whom each thread waits, or none.
+pub(crate) fn waits_of(
     alloc: Global,
-    shown: Shown,
-    out: &mut W,
-) -> Result<(), Unwritten>
-    ensures { OnOk result (WritesCycles shown.entry (W.contents out.old) (W.contents out.new)) }
+    log: &[Entry],
+    ends: &[ThreadReport],
+) -> Result<Vec<Option<usize>>, AllocError>
+    ensures { IfOk result (λ waits. AreWaits log.now ends.now waits.items) }
 {
-    let ends = shown.record.ends.as_slice();
-    let waits = waits_of(alloc, shown.record.log.as_slice(), ends)?;
+    let mut waits = Vec::new(alloc);
     for n in 0..ends.len() {
-        let text = cycle_of(alloc, waits.as_slice(), n)?;
-        write!(out, "{text}")?;
+        waits.push(wait_of(log, ends, n))?;
     }
-    Ok(())
+    Ok(waits)
+}
+
+/// The one for which a thread waits.
+fn wait_in(waits: &[Option<usize>], n: usize) -> Option<usize>
+    ensures { result ≡ wait_in waits.now n }
+{
+    match waits.get(n) {
+        Some(wait) => *wait,
+        None => None,
+    }
+}
+
+/// The others that wait in a cycle with a thread, the one first for which it waits; or none where it waits in no cycle,
+/// or isn't the one of the lowest number.
+pub(crate) fn cycle_from(
+    alloc: Global,
+    waits: &[Option<usize>],
+    n: usize,
+) -> Result<Option<Vec<usize>>, AllocError>
+    ensures { IfOk result (λ found. MatchOption found ((others : List ℕ) → IsCycle waits.now n others → ⊥)
+        (λ others. IsCycle waits.now n others.items)) }
+{
+    let mut others = Vec::new(alloc);
+    let mut at = n;
+    for _ in 0..waits.len() {
+        let Some(next) = wait_in(waits, at) else {
+            return Ok(None);
+        };
+        if next == n {
+            return Ok(Some(others));
+        }
+        if next < n {
+            return Ok(None);
+        }
+        others.push(next)?;
+        at = next;
+    }
+    Ok(None)
 }

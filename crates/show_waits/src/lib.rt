@@ -1,18 +1,20 @@
-//! Who wrote some bytes last, and what each thread waits for that was stopped, as text.
+//! At which bytes each thread stood that was stopped, what it waits for there, and which threads wait for one another in a
+//! cycle; and that as text.
 //!
-//! Proved: `write_last` writes the words of the last entry before a place that writes one of the bytes, or that none
-//! does; `write_waits` writes for each thread that was stopped, in order, at which bytes it stood, since which line and
-//! how often it touched them, and who wrote them and notified them last; behind that the cycles in which threads wait for
-//! one another.
+//! Proved: of a thread that stopped, what it touched last is that of its last entry that touches bytes, and how often it did
+//! so is the number of such entries at its end that touch the same bytes; `write_waits` writes for each thread that was
+//! stopped, in order, at which bytes it stood, since which line and how often it touched them, and who wrote them and
+//! notified them last; behind that the cycles in which threads wait for one another. Of two stopped threads one waits for
+//! the other where that is the last one of the others to write where the first stands; threads that wait so in a cycle are
+//! found at the one of the lowest number.
 //!
-//! - `specs/Lasts.antt`: what is told of the last entry that does something.
-//! - `specs/Waits.antt`: what is told of a thread that was stopped.
-//! - `specs/Cycles.antt`: what is told of threads that wait for one another in a cycle.
+//! - `specs/Stands.antt`: at which bytes a thread stands; `specs/Waits.antt`: what is told of one that was stopped.
+//! - `specs/Cycles.antt`: which threads wait for one another; `specs/CycleTexts.antt`: what is told of them.
 #![tactic(auto)]
 
+mod cycle_texts;
 mod cycles;
-mod last;
+mod stands;
 mod waits;
 
-pub use last::{last_text, write_last};
 pub use waits::write_waits;

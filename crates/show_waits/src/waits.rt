@@ -1,15 +1,14 @@
 //! What each thread waits for that was stopped, as text.
 ghost use Rattle.std.specs.Prelude.{◌≡◌, ◌<◌, ◌⊎◌, ◌↔◌, true, length, IfOk, OnOk, string_bytes};
-ghost use Rattle.show_writes.specs.Stands.{IsStand};
+ghost use Rattle.show_waits.specs.Stands.{IsStand};
 ghost use Rattle.show_waits.specs.Waits.{IsOwn, SaysNowhere, SaysOther, SaysStand, SaysWait, WritesWaits};
 
-use crate::cycles::write_cycles;
-use crate::last::last_text;
-use report_choice::Span;
-use show_named::{DataMap, named_text};
+use crate::cycle_texts::write_cycles;
+use crate::stands::{Stand, stand_of};
+use selection::Span;
+use show_named::{Act, DataMap, last_of, last_text, named_text};
 use show_rows::{Shown, Story};
 use show_text::Unwritten;
-use show_writes::{Act, Stand, last_of, stand_of};
 use std::alloc::{AllocError, Global};
 use std::fmt::{self, Formatter};
 use std::io::Write;

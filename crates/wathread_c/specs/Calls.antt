@@ -4,7 +4,7 @@ use Rattle.std.specs.declared.result.Result.{Result}
 use Rattle.std.specs.Str.{IsUtf8}
 use Rattle.types.specs.declared.outcome.ThreadReport.{ThreadReport}
 use Rattle.show_text.specs.declared.sheet.Unwritten.{Unwritten}
-use Rattle.report_lines.specs.Ends.{status_of}
+use Rattle.search_endings.specs.Ends.{status_of}
 use Rattle.replay_text.specs.Text.{record_text}
 use Rattle.search_endings.specs.Endings.{Ending}
 use Rattle.search_reach.specs.declared.ending.Ended.{Ended}

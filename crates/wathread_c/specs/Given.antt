@@ -2,8 +2,8 @@
 use Rattle.std.specs.Prelude.{◌%◌, ◌^◌, ◌==◌, if◌then◌else◌, List, map, min, max}
 use Rattle.types.specs.declared.value.Value.{Value}
 use Rattle.types.specs.declared.value.Value.TheVariants.{I32, I64}
-use Rattle.report_choice.specs.declared.way.Way.{Way}
-use Rattle.report_choice.specs.declared.way.Way.TheVariants as ways
+use Rattle.selection.specs.declared.way.Way.{Way}
+use Rattle.selection.specs.declared.way.Way.TheVariants as ways
 use Rattle.host_calls.specs.declared.plan.Plan.{Plan}
 use Rattle.wathread_c.specs.declared.given.Options.{Options}
 use Rattle.wathread_c.specs.declared.given.Word.{Word}

@@ -7,7 +7,7 @@ use Rattle.report_json.specs.Refusals.{accepted_json, refusal_json, status_of_re
 use Rattle.report_json.specs.declared.complete.Complete.{Complete}
 use Rattle.report_json.specs.declared.ends.RunEnd.{RunEnd}
 use Rattle.report_json.specs.declared.refusals.Refusal.{Refusal}
-use Rattle.report_lines.specs.Ends.{status_of}
+use Rattle.search_endings.specs.Ends.{status_of}
 use Rattle.search_endings.specs.Endings.{Ending}
 use Rattle.search_reach.specs.declared.ending.Ended.{Ended}
 use Rattle.spawn_host.specs.declared.end.EndState.{EndState}

@@ -3,7 +3,7 @@ ghost use Rattle.std.specs.Prelude.{◌≡◌, IfOk};
 ghost use Rattle.wathread_c.specs.Given.{plan_by, way_by, value_by, values_by};
 
 use host_calls::Plan;
-use report_choice::Way;
+use selection::Way;
 use std::alloc::{AllocError, Global};
 use types::Value;
 

@@ -5,7 +5,7 @@ ghost use Rattle.report_json.specs.Complete.{complete_json};
 ghost use Rattle.report_json.specs.Ends.{run_json};
 ghost use Rattle.report_json.specs.Json.{json_line};
 ghost use Rattle.report_json.specs.Refusals.{refusal_json};
-ghost use Rattle.report_lines.specs.Ends as specified;
+ghost use Rattle.search_endings.specs.Ends as specified;
 ghost use Rattle.wathread_c.specs.Answers.{no_answer};
 ghost use Rattle.wathread_c.specs.Calls.{TellsFault, TellsLine};
 ghost use Rattle.wathread_c.specs.Lines.{IsAcceptedText, IsRefusalText, IsRunText, IsSearchText};

@@ -1,8 +1,8 @@
 //! A run of a number.
 ghost use Rattle.std.specs.Prelude.{◌≡◌};
 ghost use Rattle.std.specs.List.{list_all};
-ghost use Rattle.report_lines.specs.Ends as specified;
-ghost use Rattle.report_lines.specs.Ends.{status_of};
+ghost use Rattle.search_endings.specs.Ends as specified;
+ghost use Rattle.search_endings.specs.Ends.{status_of};
 ghost use Rattle.wathread_c.specs.Answers.{no_answer};
 ghost use Rattle.wathread_c.specs.Calls.{KeepsRun, Runs, RunsNamed};
 
@@ -10,7 +10,7 @@ use crate::answer::{Answer, put};
 use crate::given::{Options, Word, values_of};
 use host_calls::run_of;
 use replay_text::write_record;
-use report_lines::is_done;
+use search_endings::is_done;
 use search_scheduled::MadeRun;
 use std::alloc::Global;
 use types::ThreadReport;

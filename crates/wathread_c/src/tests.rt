@@ -6,7 +6,15 @@ use crate::running::wathread_run;
 use crate::searching::wathread_search;
 use crate::{Answer, Options};
 use std::test::Fail;
-use test_modules::ATOMIC_ADD;
+
+/// `examples/atomic_add.wasm`: `f` adds 5 to the first word of its memory, and returns what stood there.
+const ATOMIC_ADD: &[u8] = b"\
+\x00\x61\x73\x6d\x01\x00\x00\x00\
+\x01\x05\x01\x60\x00\x01\x7f\
+\x03\x02\x01\x00\
+\x05\x04\x01\x03\x01\x01\
+\x07\x05\x01\x01\x66\x00\x00\
+\x0a\x0c\x01\x0a\x00\x41\x00\x41\x05\xfe\x1e\x02\x00\x0b";
 
 const OPTIONS: Options = Options {
     seed: 1,

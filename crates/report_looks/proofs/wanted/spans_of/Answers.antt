@@ -1,6 +1,6 @@
 use Rattle.std.proofs.Common.{◌+◌, List, sym, subst, take}
 use Rattle.std.specs.List.{AllZip}
-use Rattle.report_choice.specs.declared.choice.Span.{Span}
+use Rattle.selection.specs.declared.choice.Span.{Span}
 use Rattle.report_looks.specs.Looked.{AreAddresses}
 use Rattle.report_looks.proofs.Zipped.{zipped_more}
 use Rattle.report_looks.proofs.wanted.spans_of.Goals as goal

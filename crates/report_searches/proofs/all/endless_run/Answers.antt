@@ -1,6 +1,6 @@
 use Rattle.std.proofs.Common.{◌≡◌, Option, Some, None}
 use Rattle.std.specs.Prelude.{IfSome}
-use Rattle.report_choice.specs.declared.sought.Target.{Target}
+use Rattle.selection.specs.declared.sought.Target.{Target}
 use Rattle.search_reach.specs.declared.liveness.Liveness.{Liveness}
 use Rattle.report_searches.specs.declared.all.EndlessRun.{EndlessRun}
 use Rattle.report_searches.specs.Endless.{IsKnown, IsKnownIn}

@@ -1,6 +1,6 @@
 use Rattle.std.proofs.Common.{◌≡◌, Bool, true, false, not, ap, ◌∙◌, sym, refl, true≢false}
 use Rattle.std.specs.List.{list_all}
-use Rattle.report_lines.specs.Ends.{is_done}
+use Rattle.search_endings.specs.Ends.{is_done}
 use Rattle.search_finds.proofs.sought.has_failure.Goals as goal
 
 untrue : (b : Bool) → not b ≡ true → b ≡ false

@@ -1,5 +1,5 @@
 use Rattle.std.proofs.Common.{◌≡◌, ◌↔◌, true, IfOk, subst, sym}
-use Rattle.report_choice.specs.declared.sought.Find.{Find}
+use Rattle.selection.specs.declared.sought.Find.{Find}
 use Rattle.search_finds.specs.Finds.{IsFoundBy}
 use Rattle.search_finds.proofs.sought.is_found.Goals as goal
 

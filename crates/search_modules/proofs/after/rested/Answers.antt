@@ -1,8 +1,8 @@
 use Rattle.std.proofs.Common.{sym, subst}
 use Rattle.schedule.specs.Scheduled.{after_event}
 use Rattle.search_runs.specs.Called.{system_of}
-use Rattle.search_walkers.specs.Walkers.{RestsAt}
-use Rattle.search_walkers.specs.declared.walker.RestingThread.{RestingThread}
+use Rattle.search_parts.specs.Walkers.{RestsAt}
+use Rattle.search_parts.specs.declared.walker.RestingThread.{RestingThread}
 use Rattle.search_modules.specs.Moved.{called}
 use Rattle.search_modules.proofs.after.rested.Goals as goal
 

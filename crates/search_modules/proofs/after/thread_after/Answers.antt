@@ -1,5 +1,5 @@
 use Rattle.std.proofs.Common.{sym, subst}
-use Rattle.search_walkers.specs.Walkers.{RestsAt}
+use Rattle.search_parts.specs.Walkers.{RestsAt}
 use Rattle.schedule.specs.Scheduled.{after_event}
 use Rattle.search_runs.specs.Called.{system_of}
 use Rattle.search_parts.specs.declared.shared.HashedThread.{HashedThread}

@@ -6,8 +6,8 @@ use Rattle.interp_machine.specs.State.{At}
 use Rattle.search_threads.specs.Unlimited.{Unlimited.Going}
 use Rattle.search_settled.specs.Settled.{MakesTurns}
 use Rattle.search_runs.specs.Called.{Walker as Thread, system_of}
-use Rattle.search_walkers.specs.Walkers.{RestsAt, patience}
-use Rattle.search_walkers.specs.Rests.{CanBegin, BeginsAndRests, BeginsAndRunsOn}
+use Rattle.search_parts.specs.Walkers.{RestsAt, patience}
+use Rattle.search_parts.specs.Rests.{CanBegin, BeginsAndRests, BeginsAndRunsOn}
 use Rattle.search_parts.specs.Sharing.{Shares}
 use Rattle.search_modules.specs.Moved.{called}
 use Rattle.search_modules.proofs.Callable.{main, sized}

@@ -21,7 +21,7 @@ invariant_of-result c =
     let worker = subst (λ (x : Parts). IsWorkerOf x c.worker_of.result) same c.worker_of.ensures in
     let opening = c.in_ok-opening.ensures ∙ ap opening_image same in
     let max = c.pages_max.ensures ∙ ap (pages_max_of MOST_PAGES) same in
-    let args = c.call.ensures.call.args_are ∙ sym c.in_ok-args.ensures in
+    let args = c.call.ensures.call.args_are ∙ sym c.in_ok-args.ensures.items in
     record {
       callable = subst (λ (x : Parts). is_callable x c.in_ok-opening.opening.items c.pages_max.result c.number.result c.in_ok-args.args.items
           c.worker_of.result ≡ true) (sym same)
@@ -40,7 +40,7 @@ returns-clause-call c =
     let worker = subst (λ (x : Parts). IsWorkerOf x c.worker_of.result) same c.worker_of.ensures in
     let opening = c.in_ok-opening.ensures ∙ ap opening_image same in
     let max = c.pages_max.ensures ∙ ap (pages_max_of MOST_PAGES) same in
-    let args = c.call.ensures.call.args_are ∙ sym c.in_ok-args.ensures in
+    let args = c.call.ensures.call.args_are ∙ sym c.in_ok-args.ensures.items in
     let b = λ (x : Parts) (a : List Value). called_of x c.in_ok-opening.opening.items c.pages_max.result c.number.result a c.worker_of.result in
     subst (λ (x : Parts). IsCall r.parts r.name r.args (b x c.in_ok-args.args.items)) (sym same)
     (subst (λ a. IsCall r.parts r.name r.args (b r.parts a)) args

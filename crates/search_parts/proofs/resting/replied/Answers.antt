@@ -2,7 +2,7 @@ use Rattle.std.proofs.Common.{sym, subst}
 use Rattle.schedule.specs.System.{put}
 use Rattle.schedule.proofs.Basics.{put-same, put-other}
 use Rattle.search_settled.specs.Settled.{MakesTurns}
-use Rattle.search_walkers.specs.Walkers.{RestsAt, StandsForThread, patience}
+use Rattle.search_parts.specs.Walkers.{RestsAt, StandsForThread, patience}
 use Rattle.search_runs.specs.Called.{system_of, reply_by}
 use Rattle.search_parts.specs.Parts.{IsRested}
 use Rattle.search_parts.proofs.AtRest.{at_rest}

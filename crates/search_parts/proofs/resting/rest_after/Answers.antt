@@ -8,7 +8,7 @@ use Rattle.search_threads.specs.Budgets.{started_without}
 use Rattle.search_settled.specs.Settled.{MakesTurns}
 use Rattle.interp_trait.specs.Turns.{spawned_in}
 use Rattle.search_threads.specs.Unlimited.{Unlimited.Going}
-use Rattle.search_walkers.specs.Walkers.{RestsAt, patience}
+use Rattle.search_parts.specs.Walkers.{RestsAt, patience}
 use Rattle.search_runs.specs.Called.{Walker, system_of, reply_by, answer_by, begun_at}
 use Rattle.search_parts.specs.Sharing.{begun_in}
 use Rattle.search_parts.specs.declared.event.Begun.{Begun}

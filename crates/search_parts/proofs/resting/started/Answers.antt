@@ -3,7 +3,7 @@ use Rattle.interp_machine.specs.State.{At}
 use Rattle.search_threads.specs.Unlimited.{Unlimited.Going}
 use Rattle.search_settled.specs.Settled.{MakesTurns}
 use Rattle.search_runs.specs.Called.{system_of}
-use Rattle.search_walkers.specs.Walkers.{RestsAt, patience}
+use Rattle.search_parts.specs.Walkers.{RestsAt, patience}
 use Rattle.search_parts.specs.Parts.{AreWorkers, IsWorkerFunction}
 use Rattle.search_parts.proofs.resting.started.Goals as goal
 

@@ -1,6 +1,6 @@
 use Rattle.std.proofs.Common.{sym, subst}
 use Rattle.search_settled.specs.Settled.{MakesTurns}
-use Rattle.search_walkers.specs.Walkers.{RestsAt, patience}
+use Rattle.search_parts.specs.Walkers.{RestsAt, patience}
 use Rattle.search_runs.specs.Called.{system_of}
 use Rattle.schedule.specs.Scheduled.{hears_any}
 use Rattle.search_parts.proofs.resting.told.Goals as goal

@@ -37,6 +37,6 @@ returns g c = λ ks s are there.
       record {
         shared = subst (λ l. (x : g.M.Moves.X) → k.shares l x ↔ k.shares c.in_ok-shared.shared x) (sym (ap (λ h. h.shared) same)) c.in_ok-shared.ensures;
         threads = c.in_ok-threads.ensures s.flat.threads.items of.1;
-        owned = c.in_ok-owned.ensures ∙ (c.as_slice.ensures.value ∙ sym (ap (λ h. h.owned.items) same));
+        owned = c.in_ok-owned.ensures.items ∙ (c.as_slice.ensures.value ∙ sym (ap (λ h. h.owned.items) same));
       },
     )

@@ -8,6 +8,6 @@ returns c = record {
   place = c.place.ensures.next;
   callers = λ config left stands.
       let Are : List Caller → Type 0 = λ xs. HasCallers c.args.thread.now.parts.now xs config in
-      subst Are (sym c.in_ok-callers.ensures) (c.callers-open.ensures config left stands);
+      subst Are (sym c.in_ok-callers.ensures.items) (c.callers-open.ensures config left stands);
   kept = c.in_ok-kept.ensures.kept;
 }

@@ -1,7 +1,7 @@
 use Rattle.std.proofs.Common.{refl, length}
 use Rattle.show_races.specs.Written.{SaysRace, end_text}
 use Rattle.show_races.proofs.Telling.{told_all}
-use Rattle.show_races.proofs.Texts.{all_written, none_yet, text_next}
+use Rattle.show_rows.proofs.Texts.{all_written, none_yet, text_next}
 use Rattle.show_races.proofs.writing.write_races.Goals as goal
 
 pub loop-at-init : goal.loop-at-init

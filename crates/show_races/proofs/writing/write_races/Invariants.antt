@@ -1,5 +1,5 @@
 use Rattle.show_races.specs.Written.{SaysRace}
-use Rattle.show_races.proofs.Texts.{AreWritten}
+use Rattle.show_rows.proofs.Texts.{AreWritten}
 use Rattle.show_races.proofs.writing.write_races.Given as goal
 
 abbrev pub invariant-loop-at : goal.invariant-loop-at

@@ -1,7 +1,7 @@
 use Rattle.std.proofs.Common.{◌≡◌, List, true, inl, inr, subst, sym, ◌∙◌, true≢false, length, codes, string_bytes, rules}
 use Rattle.types.specs.declared.event.Entry.{Entry}
-use Rattle.show_writes.specs.declared.lasts.Act.TheVariants as acts
-use Rattle.show_waits.specs.Lasts.{SaysLast}
+use Rattle.show_named.specs.declared.lasts.Act.TheVariants as acts
+use Rattle.show_named.specs.LastTexts.{SaysLast}
 use Rattle.show_waits.specs.Waits.{IsOwn}
 use Rattle.show_waits.proofs.waits.other_text.Goals as goal
 

@@ -1,7 +1,7 @@
 use Rattle.std.proofs.Common.{List, inr, refl, subst}
 use Rattle.std.proofs.lemmas.Result.{IfOk-weaker}
 use Rattle.types.specs.declared.event.Entry.{Entry}
-use Rattle.show_writes.specs.Stands.{TouchesNothing}
+use Rattle.show_waits.specs.Stands.{TouchesNothing}
 use Rattle.show_waits.proofs.waits.place_text.Goals as goal
 
 pub returns-in-None : goal.returns-in-None

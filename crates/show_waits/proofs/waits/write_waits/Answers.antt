@@ -1,7 +1,7 @@
 use Rattle.std.proofs.Common.{◌≡◌, ◌<◌, ◌≤◌, length, get_or, sym, subst, arith}
 use Rattle.std.specs.List.{range_with_len}
 use Rattle.std.proofs.lemmas.List.FromFn.{get_or-range_with_len, length-range_with_len}
-use Rattle.show_races.proofs.Texts.{text_next}
+use Rattle.show_rows.proofs.Texts.{text_next}
 use Rattle.show_waits.specs.Waits.{SaysWait}
 use Rattle.show_waits.proofs.Telling.{all_and_cycles}
 use Rattle.show_waits.proofs.waits.write_waits.Goals as goal

@@ -1,6 +1,6 @@
 use Rattle.std.proofs.Common.{length}
 use Rattle.std.specs.List.{range_with_len}
-use Rattle.show_races.proofs.Texts.{AreWritten}
+use Rattle.show_rows.proofs.Texts.{AreWritten}
 use Rattle.show_waits.specs.Waits.{SaysWait}
 use Rattle.show_waits.proofs.waits.write_waits.Given as goal
 

@@ -1,5 +1,5 @@
 use Rattle.std.proofs.Common.{[], refl, ◌∙◌, ap}
-use Rattle.report_lines.specs.Ends.{status_of}
+use Rattle.search_endings.specs.Ends.{status_of}
 use Rattle.wathread_c.proofs.objects.run_line.Goals as goal
 
 pub returns : goal.returns

@@ -10,6 +10,6 @@ returns-clause-round c = record {
   kept = refl;
   same = c.in_ok-keep.ensures;
   bytes = c.in_ok-self-2.ensures ∙ ap (λ (b : List ℕ). bytes_of b c.args.self.now.wanted) c.bytes.ensures.value;
-  memory = c.in_ok-self-3.ensures ∙ c.bytes-2.ensures.value;
+  memory = c.in_ok-self-3.ensures.items ∙ c.bytes-2.ensures.value;
   here = subst (λ (ts : List Thread). AllZip StandsIn ts c.in_ok-self.field-0.items) c.deref.ensures.value c.in_ok-self.ensures;
 }

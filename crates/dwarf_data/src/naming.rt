@@ -1,0 +1,124 @@
+//! From addresses to words.
+
+ghost use Rattle.std.specs.Prelude.{IfOk, OnSome, IsSome, find};
+ghost use Rattle.dwarf_units.specs.Spans.{holds};
+
+use crate::members::members;
+use crate::parts::{Part, Shape};
+use crate::sizes::MOST_TYPES;
+use crate::static_data::whole;
+use dwarf_units::{Spans, Units};
+use std::alloc::{AllocError, Global};
+use std::fmt::Write;
+
+/// The words of a part so far, the part, and where the last part began that has a name of its own.
+#[derive(Drop)]
+struct Named {
+    words: String,
+    part: Part,
+    start: u64,
+}
+
+impl Named {
+    /// Goes on to the first member that has an address. Answers whether there is one.
+    fn to_member(
+        &mut self,
+        alloc: Global,
+        units: &Units,
+        address: u64,
+    ) -> Result<bool, AllocError> {
+        for member in &members(alloc, units, self.part.its_type)? {
+            let Some(part) = self.part.member(units, *member) else {
+                continue;
+            };
+            if part.place.contains(address) {
+                if let Some(name) = member.name {
+                    write!(self.words, ".{name}")?;
+                    self.start = part.place.start;
+                }
+                self.part = part;
+                return Ok(true);
+            }
+        }
+        Ok(false)
+    }
+
+    /// Goes on to the element that has an address. Answers whether there is one.
+    fn to_element(
+        &mut self,
+        alloc: Global,
+        units: &Units,
+        address: u64,
+        size: u64,
+    ) -> Result<bool, AllocError> {
+        if size == 0 {
+            return Ok(false);
+        }
+        let number = address.saturating_sub(self.part.place.start) / size;
+        match self.part.element(alloc, units, number, size)? {
+            Some(part) => {
+                write!(self.words, "[{number}]")?;
+                self.start = part.place.start;
+                self.part = part;
+                Ok(true)
+            }
+            None => Ok(false),
+        }
+    }
+
+    /// Goes on to the part right below that has an address. Answers whether there is one.
+    fn step(&mut self, alloc: Global, units: &Units, address: u64) -> Result<bool, AllocError> {
+        match self.part.shape(alloc, units)? {
+            Shape::Members => self.to_member(alloc, units, address),
+            Shape::Elements { count: _, size } => self.to_element(alloc, units, address, size),
+            Shape::Whole => Ok(false),
+        }
+    }
+}
+
+impl Named {
+    /// Whether a part of this type begins at an address.
+    fn is_at(&self, address: u64, its_type: Option<usize>) -> bool {
+        self.part.place.start == address && its_type == Some(self.part.its_type)
+    }
+}
+
+/// What an address is called: by the static variable that has it, and the members and elements on the way to it, as far as
+/// the first one of this type that begins there, if there is one. One that isn't the first of what is named has its
+/// distance from that behind a `+`.
+pub fn name_at(
+    alloc: Global,
+    units: &Units,
+    data: &Spans,
+    address: u64,
+    its_type: Option<usize>,
+) -> Result<Option<String>, AllocError>
+    ensures { IfOk result (λ words. OnSome words (IsSome (find (holds address) «data».now.items.items))) }
+{
+    let Some(span) = data.at(address) else {
+        return Ok(None);
+    };
+    let (Some(name), Some(part)) = (units.name(span.entry), whole(units, span)) else {
+        return Ok(None);
+    };
+    let mut named = Named {
+        words: String::from_str(alloc, name)?,
+        part,
+        start: span.start,
+    };
+    for _ in 0..MOST_TYPES {
+        if named.is_at(address, its_type) || !named.step(alloc, units, address)? {
+            break;
+        }
+    }
+    let past = address.saturating_sub(named.start);
+    if past > 0 {
+        write!(named.words, "+{past}")?;
+    }
+    let Named {
+        words,
+        part: _,
+        start: _,
+    } = named;
+    Ok(Some(words))
+}

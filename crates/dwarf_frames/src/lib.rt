@@ -1,0 +1,25 @@
+//! What C says of the place where a thread is: the calls whose functions were put in their places, innermost first, and
+//! the parameters and locals that are in scope, each with its type and where it is.
+//!
+//! Proved: ends on every input, and answers an error for want of memory alone; what is said of a frame is said of the
+//! offset that is asked for.
+//!
+//! The entries are those of the crate `dwarf_units`. What they don't say is left out.
+#![tactic(auto)]
+
+mod frames;
+mod functions;
+mod inlined;
+mod kinds;
+mod scopes;
+mod values;
+mod variables;
+mod wording;
+
+pub use frames::{Chain, Frame, read_frame};
+pub use functions::read_functions;
+pub use inlined::{Inlined, inlined_at};
+pub use kinds::Kind;
+pub use values::FrameValue;
+pub use variables::{Variable, variables_at};
+pub use wording::type_words;

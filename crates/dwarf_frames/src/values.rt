@@ -1,0 +1,191 @@
+//! The values that a frame has: variables without parts, and the parts of those that have some.
+
+use crate::inlined::Inlined;
+use crate::kinds::{Kind, kind_of};
+use crate::variables::Variable;
+use crate::wording::type_words;
+use dwarf_data::{Bits, Leaf, bare, leaves_of};
+use dwarf_units::{Location, Units};
+use std::alloc::{AllocError, Global};
+use std::fmt::Write;
+
+/// The most bytes of a number.
+const MOST_BYTES: u64 = 8;
+
+/// The most bytes of a type and a name.
+const MOST_LABEL: usize = 1024;
+
+/// The most values of a frame.
+const MOST_VALUES: usize = 256;
+
+/// A value: its type and its name, as `int items[2].count`, where it is, how many bytes it touches, how they are read,
+/// and its bits in the number that they spell: the lowest one, and how many. One that has parts of its own stands for
+/// those that aren't told.
+#[derive(Drop)]
+pub struct FrameValue {
+    pub label: String,
+    pub location: Location,
+    pub size: u8,
+    pub kind: Kind,
+    /// The type of what it points to, if it does.
+    pub target: Option<usize>,
+    pub first_bit: u32,
+    pub bits: u32,
+}
+
+/// All bits of so many bytes.
+fn all_bits(size: u64) -> Bits {
+    Bits {
+        first: 0,
+        count: size.saturating_mul(8),
+    }
+}
+
+/// How the bytes of a value are read, and the type of what it points to, if it does.
+#[derive(Clone, Copy)]
+struct Read {
+    kind: Kind,
+    target: Option<usize>,
+}
+
+/// How the values of a type are read.
+fn read_of(units: &Units, its_type: usize) -> Read {
+    let kind = kind_of(units, its_type);
+    let target = if kind == Kind::Pointer {
+        bare(units, its_type)
+            .and_then(|pointer| units.type_of(pointer))
+            .and_then(|target| bare(units, target))
+    } else {
+        None
+    };
+    Read { kind, target }
+}
+
+/// A value, where its bytes are a number, or only that it is there is told.
+fn told(
+    label: String,
+    location: Location,
+    size: u64,
+    read: Read,
+    bits: Bits,
+) -> Option<FrameValue> {
+    let Read { kind, target } = read;
+    match kind {
+        Kind::Signed | Kind::Unsigned | Kind::Pointer if size > MOST_BYTES => return None,
+        Kind::Float | Kind::Other => return None,
+        _ => {}
+    }
+    Some(FrameValue {
+        label,
+        location,
+        size: u8::try_from(size).unwrap_or(u8::MAX),
+        kind,
+        target,
+        first_bit: u32::try_from(bits.first).ok()?,
+        bits: u32::try_from(bits.count).ok()?,
+    })
+}
+
+/// The type and the name of a part of a variable, with the function that has it in front where that was put in the place
+/// of a call.
+fn label_of(
+    alloc: Global,
+    inlined: &[Inlined],
+    variable: &Variable,
+    words: &str,
+    part: &str,
+) -> Result<String, AllocError> {
+    let mut label = String::new(alloc);
+    if variable.depth > 0 {
+        let at = inlined.len().checked_sub(variable.depth);
+        if let Some(name) = at.and_then(|at| inlined.get(at)?.function) {
+            write!(label, "{name}: ")?;
+        }
+    }
+    label.push_str(words)?;
+    if !words.ends_with('*') {
+        label.push(' ')?;
+    }
+    label.push_str(variable.name)?;
+    label.push_str(part)?;
+    Ok(label)
+}
+
+/// The value of a variable that has no parts, if it is told.
+fn value_of(
+    alloc: Global,
+    units: &Units,
+    inlined: &[Inlined],
+    variable: &Variable,
+) -> Result<Option<FrameValue>, AllocError> {
+    let label = label_of(alloc, inlined, variable, variable.type_words.as_str(), "")?;
+    let (size, read) = (variable.size, read_of(units, variable.its_type));
+    Ok(told(label, variable.location, size, read, all_bits(size)))
+}
+
+/// The value of a part of a variable, if it has a place and a type that has words.
+fn part_of(
+    alloc: Global,
+    units: &Units,
+    inlined: &[Inlined],
+    variable: &Variable,
+    leaf: &Leaf,
+) -> Result<Option<FrameValue>, AllocError> {
+    let Some(location) = variable.location.farther(leaf.place.start) else {
+        return Ok(None);
+    };
+    let Some(words) = type_words(alloc, units, Some(leaf.its_type))? else {
+        return Ok(None);
+    };
+    let read = if leaf.is_cut {
+        Read {
+            kind: Kind::Parts,
+            target: None,
+        }
+    } else {
+        read_of(units, leaf.its_type)
+    };
+    let label = label_of(
+        alloc,
+        inlined,
+        variable,
+        words.as_str(),
+        leaf.words.as_str(),
+    )?;
+    let size = leaf.place.size;
+    let bits = leaf.bits.unwrap_or(all_bits(size));
+    Ok(told(label, location, size, read, bits))
+}
+
+/// Adds a value, if there is one and there is room.
+fn add(values: &mut Vec<FrameValue>, value: Option<FrameValue>) -> Result<(), AllocError> {
+    if let Some(value) = value {
+        if values.len() < MOST_VALUES && value.label.len() <= MOST_LABEL {
+            values.push(value)?;
+        }
+    }
+    Ok(())
+}
+
+/// The values of variables, in their order, as many as a frame has at most.
+pub(crate) fn values_of(
+    alloc: Global,
+    units: &Units,
+    inlined: &[Inlined],
+    variables: &[Variable],
+) -> Result<Vec<FrameValue>, AllocError> {
+    let mut values = Vec::new(alloc);
+    for variable in variables {
+        if values.len() >= MOST_VALUES {
+            break;
+        }
+        if variable.kind != Kind::Parts {
+            add(&mut values, value_of(alloc, units, inlined, variable)?)?;
+            continue;
+        }
+        for leaf in &leaves_of(alloc, units, variable.its_type, variable.size)? {
+            add(&mut values, part_of(alloc, units, inlined, variable, leaf)?)?;
+        }
+    }
+    Ok(values)
+}

@@ -1,0 +1,4 @@
+pub mod Numbers
+pub mod Reads
+pub mod Sections
+pub mod Strings

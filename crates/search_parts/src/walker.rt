@@ -1,0 +1,41 @@
+//! A thread at rest.
+
+use interp::Kept;
+use std::alloc::{AllocError, Global};
+use types::Outcome;
+
+/// How far a thread is that makes no turn of its own.
+#[derive(PartialEq, Eq, Drop)]
+pub enum RestingThread {
+    /// It wasn't started.
+    Missing,
+    /// It wants an event, or awaits an answer.
+    Going(Kept),
+    /// It has ended, and hasn't asked to leave.
+    Ended(Outcome),
+    /// It has asked to leave.
+    Leaving(Outcome),
+    /// It has left.
+    Away(Outcome),
+}
+
+impl RestingThread {
+    ghost use Rattle.std.specs.Prelude.{IfOk};
+    ghost use Rattle.search_parts.specs.Rests.{StandsForAll};
+
+    /// A copy.
+    ///
+    /// # Errors
+    /// Where memory is refused.
+    pub fn copy(&self, alloc: Global) -> Result<RestingThread, AllocError>
+        ensures { IfOk result (StandsForAll self.now) }
+    {
+        match self {
+            RestingThread::Missing => Ok(RestingThread::Missing),
+            RestingThread::Going(kept) => Ok(RestingThread::Going(kept.copy(alloc)?)),
+            RestingThread::Ended(outcome) => Ok(RestingThread::Ended(*outcome)),
+            RestingThread::Leaving(outcome) => Ok(RestingThread::Leaving(*outcome)),
+            RestingThread::Away(outcome) => Ok(RestingThread::Away(*outcome)),
+        }
+    }
+}

@@ -1,3 +1,0 @@
-pub mod Giving
-pub mod Walking
-pub mod Placing

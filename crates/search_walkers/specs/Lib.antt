@@ -1,2 +1,0 @@
-pub mod Walkers
-pub mod Rests

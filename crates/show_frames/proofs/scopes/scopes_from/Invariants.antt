@@ -1,5 +1,0 @@
-use Rattle.show_frames.specs.Scopes.{BeginsWith}
-use Rattle.show_frames.proofs.scopes.scopes_from.Given as goal
-
-abbrev pub invariant-loop : goal.invariant-loop
-invariant-loop l = BeginsWith l.fn.function l.scopes.items

@@ -1,6 +1,0 @@
-use Rattle.std.proofs.Common.{take}
-use Rattle.show_lines.specs.Sources.{AreOf}
-use Rattle.show_lines.proofs.sources.Sources.new.Given as goal
-
-abbrev pub invariant-loop-file : goal.invariant-loop-file
-invariant-loop-file l = AreOf (take l.file-index l.files) l.all.items

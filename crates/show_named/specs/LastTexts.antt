@@ -1,0 +1,37 @@
+-- What is told of the last entry that does something.
+use Rattle.std.specs.Prelude.{ℕ, ◌≡◌, ◌⊎◌, ◌==◌, ◌++◌, if◌then◌else◌, List, Option, codes}
+use Rattle.std.specs.Fmt.{decimal}
+use Rattle.std.specs.Io.KnownBytes.{Appends}
+use Rattle.selection.specs.declared.choice.Span.{Span}
+use Rattle.show_rows.specs.declared.listing.Shown.{Shown}
+use Rattle.show_rows.specs.declared.listing.Story.{Story}
+use Rattle.show_named.specs.declared.data_map.DataMap.{DataMap}
+use Rattle.show_named.specs.Rows.{IsEntryText}
+use Rattle.show_named.specs.declared.lasts.Act.{Act}
+use Rattle.show_named.specs.declared.lasts.Act.TheVariants as acts
+use Rattle.show_named.specs.Lasts.{HasNone, IsLast}
+
+-- Addresses: one, or the first and the last.
+abbrev pub addresses_text : Span → List ℕ
+addresses_text s = if s.first == s.last then decimal s.first else decimal s.first ++ (codes " to " ++ decimal s.last)
+
+-- The words of the last entry before this place that does it.
+pub record SaysSome (shown : Shown) (map : DataMap) (story : Story) (before : ℕ) (act : Act) (text : List ℕ) : Type 0 where
+  pub at : ℕ
+  pub last : IsLast act shown.record.now.log before at
+  pub is : IsEntryText shown map story at text
+
+-- Those, or these words where none does.
+abbrev pub SaysLast : Shown → DataMap → Story → ℕ → Act → List ℕ → List ℕ → Type 0
+SaysLast shown map story before act none text = SaysSome shown map story before act text
+    ⊎ (HasNone act shown.record.now.log before × (text ≡ none))
+
+-- What is said where none writes there.
+abbrev pub unwritten_text : Span → List ℕ
+unwritten_text addrs = codes "nobody writes to " ++ (addresses_text addrs
+    ++ codes " before that: the module has these bytes, or they are zeros")
+
+-- It is written, and a line feed.
+abbrev pub WritesLast : Shown → DataMap → Story → ℕ → Span → Option (List ℕ) → Option (List ℕ) → Type 0
+WritesLast shown map story before addrs old new = (text : List ℕ)
+    × SaysLast shown map story before (acts.Write addrs) (unwritten_text addrs) text × Appends old new (text ++ codes "\n")

@@ -1,9 +1,0 @@
-use Rattle.std.proofs.Common.{◌≡◌, ◌+◌, ◌-◌, ◌*◌, ◌^◌, ◌<◌, take, drop}
-use Rattle.shared_memory.specs.Numbers.{le_number}
-use Rattle.show_rows.proofs.rows.number_at.Given as goal
-
-abbrev pub invariant-loop-i : goal.invariant-loop-i
-invariant-loop-i l = record {
-  value : l.number ≡ le_number (take (l.width - l.i) (drop (l.at + l.i) l.bytes));
-  small : l.number < 2 ^ (8 * (l.width - l.i));
-}

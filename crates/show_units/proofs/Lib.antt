@@ -1,4 +1,0 @@
-pub mod Find
-pub mod Little
-pub mod Order
-pub mod Search

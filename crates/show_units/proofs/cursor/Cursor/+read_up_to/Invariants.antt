@@ -1,4 +1,0 @@
-use Rattle.show_units.proofs.cursor.Cursor.+read_up_to.Given as goal
-
-abbrev pub decreases-read_up_to : goal.decreases-read_up_to
-decreases-read_up_to l = l.top

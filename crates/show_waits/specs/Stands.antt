@@ -1,0 +1,45 @@
+-- At which bytes a thread stands: those of the last of its entries that touches any.
+use Rattle.std.specs.Prelude.{ℕ, ◌≡◌, ◌≢◌, ◌==◌, ◌&&◌, ◌<◌, ◌≤◌, Bool, List, Some, drop, filter, length}
+use Rattle.std.specs.List.{slice_get}
+use Rattle.std.specs.Option.{is_some}
+use Rattle.types.specs.declared.event.Entry.{Entry}
+use Rattle.selection.specs.Choices.{touched}
+use Rattle.selection.specs.declared.choice.Span.{Span}
+use Rattle.show_waits.specs.declared.stands.Stand.{Stand}
+
+-- An entry of the thread that touches bytes, or waits or wakes at an address.
+abbrev pub is_touch : ℕ → Entry → Bool
+is_touch n e = (e.thread == n) && is_some (touched e.event)
+
+-- The entry of this place is one, at these addresses.
+pub record TouchesAt (n : ℕ) (log : List Entry) (k : ℕ) (addrs : Span) : Type 0 where
+  pub entry : Entry
+  pub at : slice_get log k ≡ Some entry
+  pub own : entry.thread ≡ n
+  pub touches : touched entry.event ≡ Some addrs
+
+-- Behind the place `last` there is none of the thread; from the place `since` on there are so many, and all are at these
+-- addresses.
+pub record Stands (n : ℕ) (log : List Entry) (s : Stand) : Type 0 where
+  pub last : TouchesAt n log s.last s.addrs
+  pub none : (k : ℕ) (addrs : Span) → s.last < k → TouchesAt n log k addrs → ⊥
+  pub since : TouchesAt n log s.since s.addrs
+  pub same : (k : ℕ) (addrs : Span) → s.since ≤ k → TouchesAt n log k addrs → addrs ≡ s.addrs
+  pub times : s.times ≡ length (filter (is_touch n) (drop s.since log))
+
+-- The one before these, if there is one, is at others.
+pub record BeginsAt (n : ℕ) (log : List Entry) (s : Stand) (k : ℕ) (addrs : Span) : Type 0 where
+  pub place : ℕ
+  pub from : k ≤ place
+  pub to : place < s.since
+  pub others : Span
+  pub at : TouchesAt n log place others
+  pub differ : others ≢ s.addrs
+
+pub record IsStand (n : ℕ) (log : List Entry) (s : Stand) : Type 0 where
+  pub stands : Stands n log s
+  pub begins : (k : ℕ) (addrs : Span) → k < s.since → TouchesAt n log k addrs → BeginsAt n log s k addrs
+
+-- The thread touches nothing.
+abbrev pub TouchesNothing : ℕ → List Entry → Type 0
+TouchesNothing n log = (k : ℕ) (addrs : Span) → TouchesAt n log k addrs → ⊥

@@ -1,0 +1,59 @@
+//! At which bytes a thread stands.
+ghost use Rattle.std.specs.Prelude.{◌≡◌, ◌↔◌, true, None, IfSome};
+ghost use Rattle.selection.specs.Choices.{touched};
+ghost use Rattle.show_waits.specs.Stands.{IsStand, TouchesNothing};
+
+use selection::{Span, touched};
+use types::Entry;
+
+/// Where a thread stands: the bytes that it touched last, or waited for, and since when it touched no others.
+#[derive(Clone, Copy, PartialEq, Eq, Debug)]
+pub struct Stand {
+    /// The addresses of these bytes.
+    pub addrs: Span,
+    /// The place of the first of its entries at its end that touch these alone, in the log, counted from 0.
+    pub since: usize,
+    /// The place of the last of them.
+    pub last: usize,
+    /// How many they are.
+    pub times: usize,
+}
+
+/// Whether two spans are the same.
+pub(crate) fn is_same(a: Span, b: Span) -> bool
+    ensures { (result ≡ true) ↔ (a ≡ b) }
+{
+    a.first == b.first && a.last == b.last
+}
+
+/// Where thread n stands at the end of a log, or nothing where no entry of it touches any bytes.
+pub(crate) fn stand_of(log: &[Entry], n: usize) -> Option<Stand>
+    ensures stands { IfSome result (IsStand n log.now) }
+    ensures none { result ≡ None → TouchesNothing n log.now }
+{
+    let mut found: Option<Stand> = None;
+    for place in (0..log.len()).rev() {
+        let entry = &log[place];
+        if entry.thread as usize != n {
+            continue;
+        }
+        let Some(addrs) = touched(entry.event) else {
+            continue;
+        };
+        found = match found {
+            None => Some(Stand {
+                addrs,
+                since: place,
+                last: place,
+                times: 1,
+            }),
+            Some(stand) if is_same(stand.addrs, addrs) => Some(Stand {
+                since: place,
+                times: stand.times + 1,
+                ..stand
+            }),
+            Some(stand) => return Some(stand),
+        };
+    }
+    found
+}

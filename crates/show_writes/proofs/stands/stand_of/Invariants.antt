@@ -1,5 +1,0 @@
-use Rattle.show_writes.proofs.Standing.{IsSeen}
-use Rattle.show_writes.proofs.stands.stand_of.Given as goal
-
-abbrev pub invariant-loop-place : goal.invariant-loop-place
-invariant-loop-place l = IsSeen l.n l.log l.place l.found
