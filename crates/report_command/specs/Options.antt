@@ -1,6 +1,6 @@
 -- Which field of a job is which argument of the command line: a line for each.
 use Rattle.std.specs.Prelude.{ℕ, ◌≡◌, ◌≢◌, ◌⊎◌, ◌||◌, Bool, true, false, List, map, ◌++◌, codes}
-use Rattle.std.specs.Prelude.{Option, Some, None, is_some, option_map, IfSome, MatchOption}
+use Rattle.std.specs.Prelude.{Option, Some, is_some, option_map, IfSome, MatchOption}
 use Rattle.std.specs.Borrow.{Bor}
 use Rattle.clap.specs.Words.{first_value, rows_of, subcommand_name_of, subcommand_rows_of}
 use Rattle.clap.specs.Words.{HasMatchesOf, app_of, IsParsedFrom}

@@ -1,7 +1,7 @@
 //! The commands, and how the parser gets them and their arguments out of tables.
 
 use crate::arguments::{Argument, Position};
-use crate::options::{OPTIONS, UNTIL_HELP};
+use crate::options::{OF_A_RECORD, OF_A_RUN, OF_A_SEARCH, OF_A_VIEW, OF_ALL, OF_RUNS, UNTIL_HELP};
 use clap::builder::ValueRange;
 use clap::{Arg, Command};
 use std::alloc::{AllocError, Global};
@@ -119,14 +119,36 @@ fn arg_of<'a>(alloc: Global, row: &Argument<'static>) -> Result<Arg<'a>, AllocEr
         .requires_all(row.needs)
 }
 
-/// A command with the arguments that it takes.
-fn command_of<'a>(alloc: Global, row: &CommandRow) -> Result<Command<'a>, AllocError> {
-    let mut args = Vec::new(alloc);
-    for option in &OPTIONS {
-        if option.commands.contains(&row.command) {
-            args.push(arg_of(alloc, option)?)?;
+/// Adds those arguments of a table that a command takes, in the table's order.
+fn add<'a>(
+    alloc: Global,
+    command: CommandName,
+    table: &[Argument<'static>],
+    args: &mut Vec<Arg<'a>>,
+) -> Result<(), AllocError> {
+    for row in table {
+        if row.commands.contains(&command) {
+            args.push(arg_of(alloc, row)?)?;
         }
     }
+    Ok(())
+}
+
+/// The arguments that a command takes, in the order of its help.
+fn args_of<'a>(alloc: Global, command: CommandName) -> Result<Vec<Arg<'a>>, AllocError> {
+    let mut args = Vec::new(alloc);
+    add(alloc, command, &OF_A_RUN, &mut args)?;
+    add(alloc, command, &OF_RUNS, &mut args)?;
+    add(alloc, command, &OF_A_SEARCH, &mut args)?;
+    add(alloc, command, &OF_A_RECORD, &mut args)?;
+    add(alloc, command, &OF_A_VIEW, &mut args)?;
+    add(alloc, command, &OF_ALL, &mut args)?;
+    Ok(args)
+}
+
+/// A command with the arguments that it takes.
+fn command_of<'a>(alloc: Global, row: &CommandRow) -> Result<Command<'a>, AllocError> {
+    let args = args_of(alloc, row.command)?;
     let command = Command::new(alloc, row.word).about(row.about);
     let command = match row.after_help {
         Some(line) => command.after_help(line),

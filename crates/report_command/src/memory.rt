@@ -1,4 +1,6 @@
 //! The file whose bytes are laid over the memory of a run before the first turn.
+ghost use Rattle.std.specs.Prelude.{IfSome};
+ghost use Rattle.report_command.specs.Addresses.{IsAddress};
 ghost use Rattle.report_command.specs.Options.{IsMemoryFile};
 
 use crate::places::{Reader, addr_in};
@@ -9,6 +11,14 @@ pub struct MemoryFile<'a> {
     pub path: &'a str,
     /// The address of its first byte.
     pub addr: u32,
+}
+
+/// An address of a memory, as `addr_in` reads one.
+fn memory_addr_in(text: &str) -> Option<u32>
+    ensures { IfSome result (IsAddress text.now) }
+{
+    let addr = addr_in(text)?;
+    u32::try_from(addr).ok()
 }
 
 /// Whether a text begins as an address does.
@@ -28,15 +38,17 @@ impl<'a> Reader<'a> for MemoryFileReader {
     ghost reads = { IsMemoryFile };
 
     fn read(text: &'a str) -> Option<MemoryFile<'a>> {
-        match text.rsplit_once('@') {
-            Some((path, addr)) if is_address(addr) => {
-                let addr = u32::try_from(addr_in(addr)?).ok()?;
-                Some(MemoryFile { path, addr })
-            }
-            _ => Some(MemoryFile {
-                path: text,
-                addr: 0,
-            }),
+        let whole = MemoryFile {
+            path: text,
+            addr: 0,
+        };
+        let Some((path, addr)) = text.rsplit_once('@') else {
+            return Some(whole);
+        };
+        if !is_address(addr) {
+            return Some(whole);
         }
+        let addr = memory_addr_in(addr)?;
+        Some(MemoryFile { path, addr })
     }
 }

@@ -241,10 +241,24 @@ pub(crate) const NO_EXPLAIN: Row =
 pub(crate) const ARGS: Row = row!("args" "ARG", Kind::Text, for [Run, Search],
     "The function's arguments, as 5, -5 or 0x10", position: Position::Rest);
 
-/// All of them: a command takes those that name it, in this order.
-pub(crate) static OPTIONS: [Row; 51] = rows![
-    FILE RECORD INVOKE MEMORY MEMORY_IN MEMORY_OUT RUN_RECORD RUNS FROM SEED STRATEGY JOBS ALL STATES ORDERS
-    DEEP RACES ALLOW_RACES FIND EXPECT SEARCH_RECORD SHRINK SHRINK_TIME TIME UNTIL FUEL SEARCH_FUEL LIMIT
-    SEARCH_LIMIT DUMP UNITS LINES THREADS ADDRESSES UNFOLD MOST NAMES SOURCE WIDTH COLOR AT BYTES RAW
-    LAST_WRITE HTML TRACE JSON SHOW_JSON EXPLAIN NO_EXPLAIN ARGS
+/// What is run, and with what memory.
+pub(crate) static OF_A_RUN: [Row; 7] =
+    rows![FILE RECORD INVOKE MEMORY MEMORY_IN MEMORY_OUT RUN_RECORD];
+
+/// Which runs a search makes.
+pub(crate) static OF_RUNS: [Row; 11] =
+    rows![RUNS FROM SEED STRATEGY JOBS ALL STATES ORDERS DEEP RACES ALLOW_RACES];
+
+/// What a search looks for, how long, and within what.
+pub(crate) static OF_A_SEARCH: [Row; 13] = rows![
+    FIND EXPECT SEARCH_RECORD SHRINK SHRINK_TIME TIME UNTIL FUEL SEARCH_FUEL LIMIT SEARCH_LIMIT DUMP UNITS
 ];
+
+/// What of a record is shown.
+pub(crate) static OF_A_RECORD: [Row; 7] = rows![LINES THREADS ADDRESSES UNFOLD MOST NAMES SOURCE];
+
+/// How it is shown.
+pub(crate) static OF_A_VIEW: [Row; 8] = rows![WIDTH COLOR AT BYTES RAW LAST_WRITE HTML TRACE];
+
+/// What all commands have.
+pub(crate) static OF_ALL: [Row; 5] = rows![JSON SHOW_JSON EXPLAIN NO_EXPLAIN ARGS];
