@@ -13,7 +13,8 @@ use Rattle.replay.specs.declared.fault.ReplayFault.TheVariants as replays
 use Rattle.report_command.specs.declared.memory.MemoryFile.{MemoryFile}
 use Rattle.report_memory.specs.declared.laying.Unlaid.{Unlaid as Why}
 use Rattle.show_rows.specs.declared.next.Stood.{Stood}
-use Rattle.report_jobs.specs.Jobs.{CannotLayOver, IsNoValidModule, IsOfNoRun, IsRefused, IsUnfit, IsUnready}
+use Rattle.report_command.specs.declared.command_line.RunJob.{RunJob}
+use Rattle.report_jobs.specs.Jobs.{CannotLayOver, CannotRun, IsNoValidModule, IsOfNoRun, IsRefused, IsUnfit, IsUnready}
 use Rattle.report_jobs.specs.Prints.{WriterChange}
 use Rattle.report_jobs.specs.Silence.{refusal_status, trouble_status, unfit_status}
 use Rattle.report_jobs.specs.Told.{TellsRefusal, TellsWhatIsWrong, refusal_line, unfit_line}
@@ -98,6 +99,12 @@ module _ (bytes : List ℕ) where
     ]
     unready_refusal (unreadies.Unlaid why) = inr (inl refl)
     unready_refusal unreadies.NoMemory = inr (inr refl)
+
+  pub unready_cannot_run : (over : List ℕ) (job : RunJob) (count : ℕ) (u : Unready) → IsUnready bytes job.memory_in over u
+      → undone_status (of_unready u job.memory_in count) ≡ 3 → CannotRun bytes over job
+  unready_cannot_run over job count u is three =
+      let x = unready_cannot over job.memory_in count u is three in
+      record { parts = x.1.parts; text = x.1.text; valid = x.1.valid; cannot = inr (x.0, x.1.cannot) }
 
 -- of a run or a search that wasn't made
 module _ (v : WithTables) (save memory : Option (Bor (List ℕ))) where

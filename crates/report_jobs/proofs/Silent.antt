@@ -10,7 +10,10 @@ use Rattle.types.specs.declared.parts.Parts.{Parts}
 use Rattle.show_text.specs.declared.sheet.Unwritten.{Unwritten}
 use Rattle.show_text.specs.declared.sheet.Unwritten.TheVariants as unwritten
 use Rattle.report_json.specs.Unwritten.{LeavesAs}
-use Rattle.report_jobs.specs.Jobs.{IsUnfit, unfit_of_unwritten}
+use Rattle.replay_text.specs.declared.parts.RecordParts.{RecordParts}
+use Rattle.replay_text.specs.Text.{record_text}
+use Rattle.report_jobs.specs.Jobs.{IsUnfit, IsUnfitTextOf, unfit_of_unwritten}
+use Rattle.report_jobs.specs.declared.replaying.Unreplayed.{Unreplayed}
 use Rattle.report_jobs.specs.Silence.{Leaves, LeavesOut, IsRefusal, trouble_status, unfit_status}
 use Rattle.report_jobs.specs.Troubles.{IsTrouble, IsUnwritten, trouble_of_unwritten}
 
@@ -99,3 +102,9 @@ unwritten_trouble m name texts unwritten.Output = tt
 pub unwritten_unfit : (m : Parts) (saved : List ℕ) (u : Unwritten) → IsUnfit m saved (unfit_of_unwritten u)
 unwritten_unfit m saved unwritten.NoMemory = tt
 unwritten_unfit m saved unwritten.Output = tt
+
+-- what is wrong with a record is so with each text of it
+pub unfit_of_text : (m : Parts) (record_is : RecordParts) (saved : List ℕ) → saved ≡ record_text record_is
+    → (r : Result Done Unreplayed) → IfErr r (λ e. IsUnfitTextOf m record_is e.unfit) → IfErr r (λ e. IsUnfit m saved e.unfit)
+unfit_of_text m record_is saved text (Ok done) unfit = tt
+unfit_of_text m record_is saved text (Err e) unfit = unfit saved text

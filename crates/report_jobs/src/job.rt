@@ -187,7 +187,7 @@ pub fn replay_saved<W: Write, E: Write>(
     ensures why { IfErr result (λ why. undone_status why ≡ 2 → RefusesModule «module».now why) }
     ensures none { ended_status result ≡ 4 → IsNoRecordOf «module».now saved.now }
     ensures wrong { IfErr result (λ why. undone_status why ≡ 4 → RefusesRecord «module».now saved.now why) }
-    ensures silent { IsRefusal (ended_status result) → Stays out.old out.new }
+    ensures silent { IsRefusal (ended_status result) → Stays out.old out.new × Stays err.old err.new }
     ensures unsaid { OnErr result (Stays err.old err.new) }
     ensures status { (ended_status result ≤ 2) ⊎ (ended_status result ≡ 4) ⊎ (ended_status result ≡ 5) }
 {
