@@ -39,10 +39,10 @@ undone_high (undone.Failed what) = omega arith
 
 module _ (bytes saved : List ℕ) (out err save memory : WriterChange) (told : Option (List ℕ)) where
   -- standard error as it was before, and as it is once something was told
-  before : Written
+  abbrev pub before : Written
   before = record { out = out; err = err; save = save; memory = memory }
 
-  behind : Written
+  abbrev pub behind : Written
   behind = record { out = out; err = record { old = err.old; new = told }; save = save; memory = memory }
 
   -- a status above 1 says nothing of what was written

@@ -1,4 +1,4 @@
-use Rattle.std.proofs.Common.{◌<◌, false, true, Some, arith, refl, inl, inr, subst, true≢false}
+use Rattle.std.proofs.Common.{rules, ◌<◌, false, true, Some, arith, refl, inl, inr, subst, true≢false}
 use Rattle.types.specs.declared.parts.Parts.{Parts}
 use Rattle.search_finds.specs.Judged.{IsFindBy, IsPassed}
 use Rattle.search_finds.specs.Noted.{AreNotedBy}
@@ -41,11 +41,11 @@ pub tell_racy-requires-clause-told : goal.tell_racy-requires-clause-told
 tell_racy-requires-clause-told g c = c.in_ok-kept-in-Found.ensures.has.race.told
 
 pub kept_race-requires : goal.kept_race-requires
-kept_race-requires g c κs within =
+kept_race-requires g c =
     let q = c.args.request.now in
     let limit = c.args.asked.search.now.sought.limit in
     let found = rw c.in-Found.is at c.in-Ok.ensures.found in
-    subst (λ (p : Parts). IsFindBy (says_in p) q limit c.in-Found.found.made) c.module.ensures found
+    (search rules, subst (λ (p : Parts). IsFindBy (says_in p) q limit c.in-Found.found.made) c.module.ensures found)
 
 pub returns-in-Found-clause-finds : goal.returns-in-Found-clause-finds
 returns-in-Found-clause-finds g c =
