@@ -20,6 +20,7 @@
 
 mod concluding;
 mod course;
+mod ear;
 mod fault;
 mod hearing;
 mod making;
@@ -28,6 +29,7 @@ mod settled;
 mod threads;
 
 pub use course::{Course, CourseFault};
+pub use ear::{Ear, Places};
 pub use fault::SearchFault;
 pub use running::{MadeRun, run_along, run_with_spares};
 pub use threads::Spares;
