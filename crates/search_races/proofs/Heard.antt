@@ -1,6 +1,8 @@
 -- Where threads were heard to stand while a run was made, a replay of its record sees them stand.
-use Rattle.std.proofs.Common.{◌≡◌, ◌≢◌, ◌⊎◌, ℕ, zero, suc, ◌+◌, ◌<◌, ◌≤◌, true, List, [], ◌∷◌, ◌++◌, length, take, replicate, Option, Some, None, slice_get, slice_set, inl, inr, refl, sym, ap, subst, ◌∙◌, arith, length-set, length-append}
-use Rattle.std.proofs.lemmas.Bool.{cases_lt}
+use Rattle.std.proofs.Common.{◌≡◌, ◌≢◌, ◌⊎◌, ℕ, Bool, map, zero, suc, ◌+◌, ◌<◌, ◌≤◌, true, List, [], ◌∷◌, ◌++◌, length, take, replicate, Option, Some, None, slice_get, slice_set, inl, inr, refl, sym, ap, subst, ◌∙◌, arith, append-nil, length-set, length-append}
+use Rattle.std.proofs.lemmas.List.{length-map}
+use Rattle.std.proofs.lemmas.Bool.{cases_eq}
+use Rattle.std.proofs.lemmas.List.{length-replicate}
 use Rattle.std.proofs.lemmas.Option.{slice_get_within}
 use Rattle.std.specs.Global.{Vec}
 use Rattle.types.specs.declared.event.Event.{Event}
@@ -8,6 +10,7 @@ use Rattle.types.specs.declared.event.Event.TheVariants as events
 use Rattle.types.specs.declared.event.Question.TheVariants as questions
 use Rattle.types.specs.declared.event.Entry.{Entry}
 use Rattle.types.specs.declared.parts.Parts.{Parts}
+use Rattle.interp_machine.specs.Program.{Program}
 use Rattle.interp.specs.Threads.{meaning_in}
 use Rattle.interp.specs.declared.place.CodePlace.{CodePlace}
 use Rattle.interp.specs.declared.thread.Thread.{Thread}
@@ -17,9 +20,9 @@ use Rattle.spawn_host.specs.Requests.{Requested}
 use Rattle.spawn_host.specs.declared.end.EndState.{EndState}
 use Rattle.replay_text.specs.declared.parts.RecordParts.{RecordParts}
 use Rattle.replay_walk.specs.declared.walk.Walk.{Walk}
-use Rattle.replay_walk.specs.Seen.{Sight, SeesBy, SeesLog, SeesNext, CameAlong, IsToldSome}
+use Rattle.replay_walk.specs.Seen.{Sight, IsShown, SeesBy, SeesLog, SeesNext, CameAlong}
 use Rattle.replay_walk.specs.Standing.{SettlesThread}
-use Rattle.replay_walk.specs.Walked.{Run, WalkCame}
+use Rattle.replay_walk.specs.Walked.{Run, ComesAlong, HasThreads, WalkCame}
 use Rattle.replay_walk.proofs.Seen.{log_more, shown_of}
 use Rattle.replay.specs.Runs.{IsRunOf}
 use Rattle.search_scheduled.specs.declared.course.Course.{Course}
@@ -28,10 +31,16 @@ use Rattle.search_scheduled.specs.Courses as courses
 use Rattle.search_scheduled.specs.Headers.{IsOfRequest}
 use Rattle.search_scheduled.specs.Heard.{IsHeard, IsHeardOn, HearsAnswer, HearsSettled, HearsPlace, IsHeardRun, IsMadeBy, place_in}
 use Rattle.search_scheduled.specs.SpareThreads.{HasBegun}
+use Rattle.race_history.specs.declared.access.Kind.{Kind}
 use Rattle.show_rows.specs.declared.rows.Row.{Row}
 use Rattle.show_rows.specs.declared.rows.Rows.{Rows}
 use Rattle.show_rows.specs.Rows.{RowsSee, number_before}
-use Rattle.search_races.specs.Rows.{AreRowsOf}
+use Rattle.search_scheduled.specs.declared.running.MadeRun.{MadeRun}
+use Rattle.search_finds.specs.Finds.{IsFind}
+use Rattle.search_races.specs.Heard.{row_heard}
+use Rattle.search_races.specs.Races.{Says, SaysOfRun}
+use Rattle.search_races.specs.Rows.{AreRowsOf, kinds_of}
+use Rattle.search_races.proofs.Kinds.{kinds_same}
 use Rattle.search_races.proofs.Stood.{Filled, RowHas, row_of, stands_there, has_set, keeps_set, see_in, see_length, see_keeps, see_has, left_in, behind_keeps, behind_is, last_keeps, round_in, round_length, with_rows, round_of, round_sees}
 
 -- what stands in a list behind a beginning of it
@@ -186,6 +195,32 @@ stays : (first : Course Thread) (v : Places) (c : Course Thread) (p : Places) �
 stays first v c p IsHeard.here = λ r came. came
 stays first v d q (IsHeard.on c p _ _ heard on) = λ r came. on.runs r (stays first v c p heard r came)
 
+-- who notes a place noted those before it
+heard_before : {w : Walk Thread} {e : Entry} {after : Walk Thread} {old new : Places}
+    → HearsAnswer meaning_in HearsPlace w e old new ⊎ HearsSettled meaning_in HearsPlace w e after old new → new.hears ≡ true
+    → old.hears ≡ true
+heard_before (inl a) listens = sym (a.heard).same ∙ listens
+heard_before (inr s) listens = sym (s.heard).same ∙ listens
+
+placed : {w : Walk Thread} {e : Entry} {after : Walk Thread} {old new : Places}
+    → HearsAnswer meaning_in HearsPlace w e old new ⊎ HearsSettled meaning_in HearsPlace w e after old new → old.hears ≡ true
+    → (place : CodePlace) × (new.places.items ≡ old.places.items ++ place ∷ [])
+placed (inl a) listens = (place_in (a.thread).state, (a.heard).noted listens)
+placed (inr s) listens = (place_in (s.thread).state, (s.heard).noted listens)
+
+-- a place for each entry
+counted : (first : Course Thread) (v : Places) (c : Course Thread) (p : Places) → first.log.items ≡ [] → v.places.items ≡ []
+    → p.hears ≡ true → IsHeard meaning_in HearsPlace first v c p → length p.places.items ≡ length c.log.items
+counted first v c p log nothing listens IsHeard.here =
+    ap (λ (l : List CodePlace). length l) nothing ∙ sym (ap (λ (l : List Entry). length l) log)
+counted first v c q log nothing listens (IsHeard.on b p _ _ heard on) =
+    let before = heard_before on.heard listens in
+    let x = placed on.heard before in
+    let here = counted first v b p log nothing before heard in
+    let more = ap (λ (l : List CodePlace). length l) x.1 ∙ length-append p.places.items (x.0 ∷ []) in
+    let longer = ap (λ (l : List Entry). length l) on.log ∙ length-append b.log.items (on.entry ∷ []) in
+    omega (arith, here, more, longer)
+
 -- two runs from one walk have one budget
 first_of : (xs : List Thread) (p : Program) → HasThreads p (length xs) → (x : Thread) × (slice_get xs 0 ≡ Some x)
 first_of [] p (inl count) = absurd (omega (arith, count))
@@ -320,7 +355,109 @@ module _ (m : Parts) (r : RecordParts) (first : Course Thread) (begun : HasBegun
           (has_by j z (subst (λ (l : List CodePlace). slice_get l j ≡ Some z) noted got) (cases_eq j k));
     }
 
-  listened : (c : Course Thread) (p : Places) (d : Course Thread) (q : Places) → IsHeardOn meaning_in HearsPlace c p d q
-      → q.hears ≡ true → p.hears ≡ true
-  listened c p d q on listens = sym (heard_alike on.heard) ∙ listens
-    where_is
+  -- the first rows
+  abbrev pub first_rows : (d : Vec (Option Row)) → length d.items ≡ length r.log → Rows
+  first_rows d long = record {
+    log = record { ref_ptr = (0, 0); now = r.log };
+    rows = record {
+      ptr = d.ptr;
+      len = d.len;
+      cap = d.cap;
+      alloc = d.alloc;
+      items = replicate (length r.log) None;
+      ok = (d.ok.0 ∙ (long ∙ sym (length-replicate (length r.log) None)), d.ok.1);
+      small = d.small;
+    };
+    came = 0;
+  }
+
+  module _ (d : Vec (Option Row)) (long : length d.items ≡ length r.log) (nothing : v.places.items ≡ []) where
+    -- what was heard of a course
+    told : (c : Course Thread) (p : Places) (rest : List Entry) → r.log ≡ c.log.items ++ rest → p.hears ≡ true
+        → IsHeard meaning_in HearsPlace first v c p → Told first r (first_rows d long) c p
+    told c p rest is listens IsHeard.here = record {
+      mid = first_rows d long;
+      sees = subst (λ (l : List Entry). SeesLog meaning_in RowsSee (AtEach first r) r.limit 0 l (first_rows d long) (first_rows d long))
+          (sym begun.log) refl;
+      log = refl;
+      long = length-replicate (length r.log) None;
+      count = ap (λ (l : List CodePlace). length l) nothing ∙ sym (ap (λ (l : List Entry). length l) begun.log);
+      has = λ j z got.
+          let none : slice_get [] j ≡ Some z = subst (λ (l : List CodePlace). slice_get l j ≡ Some z) nothing got in absurd (cc none);
+    }
+    told c q rest is listens (IsHeard.on b p _ _ heard on) =
+        let before = heard_before on.heard listens in
+        let whole : r.log ≡ b.log.items ++ on.entry ∷ rest =
+        is ∙ (ap (λ (l : List Entry). l ++ rest) on.log ∙ joined b.log.items rest on.entry) in
+        let t = told b p (on.entry ∷ rest) whole before heard in
+        let k = length b.log.items in
+        let at : slice_get r.log k ≡ Some on.entry =
+        ap (λ (l : List Entry). slice_get l k) whole ∙ at_end b.log.items rest on.entry in
+        let within = slice_get_within r.log k on.entry at in
+        let now = round_of b.walk.threads.items k t.mid in
+        let now_long = round_length b.walk.threads.items t.mid.log.now k t.mid.rows.items in
+        let e = enters r k b.walk on.entry c.walk now refl (omega (arith, within, now_long, t.long)) p q before
+        (λ x there. next_has b t.mid on.entry x t.log t.long at there) on.heard in
+        told_on b c p q (first_rows d long) on rest is heard t e.0 e.1 e.2
+
+    -- a replay of the record sees the same places
+    pub rows_heard : (end : EndState) (c : Course Thread) (p : Places) → r.log ≡ c.log.items → p.hears ≡ true
+        → IsHeard meaning_in HearsPlace first v c p
+        → (rows : Filled) × AreRowsOf m r end rows × ((j : ℕ) (z : CodePlace) → slice_get p.places.items j ≡ Some z → RowHas rows j z)
+        × (length p.places.items ≡ length r.log)
+    rows_heard end c p is listens heard =
+        let t = told c p [] (is ∙ sym (append-nil c.log.items)) listens heard in
+        let count : length c.log.items ≡ length r.log = sym (ap (λ (l : List Entry). length l) is) in
+        let now = round_of c.walk.threads.items (length c.log.items) t.mid in (
+          now.rows.items,
+          record {
+            first = first_rows d long;
+            last = now;
+            log = refl;
+            empty = refl;
+            sees = (
+              first.walk,
+              record {
+                run = begun.run;
+                beginning = begun.beginning;
+                same = begun.same;
+                limit = begun.limit;
+                came = begins;
+              },
+              (
+                c.walk,
+                comes_along c p is heard,
+                (
+                  t.mid,
+                  subst (λ (l : List Entry). SeesLog meaning_in RowsSee (AtEach first r) r.limit 0 l (first_rows d long) t.mid) (sym is) t.sees,
+                  subst (λ (n : ℕ). RowsSee t.mid (Sight.Came n c.walk) now) count (round_sees c.walk.threads.items (length c.log.items) t.mid),
+                ),
+              ),
+            );
+            filled = refl;
+          },
+          t.has,
+          t.count ∙ count,
+        )
+
+-- what is said of a made run's races by the places that were heard
+pub heard_so : (q : Requested) (limit : ℕ) (made : MadeRun) (d : Vec (Option Row)) → IsFind q limit made → made.heard.hears ≡ true
+    → d.items ≡ map row_heard made.heard.places.items → (is : Bool)
+    → Says made.record.log (kinds_of q.parts made.record (map row_heard made.heard.places.items)) is → SaysOfRun q.parts made.record is
+heard_so q limit made d find listens alike is says =
+    let h = find.heard in
+    let begun = h.begun made.record find.of_call in
+    let count = counted h.first h.none h.last made.heard begun.log h.empty listens h.is_heard in
+    let log = ap (λ (l : List Entry). length l) h.log in
+    let items = ap (λ (l : List (Option Row)). length l) alike in
+    let mapped = length-map row_heard made.heard.places.items in
+    let long : length d.items ≡ length made.record.log = omega (arith, count, log, items, mapped) in
+    let x = rows_heard q.parts made.record h.first begun h.none d long h.empty made.end h.last made.heard h.log listens h.is_heard in
+    record {
+      rows = x.0;
+      end = made.end;
+      run = find.run;
+      rows_are = x.1;
+      says = subst (λ (l : List Kind). Says made.record.log l is)
+          (sym (kinds_same q.parts x.0 made.heard.places.items x.2 (length made.record.log) (omega (arith, x.3)))) says;
+    }

@@ -6,7 +6,7 @@ use Rattle.replay_walk.specs.Walked.{HasTaken}
 use Rattle.replay_walk.proofs.Taken.{took_as}
 use Rattle.replay_walk.proofs.Ending.{goes_on}
 use Rattle.search_scheduled.specs.Heard.{IsMadeBy}
-use Rattle.search_scheduled.proofs.Hearing.{made_plain}
+use Rattle.search_scheduled.proofs.Listening.{made_plain}
 use Rattle.search_scheduled.proofs.Leaving.{ended_leaves, full_leaves, wants_on, can_event_on, event_act_on}
 use Rattle.search_scheduled.proofs.making.go_on.Goals as goal
 

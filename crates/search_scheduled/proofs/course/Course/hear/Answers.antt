@@ -4,7 +4,7 @@ use Rattle.types.specs.declared.event.Event.TheVariants as events
 use Rattle.types.specs.declared.event.Reply.TheVariants as replies
 use Rattle.search_scheduled.proofs.Courses.{stands_at, came_on}
 use Rattle.search_scheduled.specs.Heard.IsHeard.{on}
-use Rattle.search_scheduled.proofs.Hearing.{due_there}
+use Rattle.search_scheduled.proofs.Listening.{due_there}
 use Rattle.search_scheduled.proofs.course.Course.hear.Goals as goal
 
 pub returns-in_ok-push-clause-heard : goal.returns-in_ok-push-clause-heard

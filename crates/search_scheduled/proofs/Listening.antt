@@ -1,4 +1,4 @@
--- Threads that are heard while a run is made.
+-- Threads that an ear hears while a run is made.
 use Rattle.std.proofs.Common.{◌≡◌, ℕ, Bool, false, List, Option, Some, None, get_or, refl, subst, slice_get}
 use Rattle.types.specs.declared.value.Value.{Value}
 use Rattle.types.specs.declared.outcome.Outcome.{Outcome}
