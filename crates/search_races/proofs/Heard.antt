@@ -80,22 +80,22 @@ record Enters (r : RecordParts) (k : ℕ) (w : Walk Thread) (e : Entry) (after :
 module _ (r : RecordParts) (k : ℕ) (w : Walk Thread) (e : Entry) (after : Walk Thread) (now : Rows) (came : now.came ≡ k)
     (within : k < length now.rows.items) where
   -- an answer that is taken
-  enters_told : (x : Thread) (answer : _) → e.event ≡ events.Told answer → RowHas now.rows.items k (place_in x.state)
-      → Enters r k w e after (place_in x.state) now
+  enters_told : (x : Thread) (answer : _) → e.event ≡ events.Told answer → RowHas now.rows.items k (place_in x)
+      → Enters r k w e after (place_in x) now
   enters_told x answer is has = record {
     new = now;
     sees = subst (λ (v : Event). SeesBy meaning_in RowsSee v r.limit k w e true now now) (sym is) refl;
     log = refl;
     long = refl;
     keeps = λ j p other h. h;
-    has = λ rows long keep. subst (λ (v : Event). RowHas (left_in after.threads.items (Some e) v k rows) k (place_in x.state)) (sym is)
-        (keep (place_in x.state) has);
+    has = λ rows long keep. subst (λ (v : Event). RowHas (left_in after.threads.items (Some e) v k rows) k (place_in x)) (sym is)
+        (keep (place_in x) has);
   }
 
   module _ (turn : Turn) (settled : List Thread) (settles : SettlesThread meaning_in w.threads.items e.thread turn settled) (x : Thread)
       (at : slice_get settled e.thread ≡ Some x) where
     -- a leave
-    enters_left : e.event ≡ events.Ask questions.Leave → after.threads.items ≡ settled → Enters r k w e after (place_in x.state) now
+    enters_left : e.event ≡ events.Ask questions.Leave → after.threads.items ≡ settled → Enters r k w e after (place_in x) now
     enters_left is same = record {
       new = now;
       sees = subst (λ (v : Event). SeesBy meaning_in RowsSee v r.limit k w e true now now) (sym is)
@@ -103,7 +103,7 @@ module _ (r : RecordParts) (k : ℕ) (w : Walk Thread) (e : Entry) (after : Walk
       log = refl;
       long = refl;
       keeps = λ j p other h. h;
-      has = λ rows long keep. subst (λ (v : Event). RowHas (left_in after.threads.items (Some e) v k rows) k (place_in x.state)) (sym is)
+      has = λ rows long keep. subst (λ (v : Event). RowHas (left_in after.threads.items (Some e) v k rows) k (place_in x)) (sym is)
           (see_has after.threads.items (Some e) e x k rows refl (ap (λ (l : List Thread). slice_get l e.thread) same ∙ at)
           (omega (arith, within, long)));
     }
@@ -128,7 +128,7 @@ module _ (r : RecordParts) (k : ℕ) (w : Walk Thread) (e : Entry) (after : Walk
     event_by : (event : Event) → e.event ≡ event → turn ≡ turns.Wants event
         → (IsShown meaning_in RowsSee w e now shown → SeesBy meaning_in RowsSee event r.limit k w e true now shown)
         → ((rows : Filled) → left_in after.threads.items (Some e) event k rows ≡ rows)
-        → Enters r k w e after (place_in x.state) now
+        → Enters r k w e after (place_in x) now
     event_by event is made sees stays =
         let wants : turn ≡ turns.Wants e.event = made ∙ ap (λ (v : Event). turns.Wants v) (sym is) in
         record {
@@ -141,13 +141,13 @@ module _ (r : RecordParts) (k : ℕ) (w : Walk Thread) (e : Entry) (after : Walk
           has = λ rows long keep.
               let alike : left_in after.threads.items (Some e) e.event k rows ≡ rows =
               subst (λ (v : Event). left_in after.threads.items (Some e) v k rows ≡ rows) (sym is) (stays rows) in
-              subst (λ (l : Filled). RowHas l k (place_in x.state)) (sym alike)
-              (keep (place_in x.state) (subst (λ (n : ℕ). RowHas wanted n (place_in x.state)) came
+              subst (λ (l : Filled). RowHas l k (place_in x)) (sym alike)
+              (keep (place_in x) (subst (λ (n : ℕ). RowHas wanted n (place_in x)) came
               (has_set now.rows.items now.came (row_of x (number_before w.memory.bytes e.event)) (omega (arith, came, within)))));
         }
 
     enters_made : (event : Event) → e.event ≡ event → IsMadeBy event turn settled after.threads.items
-        → Enters r k w e after (place_in x.state) now
+        → Enters r k w e after (place_in x) now
     enters_made (events.Told answer) is made = absurd made
     enters_made (events.Ask questions.Leave) is made = enters_left is made
     enters_made (events.Ask (questions.Wait a b c d)) is made = event_by (events.Ask (questions.Wait a b c d)) is made (λ s. s) (λ rows. refl)
@@ -162,16 +162,16 @@ module _ (r : RecordParts) (k : ℕ) (w : Walk Thread) (e : Entry) (after : Walk
 
   -- an entry whose thread is heard, where the thread that comes next has its row as it stands
   enters : (old : Places) (heard : Places) → old.hears ≡ true
-      → ((x : Thread) → slice_get w.threads.items e.thread ≡ Some x → RowHas now.rows.items k (place_in x.state))
+      → ((x : Thread) → slice_get w.threads.items e.thread ≡ Some x → RowHas now.rows.items k (place_in x))
       → HearsAnswer meaning_in HearsPlace w e old heard ⊎ HearsSettled meaning_in HearsPlace w e after old heard
       → (place : CodePlace) × (heard.places.items ≡ old.places.items ++ place ∷ []) × Enters r k w e after place now
   enters old heard listens next (inl a) = (
-    place_in (a.thread).state,
+    place_in a.thread,
     (a.heard).noted listens,
     enters_told a.thread (a.answer).0 (ap (λ (v : Entry). v.event) (a.answer).1) (next a.thread a.at),
   )
   enters old heard listens next (inr s) = (
-    place_in (s.thread).state,
+    place_in s.thread,
     (s.heard).noted listens,
     enters_made s.turn s.settled s.settles s.thread s.at e.event refl s.made,
   )
@@ -205,8 +205,8 @@ heard_before (inr s) listens = sym (s.heard).same ∙ listens
 placed : {w : Walk Thread} {e : Entry} {after : Walk Thread} {old new : Places}
     → HearsAnswer meaning_in HearsPlace w e old new ⊎ HearsSettled meaning_in HearsPlace w e after old new → old.hears ≡ true
     → (place : CodePlace) × (new.places.items ≡ old.places.items ++ place ∷ [])
-placed (inl a) listens = (place_in (a.thread).state, (a.heard).noted listens)
-placed (inr s) listens = (place_in (s.thread).state, (s.heard).noted listens)
+placed (inl a) listens = (place_in a.thread, (a.heard).noted listens)
+placed (inr s) listens = (place_in s.thread, (s.heard).noted listens)
 
 -- a place for each entry
 counted : (first : Course Thread) (v : Places) (c : Course Thread) (p : Places) → first.log.items ≡ [] → v.places.items ≡ []
@@ -261,11 +261,11 @@ module _ (m : Parts) (r : RecordParts) (first : Course Thread) (begun : HasBegun
   -- the row of the next entry is where its thread stands
   next_has : (c : Course Thread) (mid : Rows) (e : Entry) (x : Thread) → mid.log.now ≡ r.log → length mid.rows.items ≡ length r.log
       → slice_get r.log (length c.log.items) ≡ Some e → slice_get c.walk.threads.items e.thread ≡ Some x
-      → RowHas (round_of c.walk.threads.items (length c.log.items) mid).rows.items (length c.log.items) (place_in x.state)
+      → RowHas (round_of c.walk.threads.items (length c.log.items) mid).rows.items (length c.log.items) (place_in x)
   next_has c mid e x log long is at =
       let k = length c.log.items in
       let within = slice_get_within r.log k e is in
-      last_keeps c.walk.threads.items mid.log.now k k (see_in c.walk.threads.items (slice_get mid.log.now k) k mid.rows.items) (place_in x.state)
+      last_keeps c.walk.threads.items mid.log.now k k (see_in c.walk.threads.items (slice_get mid.log.now k) k mid.rows.items) (place_in x)
       (λ same. omega (arith, same))
       (see_has c.walk.threads.items (slice_get mid.log.now k) e x k mid.rows.items (ap (λ (l : List Entry). slice_get l k) log ∙ is) at
       (omega (arith, long, within)))

@@ -16,7 +16,7 @@ use Rattle.show_rows.specs.Rows.{StandsThere, SetsRowOf, SeesThread, SeesLeft, S
 
 -- the row of a thread
 abbrev pub row_of : Thread → Option ℕ → Row
-row_of x before = record { place = place_in x.state; caller = last_call x.state.callers.items; before = before }
+row_of x before = record { place = place_in x; caller = last_call x.state.callers.items; before = before }
 
 pub stands_there : (x : Thread) (before : Option ℕ) → StandsThere x (row_of x before)
 stands_there x before = record {
@@ -77,12 +77,12 @@ set_of_keeps None at j rows p other h = h
 set_of_keeps (Some x) at j rows p other h = keeps_set rows at j (row_of x None) p other h
 
 pub set_of_has : (o : Option Thread) (x : Thread) (at : ℕ) (rows : Filled) → o ≡ Some x → at < length rows
-    → RowHas (set_of o at rows) at (place_in x.state)
+    → RowHas (set_of o at rows) at (place_in x)
 set_of_has None x at rows is lt = absurd (cc is)
 set_of_has (Some y) x at rows is lt =
     let h = has_set rows at (row_of y None) lt in
     let same : y ≡ x = cc is in
-    (h.0, h.1, h.2 ∙ ap (λ (z : Thread). place_in z.state) same)
+    (h.0, h.1, h.2 ∙ ap (λ (z : Thread). place_in z) same)
 
 abbrev pub see_in : List Thread → Option Entry → ℕ → Filled → Filled
 see_in threads None at rows = rows
@@ -102,7 +102,7 @@ see_keeps threads None at j rows p other h = h
 see_keeps threads (Some e) at j rows p other h = set_of_keeps (slice_get threads e.thread) at j rows p other h
 
 pub see_has : (threads : List Thread) (o : Option Entry) (e : Entry) (x : Thread) (at : ℕ) (rows : Filled) → o ≡ Some e
-    → slice_get threads e.thread ≡ Some x → at < length rows → RowHas (see_in threads o at rows) at (place_in x.state)
+    → slice_get threads e.thread ≡ Some x → at < length rows → RowHas (see_in threads o at rows) at (place_in x)
 see_has threads None e x at rows is there lt = absurd (cc is)
 see_has threads (Some f) e x at rows is there lt =
     let same : f ≡ e = cc is in

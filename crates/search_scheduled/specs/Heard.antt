@@ -5,7 +5,6 @@ use Rattle.types.specs.declared.event.Entry.{Entry}
 use Rattle.types.specs.declared.event.Event.{Event}
 use Rattle.types.specs.declared.event.Event.TheVariants.{Ask, Told}
 use Rattle.types.specs.declared.event.Question.TheVariants.{Leave}
-use Rattle.interp_state.specs.declared.state.State.{State}
 use Rattle.interp.specs.Threads.{meaning_in}
 use Rattle.interp.specs.declared.place.CodePlace.{CodePlace}
 use Rattle.interp.specs.declared.thread.Thread.{Thread}
@@ -66,14 +65,14 @@ module _ {S W : Type 0} (meaning : S → Meaning) (hears : W → S → W → Typ
   abbrev pub HearsAt : List S → ℕ → W → W → Type 0
   HearsAt threads n old new = (x : S) → slice_get threads n ≡ Some x → hears old x new
 
--- The place of a state: its function, and the number of the instruction that comes next.
-abbrev pub place_in : State → CodePlace
-place_in s = record { function = s.function; instr = s.pc }
+-- Where a thread stands: its function, and the number of the instruction that comes next.
+abbrev pub place_in : Thread → CodePlace
+place_in t = record { function = t.state.function; instr = t.state.pc }
 
 -- Where a thread stands is noted behind the others, where that is to be heard.
 pub record HearsPlace (old : Places) (thread : Thread) (new : Places) : Type 0 where
   pub same : new.hears ≡ old.hears
-  pub noted : old.hears ≡ true → new.places.items ≡ old.places.items ++ place_in thread.state ∷ []
+  pub noted : old.hears ≡ true → new.places.items ≡ old.places.items ++ place_in thread ∷ []
 
 -- From the beginning of what is requested it was heard of each entry of the record's log where its thread stood.
 pub record IsHeardRun (q : Requested) (limit : ℕ) (made : RecordParts) (heard : Places) : Type 0 where
