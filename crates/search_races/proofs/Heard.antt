@@ -247,14 +247,14 @@ module _ (m : Parts) (r : RecordParts) (first : Course Thread) (begun : HasBegun
   -- a course that goes on from there stands where a replay does behind as many entries
   at_each : (c : Course Thread) (p : Places) (rest : List Entry) → r.log ≡ c.log.items ++ rest → IsHeard meaning_in HearsPlace first v c p
       → AtEach first r (length c.log.items) c.walk
-  at_each c p rest is heard run came limit =
+  at_each c p rest is heard = λ run came limit.
       let walk = (stays first v c p heard run (came_first run came limit)).walk in
       subst (λ (l : List Entry). WalkCame meaning_in run l c.walk)
       (sym (ap (λ (l : List Entry). take (length c.log.items) l) is ∙ take_beginning c.log.items rest)) walk
 
   comes_along : (c : Course Thread) (p : Places) → r.log ≡ c.log.items → IsHeard meaning_in HearsPlace first v c p
       → ComesAlong meaning_in first.walk r.limit r.log c.walk
-  comes_along c p is heard run came limit =
+  comes_along c p is heard = λ run came limit.
       subst (λ (l : List Entry). WalkCame meaning_in run l c.walk) (sym is)
       (stays first v c p heard run (came_first run came limit)).walk
 

@@ -61,9 +61,9 @@ module _ {S W : Type 0} (meaning : S → Meaning) (hears : W → S → W → Typ
   abbrev pub StaysHeard : Course S → W → Course S → W → Type 0
   StaysHeard c p d q = (first : Course S) (v : W) → IsHeard first v c p → IsHeard first v d q
 
-  -- The thread of this number is heard, if there is one.
-  abbrev pub HearsAt : List S → ℕ → W → W → Type 0
-  HearsAt threads n old new = (x : S) → slice_get threads n ≡ Some x → hears old x new
+-- The thread of this number is heard, if there is one.
+abbrev pub IsHeardAt : {S W : Type 0} → (W → S → W → Type 0) → List S → ℕ → W → W → Type 0
+IsHeardAt {S} hears threads n old new = (x : S) → slice_get threads n ≡ Some x → hears old x new
 
 -- Where a thread stands: its function, and the number of the instruction that comes next.
 abbrev pub place_in : Thread → CodePlace

@@ -1,6 +1,6 @@
 //! Who hears where threads stand, while a run is made.
 ghost use Rattle.std.specs.Prelude.{◌≡◌, [], IfErr, OnOk};
-ghost use Rattle.search_scheduled.specs.Heard.{HearsAt};
+ghost use Rattle.search_scheduled.specs.Heard.{IsHeardAt};
 ghost use Rattle.search_scheduled.specs.declared.course.CourseFault.TheVariants.{NoMemory};
 
 use crate::CourseFault;
@@ -64,7 +64,7 @@ pub(crate) fn hear_at<T, E: Ear<T>>(
     n: u32,
     ear: &mut E,
 ) -> Result<(), CourseFault>
-    ensures heard { OnOk result (HearsAt E.hears threads.now n ear.old ear.new) }
+    ensures heard { OnOk result (IsHeardAt E.hears threads.now n ear.old ear.new) }
     ensures fault { IfErr result (λ fault. fault ≡ NoMemory) }
 {
     match threads.get(n as usize) {

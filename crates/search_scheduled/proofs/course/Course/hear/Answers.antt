@@ -1,4 +1,4 @@
-use Rattle.std.proofs.Common.{◌≡◌, length, refl, [], ◌∷◌, inl, inr, sym, ◌∙◌}
+use Rattle.std.proofs.Common.{◌≡◌, List, length, refl, [], ◌∷◌, Some, slice_get, inl, inr, sym, ap, ◌∙◌, append-nil}
 use Rattle.types.specs.declared.event.Entry.{Entry}
 use Rattle.types.specs.declared.event.Event.TheVariants as events
 use Rattle.types.specs.declared.event.Reply.TheVariants as replies
@@ -40,6 +40,10 @@ returns-in_ok-push-clause-ear g c =
         answer = (c.in-Some.answer, refl);
         thread = x.0;
         at = x.1;
-        heard = c.in_ok-hear_at.ensures.heard x.0 x.1;
+        heard = c.in_ok-hear_at.ensures.heard x.0
+            (ap (λ (l : List g.row.T.Denot). slice_get l c.args.n) c.deref.ensures.value ∙ x.1);
       });
     })
+
+pub returns-then-is_none-clause-ear : goal.returns-then-is_none-clause-ear
+returns-then-is_none-clause-ear g c = λ first v h. h

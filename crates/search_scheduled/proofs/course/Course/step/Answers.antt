@@ -1,9 +1,9 @@
-use Rattle.std.proofs.Common.{◌≡◌, ℕ, List, vec_len, length, inr, refl, sym, ◌∙◌, subst, arith, slice_get, Some}
+use Rattle.std.proofs.Common.{◌≡◌, ℕ, List, vec_len, length, inr, refl, sym, ◌∙◌, ap, subst, arith, slice_get, Some}
 use Rattle.std.proofs.lemmas.Result.{err_from_is_err_and}
 use Rattle.std.specs.Global.{Vec}
 use Rattle.types.specs.declared.event.Entry.{Entry}
 use Rattle.schedule_threads.specs.Shared.{act_of}
-use Rattle.replay_walk.specs.Walked.{WalkTakes}
+use Rattle.replay_walk.specs.Walked.{HasThreads, WalkTakes}
 use Rattle.replay_walk.specs.declared.stage.Stage.{Stage}
 use Rattle.search_scheduled.specs.Settled.{KeepsStage}
 use Rattle.search_scheduled.specs.declared.course.Course.{Course}
@@ -17,6 +17,17 @@ use Rattle.search_scheduled.proofs.course.Course.step.Goals as goal
 
 len_is : (v : Vec Entry) → vec_len v ≡ length v.items
 len_is v = omega (arith, v.ok)
+
+pub go_on-requires : goal.go_on-requires
+go_on-requires g c =
+    let m = g.T.TakesTurns.meaning in
+    let r = c.requires.0 in let came = c.requires.1 in
+    let s = stands_at m r c.args.self.now came in (
+      s,
+      c.in_ok-turn.ensures.settled s came.walk.standing,
+      sym c.settle_going.ensures.memory,
+      subst (λ (k : ℕ). HasThreads r.program k) (sym c.settle_going.ensures.count) came.walk.count,
+    )
 
 pub returns-clause-goes : goal.returns-clause-goes
 returns-clause-goes g c =
@@ -71,7 +82,8 @@ returns-clause-ear g c =
             c.in_ok-turn.ensures.settles;
         thread = there.thread;
         at = subst (λ (k : ℕ). slice_get settled k ≡ Some there.thread) (sym by) there.at;
-        heard = c.in_ok-hear_at.ensures.heard there.thread there.at;
+        heard = c.in_ok-hear_at.ensures.heard there.thread
+            (ap (λ (l : List g.row.T.Denot). slice_get l c.args.n) c.deref.ensures.value ∙ there.at);
         made = c.in-Some.ensures.made;
       });
     })
