@@ -1,5 +1,5 @@
 -- Where threads were heard to stand while a run was made, a replay of its record sees them stand.
-use Rattle.std.proofs.Common.{◌≡◌, ◌≢◌, ◌⊎◌, ℕ, Bool, map, zero, suc, ◌+◌, ◌<◌, ◌≤◌, true, List, [], ◌∷◌, ◌++◌, length, take, replicate, Option, Some, None, slice_get, slice_set, inl, inr, refl, sym, ap, subst, ◌∙◌, arith, append-nil, length-set, length-append}
+use Rattle.std.proofs.Common.{◌≡◌, ◌≢◌, ◌⊎◌, ℕ, Bool, map, zero, suc, ◌+◌, ◌<◌, true, List, [], ◌∷◌, ◌++◌, length, take, replicate, Option, Some, None, slice_get, slice_set, inl, inr, refl, sym, ap, subst, ◌∙◌, arith, append-nil, length-set, length-append}
 use Rattle.std.proofs.lemmas.List.{length-map}
 use Rattle.std.proofs.lemmas.Bool.{cases_eq}
 use Rattle.std.proofs.lemmas.List.{length-replicate}
@@ -24,12 +24,10 @@ use Rattle.replay_walk.specs.Seen.{Sight, IsShown, SeesBy, SeesLog, SeesNext, Ca
 use Rattle.replay_walk.specs.Standing.{SettlesThread}
 use Rattle.replay_walk.specs.Walked.{Run, ComesAlong, HasThreads, WalkCame}
 use Rattle.replay_walk.proofs.Seen.{log_more, shown_of}
-use Rattle.replay.specs.Runs.{IsRunOf}
 use Rattle.search_scheduled.specs.declared.course.Course.{Course}
 use Rattle.search_scheduled.specs.declared.ear.Places.{Places}
 use Rattle.search_scheduled.specs.Courses as courses
-use Rattle.search_scheduled.specs.Headers.{IsOfRequest}
-use Rattle.search_scheduled.specs.Heard.{IsHeard, IsHeardOn, HearsAnswer, HearsSettled, HearsPlace, IsHeardRun, IsMadeBy, place_in}
+use Rattle.search_scheduled.specs.Heard.{IsHeard, IsHeardOn, HearsAnswer, HearsSettled, HearsPlace, IsMadeBy, place_in}
 use Rattle.search_scheduled.specs.SpareThreads.{HasBegun}
 use Rattle.race_history.specs.declared.access.Kind.{Kind}
 use Rattle.show_rows.specs.declared.rows.Row.{Row}

@@ -1,13 +1,11 @@
 -- Rows as a replay fills them, and at which places of the code they are.
-use Rattle.std.proofs.Common.{◌≡◌, ◌≢◌, ℕ, zero, suc, ◌+◌, ◌<◌, List, [], ◌∷◌, length, Option, Some, None, option_and_then, slice_get, slice_set, refl, sym, ap, subst, ◌∙◌, arith, length-set}
-use Rattle.std.specs.Global.{Vec}
+use Rattle.std.proofs.Common.{◌≡◌, ◌≢◌, ℕ, zero, suc, ◌<◌, List, [], ◌∷◌, length, Option, Some, None, option_and_then, slice_get, slice_set, refl, sym, ap, subst, ◌∙◌, arith, length-set}
 use Rattle.types.specs.declared.event.Event.{Event}
 use Rattle.types.specs.declared.event.Event.TheVariants as events
 use Rattle.types.specs.declared.event.Question.TheVariants as questions
 use Rattle.types.specs.declared.event.Entry.{Entry}
 use Rattle.interp.specs.declared.place.CodePlace.{CodePlace}
 use Rattle.interp.specs.declared.thread.Thread.{Thread}
-use Rattle.replay_walk.specs.declared.walk.Walk.{Walk}
 use Rattle.search_scheduled.specs.Heard.{place_in}
 use Rattle.show_rows.specs.declared.rows.Row.{Row}
 use Rattle.show_rows.specs.declared.rows.Rows.{Rows}

@@ -1,5 +1,5 @@
 -- Threads that an ear hears while a run is made.
-use Rattle.std.proofs.Common.{◌≡◌, ℕ, Bool, false, List, Option, Some, None, get_or, refl, subst, slice_get}
+use Rattle.std.proofs.Common.{◌≡◌, ℕ, Bool, false, List, Option, Some, None, get_or, subst, slice_get}
 use Rattle.types.specs.declared.value.Value.{Value}
 use Rattle.types.specs.declared.outcome.Outcome.{Outcome}
 use Rattle.types.specs.declared.event.Answer.{Answer}

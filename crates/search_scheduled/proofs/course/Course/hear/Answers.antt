@@ -1,4 +1,4 @@
-use Rattle.std.proofs.Common.{◌≡◌, List, length, refl, [], ◌∷◌, Some, slice_get, inl, inr, sym, ap, ◌∙◌, append-nil}
+use Rattle.std.proofs.Common.{List, length, refl, [], ◌∷◌, Some, slice_get, inl, inr, ap, ◌∙◌}
 use Rattle.types.specs.declared.event.Entry.{Entry}
 use Rattle.types.specs.declared.event.Event.TheVariants as events
 use Rattle.types.specs.declared.event.Reply.TheVariants as replies
