@@ -38,7 +38,7 @@ use Rattle.search_finds.specs.Finds.{IsFind}
 use Rattle.search_races.specs.Heard.{row_heard}
 use Rattle.search_races.specs.Races.{Says, SaysOfRun}
 use Rattle.search_races.specs.Rows.{AreRowsOf, kinds_of}
-use Rattle.search_races.proofs.Kinds.{kinds_same}
+use Rattle.search_races.proofs.Alike.{kinds_same}
 use Rattle.search_races.proofs.Stood.{Filled, RowHas, row_of, stands_there, has_set, keeps_set, see_in, see_length, see_keeps, see_has, left_in, behind_keeps, behind_is, last_keeps, round_in, round_length, with_rows, round_of, round_sees}
 
 -- what stands in a list behind a beginning of it
@@ -448,7 +448,7 @@ heard_so q limit made d find listens alike is says =
     let count = counted h.first h.none h.last made.heard begun.log h.empty listens h.is_heard in
     let log = ap (λ (l : List Entry). length l) h.log in
     let items = ap (λ (l : List (Option Row)). length l) alike in
-    let mapped = length-map row_heard made.heard.places.items in
+    let mapped = length-map made.heard.places.items row_heard in
     let long : length d.items ≡ length made.record.log = omega (arith, count, log, items, mapped) in
     let x = rows_heard q.parts made.record h.first begun h.none d long h.empty made.end h.last made.heard h.log listens h.is_heard in
     record {

@@ -2,4 +2,4 @@ pub mod Told
 pub mod Pulled
 pub mod Stood
 pub mod Heard
-pub mod Kinds
+pub mod Alike

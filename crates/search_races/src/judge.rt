@@ -78,15 +78,16 @@ pub fn has_race(alloc: Global, module: &ValidModule, record: &Record) -> Result<
 fn rows_heard(alloc: Global, places: &[CodePlace]) -> Result<Vec<Option<Row>>, AllocError>
     ensures { IfOk result (λ rows. rows.items ≡ map row_heard places.now) }
 {
-    let mut rows = Vec::with_capacity(alloc, places.len())?;
-    for place in places {
-        rows.push(Some(Row {
-            place: *place,
-            caller: None,
-            before: None,
-        }))?;
-    }
-    Ok(rows)
+    places
+        .iter()
+        .map(|place| {
+            Some(Row {
+                place: *place,
+                caller: None,
+                before: None,
+            })
+        })
+        .collect(alloc)
 }
 
 /// Whether two accesses of a run race of which it was heard, while it was made, where its threads stood.
