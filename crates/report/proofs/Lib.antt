@@ -2,3 +2,4 @@ mod Plain
 mod Asking
 mod Silent
 mod AllTold
+mod Performing

@@ -1,5 +1,5 @@
 //! What the program does: each job of its command line.
-ghost use Rattle.std.specs.Prelude.{◌≡◌, ◌≤◌, ◌⊎◌, IfErr, false, is_some};
+ghost use Rattle.std.specs.Prelude.{◌≡◌, ◌≤◌, ◌⊎◌, IfErr, IfOk, false, is_some};
 ghost use Rattle.report_command.specs.Jobs.{IsInRange};
 ghost use Rattle.report_command.specs.Searches.{IsSearchInRange};
 ghost use Rattle.report_jobs.specs.Jobs.{HasNoSuchCall, IsNoValidModule};
@@ -9,13 +9,17 @@ ghost use Rattle.report_jobs.specs.Told.{TellsRefusal, TellsWhatIsWrong};
 ghost use Rattle.report_jobs.specs.Trapped.{Tells};
 ghost use Rattle.report_jobs.specs.Undone.{ended_status, undone_line, undone_status};
 ghost use Rattle.report_jobs.specs.Why.{RefusesModule, RefusesRecord};
-ghost use Rattle.report.specs.Searched.{HasSearched};
+ghost use Rattle.report_jobs.specs.Troubles.{IsTroubleOf};
+ghost use Rattle.report_searches.specs.Searches.{Finds, IsWellAt};
+ghost use Rattle.report.specs.Searched.{HasSearched, IsDrawn, IsDrawnForRaces, IsPrintedOf};
 ghost use Rattle.report.specs.Jobs.{Performs};
-ghost use Rattle.report.specs.Silent.{writes_file};
+ghost use Rattle.report.specs.Silent.{IfRefusedCall, writes_file};
 
 use crate::searching::search_module;
 use report_command::{Job, Search};
-use report_jobs::{Done, Streams, Undone, load, of_refusal, of_trouble, perform_plain, tell_ended};
+use report_jobs::{
+    Done, Streams, Trouble, Undone, load, of_refusal, of_trouble, perform_plain, tell_ended,
+};
 use report_looks::{CodeBytes, races_saved, show_saved};
 use report_searches::Asked;
 use search_finds::Hears;
@@ -96,6 +100,7 @@ where
     requires { IsInRange job.now }
     ensures performs { Performs job.now «module».now saved.now
         (written W.contents E.contents S.contents streams.old streams.new) (ended_status result) }
+    ensures done { IfOk result (λ done. done.status ≤ 1) }
     ensures why { IfErr result (λ why. undone_status why ≡ 2 → RefusesModule «module».now why) }
     ensures wrong { IfErr result (λ why. undone_status why ≡ 4 → RefusesRecord «module».now saved.now why) }
     ensures silent { IsRefusal (ended_status result)
@@ -142,6 +147,7 @@ where
     ensures made { ended_status result ≤ 1 → HasSearched «module».now asked.now
         (changed W.contents streams.old.out streams.new.out) (changed S.contents streams.old.save streams.new.save)
         (ended_status result) }
+    ensures done { IfOk result (λ done. done.status ≤ 1) }
     ensures refused { ended_status result ≡ 2 → IsNoValidModule «module».now }
     ensures why { IfErr result (λ why. undone_status why ≡ 2 → RefusesModule «module».now why) }
     ensures silent { IsRefusal (ended_status result)
@@ -152,22 +158,62 @@ where
     ensures cannot { ended_status result ≡ 3 → HasNoSuchCall «module».now asked.now.call }
     ensures status { (ended_status result ≤ 3) ⊎ (ended_status result ≡ 5) }
 {
-    let Streams { out, save, .. } = streams;
     let valid = match load(alloc, module) {
         Ok(valid) => valid,
         Err(refusal) => return Err(of_refusal(refusal)),
     };
+    match searched(rt, alloc, &valid, asked, module, streams, follower) {
+        Ok(done) => Ok(done),
+        Err(trouble) => Err(of_trouble(trouble, valid, asked.save, None)),
+    }
+}
+
+/// The same of a valid module, whose text the bytes are.
+fn searched<R, W, E, S, F>(
+    rt: &R,
+    alloc: Global,
+    valid: &ValidModule,
+    asked: &Search,
+    module: &[u8],
+    streams: &mut Streams<W, E, S>,
+    follower: &mut F,
+) -> Result<Done, Trouble>
+where
+    R: Threads + Sync,
+    W: Write,
+    E: Write,
+    S: Write,
+    F: Hears,
+    requires { IsSearchInRange asked.now }
+    ensures finds { IfOk result
+        (λ done. Finds valid.now.parts asked.now (changed S.contents streams.old.save streams.new.save) done.status) }
+    ensures well { IfOk result (λ done. IsWellAt valid.now.parts asked.now done.status) }
+    ensures drawn { IfOk result
+        (λ done. IsDrawn valid.now.parts asked.now (changed W.contents streams.old.out streams.new.out)
+        (changed S.contents streams.old.save streams.new.save) done.status) }
+    ensures drawn_races { IfOk result
+        (λ done. IsDrawnForRaces valid.now.parts asked.now (changed W.contents streams.old.out streams.new.out)
+        (changed S.contents streams.old.save streams.new.save) done.status) }
+    ensures prints { IfOk result
+        (λ done. IsPrintedOf valid.now.parts asked.now (changed W.contents streams.old.out streams.new.out)
+        (changed S.contents streams.old.save streams.new.save) done.status) }
+    ensures trouble { IfErr result (IsTroubleOf valid.now.parts asked.now.call) }
+    ensures silent { IfErr result (λ e. IfRefusedCall e
+        (Stays streams.old.out streams.new.out × Stays streams.old.save streams.new.save)) }
+    ensures unwanted { is_some asked.now.save ≡ false → Stays streams.old.save streams.new.save }
+    ensures no_memory { Stays streams.old.memory streams.new.memory }
+    ensures unsaid { Stays streams.old.err streams.new.err }
+{
+    let Streams { out, save, .. } = streams;
     let whole = Asked {
         search: asked,
         bytes: module,
     };
-    match search_module(rt, alloc, &valid, whole, follower, out, save) {
-        Ok(status) => Ok(Done {
-            is_bare: is_bare(&valid, asked),
-            ..Done::with(status)
-        }),
-        Err(trouble) => Err(of_trouble(trouble, valid, asked.save, None)),
-    }
+    let status = search_module(rt, alloc, valid, whole, follower, out, save)?;
+    Ok(Done {
+        is_bare: is_bare(valid, asked),
+        ..Done::with(status)
+    })
 }
 
 /// Whether only how threads ended is compared: the function returns nothing, and no bytes are named.

@@ -1,14 +1,17 @@
 //! Searches by the program: what comes of one is decided here, and told by `telling` in the form that is asked for.
 ghost use Rattle.std.specs.Prelude.{◌≡◌, ◌≤◌, IfOk, IfErr, Some, None, true, false, is_some};
+ghost use Rattle.types.specs.declared.parts.Parts.{Parts};
 ghost use Rattle.report_command.specs.Searches.{IsSearchInRange};
 ghost use Rattle.report_jobs.specs.Asked.{IsAskedBy};
 ghost use Rattle.report_jobs.specs.Troubles.{IsTroubleOf};
 ghost use Rattle.report_json.specs.declared.raced.RunRaces.TheVariants as said;
 ghost use Rattle.report_searches.specs.Drawn.{behind_text, cut_in};
 ghost use Rattle.report_searches.specs.DrawnRaces.{raceless_text};
+ghost use Rattle.report_searches.specs.Found.{KeepsFound};
+ghost use Rattle.report_searches.specs.Racing.{CanTell, IsRacedIn, IsRacedOf, KeepsRaced, SaysRaced, keeps_race, racing_in};
 ghost use Rattle.report_searches.specs.Searches.{Finds, IsOfSystem, IsWellAt};
 ghost use Rattle.report.specs.Searched.{IsDrawn, IsDrawnForRaces, IsPrintedOf};
-ghost use Rattle.report.specs.Telling.{EndsNone};
+ghost use Rattle.report.specs.Telling.{EndsAll, EndsNone, InLines};
 ghost use Rattle.report.specs.Told.{IsStatusOfTable, TellsAll, TellsDrawn, TellsDrawnRaces};
 ghost use Rattle.report_jobs.specs.Prints.{changed};
 ghost use Rattle.report_jobs.specs.Silence.{Stays};
@@ -23,7 +26,7 @@ use report_command::Search;
 use report_jobs::{Trouble, args_of, request_of};
 use report_json::FoundAs;
 use report_searches::{
-    Asked, FoundRun, behind_of, first_look, jobs_of, keep_found, keep_made, keep_raced, keep_run,
+    Asked, FirstLook, FoundRun, Raced, behind_of, first_look, jobs_of, keep_found, keep_made, keep_raced, keep_run,
     kept_if_found, kept_of, kept_race, no_memory, raced_of, status_of_none, whole_of,
 };
 use search_finds::{Halt, Hears, SearchResult, Table, first_found, first_judged};
@@ -54,6 +57,53 @@ fn hands_of<'r, R: Threads>(rt: &'r R, search: &Search) -> Hands<'r, R> {
     }
 }
 
+/// The race that a first look at all runs found, if it found one, once it is told, and the record of it kept, where one is
+/// wanted.
+fn race_told<'a, W: Write, S: Write>(
+    alloc: Global,
+    request: &'a Request,
+    asked: Asked<'a>,
+    look: &FirstLook,
+    out: &mut W,
+    save: &mut S,
+) -> Result<Raced<'a, 'a>, Trouble>
+    ensures raced { IfOk result
+        (IsRacedOf request.now asked.entry.search.now (racing_in look.now)) }
+    ensures tells { IfOk result (λ raced. InLines asked.entry.search.now.form (changed W.contents out.old out.new)
+        (SaysRaced request.now.parts raced)) }
+    ensures kept { IfOk result
+        (λ raced. KeepsRaced asked.entry.search.now raced (changed S.contents save.old save.new)) }
+    ensures unkept { keeps_race asked.entry.search.now ≡ false → Stays save.old save.new }
+    ensures unwanted { is_some asked.entry.search.now.save ≡ false → Stays save.old save.new }
+    ensures trouble { IfErr result IsOfSystem }
+{
+    let raced = raced_of(alloc, request, asked, look)?;
+    tell_raced(alloc, asked.search.form, &raced, out)?;
+    keep_raced(asked.search, &raced, save)?;
+    Ok(raced)
+}
+
+/// Tells the rest of what was found in every order, and keeps the record of it, where one is wanted.
+fn end_orders<W: Write, S: Write>(
+    alloc: Global,
+    search: &Search,
+    told: Told,
+    out: &mut W,
+    save: &mut S,
+) -> Result<(), Trouble>
+    requires { CanTell told.raced.now }
+    ensures tells { (m : Parts) → IsRacedIn m told.entry.raced.now
+        → IfOk result (λ _. EndsAll search.now.form m told.entry (changed W.contents out.old out.new)) }
+    ensures kept { IfOk result
+        (λ _. KeepsFound search.now told.entry.kept.now (changed S.contents save.old save.new)) }
+    ensures unwanted { is_some search.now.save ≡ false → Stays save.old save.new }
+    ensures trouble { IfErr result IsOfSystem }
+{
+    tell_all(alloc, search.form, told, out)?;
+    keep_found(search, told.kept, save)?;
+    Ok(())
+}
+
 /// Goes through all runs of a call: where no threads race by the orders that matter then, and else through every order
 /// of their entries. Tells a race that it found, the endings, whether these are all, what is known of races, what never
 /// ends, and what was found; and keeps the record of that, where one is wanted. Answers the status.
@@ -78,17 +128,14 @@ fn search_orders<R: Threads + Sync, F: Hears, W: Write, S: Write>(
 {
     let Orders { hands, asked, most } = orders;
     let search = asked.search;
-    let form = search.form;
     let look = first_look(alloc, request, hands, search, *most, follower)?;
     follower.end();
-    let raced = raced_of(alloc, request, *asked, &look)?;
-    tell_raced(alloc, form, &raced, out)?;
-    keep_raced(search, &raced, save)?;
+    let raced = race_told(alloc, request, *asked, &look, out, save)?;
     let whole = whole_of(alloc, request, search, *most, look, follower)?;
     follower.end();
-    tell_whole(form, &whole, *most, out)?;
+    tell_whole(search.form, &whole, *most, out)?;
     let behind = behind_of(alloc, request, search, &whole)?;
-    tell_if_found(form, &behind.found, out)?;
+    tell_if_found(search.form, &behind.found, out)?;
     let kept = kept_if_found(alloc, request, search, behind.found, follower)?;
     let told = Told {
         whole: &whole,
@@ -98,8 +145,7 @@ fn search_orders<R: Threads + Sync, F: Hears, W: Write, S: Write>(
         status: behind.status,
         dump: search.sought.dump,
     };
-    tell_all(alloc, form, told, out)?;
-    keep_found(search, &kept, save)?;
+    end_orders(alloc, search, told, out, save)?;
     Ok(behind.status)
 }
 

@@ -112,20 +112,6 @@ fn is_refusal(status: u8, text: &str) -> bool {
         .any(|(number, form)| *number == status && has_form(line, form))
 }
 
-/// Whether each thread that trapped is told with its line, in order, and nothing else.
-fn tells_traps(out: &str, err: &str) -> bool {
-    let mut told = err.lines();
-    for line in out.lines() {
-        if line.contains(": trap ") {
-            match told.next() {
-                Some(other) if other.starts_with(line) => {}
-                _ => return false,
-            }
-        }
-    }
-    told.next().is_none()
-}
-
 /// Whether a job can end so: with this status and these texts. Not that memory or threads ran out, or that a file
 /// failed.
 pub(crate) fn is_answer(status: u8, out: &[u8], err: &[u8]) -> bool {
@@ -134,7 +120,7 @@ pub(crate) fn is_answer(status: u8, out: &[u8], err: &[u8]) -> bool {
     };
     match status {
         0 => err.is_empty() && (is_end(out) || is_accepted(out)),
-        1 => is_end(out) && tells_traps(out, err),
+        1 => err.is_empty() && is_end(out),
         _ => out.is_empty() && is_refusal(status, err),
     }
 }

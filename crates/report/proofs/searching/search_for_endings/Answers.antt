@@ -1,4 +1,4 @@
-use Rattle.std.proofs.Common.{false, true, None, refl, inl, inr, true≢false}
+use Rattle.std.proofs.Common.{rules, false, true, None, refl, inl, inr, true≢false}
 use Rattle.report_jobs.specs.Prints.{change, changed}
 use Rattle.report_searches.specs.Drawn.{behind_text}
 use Rattle.report.specs.Telling.{EndsNone}
@@ -21,7 +21,7 @@ pub end_without-requires-in-Told : goal.end_without-requires-in-Told
 end_without-requires-in-Told g c = cut_within c.args.request.now c.args.search.now.sought c.in-Ok.searched.table c.in-Ok.ensures.noted
 
 pub kept_of-requires : goal.kept_of-requires
-kept_of-requires g c κs within = let found = rw c.in-Found.is at c.in-Ok.ensures.found in found.0
+kept_of-requires g c = let found = rw c.in-Found.is at c.in-Ok.ensures.found in (search rules, found.0)
 
 pub returns-in-Found-clause-finds : goal.returns-in-Found-clause-finds
 returns-in-Found-clause-finds g c =

@@ -1,4 +1,4 @@
-use Rattle.std.proofs.Common.{false, true, Some, arith, refl, inl, inr, true≢false}
+use Rattle.std.proofs.Common.{rules, false, true, Some, arith, refl, inl, inr, true≢false}
 use Rattle.search_finds.proofs.Noting.{plainly_noted}
 use Rattle.report_jobs.specs.Prints.{change, changed}
 use Rattle.report_json.specs.declared.raced.RunRaces.TheVariants as said
@@ -38,8 +38,7 @@ pub tell_racy-requires-clause-told : goal.tell_racy-requires-clause-told
 tell_racy-requires-clause-told g c = c.in_ok-kept-in-Found.ensures.has.race.told
 
 pub kept_race-requires : goal.kept_race-requires
-kept_race-requires g c κs within =
-    rw c.in-Found.is at c.in-Ok.ensures.found
+kept_race-requires g c = (search rules, rw c.in-Found.is at c.in-Ok.ensures.found)
 
 pub returns-in-Found-clause-finds : goal.returns-in-Found-clause-finds
 returns-in-Found-clause-finds g c =

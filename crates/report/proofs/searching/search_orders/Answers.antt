@@ -1,25 +1,24 @@
-use Rattle.std.proofs.Common.{◌≡◌, ◌∙◌, refl, sym, ap, subst}
+use Rattle.std.proofs.Common.{rules, ◌≡◌, ◌∙◌, refl, sym, ap, subst}
 use Rattle.std.specs.Prelude.{is_some}
+use Rattle.std.proofs.lemmas.Result.{err_from_is_err_and}
 use Rattle.report_jobs.specs.Prints.{change}
 use Rattle.report_searches.specs.Racing.{IsRacedOf}
 use Rattle.report_searches.specs.declared.whole.Racing.{Racing}
 use Rattle.report_searches.proofs.Keeping.{found_can, found_kept, quiet_by}
 use Rattle.report_searches.proofs.Pairs.{can_tell, raced_in, raced_kept}
-use Rattle.report_searches.proofs.Wholly.{and_none, finds_all, well_by}
+use Rattle.report_searches.proofs.Wholly.{finds_all, well_by}
 use Rattle.report.proofs.AllTold.{all_told}
 use Rattle.report.proofs.searching.search_orders.Goals as goal
 
-pub tell_raced-requires : goal.tell_raced-requires
-tell_raced-requires g c =
-    can_tell c.args.request.now c.args.orders.now.asked.search.now _ c.in_ok-raced.raced c.in_ok-raced.ensures.raced
-
-pub tell_all-requires : goal.tell_all-requires
-tell_all-requires g c =
+pub end_orders-requires : goal.end_orders-requires
+end_orders-requires g c =
     can_tell c.args.request.now c.args.orders.now.asked.search.now _ c.in_ok-raced.raced c.in_ok-raced.ensures.raced
 
 pub kept_if_found-requires : goal.kept_if_found-requires
-kept_if_found-requires g c κs within =
-    found_can c.args.request.now c.args.orders.now.asked.search.now c.in_ok-whole.whole c.in_ok-behind.behind.found c.in_ok-behind.ensures.has
+kept_if_found-requires g c = (
+    search rules,
+    found_can c.args.request.now c.args.orders.now.asked.search.now c.in_ok-whole.whole c.in_ok-behind.behind.found c.in_ok-behind.ensures.has,
+  )
 
 pub returns-clause-finds : goal.returns-clause-finds
 returns-clause-finds g c =
@@ -27,18 +26,18 @@ returns-clause-finds g c =
     let s = c.args.orders.now.asked.search.now in
     let saved = g.S.Write.contents in
     let a = saved c.args.save.now in
-    let b = saved c.keep_raced.new.save in
-    let last = saved c.keep_found.new.save in
+    let b = saved c.race_told.new.save in
+    let last = saved c.end_orders.new.save in
     let w = c.in_ok-whole.whole in
     let behind = c.in_ok-behind.behind in
     let has = c.in_ok-behind.ensures.has in
     let is_kept = c.in_ok-kept.ensures.kept in
-    let kept = c.in_ok-keep_found.ensures.kept in
+    let kept = c.in_ok-end_orders.ensures.kept in
     let few = c.in_ok-behind.ensures.status.statuses in
-    let unkept = c.keep_raced.ensures.unwanted in
+    let unkept = c.race_told.ensures.unkept in
     finds_all q.parts s a b last behind.status s.races refl (λ no. ap saved (unkept no))
     (quiet_by q s w behind.found c.in_ok-kept.kept (change b last) has is_kept kept)
-    (raced_kept q s c.requires.asked _ c.in_ok-raced.raced c.in_ok-raced.ensures.raced (change a b) c.in_ok-keep_raced.ensures.kept
+    (raced_kept q s c.requires.asked _ c.in_ok-raced.raced c.in_ok-raced.ensures.raced (change a b) c.in_ok-raced.ensures.kept
     (λ no. ap saved (unkept no)))
     (found_kept q s c.requires.asked (change b last) w behind.status few behind.found c.in_ok-kept.kept (ap is_some c.requires.every_order)
     c.in_ok-behind.ensures.one has is_kept kept) few
@@ -67,12 +66,12 @@ returns-clause-tells g c =
       found = found;
       has = c.in_ok-behind.ensures.has;
       is_kept = c.in_ok-kept.ensures.kept;
-      between = saved c.keep_raced.new.save;
-      keeps_race = c.in_ok-keep_raced.ensures.kept;
-      keeps_found = c.in_ok-keep_found.ensures.kept;
-      tells = all_told s.form q.parts _ found (contents c.args.out.now) (contents c.tell_raced.new.out) (contents c.tell_whole.new.out)
-          (contents c.tell_if_found.new.out) (contents c.tell_all.new.out) (c.in_ok-tell_raced.ensures.tells q.parts race)
-          c.in_ok-tell_whole.ensures.tells c.in_ok-tell_if_found.ensures.tells (c.in_ok-tell_all.ensures.tells q.parts race);
+      between = saved c.race_told.new.save;
+      keeps_race = c.in_ok-raced.ensures.kept;
+      keeps_found = c.in_ok-end_orders.ensures.kept;
+      tells = all_told s.form q.parts _ found (contents c.args.out.now) (contents c.race_told.new.out) (contents c.tell_whole.new.out)
+          (contents c.tell_if_found.new.out) (contents c.end_orders.new.out) c.in_ok-raced.ensures.tells
+          c.in_ok-tell_whole.ensures.tells c.in_ok-tell_if_found.ensures.tells (c.in_ok-end_orders.ensures.tells q.parts race);
       status_is = c.in_ok-behind.ensures.status;
     }
 
@@ -83,4 +82,24 @@ returns-clause-well g c =
 
 pub returns-clause-unwanted : goal.returns-clause-unwanted
 returns-clause-unwanted g c none =
-    c.keep_found.ensures.unwanted none ∙ c.keep_raced.ensures.unwanted (and_none c.args.orders.now.asked.search.now.races none)
+    c.end_orders.ensures.unwanted none ∙ c.race_told.ensures.unwanted none
+
+pub returns-in_err-behind-clause-trouble : goal.returns-in_err-behind-clause-trouble
+returns-in_err-behind-clause-trouble g c =
+    let p = err_from_is_err_and c.from_residual-in_err-behind.result c.from_residual-in_err-behind.ensures.1 in
+    rw (p.1, p.2) c.in_err-behind.ensures.trouble
+
+pub returns-in_err-tell_if_found-clause-trouble : goal.returns-in_err-tell_if_found-clause-trouble
+returns-in_err-tell_if_found-clause-trouble g c =
+    let p = err_from_is_err_and c.from_residual-in_err-tell_if_found.result c.from_residual-in_err-tell_if_found.ensures.1 in
+    rw (p.1, p.2) c.in_err-tell_if_found.ensures.trouble
+
+pub returns-in_err-kept-clause-trouble : goal.returns-in_err-kept-clause-trouble
+returns-in_err-kept-clause-trouble g c =
+    let p = err_from_is_err_and c.from_residual-in_err-kept.result c.from_residual-in_err-kept.ensures.1 in
+    rw (p.1, p.2) c.in_err-kept.ensures.trouble
+
+pub returns-in_err-end_orders-clause-trouble : goal.returns-in_err-end_orders-clause-trouble
+returns-in_err-end_orders-clause-trouble g c =
+    let p = err_from_is_err_and c.from_residual-in_err-end_orders.result c.from_residual-in_err-end_orders.ensures.1 in
+    rw (p.1, p.2) c.in_err-end_orders.ensures.trouble
