@@ -69,7 +69,7 @@ module _ (bytes saved : List ℕ) (out err save memory : WriterChange) (told : O
       → Performs job bytes saved before (ended_status r) → Performs job bytes saved behind (ended_status r)
   still_performs job (Ok done) same p =
       subst (λ (new : Option (List ℕ)). Performs job bytes saved
-          (record { out = out; err = record { old = err.old; new = new }; save = save; memory = memory }) done.status) (sym same) p
+      (record { out = out; err = record { old = err.old; new = new }; save = save; memory = memory }) done.status) (sym same) p
   still_performs job (Err why) tells p = high_performs job (undone_status why) (undone_high why) p
 
 -- the line of what is refused is told, where nothing was said before

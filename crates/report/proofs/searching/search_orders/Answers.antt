@@ -16,9 +16,9 @@ end_orders-requires g c =
 
 pub kept_if_found-requires : goal.kept_if_found-requires
 kept_if_found-requires g c = (
-    search rules,
-    found_can c.args.request.now c.args.orders.now.asked.search.now c.in_ok-whole.whole c.in_ok-behind.behind.found c.in_ok-behind.ensures.has,
-  )
+  search rules,
+  found_can c.args.request.now c.args.orders.now.asked.search.now c.in_ok-whole.whole c.in_ok-behind.behind.found c.in_ok-behind.ensures.has,
+)
 
 pub returns-clause-finds : goal.returns-clause-finds
 returns-clause-finds g c =
