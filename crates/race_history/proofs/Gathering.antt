@@ -9,7 +9,7 @@ use Rattle.std.proofs.lemmas.List.Elements.{Contains-append_cases, Contains-appe
 use Rattle.std.proofs.lemmas.Option.{cond_some, get_or_from_slice_get, none-some, same_Some, slice_get-get_or, slice_get_within}
 use Rattle.types.specs.declared.event.Entry.{Entry}
 use Rattle.shared_memory.specs.History.{queue_after}
-use Rattle.race_history.specs.declared.access.Kind.{Kind}
+use Rattle.race_history.specs.declared.access.AccessKind.{AccessKind}
 use Rattle.race_history.specs.Places.{IsAt, thread_at}
 use Rattle.race_history.specs.Order.{IsEdge, IsOfOneThread, IsStartOf, ReadsFrom, Starts, Wakes}
 use Rattle.race_history.specs.Calls.{AreStarts, AreWakers}
@@ -107,7 +107,7 @@ module _ (log : List Entry) where
         ap (if_before place) get ∙ cond-true (nat_lt i place) (Some i) None (lt-ltb i place earlier)
 
 -- all that come just before
-module _ (log : List Entry) (kinds : List Kind) (place : ℕ) (within : place < length log)
+module _ (log : List Entry) (kinds : List AccessKind) (place : ℕ) (within : place < length log)
     (wakers : List ℕ) (start writer previous : Option ℕ)
     (wakers_from : (i : ℕ) → Contains wakers i → Wakes log i place) (wakers_to : (i : ℕ) → Wakes log i place → Contains wakers i)
     (start_from : (i : ℕ) → start ≡ Some i → Starts log i place) (start_to : (i : ℕ) → Starts log i place → start ≡ Some i)
@@ -174,7 +174,7 @@ module _ (log : List Entry) (kinds : List Kind) (place : ℕ) (within : place < 
   }
 
 -- those that are gathered
-pub sources_next : (log : List Entry) (kinds : List Kind) (place : ℕ) → place < length log
+pub sources_next : (log : List Entry) (kinds : List AccessKind) (place : ℕ) → place < length log
     → (writers : List (Option ℕ)) → AreWriters log kinds (length log) writers → (starts : List ℕ) → AreStarts log (length log) starts
     → (wakers : List (List ℕ)) → AreWakers log (length log) wakers → (previous : Option ℕ) → previous ≡ last_of log (thread_at log place) place
     → AreSources log kinds place (get_or wakers place [] ++ option_to_list (start_before starts (thread_at log place) place)

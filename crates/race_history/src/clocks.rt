@@ -6,7 +6,7 @@ ghost use Rattle.race_history.specs.Sources.{rows};
 ghost use Rattle.race_history.specs.Clocks.{AreClocks, IsJoined};
 ghost use Rattle.race_history.specs.Writers.{AreWriters};
 
-use crate::access::Kind;
+use crate::access::AccessKind;
 use crate::calls::Calls;
 use crate::sources::{gather, start_before};
 use std::alloc::{AllocError, Global};
@@ -60,7 +60,7 @@ fn joined(
 pub(crate) fn make_clocks(
     alloc: Global,
     log: &[Entry],
-    kinds: &[Kind],
+    kinds: &[AccessKind],
     writers: &[Option<usize>],
     calls: &Calls,
     threads: usize,

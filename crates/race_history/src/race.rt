@@ -4,7 +4,7 @@ ghost use Rattle.shared_memory.specs.History.{AreEntries};
 ghost use Rattle.shared_memory.specs.Legal.{IsQueueLegal};
 ghost use Rattle.race_history.specs.Races.{AreInOrder, AreRaces, HasEach, IsCut};
 
-use crate::access::Kind;
+use crate::access::AccessKind;
 use crate::calls::find_calls;
 use crate::clocks::{count_threads, make_clocks};
 use crate::found::find_races;
@@ -38,7 +38,7 @@ pub struct Races {
 pub fn races_of(
     alloc: Global,
     log: &[Entry],
-    kinds: &[Kind],
+    kinds: &[AccessKind],
     most: usize,
 ) -> Result<Races, AllocError>
     requires kinds { length kinds.now ≡ length log.now }

@@ -7,7 +7,7 @@ use Rattle.search_scheduled.specs.declared.running.MadeRun.{MadeRun}
 use Rattle.search_finds.specs.Drawing.{IsRunOfNumber}
 use Rattle.search_finds.specs.Finds.{EndsAsLookedFor, HasNoneLookedFor}
 use Rattle.search_finds.specs.Noted.{AreNoted, AreNotedBy}
-use Rattle.search_finds.specs.declared.met.Table.{Table}
+use Rattle.search_finds.specs.declared.met.EndingTable.{EndingTable}
 use Rattle.selection.specs.declared.sought.Sought.{Sought}
 use Rattle.report_command.specs.declared.search.Search.{Search}
 use Rattle.report_command.specs.declared.form.Form.{Form}
@@ -30,20 +30,20 @@ use Rattle.report_searches.specs.declared.found.FoundRun.{FoundRun}
 use Rattle.report_searches.specs.declared.found.KeptRun.{KeptRun}
 use Rattle.report_searches.specs.declared.raced.KeptRace.{KeptRace}
 use Rattle.report_searches.specs.declared.raced.Raced.{Raced}
-use Rattle.report_searches.specs.declared.whole.Whole.{Whole}
+use Rattle.report_searches.specs.declared.whole.WholeSearch.{WholeSearch}
 use Rattle.report.specs.SearchObjects.{WritesAll, WritesKept, WritesRacy}
 use Rattle.report.specs.Telling.{EndsNone, head_lines}
-use Rattle.report.specs.declared.objects.Told.{Told}
+use Rattle.report.specs.declared.objects.ToldSearch.{ToldSearch}
 
 -- The lines of a race, where one was found, those of what was found of all runs, and those of what is looked for and found
 -- there; or the object of all of it.
-pub record LinesOfAll (m : Parts) (t : Told) (found : Option FoundRun) (out : WriterChange) : Type 0 where
+pub record LinesOfAll (m : Parts) (t : ToldSearch) (found : Option FoundRun) (out : WriterChange) : Type 0 where
   pub race : List ℕ
   pub says : SaysRaced m t.raced.now race
   pub lines : Appends out.old out.new (race ++ (complete_lines t.most t.whole.now.racing t.whole.now.all
       ++ (found_lines found ++ kept_lines t.dump t.kept.now)))
 
-abbrev pub AllIn : Form → Parts → Told → Option FoundRun → WriterChange → Type 0
+abbrev pub AllIn : Form → Parts → ToldSearch → Option FoundRun → WriterChange → Type 0
 AllIn Lines m t found out = LinesOfAll m t found out
 AllIn Json m t found out = WritesAll m t out
 
@@ -54,7 +54,7 @@ pub record TellsAll (m : Parts) (s : Search) (most : ℕ) (out save : WriterChan
   pub request : Requested
   pub parts_are : request.parts ≡ m
   pub asked : IsAskedBy s.call request
-  pub told : Told
+  pub told : ToldSearch
   pub most_is : told.most ≡ most
   pub status_told : told.status ≡ status
   pub dump_is : told.dump ≡ s.sought.dump
@@ -70,13 +70,13 @@ pub record TellsAll (m : Parts) (s : Search) (most : ℕ) (out save : WriterChan
   pub status_is : IsStatusOf s told.whole.now status
 
 -- The lines of a table, and of its last run, which was found; or the object of both.
-abbrev pub LastIn : Form → Search → Table → ℕ → KeptRun → WriterChange → Type 0
+abbrev pub LastIn : Form → Search → EndingTable → ℕ → KeptRun → WriterChange → Type 0
 LastIn Lines s table run k out =
     Appends out.old out.new (head_lines s.sought table ++ (found_run_line run ++ kept_text s.sought.dump k))
 LastIn Json s table run k out = WritesKept s.sought table k out
 
 -- The last run that was made was found; and the record that was written, where one is wanted, is that of what is kept of it.
-pub record TellsLast (q : Requested) (s : Search) (table : Table) (out save : WriterChange) : Type 0 where
+pub record TellsLast (q : Requested) (s : Search) (table : EndingTable) (out save : WriterChange) : Type 0 where
   pub run : ℕ
   pub is_last : run + 1 ≡ s.sought.from + table.runs
   pub found : MadeRun
@@ -88,17 +88,17 @@ pub record TellsLast (q : Requested) (s : Search) (table : Table) (out save : Wr
   pub kept : KeepsMade s k.made save
 
 -- The status is 0 where all is well, and else 1.
-pub record IsStatusOfTable (s : Sought) (table : Table) (status : ℕ) : Type 0 where
+pub record IsStatusOfTable (s : Sought) (table : EndingTable) (status : ℕ) : Type 0 where
   pub well : (status ≡ 0) ↔ IsAllWell s table
   pub statuses : status ≤ 1
 
 -- The lines of a table, and these behind it; or the object of the table, with what is known of races.
-abbrev pub NoneIn : Form → Sought → Table → Bool → Option RunRaces → List ℕ → ℕ → WriterChange → Type 0
+abbrev pub NoneIn : Form → Sought → EndingTable → Bool → Option RunRaces → List ℕ → ℕ → WriterChange → Type 0
 NoneIn Lines s table is_told races text status out = Appends out.old out.new (head_lines s table ++ text)
 NoneIn Json s table is_told races text status out = EndsNone Json s table is_told races text status out
 
 -- None was found: all were made, and none is looked for, where the search stops at such a one; or it was told to end.
-pub record TellsNone (s : Search) (table : Table) (out save : WriterChange) (status : ℕ) : Type 0 where
+pub record TellsNone (s : Search) (table : EndingTable) (out save : WriterChange) (status : ℕ) : Type 0 where
   pub is_told : Bool
   pub all_made : is_told ≡ false → table.runs ≡ s.sought.runs
   pub none : is_told ≡ false → s.sought.stops ≡ true → HasNoneLookedFor s.sought table
@@ -112,24 +112,25 @@ pub record TellsDrawn (m : Parts) (s : Search) (out save : WriterChange) (status
   pub request : Requested
   pub parts_are : request.parts ≡ m
   pub asked : IsAskedBy s.call request
-  pub table : Table
+  pub table : EndingTable
   pub noted : AreNoted request s.sought table
   pub says : ((status ≡ 1) × TellsLast request s table out save) ⊎ TellsNone s table out save status
 
 -- The lines of a table, and of its last run, which has a race; or the object of both.
-pub record LinesOfRacy (m : Parts) (s : Search) (table : Table) (run : ℕ) (k : KeptRace) (out : WriterChange) : Type 0 where
+pub record LinesOfRacy (m : Parts) (s : Search) (table : EndingTable) (run : ℕ) (k : KeptRace)
+    (out : WriterChange) : Type 0 where
   pub pair : List ℕ
   pub says : SaysPair m k.racy.made.record pair
   pub lines : Appends out.old out.new (head_lines s.sought table ++ (found_run_line run
       ++ (shrunk_text k.shrunk ++ (pair ++ run_lines s.sought.dump k.racy.made))))
 
-abbrev pub RacyIn : Form → Parts → Search → Table → ℕ → KeptRace → WriterChange → Type 0
+abbrev pub RacyIn : Form → Parts → Search → EndingTable → ℕ → KeptRace → WriterChange → Type 0
 RacyIn Lines m s table run k out = LinesOfRacy m s table run k out
 RacyIn Json m s table run k out = WritesRacy m s.sought table k out
 
 -- The last run that was made has a race, and none before it; and the record that was written, where one is wanted, is that
 -- of the run that is told.
-pub record TellsRacyLast (q : Requested) (s : Search) (table : Table) (out save : WriterChange) : Type 0 where
+pub record TellsRacyLast (q : Requested) (s : Search) (table : EndingTable) (out save : WriterChange) : Type 0 where
   pub run : ℕ
   pub is_last : run + 1 ≡ s.sought.from + table.runs
   pub found : MadeRun
@@ -142,7 +143,8 @@ pub record TellsRacyLast (q : Requested) (s : Search) (table : Table) (out save 
   pub kept : KeepsRecord (is_some s.save) save k.racy.made.record
 
 -- Of those that were made none has a race, where the search stops at such a one. All were made, or it was told to end.
-pub record TellsNoRace (q : Requested) (s : Search) (table : Table) (out save : WriterChange) (status : ℕ) : Type 0 where
+pub record TellsNoRace (q : Requested) (s : Search) (table : EndingTable) (out save : WriterChange)
+    (status : ℕ) : Type 0 where
   pub is_told : Bool
   pub all_made : is_told ≡ false → table.runs ≡ s.sought.runs
   pub none : s.sought.stops ≡ true → AreNotedBy (λ run made. SaysRaceOf q made false) q s.sought table
@@ -155,6 +157,6 @@ pub record TellsDrawnRaces (m : Parts) (s : Search) (out save : WriterChange) (s
   pub request : Requested
   pub parts_are : request.parts ≡ m
   pub asked : IsAskedBy s.call request
-  pub table : Table
+  pub table : EndingTable
   pub noted : AreNoted request s.sought table
   pub says : ((status ≡ 1) × TellsRacyLast request s table out save) ⊎ TellsNoRace request s table out save status

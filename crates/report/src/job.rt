@@ -21,7 +21,7 @@ use report_jobs::{
     Done, Streams, Trouble, Undone, load, of_refusal, of_trouble, perform_plain, tell_ended,
 };
 use report_looks::{CodeBytes, races_saved, show_saved};
-use report_searches::Asked;
+use report_searches::SearchRequest;
 use search_finds::Hears;
 use spawn_host::own_function;
 use std::alloc::Global;
@@ -205,7 +205,7 @@ where
     ensures unsaid { Stays streams.old.err streams.new.err }
 {
     let Streams { out, save, .. } = streams;
-    let whole = Asked {
+    let whole = SearchRequest {
         search: asked,
         bytes: module,
     };

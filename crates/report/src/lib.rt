@@ -16,8 +16,8 @@ mod telling;
 
 pub use job::perform;
 pub use report_command::{Job, Usage, command};
-pub use report_jobs::{Refusal, Streams, check, load, replay_saved};
+pub use report_jobs::{ModuleRefusal, Streams, check, load, replay_saved};
 pub use report_looks::{CodeBytes, races_saved, show_saved};
 pub use report_runs::{Call, EndState, RecordRunFault, record_run, run_on_words};
-pub use report_searches::Asked;
+pub use report_searches::SearchRequest;
 pub use searching::search_module;

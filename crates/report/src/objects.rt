@@ -14,22 +14,22 @@ ghost use Rattle.report.specs.SearchObjects.{WritesRacyTable, WritesTable, Write
 use report_command::Sought;
 use report_jobs::Trouble;
 use report_json::{
-    Complete, Coverage, Drawn, DrawnEnd, DrawnRuns, Found, FoundAs, MetEnding, RacePair,
-    RacingThreads, RunEnd, RunRaces, write_complete, write_drawn,
+    CompleteObject, Coverage, DrawnEnd, DrawnObject, DrawnRuns, FoundAs, FoundObject, MetEnding,
+    RacePair, RacingThreads, RunEndObject, RunRaces, write_complete, write_drawn,
 };
 use report_searches::{
-    KeptRace, KeptRun, Raced, Racing, Whole, cut_in_all, late_of, singles_of, trouble_of,
+    KeptRace, KeptRun, Raced, Racing, WholeSearch, cut_in_all, late_of, singles_of, trouble_of,
 };
-use search_finds::{Met, Table};
-use search_modules::Race;
+use search_finds::{EndingTable, Met};
+use search_modules::ThreadRace;
 use search_scheduled::MadeRun;
 use std::alloc::{AllocError, Global};
 use std::io::Write;
 
 /// What is told of every order.
 #[derive(Clone, Copy)]
-pub(crate) struct Told<'a> {
-    pub whole: &'a Whole,
+pub(crate) struct ToldSearch<'a> {
+    pub whole: &'a WholeSearch,
     pub raced: &'a Raced<'a, 'a>,
     pub kept: &'a Option<KeptRun>,
     pub most: u32,
@@ -38,10 +38,10 @@ pub(crate) struct Told<'a> {
 }
 
 /// How a run ended that was made.
-fn end_of(made: &MadeRun, dump: u32) -> RunEnd<'_>
+fn end_of(made: &MadeRun, dump: u32) -> RunEndObject<'_>
     ensures { IsObjectOf made.now.end dump result }
 {
-    RunEnd {
+    RunEndObject {
         threads: &made.end.threads,
         places: &[],
         pages: made.end.pages,
@@ -52,7 +52,7 @@ fn end_of(made: &MadeRun, dump: u32) -> RunEnd<'_>
 }
 
 /// How a run ended, if one was made.
-fn end_in(made: &Option<MadeRun>, dump: u32) -> Option<RunEnd<'_>>
+fn end_in(made: &Option<MadeRun>, dump: u32) -> Option<RunEndObject<'_>>
     ensures { IsEndIn dump made.now result }
 {
     match made {
@@ -62,10 +62,10 @@ fn end_in(made: &Option<MadeRun>, dump: u32) -> Option<RunEnd<'_>>
 }
 
 /// What is kept of what was found.
-fn found_of(kept: &KeptRun, dump: u32) -> Found<'_>
+fn found_of(kept: &KeptRun, dump: u32) -> FoundObject<'_>
     ensures { specified.IsKeptIn dump kept.now result }
 {
-    Found {
+    FoundObject {
         found_as: kept.found_as,
         shrunk: kept.shrunk,
         run: end_in(&kept.made, dump),
@@ -73,7 +73,7 @@ fn found_of(kept: &KeptRun, dump: u32) -> Found<'_>
 }
 
 /// The same, if something was found.
-fn found_in(kept: &Option<KeptRun>, dump: u32) -> Option<Found<'_>>
+fn found_in(kept: &Option<KeptRun>, dump: u32) -> Option<FoundObject<'_>>
     ensures { AreKeptIn dump kept.now result }
 {
     match kept {
@@ -85,14 +85,14 @@ fn found_in(kept: &Option<KeptRun>, dump: u32) -> Option<Found<'_>>
 /// Writes the object of every order, with what is known of races.
 fn write_told<W: Write>(
     alloc: Global,
-    told: Told,
+    told: ToldSearch,
     races: Option<RunRaces>,
     out: &mut W,
 ) -> Result<(), Trouble>
     ensures written { IfOk result (λ _. WritesTold told.entry races.entry (changed W.contents out.old out.new)) }
     ensures trouble { IfErr result IsOfSystem }
 {
-    let complete = Complete {
+    let complete = CompleteObject {
         status: told.status,
         most: told.most,
         all: &told.whole.all,
@@ -106,10 +106,10 @@ fn write_told<W: Write>(
 }
 
 /// Two threads that race, in a run that wasn't made.
-fn threads_of(race: Race) -> RacingThreads
+fn threads_of(race: ThreadRace) -> RacingThreads
     ensures { result ≡ specified.threads_of race }
 {
-    let Race { one, other } = race;
+    let ThreadRace { one, other } = race;
     RacingThreads { one, other }
 }
 
@@ -126,7 +126,11 @@ fn races_alone(racing: Racing) -> Option<RunRaces<'static>>
 }
 
 /// Writes the object of every order.
-pub(crate) fn write_all<W: Write>(alloc: Global, told: Told, out: &mut W) -> Result<(), Trouble>
+pub(crate) fn write_all<W: Write>(
+    alloc: Global,
+    told: ToldSearch,
+    out: &mut W,
+) -> Result<(), Trouble>
     requires { CanTell told.raced.now }
     ensures written { (m : Parts) → IsRacedIn m told.entry.raced.now
         → IfOk result (λ _. WritesAll m told.entry (changed W.contents out.old out.new)) }
@@ -175,7 +179,7 @@ fn all_met<'a>(
 }
 
 /// How many runs were made, and cut.
-fn runs_of(sought: &Sought, table: &Table) -> DrawnRuns
+fn runs_of(sought: &Sought, table: &EndingTable) -> DrawnRuns
     requires { cut_in table.now ≤ table.now.runs }
     ensures { AreRunsOf sought.now table.now result }
 {
@@ -188,7 +192,7 @@ fn runs_of(sought: &Sought, table: &Table) -> DrawnRuns
 }
 
 /// What is unseen.
-fn coverage_of(sought: &Sought, table: &Table) -> Coverage
+fn coverage_of(sought: &Sought, table: &EndingTable) -> Coverage
     ensures { result ≡ specified.coverage_of sought.now table.now }
 {
     Coverage {
@@ -211,7 +215,7 @@ fn none_of(is_told: bool, coverage: Coverage) -> DrawnEnd<'static>
 pub(crate) fn write_table<W: Write>(
     alloc: Global,
     sought: &Sought,
-    table: &Table,
+    table: &EndingTable,
     status: u8,
     races: Option<RunRaces>,
     halt: DrawnEnd,
@@ -223,7 +227,7 @@ pub(crate) fn write_table<W: Write>(
     ensures trouble { IfErr result IsOfSystem }
 {
     let met = all_met(alloc, sought, table.met.as_slice())?;
-    let drawn = Drawn {
+    let drawn = DrawnObject {
         status,
         runs: runs_of(sought, table),
         met: met.as_slice(),
@@ -240,7 +244,7 @@ pub(crate) fn write_table<W: Write>(
 pub(crate) fn write_kept<W: Write>(
     alloc: Global,
     sought: &Sought,
-    table: &Table,
+    table: &EndingTable,
     kept: &KeptRun,
     out: &mut W,
 ) -> Result<(), Trouble>
@@ -257,7 +261,7 @@ pub(crate) fn write_kept<W: Write>(
 pub(crate) fn write_none<W: Write>(
     alloc: Global,
     sought: &Sought,
-    table: &Table,
+    table: &EndingTable,
     is_told: bool,
     races: Option<RunRaces>,
     status: u8,
@@ -276,7 +280,7 @@ pub(crate) fn write_none<W: Write>(
 fn write_racy_table<W: Write>(
     alloc: Global,
     sought: &Sought,
-    table: &Table,
+    table: &EndingTable,
     kept: &KeptRace,
     pair: RacePair,
     out: &mut W,
@@ -286,7 +290,7 @@ fn write_racy_table<W: Write>(
         (changed W.contents out.old out.new)) }
     ensures trouble { IfErr result IsOfSystem }
 {
-    let object = Found {
+    let object = FoundObject {
         found_as: FoundAs::Run(kept.run),
         shrunk: kept.shrunk,
         run: Some(end_of(&kept.racy.made, sought.dump)),
@@ -299,7 +303,7 @@ fn write_racy_table<W: Write>(
 pub(crate) fn write_racy<W: Write>(
     alloc: Global,
     sought: &Sought,
-    table: &Table,
+    table: &EndingTable,
     kept: &KeptRace,
     out: &mut W,
 ) -> Result<(), Trouble>

@@ -17,7 +17,7 @@ ghost use Rattle.report_jobs.specs.Prints.{changed};
 ghost use Rattle.report_jobs.specs.Silence.{Stays};
 ghost use Rattle.report.specs.Silent.{IfRefusedCall};
 
-use crate::objects::Told;
+use crate::objects::ToldSearch;
 use crate::telling::{
     tell_all, tell_if_found, tell_kept, tell_none, tell_raced, tell_raceless, tell_racy, tell_run,
     tell_table, tell_whole,
@@ -26,12 +26,12 @@ use report_command::Search;
 use report_jobs::{Advised, Done, Trouble, args_of, request_of};
 use report_json::FoundAs;
 use report_searches::{
-    Asked, FirstLook, FoundRun, Raced, Whole, behind_of, first_look, jobs_of, keep_found,
-    keep_made, keep_raced, keep_run, kept_if_found, kept_of, kept_race, no_memory, raced_of,
-    status_of_none, whole_of,
+    FirstLook, FoundRun, Raced, SearchRequest, WholeSearch, behind_of, first_look, jobs_of,
+    keep_found, keep_made, keep_raced, keep_run, kept_if_found, kept_of, kept_race, no_memory,
+    raced_of, status_of_none, whole_of,
 };
 use search_endings::Ending;
-use search_finds::{Halt, Hears, SearchResult, Table, first_found, first_judged};
+use search_finds::{EndingTable, Halt, Hears, SearchResult, first_found, first_judged};
 use search_modules::Hands;
 use search_races::RaceJudge;
 use spawn_host::Request;
@@ -44,7 +44,7 @@ use validate_module::ValidModule;
 #[derive(Drop)]
 struct Orders<'a, R> {
     hands: Hands<'a, R>,
-    asked: Asked<'a>,
+    asked: SearchRequest<'a>,
     most: u32,
 }
 
@@ -67,7 +67,7 @@ fn advise(advised: &mut Advised, ending: &Ending) {
 }
 
 /// What is advised of the endings of drawn runs.
-fn advised_of_table(table: &Table) -> Advised {
+fn advised_of_table(table: &EndingTable) -> Advised {
     let mut advised = Advised::none();
     for met in table.met.as_slice() {
         advise(&mut advised, &met.ending);
@@ -76,7 +76,7 @@ fn advised_of_table(table: &Table) -> Advised {
 }
 
 /// What is advised of the endings of all runs.
-fn advised_of(whole: &Whole) -> Advised {
+fn advised_of(whole: &WholeSearch) -> Advised {
     let mut advised = Advised::none();
     for ending in whole.all.endings.as_slice() {
         advise(&mut advised, ending);
@@ -89,7 +89,7 @@ fn advised_of(whole: &Whole) -> Advised {
 fn race_told<'a, W: Write, S: Write>(
     alloc: Global,
     request: &'a Request,
-    asked: Asked<'a>,
+    asked: SearchRequest<'a>,
     look: &FirstLook,
     out: &mut W,
     save: &mut S,
@@ -114,7 +114,7 @@ fn race_told<'a, W: Write, S: Write>(
 fn end_orders<W: Write, S: Write>(
     alloc: Global,
     search: &Search,
-    told: Told,
+    told: ToldSearch,
     out: &mut W,
     save: &mut S,
 ) -> Result<(), Trouble>
@@ -164,7 +164,7 @@ fn search_orders<R: Threads + Sync, F: Hears, W: Write, S: Write>(
     let behind = behind_of(alloc, request, search, &whole)?;
     tell_if_found(search.form, &behind.found, out)?;
     let kept = kept_if_found(alloc, request, search, behind.found, follower)?;
-    let told = Told {
+    let told = ToldSearch {
         whole: &whole,
         raced: &raced,
         kept: &kept,
@@ -184,7 +184,7 @@ fn search_orders<R: Threads + Sync, F: Hears, W: Write, S: Write>(
 fn end_without<W: Write>(
     alloc: Global,
     search: &Search,
-    table: &Table,
+    table: &EndingTable,
     is_told: bool,
     out: &mut W,
 ) -> Result<Done, Trouble>
@@ -259,7 +259,7 @@ fn search_for_endings<R: Threads + Sync, F: Hears, W: Write, S: Write>(
 fn end_raceless<W: Write>(
     alloc: Global,
     search: &Search,
-    table: &Table,
+    table: &EndingTable,
     is_told: bool,
     out: &mut W,
 ) -> Result<Done, Trouble>
@@ -284,7 +284,7 @@ fn search_for_races<R: Threads + Sync, F: Hears, W: Write, S: Write>(
     rt: &R,
     alloc: Global,
     request: &Request,
-    asked: Asked,
+    asked: SearchRequest,
     follower: &mut F,
     out: &mut W,
     save: &mut S,
@@ -331,7 +331,7 @@ fn search_runs<R: Threads + Sync, F: Hears, W: Write, S: Write>(
     rt: &R,
     alloc: Global,
     request: &Request,
-    asked: Asked,
+    asked: SearchRequest,
     follower: &mut F,
     out: &mut W,
     save: &mut S,
@@ -361,7 +361,7 @@ pub fn search_module<R: Threads + Sync, F: Hears, W: Write, S: Write>(
     rt: &R,
     alloc: Global,
     module: &ValidModule,
-    asked: Asked,
+    asked: SearchRequest,
     follower: &mut F,
     out: &mut W,
     save: &mut S,

@@ -15,16 +15,16 @@ ghost use Rattle.report_searches.specs.Racing.{CanTell, IsRacedIn, IsRacyRun, Sa
 ghost use Rattle.report_searches.specs.Searches.{IsOfSystem};
 ghost use Rattle.report.specs.Telling.{EndsAll, EndsKept, EndsNone, EndsRacy, InLines, TellsRacy, head_lines};
 
-use crate::objects::{Told, write_all, write_kept, write_none, write_racy};
+use crate::objects::{ToldSearch, write_all, write_kept, write_none, write_racy};
 use report_command::{Form, Sought};
 use report_jobs::Trouble;
 use report_json::{FoundAs, RunRaces};
 use report_searches::{
-    FoundRun, KeptRace, KeptRun, Raced, Whole, trouble_of, write_behind, write_complete,
+    FoundRun, KeptRace, KeptRun, Raced, WholeSearch, trouble_of, write_behind, write_complete,
     write_cut_of, write_found, write_if_found, write_if_kept, write_kept_lines, write_raced,
     write_raceless, write_run, write_shrunk, write_table,
 };
-use search_finds::Table;
+use search_finds::EndingTable;
 use std::alloc::Global;
 use std::io::Write;
 
@@ -49,7 +49,7 @@ pub(crate) fn tell_raced<W: Write>(
 /// Tells the endings of all runs, before a run to one that is looked for is made.
 pub(crate) fn tell_whole<W: Write>(
     form: Form,
-    whole: &Whole,
+    whole: &WholeSearch,
     most: u32,
     out: &mut W,
 ) -> Result<(), Trouble>
@@ -89,7 +89,7 @@ pub(crate) fn tell_if_found<W: Write>(
 pub(crate) fn tell_all<W: Write>(
     alloc: Global,
     form: Form,
-    told: Told,
+    told: ToldSearch,
     out: &mut W,
 ) -> Result<(), Trouble>
     requires { CanTell told.raced.now }
@@ -104,7 +104,7 @@ pub(crate) fn tell_all<W: Write>(
 }
 
 /// Writes the lines of a table, and how many of its runs were cut.
-fn write_head<W: Write>(out: &mut W, sought: &Sought, table: &Table) -> Result<(), Trouble>
+fn write_head<W: Write>(out: &mut W, sought: &Sought, table: &EndingTable) -> Result<(), Trouble>
     requires { cut_in table.now ≤ table.now.runs }
     ensures tells { IfOk result (λ _. InLines forms.Lines (changed W.contents out.old out.new)
         (λ text. text ≡ head_lines sought.now table.now)) }
@@ -119,7 +119,7 @@ fn write_head<W: Write>(out: &mut W, sought: &Sought, table: &Table) -> Result<(
 pub(crate) fn tell_table<W: Write>(
     form: Form,
     sought: &Sought,
-    table: &Table,
+    table: &EndingTable,
     out: &mut W,
 ) -> Result<(), Trouble>
     requires { cut_in table.now ≤ table.now.runs }
@@ -153,7 +153,7 @@ pub(crate) fn tell_kept<W: Write>(
     alloc: Global,
     form: Form,
     sought: &Sought,
-    table: &Table,
+    table: &EndingTable,
     kept: &KeptRun,
     out: &mut W,
 ) -> Result<(), Trouble>
@@ -173,7 +173,7 @@ pub(crate) fn tell_none<W: Write>(
     alloc: Global,
     form: Form,
     sought: &Sought,
-    table: &Table,
+    table: &EndingTable,
     is_told: bool,
     status: u8,
     out: &mut W,
@@ -217,7 +217,7 @@ pub(crate) fn tell_racy<W: Write>(
     alloc: Global,
     form: Form,
     sought: &Sought,
-    table: &Table,
+    table: &EndingTable,
     kept: &KeptRace,
     out: &mut W,
 ) -> Result<(), Trouble>
@@ -238,7 +238,7 @@ pub(crate) fn tell_raceless<W: Write>(
     alloc: Global,
     form: Form,
     sought: &Sought,
-    table: &Table,
+    table: &EndingTable,
     is_told: bool,
     status: u8,
     out: &mut W,

@@ -3,9 +3,9 @@ ghost use Rattle.report_command.specs.Jobs.{IsInRange};
 
 use dwarf_lines::SourceFile;
 use report::{CodeBytes, Job, Streams, perform, show_saved};
-use report_command::{Form, Order, Usage, asked};
+use report_command::{Form, JobOrder, Usage, asked};
 use report_jobs::{JobResult, status_of, tell_ended};
-use report_reasons::{Given, call_of, explain, write_undone};
+use report_reasons::{JobInputs, call_of, explain, write_undone};
 use search_finds::{Hears, Size};
 use search_reach::{Follows, Wish};
 use std::alloc::{AllocError, Global};
@@ -146,7 +146,7 @@ fn tell_more(
     is_explained: bool,
     gave: &mut Gave,
 ) -> Result<(), AllocError> {
-    let given = Given {
+    let given = JobInputs {
         module: input.module,
         saved: input.saved,
         call: call_of(job),
@@ -192,7 +192,7 @@ pub(crate) fn program<R: Threads + Wait + Sync>(
     gave.clear();
     match asked(alloc, words) {
         Ok(
-            Order {
+            JobOrder {
                 job,
                 explain: is_explained,
             },

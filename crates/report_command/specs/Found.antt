@@ -6,8 +6,8 @@ use Rattle.std.specs.List.{AllZip}
 use Rattle.std.specs.Str.Parse.{digits_value, without_leading_plus}
 use Rattle.clap.specs.Words.{first_value, one_text, matched_of, raw_values}
 use Rattle.clap.specs.declared.parser.matches.Found.{Found}
-use Rattle.report_command.specs.declared.kinds.Kind.{Kind}
-use Rattle.report_command.specs.declared.kinds.Kind.TheVariants.{Number, Long}
+use Rattle.report_command.specs.declared.kinds.ArgumentKind.{ArgumentKind}
+use Rattle.report_command.specs.declared.kinds.ArgumentKind.TheVariants.{Number, Long}
 
 -- It isn't there.
 abbrev pub HasNo : Found → List ℕ → Type 0
@@ -59,7 +59,7 @@ abbrev pub IsWord : Found → List ℕ → List ℕ → Bool → Type 0
 IsWord f name word is = (is ≡ true) ↔ (first_value f name ≡ Some word)
 
 -- The number is in the range of the kind.
-abbrev pub IsWithin : Kind → ℕ → Type 0
+abbrev pub IsWithin : ArgumentKind → ℕ → Type 0
 IsWithin (Number least most) n = (least ≤ n) × (n ≤ most)
 IsWithin (Long least most) n = (least ≤ n) × (n ≤ most)
 IsWithin kind n = ⊥

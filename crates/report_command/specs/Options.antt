@@ -15,7 +15,7 @@ use Rattle.selection.specs.declared.choice.Color.{Color}
 use Rattle.selection.specs.declared.choice.Color.TheVariants.{Auto, Always, Never}
 use Rattle.selection.specs.declared.sought.Find.{Find}
 use Rattle.selection.specs.declared.sought.Find.TheVariants.{Nothing, Failure, Words, NoEnd, ForEver}
-use Rattle.selection.specs.declared.sought.Target.{Target}
+use Rattle.selection.specs.declared.sought.SearchTarget.{SearchTarget}
 use Rattle.selection.specs.declared.sought.Sought.{Sought}
 use Rattle.report_command.specs.declared.limits.TheConstants.{DEFAULT_STATES, DEFAULT_SHRINK_SECONDS}
 use Rattle.report_command.specs.declared.call.CallWords.{CallWords}
@@ -28,10 +28,11 @@ use Rattle.report_command.specs.declared.form.Form.TheVariants.{Lines, Json}
 use Rattle.report_command.specs.declared.form.EndLook.{EndLook}
 use Rattle.report_command.specs.declared.command_line.Job.{Job}
 use Rattle.report_command.specs.declared.command_line.Job.TheVariants as jobs
-use Rattle.report_command.specs.declared.command_line.Order.{Order}
+use Rattle.report_command.specs.declared.command_line.JobOrder.{JobOrder}
 use Rattle.report_command.specs.declared.races.RacesJob.{RacesJob}
-use Rattle.report_command.specs.declared.show.View.{View}
-use Rattle.report_command.specs.declared.show.View.TheVariants.{Rows, Unfolded, Moment, Write, Page, Trace, Object}
+use Rattle.report_command.specs.declared.show.RecordView.{RecordView}
+use Rattle.report_command.specs.declared.show.RecordView.TheVariants.{Rows, Unfolded, Moment, Write, Page, Trace}
+use Rattle.report_command.specs.declared.show.RecordView.TheVariants.{Object}
 use Rattle.report_command.specs.declared.show.LastWrite.{LastWrite}
 use Rattle.report_command.specs.declared.show.ShowLook.{ShowLook}
 use Rattle.report_command.specs.declared.places.When.{When}
@@ -100,7 +101,7 @@ AsksBytes f addr count =
     MatchOption (first_value f (codes "dump")) ((addr ≡ 0) × (count ≡ 0)) (λ text. IsBytes text addr count)
 
 -- Its entries, as rows or as an object.
-abbrev pub AsksEntries : Found → View → Type 0
+abbrev pub AsksEntries : Found → RecordView → Type 0
 AsksEntries f Rows = AsksForm f Lines × HasFlag f (codes "unfold") false
 AsksEntries f Unfolded = AsksForm f Lines × HasFlag f (codes "unfold") true
 AsksEntries f Object = AsksForm f Json
@@ -123,7 +124,7 @@ AsksLastWrite f write = ((text : List ℕ) × (first_value f (codes "last-write"
     × IsData IsStretch text write.bytes) × AsksBefore f write.before
 
 -- What is made of a record, where no file is.
-abbrev pub AsksShown : Found → View → Type 0
+abbrev pub AsksShown : Found → RecordView → Type 0
 AsksShown f Rows = HasNo f (codes "last-write") × HasNo f (codes "at") × AsksEntries f Rows
 AsksShown f Unfolded = HasNo f (codes "last-write") × HasNo f (codes "at") × AsksEntries f Unfolded
 AsksShown f Object = HasNo f (codes "last-write") × HasNo f (codes "at") × AsksEntries f Object
@@ -134,7 +135,7 @@ AsksShown f (Page path) = ⊥
 AsksShown f (Trace path) = ⊥
 
 -- What is made of a record.
-abbrev pub AsksView : Found → View → Type 0
+abbrev pub AsksView : Found → RecordView → Type 0
 AsksView f (Page path) = HasText f (codes "html") path
 AsksView f (Trace path) = HasText f (codes "trace") path
 AsksView f view = HasNo f (codes "html") × HasNo f (codes "trace") × AsksShown f view
@@ -211,7 +212,7 @@ AsksFind f ForEver = AsksFindOf f ForEver
 abbrev pub AsksResult : Found → Option Outcome → Type 0
 AsksResult f result = IsReadIfAny IsSpelledBy f (codes "expect") result
 
-pub record AsksTarget (f : Found) (target : Target) : Type 0 where
+pub record AsksTarget (f : Found) (target : SearchTarget) : Type 0 where
   pub find : AsksFind f target.find
   pub expect : AsksResult f target.expect
 
@@ -291,7 +292,7 @@ is_explained explains.Never is_terminal = false
 is_explained explains.Auto is_terminal = is_terminal
 
 -- What the parser found asks for: the command, and its arguments.
-pub record IsOrderOf (m : ArgMatches) (order : Order) : Type 0 where
+pub record IsOrderOf (m : ArgMatches) (order : JobOrder) : Type 0 where
   pub found : Found
   pub command : subcommand_name_of m ≡ Some (command_name order.job)
   pub arguments : option_map (λ s. s.1) (subcommand_rows_of m) ≡ Some (rows_of found)
@@ -299,7 +300,7 @@ pub record IsOrderOf (m : ArgMatches) (order : Order) : Type 0 where
   pub explain : AsksExplain found order.explain
 
 -- What a command line that `clap` parses finds in the words asks for.
-pub record IsAskedBy (words : List (List ℕ)) (order : Order) : Type 0 where
+pub record IsAskedBy (words : List (List ℕ)) (order : JobOrder) : Type 0 where
   pub command : Command
   pub matches : ArgMatches
   pub parsed : IsParsedFrom command matches
@@ -307,7 +308,7 @@ pub record IsAskedBy (words : List (List ℕ)) (order : Order) : Type 0 where
   pub order_is : IsOrderOf matches order
 
 abbrev pub IsJobOf : List (List ℕ) → Job → Type 0
-IsJobOf words job = (order : Order) × (order.job ≡ job) × IsAskedBy words order
+IsJobOf words job = (order : JobOrder) × (order.job ≡ job) × IsAskedBy words order
 
 abbrev pub texts_in : List (Bor (List ℕ)) → List (List ℕ)
 texts_in texts = map (λ text. text.now) texts

@@ -5,9 +5,9 @@ ghost use Rattle.report_command.specs.Found.{AreRead, HasFlag, HasNumber, HasNum
 ghost use Rattle.report_command.specs.Found.{HasTextIfAny, HasTexts, IsReadIfAny, IsWithin, IsWord, is_given};
 
 use crate::commands::CommandName;
-use crate::kinds::Kind;
-use crate::places::{Reader, values_in};
-use crate::refusal::{Refusal, WrongValue};
+use crate::kinds::ArgumentKind;
+use crate::places::{ValueReader, values_in};
+use crate::refusal::{CommandRefusal, WrongValue};
 use clap::ArgMatches;
 use std::alloc::{AllocError, Global};
 
@@ -26,14 +26,14 @@ pub(crate) enum Position {
 
 /// An argument of commands.
 #[derive(Clone, Copy)]
-pub(crate) struct Argument<'r> {
+pub(crate) struct CommandArgument<'r> {
     /// What it is called. An option is written so, behind two dashes.
     pub name: &'r str,
     /// What help calls its value.
     pub value_name: &'r str,
     /// What help says of it.
     pub help: &'r str,
-    pub kind: Kind<'r>,
+    pub kind: ArgumentKind<'r>,
     pub position: Position,
     /// The commands that take it.
     pub commands: &'r [CommandName],
@@ -47,15 +47,15 @@ pub(crate) struct Argument<'r> {
     pub is_hidden: bool,
 }
 
-impl<'r> Argument<'r> {
+impl<'r> CommandArgument<'r> {
     /// Whether it has no value.
     pub(crate) fn is_flag(&self) -> bool {
-        matches!(self.kind, Kind::Flag)
+        matches!(self.kind, ArgumentKind::Flag)
     }
 
     /// The refusal of a text that is none of its values.
-    pub(crate) fn refusal(&self, text: &str) -> Refusal<'r> {
-        Refusal::Value(WrongValue {
+    pub(crate) fn refusal(&self, text: &str) -> CommandRefusal<'r> {
+        CommandRefusal::Value(WrongValue {
             name: self.name,
             value_name: self.value_name,
             complaint: self.kind.complaint(text),
@@ -80,7 +80,7 @@ impl<'r> Argument<'r> {
     ///
     /// # Errors
     /// `Value` where it has none.
-    pub(crate) fn text<'a>(&self, matches: &ArgMatches<'a>) -> Result<&'a str, Refusal<'r>>
+    pub(crate) fn text<'a>(&self, matches: &ArgMatches<'a>) -> Result<&'a str, CommandRefusal<'r>>
         ensures { IfOk result (HasText (found_of matches.now) self.now.name.now) }
     {
         match matches.get_str(self.name) {
@@ -121,13 +121,18 @@ impl<'r> Argument<'r> {
     ///
     /// # Errors
     /// `Value` where what it has is no such number.
-    pub(crate) fn number_if_any(&self, matches: &ArgMatches) -> Result<Option<u32>, Refusal<'r>>
+    pub(crate) fn number_if_any(
+        &self,
+        matches: &ArgMatches,
+    ) -> Result<Option<u32>, CommandRefusal<'r>>
         ensures range { IfOk result (λ n. IfSome n (IsWithin self.now.kind)) }
         ensures found { IfOk result (HasNumberIfAny (found_of matches.now) self.now.name.now) }
     {
         match (self.kind, matches.try_get_one::<u32>(self.name)) {
             (_, Ok(None)) => Ok(None),
-            (Kind::Number(least, most), Ok(Some(n))) if least <= n && n <= most => Ok(Some(n)),
+            (ArgumentKind::Number(least, most), Ok(Some(n))) if least <= n && n <= most => Ok(Some(
+                n,
+            )),
             _ => Err(self.refusal("")),
         }
     }
@@ -136,7 +141,7 @@ impl<'r> Argument<'r> {
     ///
     /// # Errors
     /// `Value` where it has none.
-    pub(crate) fn number(&self, matches: &ArgMatches) -> Result<u32, Refusal<'r>>
+    pub(crate) fn number(&self, matches: &ArgMatches) -> Result<u32, CommandRefusal<'r>>
         ensures range { IfOk result (IsWithin self.now.kind) }
         ensures found { IfOk result (HasNumber (found_of matches.now) self.now.name.now) }
     {
@@ -150,7 +155,11 @@ impl<'r> Argument<'r> {
     ///
     /// # Errors
     /// `Value` where what it has is no number in the range of its kind.
-    pub(crate) fn number_or(&self, matches: &ArgMatches, other: u32) -> Result<u32, Refusal<'r>>
+    pub(crate) fn number_or(
+        &self,
+        matches: &ArgMatches,
+        other: u32,
+    ) -> Result<u32, CommandRefusal<'r>>
         ensures range { IfOk result (λ n. IsWithin self.now.kind other → IsWithin self.now.kind n) }
         ensures found { IfOk result (HasNumberOr (found_of matches.now) self.now.name.now other) }
     {
@@ -164,12 +173,12 @@ impl<'r> Argument<'r> {
     ///
     /// # Errors
     /// `Value` where it has none.
-    pub(crate) fn long(&self, matches: &ArgMatches) -> Result<u64, Refusal<'r>>
+    pub(crate) fn long(&self, matches: &ArgMatches) -> Result<u64, CommandRefusal<'r>>
         ensures range { IfOk result (IsWithin self.now.kind) }
         ensures found { IfOk result (HasNumber (found_of matches.now) self.now.name.now) }
     {
         match (self.kind, matches.get_one::<u64>(self.name)) {
-            (Kind::Long(least, most), Some(n)) if least <= n && n <= most => Ok(n),
+            (ArgumentKind::Long(least, most), Some(n)) if least <= n && n <= most => Ok(n),
             _ => Err(self.refusal("")),
         }
     }
@@ -178,10 +187,10 @@ impl<'r> Argument<'r> {
     ///
     /// # Errors
     /// `Value` where its text spells none.
-    pub(crate) fn value<'a, R: Reader<'a>>(
+    pub(crate) fn value<'a, R: ValueReader<'a>>(
         &self,
         matches: &ArgMatches<'a>,
-    ) -> Result<Option<R::Value>, Refusal<'r>>
+    ) -> Result<Option<R::Value>, CommandRefusal<'r>>
         ensures { IfOk result (IsReadIfAny R.reads (found_of matches.now) self.now.name.now) }
     {
         let Some(text) = matches.get_str(self.name) else {
@@ -197,11 +206,11 @@ impl<'r> Argument<'r> {
     ///
     /// # Errors
     /// `Value` where a text spells none, and `NoMemory`.
-    pub(crate) fn values<'a, R: Reader<'a>>(
+    pub(crate) fn values<'a, R: ValueReader<'a>>(
         &self,
         alloc: Global,
         matches: &ArgMatches<'a>,
-    ) -> Result<Vec<R::Value>, Refusal<'r>>
+    ) -> Result<Vec<R::Value>, CommandRefusal<'r>>
         ensures { IfOk result (λ all. AreRead R.reads (found_of matches.now) self.now.name.now all.items) }
     {
         let texts = self.texts(alloc, matches)?;

@@ -5,7 +5,7 @@ ghost use Rattle.types.specs.declared.limits.TheConstants.{MOST_FUEL};
 ghost use Rattle.report_command.specs.Options.{AsksCall};
 
 use crate::options::{ARGS, FUEL, INVOKE};
-use crate::refusal::Refusal;
+use crate::refusal::CommandRefusal;
 use clap::ArgMatches;
 use std::alloc::Global;
 
@@ -27,7 +27,7 @@ pub struct CallWords<'a> {
 pub(crate) fn call_of<'a>(
     alloc: Global,
     matches: &ArgMatches<'a>,
-) -> Result<CallWords<'a>, Refusal<'static>>
+) -> Result<CallWords<'a>, CommandRefusal<'static>>
     ensures range { IfOk result (λ call. call.fuel ≤ MOST_FUEL) }
     ensures asks { IfOk result (AsksCall (found_of matches.now)) }
 {

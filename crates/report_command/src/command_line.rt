@@ -13,7 +13,7 @@ use crate::kinds::UNREAD;
 use crate::memory::{MemoryFile, MemoryFileReader};
 use crate::options::{FILE, LIMIT, MEMORY, MEMORY_IN, MEMORY_OUT, RECORD, RUN_RECORD};
 use crate::races::{RacesJob, races_job};
-use crate::refusal::{Refusal, WrongValue};
+use crate::refusal::{CommandRefusal, WrongValue};
 use crate::search::{Search, search_job};
 use crate::show::{ShowLook, show_job};
 use clap::error::ErrorKind;
@@ -248,18 +248,18 @@ fn misspelled(
 }
 
 /// What is said of the words of a command that are refused: `Wrong`, or `NoMemory`.
-fn refused(alloc: Global, command: Option<CommandName>, refusal: Refusal<'static>) -> Usage
+fn refused(alloc: Global, command: Option<CommandName>, refusal: CommandRefusal<'static>) -> Usage
     ensures { IsWrong result }
 {
     match refusal {
-        Refusal::Value(wrong_value) => misspelled(alloc, command, wrong_value),
-        Refusal::Conflict(misuse) => misused(alloc, misuse),
-        Refusal::NoMemory => Usage::NoMemory,
+        CommandRefusal::Value(wrong_value) => misspelled(alloc, command, wrong_value),
+        CommandRefusal::Conflict(misuse) => misused(alloc, misuse),
+        CommandRefusal::NoMemory => Usage::NoMemory,
     }
 }
 
 /// The job of `check`.
-fn check_job<'a>(matches: &ArgMatches<'a>) -> Result<Job<'a>, Refusal<'static>>
+fn check_job<'a>(matches: &ArgMatches<'a>) -> Result<Job<'a>, CommandRefusal<'static>>
     ensures range { IfOk result IsInRange }
     ensures asks { IfOk result (AsksNamed (codes "check") (found_of matches.now)) }
 {
@@ -271,7 +271,7 @@ fn check_job<'a>(matches: &ArgMatches<'a>) -> Result<Job<'a>, Refusal<'static>>
 }
 
 /// The job of `run`.
-fn run_job<'a>(alloc: Global, matches: &ArgMatches<'a>) -> Result<Job<'a>, Refusal<'static>>
+fn run_job<'a>(alloc: Global, matches: &ArgMatches<'a>) -> Result<Job<'a>, CommandRefusal<'static>>
     ensures range { IfOk result IsInRange }
     ensures asks { IfOk result (AsksNamed (codes "run") (found_of matches.now)) }
 {
@@ -293,7 +293,7 @@ fn run_job<'a>(alloc: Global, matches: &ArgMatches<'a>) -> Result<Job<'a>, Refus
 }
 
 /// The job of `replay`.
-fn replay_job<'a>(matches: &ArgMatches<'a>) -> Result<Job<'a>, Refusal<'static>>
+fn replay_job<'a>(matches: &ArgMatches<'a>) -> Result<Job<'a>, CommandRefusal<'static>>
     ensures range { IfOk result IsInRange }
     ensures asks { IfOk result (AsksNamed (codes "replay") (found_of matches.now)) }
 {
@@ -384,7 +384,7 @@ fn misuse_of(job: &Job) -> Option<Misuse>
 
 /// What the words ask for: a job, and when more is said where something is refused.
 #[derive(Drop)]
-pub struct Order<'a> {
+pub struct JobOrder<'a> {
     pub job: Job<'a>,
     pub explain: Explain,
 }
@@ -394,7 +394,7 @@ fn job_of<'a>(
     alloc: Global,
     name: &str,
     matches: &ArgMatches<'a>,
-) -> Result<Job<'a>, Refusal<'static>>
+) -> Result<Job<'a>, CommandRefusal<'static>>
     ensures range { IfOk result IsInRange }
     ensures asks { IfOk result (AsksNamed name.now (found_of matches.now)) }
 {
@@ -410,7 +410,7 @@ fn job_of<'a>(
 }
 
 /// What words ask for that the parser takes.
-fn order_of<'a>(alloc: Global, matches: &ArgMatches<'a>) -> Result<Order<'a>, Usage>
+fn order_of<'a>(alloc: Global, matches: &ArgMatches<'a>) -> Result<JobOrder<'a>, Usage>
     ensures range { IfOk result (λ asked. IsInRange asked.job) }
     ensures kept { IfOk result (λ asked. KeepsItsModule asked.job) }
     ensures asks { IfOk result (IsOrderOf matches.now) }
@@ -423,7 +423,7 @@ fn order_of<'a>(alloc: Global, matches: &ArgMatches<'a>) -> Result<Order<'a>, Us
         Err(refusal) => return Err(refused(alloc, CommandName::of(name), refusal)),
     };
     match misuse_of(&job) {
-        None => Ok(Order {
+        None => Ok(JobOrder {
             explain: explain_of(matches),
             job,
         }),
@@ -451,7 +451,7 @@ pub fn command<'a>(alloc: Global, words: &'a [&'a str]) -> Result<Job<'a>, Usage
 /// # Errors
 /// `Wrong` where the words are no job, also where a record of a memory of words is wanted, which keeps none, or one at
 /// the path of the module; `Help` where they ask for help or the version; `NoMemory`.
-pub fn asked<'a>(alloc: Global, words: &'a [&'a str]) -> Result<Order<'a>, Usage>
+pub fn asked<'a>(alloc: Global, words: &'a [&'a str]) -> Result<JobOrder<'a>, Usage>
     ensures range { IfOk result (λ asked. IsInRange asked.job) }
     ensures kept { IfOk result (λ asked. KeepsItsModule asked.job) }
     ensures asks { IfOk result (IsAskedBy (texts_in words.now)) }

@@ -1,6 +1,6 @@
 //! The commands, and how the parser gets them and their arguments out of tables.
 
-use crate::arguments::{Argument, Position};
+use crate::arguments::{CommandArgument, Position};
 use crate::options::{OF_A_RECORD, OF_A_RUN, OF_A_SEARCH, OF_A_VIEW, OF_ALL, OF_RUNS, UNTIL_HELP};
 use clap::builder::ValueRange;
 use clap::{Arg, Command};
@@ -93,7 +93,7 @@ impl CommandName {
 }
 
 /// An argument as the parser wants it.
-fn arg_of<'a>(alloc: Global, row: &Argument<'static>) -> Result<Arg<'a>, AllocError> {
+fn arg_of<'a>(alloc: Global, row: &CommandArgument<'static>) -> Result<Arg<'a>, AllocError> {
     let count = match row.position {
         Position::Rest => ValueRange::new(0..),
         _ if row.is_flag() => ValueRange::EMPTY,
@@ -123,7 +123,7 @@ fn arg_of<'a>(alloc: Global, row: &Argument<'static>) -> Result<Arg<'a>, AllocEr
 fn add<'a>(
     alloc: Global,
     command: CommandName,
-    table: &[Argument<'static>],
+    table: &[CommandArgument<'static>],
     args: &mut Vec<Arg<'a>>,
 ) -> Result<(), AllocError> {
     for row in table {

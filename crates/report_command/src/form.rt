@@ -8,7 +8,7 @@ ghost use Rattle.report_command.specs.Options.{AsksForm, AsksEndLook};
 
 use crate::limits::MOST_DUMP;
 use crate::options::{DUMP, EXPLAIN, JSON, UNITS};
-use crate::refusal::Refusal;
+use crate::refusal::CommandRefusal;
 use clap::ArgMatches;
 
 /// In which form a job prints.
@@ -62,7 +62,7 @@ pub(crate) fn form_of(matches: &ArgMatches) -> Form
 ///
 /// # Errors
 /// `Value` where the length of the dump isn't there.
-pub(crate) fn end_look_of(matches: &ArgMatches) -> Result<EndLook, Refusal<'static>>
+pub(crate) fn end_look_of(matches: &ArgMatches) -> Result<EndLook, CommandRefusal<'static>>
     ensures range { IfOk result (λ look. look.dump ≤ MOST_DUMP) }
     ensures asks { IfOk result (AsksEndLook (found_of matches.now)) }
 {

@@ -5,7 +5,7 @@ use clap::builder::ValueParser;
 /// What the value of an argument may be. The parser tests numbers and words out of a set, and says itself what is wrong
 /// with one; of the other kinds `complaint` says it.
 #[derive(Clone, Copy)]
-pub(crate) enum Kind<'r> {
+pub(crate) enum ArgumentKind<'r> {
     /// No value: the argument is there, or it isn't.
     Flag,
     /// Any text, as a path or a name.
@@ -38,50 +38,59 @@ pub(crate) enum Kind<'r> {
     Outcome,
 }
 
-impl<'r> Kind<'r> {
+impl<'r> ArgumentKind<'r> {
     /// How the parser tests it.
     pub(crate) fn parser(self) -> ValueParser<'r> {
         match self {
-            Kind::Flag => ValueParser::Bool,
-            Kind::Number(least, most) => ValueParser::Signed(i64::from(least), i64::from(most)),
-            Kind::Long(least, most) => ValueParser::Unsigned(least, most),
-            Kind::Word(words) => ValueParser::Names(words),
+            ArgumentKind::Flag => ValueParser::Bool,
+            ArgumentKind::Number(least, most) => ValueParser::Signed(
+                i64::from(least),
+                i64::from(most),
+            ),
+            ArgumentKind::Long(least, most) => ValueParser::Unsigned(least, most),
+            ArgumentKind::Word(words) => ValueParser::Names(words),
             _ => ValueParser::String,
         }
     }
 
     /// Whether it is several values, with commas between.
     pub(crate) fn is_list(self) -> bool {
-        matches!(self, Kind::Spans | Kind::Threads | Kind::Addresses)
+        matches!(
+            self,
+            ArgumentKind::Spans | ArgumentKind::Threads | ArgumentKind::Addresses
+        )
     }
 
     /// What is said of a text that is no value of this kind.
     pub(crate) fn complaint(self, text: &str) -> &'r str {
         match self {
-            Kind::Flag | Kind::Text | Kind::Number(_, _) | Kind::Long(_, _) | Kind::Word(_) => {
-                UNREAD
-            }
-            Kind::Spans => {
+            ArgumentKind::Flag
+            | ArgumentKind::Text
+            | ArgumentKind::Number(_, _)
+            | ArgumentKind::Long(_, _)
+            | ArgumentKind::Word(_) => { UNREAD }
+            ArgumentKind::Spans => {
                 "each is a number, two with the lower one first, or the first one and a dash"
             }
-            Kind::Threads => "a thread is a number from 0 to 63, alone or behind a t",
-            Kind::Addresses => {
+            ArgumentKind::Threads => "a thread is a number from 0 to 63, alone or behind a t",
+            ArgumentKind::Addresses => {
                 "each is an address, two with the lower one first, or a name of data; an address is decimal digits, or \
                 hexadecimal ones behind 0x"
             }
-            Kind::Moment => "it is a line of the record, 1 to 2000000, or the word end or trap",
-            Kind::Written => {
+            ArgumentKind::Moment =>
+                "it is a line of the record, 1 to 2000000, or the word end or trap",
+            ArgumentKind::Written => {
                 "it is an address, one with a number of bytes from 1 to 4096, or a name of data; an address is decimal \
                 digits, or hexadecimal ones behind 0x"
             }
-            Kind::Bytes => "it is an address and a number of bytes up to 4096",
-            Kind::MemoryFile => {
+            ArgumentKind::Bytes => "it is an address and a number of bytes up to 4096",
+            ArgumentKind::MemoryFile => {
                 "ADDR is a number below 4294967296, in decimal digits or behind 0x"
             }
-            Kind::Way => "it is mix, random, spin, or pct:D with a D of 1 to 32",
-            Kind::Words if text.is_empty() => "each line of a thread has no words at all",
-            Kind::Words => FINDS_NOTHING,
-            Kind::Outcome => EXPECTS_NONE,
+            ArgumentKind::Way => "it is mix, random, spin, or pct:D with a D of 1 to 32",
+            ArgumentKind::Words if text.is_empty() => "each line of a thread has no words at all",
+            ArgumentKind::Words => FINDS_NOTHING,
+            ArgumentKind::Outcome => EXPECTS_NONE,
         }
     }
 }

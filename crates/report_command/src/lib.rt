@@ -31,13 +31,13 @@ mod values;
 
 pub use advice::{ADVICE, Advice};
 pub use call::CallWords;
-pub use command_line::{Job, Misuse, Order, RunJob, Usage, asked, command, misused, not_text};
+pub use command_line::{Job, JobOrder, Misuse, RunJob, Usage, asked, command, misused, not_text};
 pub use explain::Explain;
 pub use form::{EndLook, Form};
 pub use memory::MemoryFile;
 pub use places::{Data, When};
 pub use races::RacesJob;
 pub use search::Search;
-pub use selection::{Color, Find, Look, Sought, Target, Way};
-pub use show::{At, LastWrite, ShowLook, View};
+pub use selection::{Color, Find, Look, SearchTarget, Sought, Way};
+pub use show::{At, LastWrite, RecordView, ShowLook};
 pub use values::value_in;

@@ -3,7 +3,7 @@ ghost use Rattle.std.specs.Prelude.{IfSome};
 ghost use Rattle.report_command.specs.Addresses.{IsAddress};
 ghost use Rattle.report_command.specs.Options.{IsMemoryFile};
 
-use crate::places::{Reader, addr_in};
+use crate::places::{ValueReader, addr_in};
 
 /// A file whose bytes are laid over the memory with which a run begins.
 #[derive(Clone, Copy, PartialEq, Eq, Debug)]
@@ -32,7 +32,7 @@ fn is_address(text: &str) -> bool {
 /// address if it begins with a digit.
 pub(crate) struct MemoryFileReader;
 
-impl<'a> Reader<'a> for MemoryFileReader {
+impl<'a> ValueReader<'a> for MemoryFileReader {
     type Value = MemoryFile<'a>;
 
     ghost reads = { IsMemoryFile };

@@ -6,7 +6,7 @@ ghost use Rattle.report_command.specs.Addresses.{IsAddress, IsBytes, IsData, IsE
 ghost use Rattle.report_command.specs.Addresses.{IsStretch, IsThread};
 
 use crate::limits::{MOST_DUMP, MOST_LINE};
-use selection::Span;
+use selection::NumberSpan;
 use std::alloc::{AllocError, Global};
 use types::MOST_THREADS;
 
@@ -14,7 +14,7 @@ use types::MOST_THREADS;
 #[derive(Clone, Copy, PartialEq, Eq, Debug)]
 pub enum Data<'a> {
     /// Those at these addresses.
-    At(Span),
+    At(NumberSpan),
     /// Those that words name, as `queue.head`, by the debug section of a module.
     Named(&'a str),
 }
@@ -52,16 +52,16 @@ fn end_of(text: &str) -> Option<u64>
 }
 
 /// The span of a text `A`, `A-B` or `A-`, where A isn't above B.
-fn span_in(text: &str) -> Option<Span>
+fn span_in(text: &str) -> Option<NumberSpan>
     ensures { IfSome result (IsSpan text.now) }
 {
     let Some((first, last)) = text.split_once('-') else {
         let first = addr_in(text)?;
-        return Some(Span { first, last: first });
+        return Some(NumberSpan { first, last: first });
     };
     let (first, last) = (addr_in(first)?, end_of(last)?);
     if first <= last {
-        Some(Span { first, last })
+        Some(NumberSpan { first, last })
     } else {
         None
     }
@@ -86,21 +86,21 @@ fn bytes_in(text: &str) -> Option<(u64, u32)>
 }
 
 /// The addresses of so many bytes from one on, one at least.
-fn span_of(first: u64, count: u32) -> Option<Span>
+fn span_of(first: u64, count: u32) -> Option<NumberSpan>
     ensures { IfSome result (IsSpanOf first count) }
 {
     let more = count.checked_sub(1)?;
     let last = first.checked_add(u64::from(more))?;
-    Some(Span { first, last })
+    Some(NumberSpan { first, last })
 }
 
 /// The addresses of a text `A:N`, or of `A` alone, which is one byte.
-fn stretch_in(text: &str) -> Option<Span>
+fn stretch_in(text: &str) -> Option<NumberSpan>
     ensures { IfSome result (IsStretch text.now) }
 {
     if !text.contains(':') {
         let first = addr_in(text)?;
-        return Some(Span { first, last: first });
+        return Some(NumberSpan { first, last: first });
     }
     let (first, count) = bytes_in(text)?;
     span_of(first, count)
@@ -114,7 +114,7 @@ fn is_name(text: &str) -> bool {
 }
 
 /// A reader of values: a type without values, which says how a text is read.
-pub(crate) trait Reader<'a> {
+pub(crate) trait ValueReader<'a> {
     type Value: Drop;
 
     /// Which value a text has.
@@ -128,12 +128,12 @@ pub(crate) trait Reader<'a> {
 /// Lines of a record.
 pub(crate) struct SpanReader;
 
-impl<'a> Reader<'a> for SpanReader {
-    type Value = Span;
+impl<'a> ValueReader<'a> for SpanReader {
+    type Value = NumberSpan;
 
     ghost reads = { IsSpan };
 
-    fn read(text: &'a str) -> Option<Span> {
+    fn read(text: &'a str) -> Option<NumberSpan> {
         span_in(text)
     }
 }
@@ -141,7 +141,7 @@ impl<'a> Reader<'a> for SpanReader {
 /// Threads: `T` or `tT`, of 0 to 63.
 pub(crate) struct ThreadReader;
 
-impl<'a> Reader<'a> for ThreadReader {
+impl<'a> ValueReader<'a> for ThreadReader {
     type Value = u32;
 
     ghost reads = { IsThread };
@@ -162,7 +162,7 @@ impl<'a> Reader<'a> for ThreadReader {
 /// Bytes of the memory, by their names or their first and last addresses.
 pub(crate) struct DataReader;
 
-impl<'a> Reader<'a> for DataReader {
+impl<'a> ValueReader<'a> for DataReader {
     type Value = Data<'a>;
 
     ghost reads = { IsData IsSpan };
@@ -181,7 +181,7 @@ impl<'a> Reader<'a> for DataReader {
 /// The same, by their names or by the first address and their number.
 pub(crate) struct WrittenReader;
 
-impl<'a> Reader<'a> for WrittenReader {
+impl<'a> ValueReader<'a> for WrittenReader {
     type Value = Data<'a>;
 
     ghost reads = { IsData IsStretch };
@@ -200,7 +200,7 @@ impl<'a> Reader<'a> for WrittenReader {
 /// The first address and the number of bytes that are shown.
 pub(crate) struct BytesReader;
 
-impl<'a> Reader<'a> for BytesReader {
+impl<'a> ValueReader<'a> for BytesReader {
     type Value = (u64, u32);
 
     ghost reads = { λ text bytes. IsBytes text bytes.0 bytes.1 × (bytes.1 ≤ MOST_DUMP) };
@@ -213,7 +213,7 @@ impl<'a> Reader<'a> for BytesReader {
 /// Moments of a run: a line of the record, or a word.
 pub(crate) struct MomentReader;
 
-impl<'a> Reader<'a> for MomentReader {
+impl<'a> ValueReader<'a> for MomentReader {
     type Value = When;
 
     ghost reads = { IsMoment };
@@ -232,7 +232,7 @@ impl<'a> Reader<'a> for MomentReader {
 
 /// The values of these texts, one for each; `None` where one has none.
 #[tactic(auto, using(crate::proofs::Zipped::zip_next))]
-pub(crate) fn values_in<'a, R: Reader<'a>>(
+pub(crate) fn values_in<'a, R: ValueReader<'a>>(
     alloc: Global,
     texts: &[&'a str],
 ) -> Result<Option<Vec<R::Value>>, AllocError>

@@ -7,7 +7,7 @@ ghost use Rattle.report_command.specs.Options.{AsksNamed};
 use crate::command_line::Job;
 use crate::form::{Form, form_of};
 use crate::options::{FILE, MOST, NAMES, RECORD};
-use crate::refusal::Refusal;
+use crate::refusal::CommandRefusal;
 use clap::ArgMatches;
 
 /// The races of a record's run.
@@ -29,7 +29,7 @@ pub struct RacesJob<'a> {
 ///
 /// # Errors
 /// `Value` where a path or the number isn't there.
-pub(crate) fn races_job<'a>(matches: &ArgMatches<'a>) -> Result<Job<'a>, Refusal<'static>>
+pub(crate) fn races_job<'a>(matches: &ArgMatches<'a>) -> Result<Job<'a>, CommandRefusal<'static>>
     ensures range { IfOk result IsInRange }
     ensures asks { IfOk result (AsksNamed (codes "races") (found_of matches.now)) }
 {

@@ -15,15 +15,15 @@ pub(crate) struct WrongValue<'r> {
 
 /// Why the words of a command are refused.
 #[derive(Clone, Copy)]
-pub(crate) enum Refusal<'r> {
+pub(crate) enum CommandRefusal<'r> {
     Value(WrongValue<'r>),
     /// Options don't go together.
     Conflict(Misuse),
     NoMemory,
 }
 
-impl<'r> From<AllocError> for Refusal<'r> {
-    fn from(_: AllocError) -> Refusal<'r> {
-        Refusal::NoMemory
+impl<'r> From<AllocError> for CommandRefusal<'r> {
+    fn from(_: AllocError) -> CommandRefusal<'r> {
+        CommandRefusal::NoMemory
     }
 }

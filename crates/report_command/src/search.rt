@@ -16,10 +16,10 @@ use crate::options::{
     ALL, ALLOW_RACES, DEEP, DUMP, EXPECT, FILE, FIND, FROM, JOBS, LIMIT, ORDERS, RACES, RUNS,
     SEARCH_RECORD, SEED, SHRINK, SHRINK_TIME, STATES, STRATEGY, TIME, UNTIL,
 };
-use crate::places::Reader;
-use crate::refusal::Refusal;
+use crate::places::ValueReader;
+use crate::refusal::CommandRefusal;
 use clap::ArgMatches;
-use selection::{Find, MOST_DEPTH, Sought, Target, Way};
+use selection::{Find, MOST_DEPTH, SearchTarget, Sought, Way};
 use std::alloc::Global;
 use types::Outcome;
 
@@ -62,7 +62,7 @@ pub struct Search<'a> {
 /// Strategies: `mix`, `random`, `spin`, or `pct:` with a depth of 1 to 32.
 struct WayReader;
 
-impl<'a> Reader<'a> for WayReader {
+impl<'a> ValueReader<'a> for WayReader {
     type Value = Way;
 
     ghost reads = { IsWay };
@@ -85,7 +85,7 @@ impl<'a> Reader<'a> for WayReader {
 }
 
 /// The strategy.
-fn way_of(matches: &ArgMatches) -> Result<Way, Refusal<'static>>
+fn way_of(matches: &ArgMatches) -> Result<Way, CommandRefusal<'static>>
     ensures { IfOk result (AsksWay (found_of matches.now)) }
 {
     match STRATEGY.value::<WayReader>(matches)? {
@@ -95,7 +95,7 @@ fn way_of(matches: &ArgMatches) -> Result<Way, Refusal<'static>>
 }
 
 /// What a search through every order says by words that no line of a thread can have.
-fn endless_find<'a>(words: &str, is_all: bool) -> Result<Find<'a>, Refusal<'static>>
+fn endless_find<'a>(words: &str, is_all: bool) -> Result<Find<'a>, CommandRefusal<'static>>
     ensures { IfOk result (IsFindOf words.now) }
 {
     if is_all && let Some(find) = endless_of(words) {
@@ -105,7 +105,11 @@ fn endless_find<'a>(words: &str, is_all: bool) -> Result<Find<'a>, Refusal<'stat
 }
 
 /// What is looked for by words. A search through every order spends no budget.
-fn find_of<'a>(alloc: Global, words: &'a str, is_all: bool) -> Result<Find<'a>, Refusal<'static>>
+fn find_of<'a>(
+    alloc: Global,
+    words: &'a str,
+    is_all: bool,
+) -> Result<Find<'a>, CommandRefusal<'static>>
     ensures { IfOk result (IsFindOf words.now) }
 {
     if words.is_empty() {
@@ -113,13 +117,16 @@ fn find_of<'a>(alloc: Global, words: &'a str, is_all: bool) -> Result<Find<'a>, 
     }
     match standing_of(alloc, words)? {
         Standing::Nowhere => endless_find(words, is_all),
-        Standing::WhereSpent if is_all => Err(Refusal::Conflict(Misuse::FindsNoBudget)),
+        Standing::WhereSpent if is_all => Err(CommandRefusal::Conflict(Misuse::FindsNoBudget)),
         Standing::WhereSpent | Standing::Somewhere => Ok(Find::Words(words)),
     }
 }
 
 /// The result that is expected, if one is.
-fn expect_of(alloc: Global, matches: &ArgMatches) -> Result<Option<Outcome>, Refusal<'static>>
+fn expect_of(
+    alloc: Global,
+    matches: &ArgMatches,
+) -> Result<Option<Outcome>, CommandRefusal<'static>>
     ensures { IfOk result (AsksResult (found_of matches.now)) }
 {
     let Some(words) = EXPECT.text_if_any(matches) else {
@@ -135,7 +142,7 @@ fn expect_of(alloc: Global, matches: &ArgMatches) -> Result<Option<Outcome>, Ref
 fn sought_words_of<'a>(
     alloc: Global,
     matches: &ArgMatches<'a>,
-) -> Result<Find<'a>, Refusal<'static>>
+) -> Result<Find<'a>, CommandRefusal<'static>>
     ensures { IfOk result (AsksFind (found_of matches.now)) }
 {
     match FIND.text_if_any(matches) {
@@ -146,12 +153,15 @@ fn sought_words_of<'a>(
 }
 
 /// What is looked for.
-fn target_of<'a>(alloc: Global, matches: &ArgMatches<'a>) -> Result<Target<'a>, Refusal<'static>>
+fn target_of<'a>(
+    alloc: Global,
+    matches: &ArgMatches<'a>,
+) -> Result<SearchTarget<'a>, CommandRefusal<'static>>
     ensures { IfOk result (AsksTarget (found_of matches.now)) }
 {
     let expect = expect_of(alloc, matches)?;
     let find = sought_words_of(alloc, matches)?;
-    Ok(Target { find, expect })
+    Ok(SearchTarget { find, expect })
 }
 
 /// Whether a search stops at the first run that is looked for: where it is said what that is, or what becomes of it.
@@ -171,14 +181,14 @@ fn sought_of<'a>(
     matches: &ArgMatches<'a>,
     shrink: bool,
     races: bool,
-) -> Result<Sought<'a>, Refusal<'static>>
+) -> Result<Sought<'a>, CommandRefusal<'static>>
     ensures range { IfOk result IsSoughtInRange }
     ensures asks { IfOk result (AsksSought (found_of matches.now)) }
     ensures stops { IfOk result (λ s. s.stops ≡ stops_by (found_of matches.now) shrink races) }
 {
     let way = way_of(matches)?;
     if races && shrink && ALL.is_set(matches) {
-        return Err(Refusal::Conflict(Misuse::ShrinksRace));
+        return Err(CommandRefusal::Conflict(Misuse::ShrinksRace));
     }
     let target = target_of(alloc, matches)?;
     Ok(Sought {
@@ -194,7 +204,7 @@ fn sought_of<'a>(
 }
 
 /// How many states are met at most, where every order is gone through.
-fn all_of(matches: &ArgMatches) -> Result<Option<u32>, Refusal<'static>>
+fn all_of(matches: &ArgMatches) -> Result<Option<u32>, CommandRefusal<'static>>
     ensures range { IfOk result (λ all. IfSome all (λ states. (1 ≤ states) × (states ≤ MOST_STATES))) }
     ensures asks { IfOk result (AsksAll (found_of matches.now)) }
 {
@@ -214,7 +224,7 @@ struct Effort {
 }
 
 /// That of the words.
-fn effort_of(matches: &ArgMatches) -> Result<Effort, Refusal<'static>>
+fn effort_of(matches: &ArgMatches) -> Result<Effort, CommandRefusal<'static>>
     ensures { IfOk result (λ e. AsksEffort (found_of matches.now) e.shrink_time e.time e.jobs) }
 {
     let shrink_time = SHRINK_TIME.number_or(matches, DEFAULT_SHRINK_SECONDS)?;
@@ -234,7 +244,7 @@ fn effort_of(matches: &ArgMatches) -> Result<Effort, Refusal<'static>>
 pub(crate) fn search_job<'a>(
     alloc: Global,
     matches: &ArgMatches<'a>,
-) -> Result<Job<'a>, Refusal<'static>>
+) -> Result<Job<'a>, CommandRefusal<'static>>
     ensures range { IfOk result IsInRange }
     ensures asks { IfOk result (AsksNamed (codes "search") (found_of matches.now)) }
 {

@@ -19,9 +19,9 @@ use crate::options::{
 use crate::places::{
     BytesReader, Data, DataReader, MomentReader, SpanReader, ThreadReader, When, WrittenReader,
 };
-use crate::refusal::Refusal;
+use crate::refusal::CommandRefusal;
 use clap::ArgMatches;
-use selection::{Color, Span};
+use selection::{Color, NumberSpan};
 use std::alloc::Global;
 
 /// A moment of a record's run, at which threads and memory are shown.
@@ -44,7 +44,7 @@ pub struct LastWrite<'a> {
 
 /// What is made of a record.
 #[derive(Clone, Copy)]
-pub enum View<'a> {
+pub enum RecordView<'a> {
     /// Rows on standard output: one for rounds that are made again and again, and one for a question with its answer.
     Rows,
     /// A row on standard output for each entry.
@@ -61,14 +61,18 @@ pub enum View<'a> {
     Object,
 }
 
-impl<'a> View<'a> {
+impl<'a> RecordView<'a> {
     /// The path of the file that is made, if one is.
     pub fn path(&self) -> Option<&'a str>
         ensures { result ≡ path_of self.now }
     {
         match self {
-            View::Rows | View::Unfolded | View::Moment(_) | View::Write(_) | View::Object => None,
-            View::Page(path) | View::Trace(path) => Some(*path),
+            RecordView::Rows
+            | RecordView::Unfolded
+            | RecordView::Moment(_)
+            | RecordView::Write(_)
+            | RecordView::Object => None,
+            RecordView::Page(path) | RecordView::Trace(path) => Some(*path),
         }
     }
 
@@ -77,13 +81,13 @@ impl<'a> View<'a> {
         ensures { result ≡ views.view_form self.now }
     {
         match self {
-            View::Object => Form::Json,
-            View::Rows
-            | View::Unfolded
-            | View::Moment(_)
-            | View::Write(_)
-            | View::Page(_)
-            | View::Trace(_) => Form::Lines,
+            RecordView::Object => Form::Json,
+            RecordView::Rows
+            | RecordView::Unfolded
+            | RecordView::Moment(_)
+            | RecordView::Write(_)
+            | RecordView::Page(_)
+            | RecordView::Trace(_) => Form::Lines,
         }
     }
 }
@@ -93,7 +97,7 @@ impl<'a> View<'a> {
 #[derive(Drop)]
 pub struct ShowLook<'a> {
     /// The lines of the record.
-    pub lines: Vec<Span>,
+    pub lines: Vec<NumberSpan>,
     pub threads: Vec<u32>,
     /// The bytes at which entries are shown.
     pub bytes: Vec<Data<'a>>,
@@ -102,7 +106,7 @@ pub struct ShowLook<'a> {
     pub color: Color,
     /// The path of the folder that has the files of source, if one is given.
     pub source: Option<&'a str>,
-    pub view: View<'a>,
+    pub view: RecordView<'a>,
 }
 
 /// When threads have colors.
@@ -117,19 +121,19 @@ fn color_of(matches: &ArgMatches) -> Color
 }
 
 /// The entries, in the form that is asked for.
-fn entries_of<'a>(matches: &ArgMatches<'a>) -> View<'a>
+fn entries_of<'a>(matches: &ArgMatches<'a>) -> RecordView<'a>
     ensures range { IsViewInRange result }
     ensures asks { AsksEntries (found_of matches.now) result }
 {
     match form_of(matches) {
-        Form::Lines if UNFOLD.is_set(matches) => View::Unfolded,
-        Form::Lines => View::Rows,
-        Form::Json => View::Object,
+        Form::Lines if UNFOLD.is_set(matches) => RecordView::Unfolded,
+        Form::Lines => RecordView::Rows,
+        Form::Json => RecordView::Object,
     }
 }
 
 /// This moment, and the bytes that are shown of it: none where nobody asks.
-fn shown_at(matches: &ArgMatches, when: When) -> Result<At, Refusal<'static>>
+fn shown_at(matches: &ArgMatches, when: When) -> Result<At, CommandRefusal<'static>>
     ensures range { IfOk result (λ at. at.count ≤ MOST_DUMP) }
     ensures when { IfOk result (λ at. at.when ≡ when) }
     ensures bytes { IfOk result (λ at. AsksBytes (found_of matches.now) at.addr at.count) }
@@ -148,36 +152,39 @@ fn shown_at(matches: &ArgMatches, when: When) -> Result<At, Refusal<'static>>
 }
 
 /// What is to be made of the record, where it makes no file.
-fn shown_of<'a>(matches: &ArgMatches<'a>) -> Result<View<'a>, Refusal<'static>>
+fn shown_of<'a>(matches: &ArgMatches<'a>) -> Result<RecordView<'a>, CommandRefusal<'static>>
     ensures range { IfOk result IsViewInRange }
     ensures asks { IfOk result (AsksShown (found_of matches.now)) }
 {
     let at = AT.value::<MomentReader>(matches)?;
     match (LAST_WRITE.value::<WrittenReader>(matches)?, at) {
-        (Some(bytes), Some(before)) => Ok(View::Write(LastWrite { bytes, before })),
-        (Some(bytes), None) => Ok(View::Write(LastWrite {
+        (Some(bytes), Some(before)) => Ok(RecordView::Write(LastWrite { bytes, before })),
+        (Some(bytes), None) => Ok(RecordView::Write(LastWrite {
             bytes,
             before: When::End,
         })),
-        (None, Some(when)) => Ok(View::Moment(shown_at(matches, when)?)),
+        (None, Some(when)) => Ok(RecordView::Moment(shown_at(matches, when)?)),
         (None, None) => Ok(entries_of(matches)),
     }
 }
 
 /// What is to be made of the record.
-fn view_of<'a>(matches: &ArgMatches<'a>) -> Result<View<'a>, Refusal<'static>>
+fn view_of<'a>(matches: &ArgMatches<'a>) -> Result<RecordView<'a>, CommandRefusal<'static>>
     ensures range { IfOk result IsViewInRange }
     ensures asks { IfOk result (AsksView (found_of matches.now)) }
 {
     match (HTML.text_if_any(matches), TRACE.text_if_any(matches)) {
-        (Some(path), _) => Ok(View::Page(path)),
-        (None, Some(path)) => Ok(View::Trace(path)),
+        (Some(path), _) => Ok(RecordView::Page(path)),
+        (None, Some(path)) => Ok(RecordView::Trace(path)),
         (None, None) => shown_of(matches),
     }
 }
 
 /// How the record is shown, and what is made of it.
-fn look_of<'a>(alloc: Global, matches: &ArgMatches<'a>) -> Result<ShowLook<'a>, Refusal<'static>>
+fn look_of<'a>(
+    alloc: Global,
+    matches: &ArgMatches<'a>,
+) -> Result<ShowLook<'a>, CommandRefusal<'static>>
     ensures range { IfOk result IsLookInRange }
     ensures asks { IfOk result (AsksLook (found_of matches.now)) }
 {
@@ -204,7 +211,7 @@ fn look_of<'a>(alloc: Global, matches: &ArgMatches<'a>) -> Result<ShowLook<'a>, 
 pub(crate) fn show_job<'a>(
     alloc: Global,
     matches: &ArgMatches<'a>,
-) -> Result<Job<'a>, Refusal<'static>>
+) -> Result<Job<'a>, CommandRefusal<'static>>
     ensures range { IfOk result IsInRange }
     ensures asks { IfOk result (AsksNamed (codes "show") (found_of matches.now)) }
 {

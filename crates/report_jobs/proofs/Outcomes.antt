@@ -23,8 +23,8 @@ use Rattle.report_jobs.specs.Troubles.{IsTrouble}
 use Rattle.report_jobs.specs.Arguments.{CannotCall}
 use Rattle.report_jobs.specs.Undone.{of_refusal, of_trouble, of_unfit, of_unready, undone_line, undone_status}
 use Rattle.report_jobs.specs.Why.{RefusesModule, RefusesRecord}
-use Rattle.report_jobs.specs.declared.loading.Refusal.{Refusal}
-use Rattle.report_jobs.specs.declared.loading.Refusal.TheVariants.{Read, Validity}
+use Rattle.report_jobs.specs.declared.loading.ModuleRefusal.{ModuleRefusal}
+use Rattle.report_jobs.specs.declared.loading.ModuleRefusal.TheVariants.{Read, Validity}
 use Rattle.report_jobs.specs.declared.loading.Unready.{Unready}
 use Rattle.report_jobs.specs.declared.loading.Unready.TheVariants as unreadies
 use Rattle.report_jobs.specs.declared.running.Trouble.{Trouble}
@@ -35,21 +35,21 @@ use Rattle.report_jobs.specs.declared.undone.Undone.{Undone}
 use Rattle.report_jobs.proofs.Refusing.{of_invalid}
 
 -- it has the status and the line of the fault
-pub refusal_status_is : (r : Refusal) → undone_status (of_refusal r) ≡ refusal_status r
+pub refusal_status_is : (r : ModuleRefusal) → undone_status (of_refusal r) ≡ refusal_status r
 refusal_status_is (Read ReadOutOfMemory) = refl
 refusal_status_is (Read (Malformed kind offset)) = refl
 refusal_status_is (Validity ValidityOutOfMemory) = refl
 refusal_status_is (Validity (Outside kind)) = refl
 refusal_status_is (Validity (InBody kind function place)) = refl
 
-refusal_line_is : (r : Refusal) → undone_line (of_refusal r) ≡ refusal_line r
+refusal_line_is : (r : ModuleRefusal) → undone_line (of_refusal r) ≡ refusal_line r
 refusal_line_is (Read ReadOutOfMemory) = refl
 refusal_line_is (Read (Malformed kind offset)) = refl
 refusal_line_is (Validity ValidityOutOfMemory) = refl
 refusal_line_is (Validity (Outside kind)) = refl
 refusal_line_is (Validity (InBody kind function place)) = refl
 
-pub refusal_two : (r : Refusal) → (undone_status (of_refusal r) ≡ 2) ⊎ (undone_status (of_refusal r) ≡ 5)
+pub refusal_two : (r : ModuleRefusal) → (undone_status (of_refusal r) ≡ 2) ⊎ (undone_status (of_refusal r) ≡ 5)
 refusal_two (Read ReadOutOfMemory) = inr refl
 refusal_two (Read (Malformed kind offset)) = inl refl
 refusal_two (Validity ValidityOutOfMemory) = inr refl
@@ -58,14 +58,14 @@ refusal_two (Validity (InBody kind function place)) = inl refl
 
 module _ (bytes : List ℕ) where
   -- with 2 no valid module is spelled
-  pub no_module : (r : Refusal) → IsRefused bytes r → undone_status (of_refusal r) ≡ 2 → IsNoValidModule bytes
+  pub no_module : (r : ModuleRefusal) → IsRefused bytes r → undone_status (of_refusal r) ≡ 2 → IsNoValidModule bytes
   no_module (Read ReadOutOfMemory) is two = absurd (omega (arith, two))
   no_module (Read (Malformed kind offset)) is two = λ parts text valid. is parts text
   no_module (Validity ValidityOutOfMemory) is two = absurd (omega (arith, two))
   no_module (Validity (Outside kind)) is two = of_invalid bytes is
   no_module (Validity (InBody kind function place)) is two = of_invalid bytes is
 
-  pub refuses : (r : Refusal) → IsRefused bytes r → undone_status (of_refusal r) ≡ 2 → RefusesModule bytes (of_refusal r)
+  pub refuses : (r : ModuleRefusal) → IsRefused bytes r → undone_status (of_refusal r) ≡ 2 → RefusesModule bytes (of_refusal r)
   refuses r is two = record { refusal = r; is = is; refuses = sym (refusal_status_is r) ∙ two; why_is = refl }
 
   -- of a module of which no run can be made

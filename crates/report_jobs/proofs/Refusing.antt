@@ -10,7 +10,7 @@ use Rattle.validate_typing.specs.Validity.{IsValid}
 use Rattle.types.specs.declared.parts.Parts.{Parts}
 use Rattle.binary.specs.Grammar.{IsModuleText}
 use Rattle.binary.proofs.Modules.{is_one}
-use Rattle.report_jobs.specs.declared.loading.Refusal.TheVariants.{Read, Validity}
+use Rattle.report_jobs.specs.declared.loading.ModuleRefusal.TheVariants.{Read, Validity}
 use Rattle.report_jobs.specs.Jobs.{IsInvalid, IsRefused, IsNoValidModule}
 
 pub of_invalid : (bytes : List ℕ) → IsInvalid bytes → IsNoValidModule bytes

@@ -29,10 +29,10 @@ use Rattle.report_jobs.specs.declared.replaying.Unfit.{Unfit}
 use Rattle.report_jobs.specs.declared.replaying.Unfit.TheVariants.{Unread, Misfit, NoMemory, Output}
 use Rattle.validate_typing.specs.declared.fault.ValidFault.TheVariants.{OutOfMemory as ValidityOutOfMemory, Outside}
 use Rattle.validate_typing.specs.declared.fault.ValidFault.TheVariants.{InBody}
-use Rattle.report_jobs.specs.declared.loading.Refusal.{Refusal}
+use Rattle.report_jobs.specs.declared.loading.ModuleRefusal.{ModuleRefusal}
 use Rattle.report_jobs.specs.declared.loading.Unready.{Unready}
 use Rattle.report_jobs.specs.declared.loading.Unready.TheVariants as unready
-use Rattle.report_jobs.specs.declared.loading.Refusal.TheVariants.{Read, Validity}
+use Rattle.report_jobs.specs.declared.loading.ModuleRefusal.TheVariants.{Read, Validity}
 
 -- The bytes are a valid module's text, and what was written says how many functions of its own it has.
 pub record IsAccepted (form : Form) (bytes : List ℕ) (old new : Option (List ℕ)) : Type 0 where
@@ -61,7 +61,7 @@ abbrev pub IsNoValidModule : List ℕ → Type 0
 IsNoValidModule bytes = (parts : Parts) → IsModuleText bytes parts → IsValid parts → ⊥
 
 -- What a refusal says of the bytes. Out of memory says nothing.
-abbrev pub IsRefused : List ℕ → Refusal → Type 0
+abbrev pub IsRefused : List ℕ → ModuleRefusal → Type 0
 IsRefused bytes (Read ReadOutOfMemory) = Unit {0}
 IsRefused bytes (Read (Malformed kind offset)) = IsNoModule bytes
 IsRefused bytes (Validity ValidityOutOfMemory) = Unit {0}

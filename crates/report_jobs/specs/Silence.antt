@@ -7,15 +7,15 @@ use Rattle.replay_text.specs.declared.fault.RecordFault.TheVariants as records
 use Rattle.replay.specs.declared.fault.ReplayFault.TheVariants as replays
 use Rattle.report_command.specs.declared.command_line.Job.{Job}
 use Rattle.report_command.specs.declared.command_line.Job.TheVariants as jobs
-use Rattle.report_jobs.specs.declared.loading.Refusal.{Refusal}
-use Rattle.report_jobs.specs.declared.loading.Refusal.TheVariants.{Read, Validity}
+use Rattle.report_jobs.specs.declared.loading.ModuleRefusal.{ModuleRefusal}
+use Rattle.report_jobs.specs.declared.loading.ModuleRefusal.TheVariants.{Read, Validity}
 use Rattle.report_jobs.specs.declared.replaying.Unfit.{Unfit}
 use Rattle.report_jobs.specs.declared.replaying.Unfit.TheVariants as unfits
 use Rattle.report_jobs.specs.declared.running.Trouble.{Trouble}
 use Rattle.report_jobs.specs.declared.running.Trouble.TheVariants as troubles
 
 -- 2 for a module, and 5 where memory ran out.
-abbrev pub refusal_status : Refusal → ℕ
+abbrev pub refusal_status : ModuleRefusal → ℕ
 refusal_status (Read ReadOutOfMemory) = 5
 refusal_status (Read (Malformed kind offset)) = 2
 refusal_status (Validity ValidityOutOfMemory) = 5

@@ -24,8 +24,8 @@ use Rattle.report_jobs.specs.Jobs.{IsRefused, IsUnfit}
 use Rattle.report_jobs.specs.Prints.{WriterChange}
 use Rattle.report_jobs.specs.Silence.{refusal_status, unfit_status}
 use Rattle.report_jobs.specs.Trapped.{Tells}
-use Rattle.report_jobs.specs.declared.loading.Refusal.{Refusal}
-use Rattle.report_jobs.specs.declared.loading.Refusal.TheVariants.{Read, Validity}
+use Rattle.report_jobs.specs.declared.loading.ModuleRefusal.{ModuleRefusal}
+use Rattle.report_jobs.specs.declared.loading.ModuleRefusal.TheVariants.{Read, Validity}
 use Rattle.report_jobs.specs.declared.replaying.Unfit.{Unfit}
 use Rattle.report_jobs.specs.declared.replaying.Unfit.TheVariants as unfits
 
@@ -71,7 +71,7 @@ pub record TellsWhatIsWrong (bytes saved : List ℕ) (err : WriterChange) : Type
   pub line : Tells err.old err.new (unfit_line unfit)
 
 -- The line that says why bytes give no valid module: with the number of what is wrong, and where that is.
-abbrev pub refusal_line : Refusal → List ℕ
+abbrev pub refusal_line : ModuleRefusal → List ℕ
 refusal_line (Read ReadOutOfMemory) = memory_line
 refusal_line (Read (Malformed kind offset)) = codes "module refused: read "
     ++ (decimal (kind_number kind) ++ (codes " at " ++ (decimal offset ++ 10 ∷ [])))
@@ -109,7 +109,7 @@ path_or (Some path) = path.now
 
 -- The bytes are no valid module's text, this is what is wrong with them, and the line of it was told.
 pub record TellsRefusal (bytes : List ℕ) (err : WriterChange) : Type 0 where
-  pub refusal : Refusal
+  pub refusal : ModuleRefusal
   pub is : IsRefused bytes refusal
   pub refuses : refusal_status refusal ≡ 2
   pub line : Tells err.old err.new (refusal_line refusal)

@@ -12,8 +12,8 @@ use Rattle.show_rows.specs.declared.next.Stood.{Stood}
 use Rattle.report_jobs.specs.Told.{call_line, laid_from, memory_line, misfit_line, output_line, path_or, refusal_line}
 use Rattle.report_jobs.specs.Told.{thread_line, unlaid_line, unread_line}
 use Rattle.report_jobs.specs.Trapped.{Tells}
-use Rattle.report_jobs.specs.declared.loading.Refusal.{Refusal}
-use Rattle.report_jobs.specs.declared.loading.Refusal.TheVariants.{Read, Validity}
+use Rattle.report_jobs.specs.declared.loading.ModuleRefusal.{ModuleRefusal}
+use Rattle.report_jobs.specs.declared.loading.ModuleRefusal.TheVariants.{Read, Validity}
 use Rattle.report_jobs.specs.declared.loading.Unready.{Unready}
 use Rattle.report_jobs.specs.declared.loading.Unready.TheVariants as unreadies
 use Rattle.report_jobs.specs.declared.running.Trouble.{Trouble}
@@ -84,7 +84,7 @@ undone_line (undone.Refused why) = refused_line why
 undone_line (undone.Failed what) = failed_line what
 
 -- What comes of bytes that give no valid module;
-abbrev pub of_refusal : Refusal → Undone
+abbrev pub of_refusal : ModuleRefusal → Undone
 of_refusal (Read ReadOutOfMemory) = undone.Failed failed.Memory
 of_refusal (Read (Malformed kind offset)) = undone.Refused (refused.Read kind offset)
 of_refusal (Validity ValidityOutOfMemory) = undone.Failed failed.Memory

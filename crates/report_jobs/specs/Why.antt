@@ -8,13 +8,13 @@ use Rattle.show_rows.specs.declared.next.Stood.{Stood}
 use Rattle.report_jobs.specs.Jobs.{IsRefused, IsUnfit}
 use Rattle.report_jobs.specs.Silence.{refusal_status, unfit_status}
 use Rattle.report_jobs.specs.Undone.{of_refusal, of_unfit}
-use Rattle.report_jobs.specs.declared.loading.Refusal.{Refusal}
+use Rattle.report_jobs.specs.declared.loading.ModuleRefusal.{ModuleRefusal}
 use Rattle.report_jobs.specs.declared.replaying.Unfit.{Unfit}
 use Rattle.report_jobs.specs.declared.undone.Undone.{Undone}
 
 -- The bytes are no valid module's text, and this is what is wrong with them.
 pub record RefusesModule (bytes : List ℕ) (why : Undone) : Type 0 where
-  pub refusal : Refusal
+  pub refusal : ModuleRefusal
   pub is : IsRefused bytes refusal
   pub refuses : refusal_status refusal ≡ 2
   pub why_is : why ≡ of_refusal refusal

@@ -10,7 +10,7 @@ ghost use Rattle.report_jobs.specs.Silence.{IsRefusal, Stays};
 ghost use Rattle.report_jobs.specs.Undone.{ended_status, undone_status};
 ghost use Rattle.report_jobs.specs.Why.{RefusesModule, RefusesRecord};
 
-use crate::loading::{Refusal, load, load_checked, load_over};
+use crate::loading::{ModuleRefusal, load, load_checked, load_over};
 use crate::replaying::{Unreplayed, replay_record};
 use crate::running::print_run;
 use crate::streams::Streams;
@@ -52,7 +52,7 @@ pub fn check<W: Write>(
 }
 
 /// How many functions of its own the valid module has which the bytes spell.
-fn functions_in(alloc: Global, bytes: &[u8]) -> Result<usize, Refusal>
+fn functions_in(alloc: Global, bytes: &[u8]) -> Result<usize, ModuleRefusal>
     ensures ok { IfOk result (IsAcceptedAs bytes.now) }
     ensures err { IfErr result (λ e. IsRefused bytes.now e) }
 {

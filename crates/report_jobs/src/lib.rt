@@ -29,7 +29,7 @@ mod trapped;
 mod undone;
 
 pub use job::{check, replay_saved, run};
-pub use loading::{Refusal, load, load_checked};
+pub use loading::{ModuleRefusal, load, load_checked};
 pub use plain::perform_plain;
 pub use printing::print;
 pub use replaying::{Unfit, misfit};

@@ -12,7 +12,7 @@ use crate::running::Trouble;
 use crate::trapped::{Whence, say_traps, traps_of};
 use crate::undone::{Advised, Done};
 use report_command::{EndLook, Form};
-use report_json::{Place, RunEnd, status_of};
+use report_json::{PlaceObject, RunEndObject, status_of};
 use report_lines::write_run;
 use report_runs::EndState;
 use report_traps::Traps;
@@ -83,7 +83,7 @@ fn places_in<'t>(
     alloc: Global,
     traps: &'t Traps,
     count: usize,
-) -> Result<Vec<Option<Place<'t>>>, AllocError> {
+) -> Result<Vec<Option<PlaceObject<'t>>>, AllocError> {
     let mut places = Vec::with_capacity(alloc, count)?;
     for thread in 0..count {
         places.push(traps.place(thread))?;
@@ -92,7 +92,11 @@ fn places_in<'t>(
 }
 
 /// The same, as far as there is memory for it.
-fn places_of<'t>(alloc: Global, traps: Option<&'t Traps>, count: usize) -> Vec<Option<Place<'t>>> {
+fn places_of<'t>(
+    alloc: Global,
+    traps: Option<&'t Traps>,
+    count: usize,
+) -> Vec<Option<PlaceObject<'t>>> {
     match traps {
         Some(traps) => places_in(alloc, traps, count).unwrap_or(Vec::new(alloc)),
         None => Vec::new(alloc),
@@ -114,7 +118,7 @@ fn write_object<W: Write>(
         return Err(Unwritten::NoMemory);
     };
     let places = places_of(alloc, traps, end.threads.len());
-    let run = RunEnd {
+    let run = RunEndObject {
         threads: &end.threads,
         places: &places,
         pages: end.pages,

@@ -17,7 +17,7 @@ use replay_walk::{Walk, Watch};
 use report_command::EndLook;
 use report_traps::{Frames, Replayed};
 use shared_memory_sequential::OneMemory;
-use show_rows::{Next, Stood};
+use show_rows::{NextStood, Stood};
 use show_text::Unwritten;
 use std::alloc::Global;
 use std::io::Write;
@@ -39,12 +39,12 @@ pub enum Unfit {
 
 /// Sees where the threads of a replay trapped, and what the thread of the next entry does.
 #[derive(Drop)]
-struct Seen<'a> {
+struct TrapsAndNext<'a> {
     traps: Replayed<'a>,
-    next: Next<'a>,
+    next: NextStood<'a>,
 }
 
-impl<'m> Watch<Thread<'m>> for Seen<'_> {
+impl<'m> Watch<Thread<'m>> for TrapsAndNext<'_> {
     ghost sees = { λ old moment new. Unit {0} };
 
     fn came(&mut self, entries: usize, walk: &Walk<Thread<'m>>)
@@ -139,8 +139,8 @@ fn print_replay<W: Write, E: Write>(
         frames: &frames,
         entries: log.len(),
     };
-    let next = Next::new(log);
-    let mut seen = Seen { traps, next };
+    let next = NextStood::new(log);
+    let mut seen = TrapsAndNext { traps, next };
     match replay_watched(alloc, module, recorded, &mut seen) {
         Ok(end) => match print_end(alloc, out, err, &end, look, whence) {
             Ok(done) => Ok(done),

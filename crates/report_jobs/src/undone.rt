@@ -3,7 +3,7 @@ ghost use Rattle.std.specs.Prelude.{◌≡◌};
 ghost use Rattle.report_jobs.specs.Undone.{ended_status, undone_status, refused_status, absent_words};
 ghost use Rattle.report_jobs.specs.Undone.{of_refusal, of_trouble, of_unfit, of_unready};
 
-use crate::loading::{Refusal, Unready};
+use crate::loading::{ModuleRefusal, Unready};
 use crate::replaying::Unfit;
 use crate::running::Trouble;
 use binary_wire::{Fault, ReadFault};
@@ -220,18 +220,17 @@ pub fn status_of(ended: &JobResult) -> u8
 }
 
 /// What bytes come to that give no valid module.
-pub fn of_refusal(refusal: Refusal) -> Undone<'static>
+pub fn of_refusal(refusal: ModuleRefusal) -> Undone<'static>
     ensures { result ≡ of_refusal refusal }
 {
     match refusal {
-        Refusal::Read(ReadFault::OutOfMemory) | Refusal::Validity(ValidFault::OutOfMemory) => {
-            Undone::Failed(Failed::Memory)
-        }
-        Refusal::Read(ReadFault::Malformed { kind, offset }) => {
+        ModuleRefusal::Read(ReadFault::OutOfMemory)
+        | ModuleRefusal::Validity(ValidFault::OutOfMemory) => { Undone::Failed(Failed::Memory) }
+        ModuleRefusal::Read(ReadFault::Malformed { kind, offset }) => {
             Undone::Refused(Refused::Read { kind, offset })
         }
-        Refusal::Validity(ValidFault::Outside(kind)) => Undone::Refused(Refused::Rule(kind)),
-        Refusal::Validity(
+        ModuleRefusal::Validity(ValidFault::Outside(kind)) => Undone::Refused(Refused::Rule(kind)),
+        ModuleRefusal::Validity(
             ValidFault::InBody {
                 kind,
                 function,

@@ -7,7 +7,7 @@ use Rattle.types.specs.declared.parts.Parts.{Parts}
 use Rattle.replay_text.specs.declared.parts.RecordParts.{RecordParts}
 use Rattle.replay.specs.Runs.{IsRunOf}
 use Rattle.spawn_host.specs.declared.end.EndState.{EndState}
-use Rattle.race_history.specs.declared.access.Kind.{Kind}
+use Rattle.race_history.specs.declared.access.AccessKind.{AccessKind}
 use Rattle.race_history.specs.declared.race.Race.{Race}
 use Rattle.race_history.specs.Races.{AreRaces, IsLastRace}
 use Rattle.report_json.specs.declared.races.RacePair.{RacePair}
@@ -77,7 +77,7 @@ race_of m r f first d = first.races (get_or f.told.races.pairs.items 0 d) (Conta
 
 -- the first of a run's races, in an object
 pub object_by : (m : Parts) (r : RecordParts) (f : FirstRace) → IsFirstRace m r f → (shown : Shown) → IsShownBy r f shown
-    → (kinds : List Kind) (ps : List Race) (d : Race) (pair : RacePair) → kinds ≡ f.told.races.kinds.items → ps ≡ f.told.races.pairs.items
+    → (kinds : List AccessKind) (ps : List Race) (d : Race) (pair : RacePair) → kinds ≡ f.told.races.kinds.items → ps ≡ f.told.races.pairs.items
     → IsPairOf shown f.told.story kinds (get_or ps 0 d) pair → SaysObject m r pair
 object_by m r f first shown is kinds ps d pair same alike says =
     let there : IsPairOf shown f.told.story kinds (get_or f.told.races.pairs.items 0 d) pair =
@@ -92,7 +92,7 @@ object_by m r f first shown is kinds ps d pair same alike says =
       is_shown = shown_by m r f first shown is;
       race = get_or f.told.races.pairs.items 0 d;
       is_race = race_of m r f first d;
-      says = subst (λ (ks : List Kind). IsPairOf shown f.told.story ks (get_or f.told.races.pairs.items 0 d) pair) (same ∙ first.kinds) there;
+      says = subst (λ (ks : List AccessKind). IsPairOf shown f.told.story ks (get_or f.told.races.pairs.items 0 d) pair) (same ∙ first.kinds) there;
     }
 
 -- and in words
@@ -111,7 +111,7 @@ pair_by m r f first shown is true old new (race, within, at, text, says, lines) 
     is_shown = shown_by m r f first shown is;
     race = race;
     is_race = first.races race (0, within, at);
-    says = subst (λ (ks : List Kind). SaysRace shown f.told.story ks race text) first.kinds says;
+    says = subst (λ (ks : List AccessKind). SaysRace shown f.told.story ks race text) first.kinds says;
   },
 )
 pair_by m r f first shown is false old new (none, same) =

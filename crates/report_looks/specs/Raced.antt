@@ -8,7 +8,7 @@ use Rattle.replay_text.specs.declared.parts.RecordParts.{RecordParts}
 use Rattle.replay_text.specs.Text.{IsRecord, record_text}
 use Rattle.spawn_host.specs.declared.end.EndState.{EndState}
 use Rattle.replay.specs.Runs.{IsRunOf}
-use Rattle.race_history.specs.declared.access.Kind.{Kind}
+use Rattle.race_history.specs.declared.access.AccessKind.{AccessKind}
 use Rattle.race_history.specs.declared.race.Race.{Race}
 use Rattle.race_history.specs.Races.{AreRaces, IsLastRace}
 use Rattle.show_rows.specs.declared.rows.Row.{Row}
@@ -18,7 +18,7 @@ use Rattle.show_rows.specs.declared.listing.Story.{Story}
 use Rattle.search_races.specs.Rows.{AreRowsOf, kinds_of}
 use Rattle.show_races.specs.Told.{AreApart, AreMany, HasNoRace, IsMore, TellsEach}
 use Rattle.show_races.specs.Written.{SaysRace, TellsRaces}
-use Rattle.show_races.specs.declared.found.Races.{Races}
+use Rattle.show_races.specs.declared.found.RecordRaces.{RecordRaces}
 use Rattle.report_command.specs.declared.form.Form.{Form}
 use Rattle.report_command.specs.declared.form.Form.TheVariants.{Lines, Json}
 use Rattle.report_jobs.specs.Prints.{WriterChange}
@@ -49,7 +49,7 @@ pub record IsRacy (m : Parts) (saved : List ℕ) : Type 0 where
   pub races : IsLastRace record_is.log (kinds_of m record_is rows) race
 
 -- They are told in lines, or in an object.
-abbrev pub TellsIn : Form → Shown → Story → Races → Option (List ℕ) → Option (List ℕ) → Type 0
+abbrev pub TellsIn : Form → Shown → Story → RecordRaces → Option (List ℕ) → Option (List ℕ) → Type 0
 TellsIn Lines shown story races old new = TellsRaces shown story races old new
 TellsIn Json shown story races old new = WritesPairs shown story races old new
 
@@ -64,7 +64,7 @@ pub record WritesRaces (m : Parts) (r : RecordParts) (rows : List (Option Row)) 
   pub of_module : shown.code.now.parts.now ≡ m
   pub story : Story
   pub is_story : IsStoryOf shown.record.now.log story
-  pub races : Races
+  pub races : RecordRaces
   pub kinds : races.kinds.items ≡ kinds_of m r rows
   pub race : AreRaces r.log (kinds_of m r rows) races.pairs.items
   pub each : races.is_cut ≡ false → TellsEach shown story races.pairs.items
@@ -95,7 +95,8 @@ pub record IsShownOf (m : Parts) (r : RecordParts) (rows : List (Option Row)) (s
   pub is_story : IsStoryOf shown.record.now.log story
 
 -- Two entries of a run's record race, and this is said of them.
-pub record HasPair (m : Parts) (r : RecordParts) (IsSaid : Shown → Story → List Kind → Race → Type 0) : Type 0 where
+pub record HasPair (m : Parts) (r : RecordParts)
+    (IsSaid : Shown → Story → List AccessKind → Race → Type 0) : Type 0 where
   pub rows : List (Option Row)
   pub end : EndState
   pub run : IsRunOf m r end

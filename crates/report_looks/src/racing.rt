@@ -13,11 +13,11 @@ ghost use Rattle.search_races.specs.Rows.{kinds_of};
 ghost use Rattle.report_looks.specs.Raced.{IsRaceFree, IsRacy, OfModule, PrintsRaces, SaysOf, TellsIn, WritesRaces};
 
 use crate::pairing::write_pairs;
-use crate::showing::{CodeBytes, SeenRun, Unseen, seen_of, unfit_of};
+use crate::showing::{CodeBytes, SeenRun, UnseenRecord, seen_of, unfit_of};
 use crate::sighting::races_in;
 use report_command::Form;
 use report_jobs::{Done, Streams, Undone, load, of_refusal, of_unfit};
-use show_races::{Races, write_races};
+use show_races::{RecordRaces, write_races};
 use show_rows::{CodeMap, Shown, Story};
 use show_text::Unwritten;
 use std::alloc::Global;
@@ -71,7 +71,7 @@ pub fn races_saved<W: Write, E: Write, S: Write>(
     match tell_races(alloc, &valid, code, saved, most, form, out) {
         Ok(true) => Ok(Done::with(1)),
         Ok(false) => Ok(Done::with(0)),
-        Err(Unseen { unfit, stood }) => Err(of_unfit(unfit, valid, stood)),
+        Err(UnseenRecord { unfit, stood }) => Err(of_unfit(unfit, valid, stood)),
     }
 }
 
@@ -84,7 +84,7 @@ fn tell_races<W: Write>(
     most: u32,
     form: Form,
     out: &mut W,
-) -> Result<bool, Unseen>
+) -> Result<bool, UnseenRecord>
     requires { 1 ≤ most }
     ensures races { IfOk result (SaysOf «module».now.parts saved.now) }
     ensures prints { IfOk result
@@ -98,7 +98,7 @@ fn tell_races<W: Write>(
     };
     match write_seen(alloc, module, &seen, code, most, form, out) {
         Ok(is_racy) => Ok(is_racy),
-        Err(unwritten) => Err(Unseen {
+        Err(unwritten) => Err(UnseenRecord {
             unfit: unfit_of(unwritten),
             stood: None,
         }),
@@ -106,7 +106,7 @@ fn tell_races<W: Write>(
 }
 
 /// Whether there is a race.
-fn is_racy(races: &Races) -> bool
+fn is_racy(races: &RecordRaces) -> bool
     ensures some { result ≡ true → 1 ≤ length races.now.pairs.items }
     ensures none { result ≡ false → length races.now.pairs.items < 1 }
 {
@@ -118,7 +118,7 @@ fn write_told<W: Write>(
     alloc: Global,
     shown: Shown,
     story: &Story,
-    races: &Races,
+    races: &RecordRaces,
     form: Form,
     out: &mut W,
 ) -> Result<(), Unwritten>

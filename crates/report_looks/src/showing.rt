@@ -138,7 +138,7 @@ fn show_record<W: Write>(
 {
     let seen = match seen_of(alloc, module, saved) {
         Ok(seen) => seen,
-        Err(Unseen { unfit, stood }) => return Err(Unshown::Unfit { unfit, stood }),
+        Err(UnseenRecord { unfit, stood }) => return Err(Unshown::Unfit { unfit, stood }),
     };
     let places = match code_of(alloc, module, code) {
         Ok(places) => places,
@@ -182,34 +182,38 @@ pub(crate) struct SeenRun {
 /// Why a record isn't seen, and what the thread of the entry that doesn't fit does in place of it, where there is such an
 /// entry.
 #[derive(Clone, Copy)]
-pub(crate) struct Unseen {
+pub(crate) struct UnseenRecord {
     pub unfit: Unfit,
     pub stood: Option<Stood>,
 }
 
-impl Unseen {
+impl UnseenRecord {
     /// Where no entry is one that doesn't fit.
-    fn alone(unfit: Unfit) -> Unseen
+    fn alone(unfit: Unfit) -> UnseenRecord
         ensures { result.unfit ≡ unfit }
     {
-        Unseen { unfit, stood: None }
+        UnseenRecord { unfit, stood: None }
     }
 }
 
 /// Replays the record whose text the bytes are, and sees where its entries are made.
-pub(crate) fn seen_of(alloc: Global, module: &ValidModule, saved: &[u8]) -> Result<SeenRun, Unseen>
+pub(crate) fn seen_of(
+    alloc: Global,
+    module: &ValidModule,
+    saved: &[u8],
+) -> Result<SeenRun, UnseenRecord>
     ensures seen { IfOk result (λ s. IsSeen «module».now.parts saved.now s.«record» s.rows.items) }
     ensures shown { IfOk result (λ _. IsOfRun «module».now.parts saved.now) }
     ensures unfit { IfErr result (λ e. IsUnfit «module».now.parts saved.now e.unfit) }
 {
     let record = match read_record(alloc, saved) {
         Ok(record) => record,
-        Err(RecordFault::NoMemory) => return Err(Unseen::alone(Unfit::NoMemory)),
-        Err(fault) => return Err(Unseen::alone(Unfit::Unread(fault))),
+        Err(RecordFault::NoMemory) => return Err(UnseenRecord::alone(Unfit::NoMemory)),
+        Err(fault) => return Err(UnseenRecord::alone(Unfit::Unread(fault))),
     };
     match rows_seen(alloc, module, &record) {
         Ok(rows) => Ok(SeenRun { record, rows }),
-        Err(unseen) => Err(Unseen {
+        Err(unseen) => Err(UnseenRecord {
             unfit: misfit(unseen.fault),
             stood: unseen.stood,
         }),

@@ -13,7 +13,7 @@ use race_history::is_history;
 use replay_text::Record;
 use report_json::RacePair;
 use search_races::watched;
-use show_races::{Races, races_shown, write_first};
+use show_races::{RecordRaces, races_shown, write_first};
 use show_rows::{CodeMap, Row, Shown, Story};
 use show_text::Unwritten;
 use std::alloc::Global;
@@ -24,7 +24,7 @@ use validate_module::ValidModule;
 #[derive(Drop)]
 pub(crate) struct ToldRaces {
     pub story: Story,
-    pub races: Races,
+    pub races: RecordRaces,
 }
 
 /// The races of a run as it is shown, `most` at most. A log of more threads than 64 is none of `races_of`'s.

@@ -2,7 +2,7 @@
 ghost use Rattle.std.specs.Prelude.{◌≡◌, ◌++◌, ◌∷◌, [], IfErr, IfOk, None, OnOk, position};
 ghost use Rattle.std.specs.List.{AllZip};
 ghost use Rattle.selection.specs.Choices as chosen;
-ghost use Rattle.report_command.specs.declared.show.View.TheVariants as views;
+ghost use Rattle.report_command.specs.declared.show.RecordView.TheVariants as views;
 ghost use Rattle.show_named.specs.declared.data_map.DataMap.{DataMap};
 ghost use Rattle.report_jobs.specs.declared.replaying.Unfit.TheVariants as unfits;
 ghost use Rattle.report_looks.specs.declared.wanted.Unshown.TheVariants as unshown;
@@ -10,11 +10,11 @@ ghost use Rattle.report_looks.specs.Looked as looked;
 ghost use Rattle.report_looks.specs.Looked.{AreAddresses, IsAsked, IsLookAt, IsWanted};
 ghost use Rattle.report_looks.specs.Silent.{IsUnrefused};
 
-use dwarf_data::{Place, Sought};
+use dwarf_data::{ByteRange, NamedBytes};
 use replay_text::RecordParts;
-use report_command::{At, Data, LastWrite, ShowLook, View, When};
+use report_command::{At, Data, LastWrite, RecordView, ShowLook, When};
 use report_jobs::{Absent, Unfit};
-use selection::{Choice, Look, Span};
+use selection::{Choice, Look, NumberSpan};
 use show_moments::Bytes;
 use show_named::DataMap;
 use show_rows::Stood;
@@ -53,7 +53,7 @@ pub(crate) struct Here {
 
 /// What is shown of a record, and how.
 #[derive(Drop)]
-pub(crate) struct Asked<'a> {
+pub(crate) struct LookRequest<'a> {
     pub wanted: Wanted<'a>,
     pub look: Look,
 }
@@ -62,11 +62,11 @@ pub(crate) struct Asked<'a> {
 #[derive(Clone, Copy)]
 pub(crate) enum Wanted<'a> {
     /// Its entries, in the form of this view.
-    Entries(View<'a>),
+    Entries(RecordView<'a>),
     /// A moment of it.
     Moment(Here),
     /// The last entry before the one of this place that writes a byte at these addresses.
-    Write { addrs: Span, before: usize },
+    Write { addrs: NumberSpan, before: usize },
 }
 
 /// Whether a thread leaves that trapped.
@@ -106,17 +106,17 @@ pub(crate) fn place_in(parts: &RecordParts, when: When) -> Option<usize>
 }
 
 /// The addresses of bytes.
-fn addresses_of(place: Place) -> Span
+fn addresses_of(place: ByteRange) -> NumberSpan
     ensures { result ≡ chosen.span_of place.start place.size }
 {
-    Span {
+    NumberSpan {
         first: place.start,
         last: place.start.saturating_add(place.size.saturating_sub(1)),
     }
 }
 
 /// The addresses of data.
-pub(crate) fn span_of(alloc: Global, map: &DataMap, data: Data) -> Result<Span, Unshown>
+pub(crate) fn span_of(alloc: Global, map: &DataMap, data: Data) -> Result<NumberSpan, Unshown>
     ensures addresses { IfOk result (AreAddresses map.now «data».entry) }
     ensures why { IfErr result IsUnrefused }
 {
@@ -125,9 +125,9 @@ pub(crate) fn span_of(alloc: Global, map: &DataMap, data: Data) -> Result<Span, 
         Data::Named(words) => words,
     };
     match map.named(alloc, words) {
-        Ok(Sought::One(place)) => Ok(addresses_of(place)),
-        Ok(Sought::Nothing) => Err(Unshown::Absent(Absent::NoData)),
-        Ok(Sought::Several) => Err(Unshown::Absent(Absent::SeveralData)),
+        Ok(NamedBytes::One(place)) => Ok(addresses_of(place)),
+        Ok(NamedBytes::Nothing) => Err(Unshown::Absent(Absent::NoData)),
+        Ok(NamedBytes::Several) => Err(Unshown::Absent(Absent::SeveralData)),
         Err(_) => Err(no_memory()),
     }
 }
@@ -176,24 +176,24 @@ fn wanted_of<'a>(
     alloc: Global,
     parts: &RecordParts,
     map: &DataMap,
-    view: View<'a>,
+    view: RecordView<'a>,
 ) -> Result<Wanted<'a>, Unshown>
     ensures wanted { IfOk result (IsWanted parts.now map.now view.entry) }
     ensures why { IfErr result IsUnrefused }
 {
     match view {
-        View::Write(write) => write_of(alloc, parts, map, write),
-        View::Moment(at) => moment_of(parts, at),
-        View::Rows => Ok(Wanted::Entries(View::Rows)),
-        View::Unfolded => Ok(Wanted::Entries(View::Unfolded)),
-        View::Object => Ok(Wanted::Entries(View::Object)),
-        View::Page(path) => Ok(Wanted::Entries(View::Page(path))),
-        View::Trace(path) => Ok(Wanted::Entries(View::Trace(path))),
+        RecordView::Write(write) => write_of(alloc, parts, map, write),
+        RecordView::Moment(at) => moment_of(parts, at),
+        RecordView::Rows => Ok(Wanted::Entries(RecordView::Rows)),
+        RecordView::Unfolded => Ok(Wanted::Entries(RecordView::Unfolded)),
+        RecordView::Object => Ok(Wanted::Entries(RecordView::Object)),
+        RecordView::Page(path) => Ok(Wanted::Entries(RecordView::Page(path))),
+        RecordView::Trace(path) => Ok(Wanted::Entries(RecordView::Trace(path))),
     }
 }
 
 /// Puts a span behind the others.
-fn put(spans: &mut Vec<Span>, span: Span) -> Result<(), AllocError>
+fn put(spans: &mut Vec<NumberSpan>, span: NumberSpan) -> Result<(), AllocError>
     ensures { OnOk result (spans.new.items ≡ spans.old.items ++ span ∷ []) }
 {
     spans.push(span)?;
@@ -201,7 +201,7 @@ fn put(spans: &mut Vec<Span>, span: Span) -> Result<(), AllocError>
 }
 
 /// The addresses of each of these data, in order.
-fn spans_of(alloc: Global, map: &DataMap, all: &[Data]) -> Result<Vec<Span>, Unshown>
+fn spans_of(alloc: Global, map: &DataMap, all: &[Data]) -> Result<Vec<NumberSpan>, Unshown>
     ensures addresses { IfOk result (λ spans. AllZip (AreAddresses map.now) all.now spans.items) }
     ensures why { IfErr result IsUnrefused }
 {
@@ -220,7 +220,7 @@ fn spans_of(alloc: Global, map: &DataMap, all: &[Data]) -> Result<Vec<Span>, Uns
 }
 
 /// How entries are shown at these addresses.
-fn look_at(alloc: Global, how: &ShowLook, addrs: Vec<Span>) -> Result<Look, AllocError>
+fn look_at(alloc: Global, how: &ShowLook, addrs: Vec<NumberSpan>) -> Result<Look, AllocError>
     ensures { IfOk result (IsLookAt how.now addrs.items) }
 {
     Ok(Look {
@@ -240,7 +240,7 @@ pub(crate) fn asked_of<'a>(
     parts: &RecordParts,
     map: &DataMap,
     how: &ShowLook<'a>,
-) -> Result<Asked<'a>, Unshown>
+) -> Result<LookRequest<'a>, Unshown>
     ensures asked { IfOk result (IsAsked parts.now map.now how.now) }
     ensures why { IfErr result IsUnrefused }
 {
@@ -253,7 +253,7 @@ pub(crate) fn asked_of<'a>(
         Err(why) => return Err(why),
     };
     match look_at(alloc, how, addrs) {
-        Ok(look) => Ok(Asked { wanted, look }),
+        Ok(look) => Ok(LookRequest { wanted, look }),
         Err(_) => Err(no_memory()),
     }
 }

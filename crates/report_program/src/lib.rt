@@ -27,7 +27,7 @@ mod telling;
 pub use closing::{Closed, Lost, close, close_behind};
 pub use early::keep_early;
 pub use input::Input;
-pub use order::{Plan, order_of, words_of};
+pub use order::{JobPlan, order_of, words_of};
 pub use reading::{Unread, read_front, read_memory, read_module, read_saved};
 pub use saving::{SavePlace, SavedFile, is_one_file, is_one_place};
 pub use streams::Noted;

@@ -8,7 +8,7 @@ ghost use Rattle.report_command.specs.declared.command_line.Job.TheVariants as j
 
 use crate::closing::{Closed, Lost, close, close_behind};
 use crate::input::{Input, read};
-use crate::stop::Stop;
+use crate::stop::JobStop;
 use crate::telling::{tell_file_fault, tell_output_fault, tell_unkept, why_if};
 use crate::{Noted, SavePlace, SavedFile, is_one_file, is_one_place};
 use report_command::{Job, Misuse, RunJob, Search, misused};
@@ -65,13 +65,13 @@ fn path_text(path: Option<&str>) -> &str
 }
 
 /// Where the file with this path goes, if there is to be one.
-fn place_of<'a>(rt: &HostRuntime, path: Option<&'a str>) -> Result<Option<SavePlace>, Stop<'a>> {
+fn place_of<'a>(rt: &HostRuntime, path: Option<&'a str>) -> Result<Option<SavePlace>, JobStop<'a>> {
     let Some(path) = path else {
         return Ok(None);
     };
     match SavePlace::new(rt, path) {
         Ok(place) => Ok(Some(place)),
-        Err(error) => Err(Stop::unmade(path, error)),
+        Err(error) => Err(JobStop::unmade(path, error)),
     }
 }
 
@@ -143,9 +143,9 @@ fn replaced(rt: &HostRuntime, job: &Job) -> Option<Misuse>
 }
 
 /// Refuses a file that would take the place of one that is read.
-fn keep_module<'a>(rt: &HostRuntime, job: &Job<'a>) -> Result<(), Stop<'a>> {
+fn keep_module<'a>(rt: &HostRuntime, job: &Job<'a>) -> Result<(), JobStop<'a>> {
     match replaced(rt, job) {
-        Some(misuse) => Err(Stop::Usage(misused(rt.alloc(), misuse))),
+        Some(misuse) => Err(JobStop::Usage(misused(rt.alloc(), misuse))),
         None => Ok(()),
     }
 }
@@ -260,7 +260,7 @@ fn prepare<'a, 'j, W: Write + Drop>(
     stdout: W,
     job: &Job<'j>,
     explain: bool,
-) -> Result<Task<'a, W>, Stop<'j>> {
+) -> Result<Task<'a, W>, JobStop<'j>> {
     keep_module(rt, job)?;
     let input = read(rt, job)?;
     let places = (place_of(rt, record_of(job))?, place_of(rt, memory_of(job))?);
@@ -301,12 +301,12 @@ fn note_unkept(rt: &HostRuntime, job: &Job, save: &SavedFile) {
 
 /// The files that a job makes.
 #[derive(Drop)]
-struct Files<'a> {
+struct JobFiles<'a> {
     save: SavedFile<'a>,
     memory: SavedFile<'a>,
 }
 
-impl Files<'_> {
+impl JobFiles<'_> {
     /// Takes away what there is of both.
     fn give_up(self) {
         self.save.give_up();
@@ -346,7 +346,7 @@ impl<W: Write + Drop> Task<'_, W> {
         let is_done = ended.is_ok();
         let Closed { out, save, lost } = close(is_done, out, save);
         let (memory, lost_memory) = close_behind(is_done && lost.is_none(), memory);
-        let files = Files { save, memory };
+        let files = JobFiles { save, memory };
         let is_closed = out.is_closed();
         if !is_closed {
             say(&mut rt.stderr(), &err);

@@ -8,7 +8,7 @@ use Rattle.report_memory.specs.declared.laying.Unlaid.{Unlaid}
 use Rattle.report_memory.specs.declared.laying.Unlaid.TheVariants as unlaids
 use Rattle.report_json.specs.Json.{Json, are_some, is, json_line, number, object_of, text}
 use Rattle.report_json.specs.Refusals.{failed_json, fault, refused_json, stage}
-use Rattle.report_json.specs.declared.refusals.Refused.TheVariants as objects
+use Rattle.report_json.specs.declared.refusals.RefusedObject.TheVariants as objects
 use Rattle.report_json.specs.declared.refusals.Failure.TheVariants as failures
 use Rattle.report_jobs.specs.Told.{path_or}
 use Rattle.report_jobs.specs.Undone.{absent_words, refused_status}

@@ -6,7 +6,7 @@ ghost use Rattle.report_reasons.specs.Added.{IsAddedTo};
 
 use crate::bytes::add_reading;
 use crate::calls::add_call;
-use crate::records::{Thread, add_misfit, add_unread};
+use crate::records::{UnfitThread, add_misfit, add_unread};
 use crate::validity::{add_in_body, add_rule};
 use replay_text::RecordFault;
 use report_command::{CallWords, Job, RunJob, Search};
@@ -16,7 +16,7 @@ use std::alloc::{AllocError, Global};
 
 /// What a job was given.
 #[derive(Clone, Copy)]
-pub struct Given<'a> {
+pub struct JobInputs<'a> {
     /// The module's bytes.
     pub module: &'a [u8],
     /// Those of the record, or nothing.
@@ -43,7 +43,7 @@ pub fn explain(
     alloc: Global,
     out: &mut String,
     ended: &JobResult,
-    given: Given,
+    given: JobInputs,
 ) -> Result<(), AllocError>
     ensures added { IfOk result (λ _. IsAddedTo (string_bytes out.old) (string_bytes out.new)) }
     ensures kept { IfErr result (λ _. string_bytes out.new ≡ string_bytes out.old) }
@@ -57,7 +57,7 @@ fn write_lines(
     alloc: Global,
     out: &mut String,
     ended: &JobResult,
-    given: Given,
+    given: JobInputs,
 ) -> Result<(), AllocError> {
     match ended {
         Ok(done) => add_done(alloc, out, *done, given),
@@ -67,7 +67,12 @@ fn write_lines(
 }
 
 /// Adds what there is to say of a job that is done.
-fn add_done(alloc: Global, out: &mut String, done: Done, given: Given) -> Result<(), AllocError> {
+fn add_done(
+    alloc: Global,
+    out: &mut String,
+    done: Done,
+    given: JobInputs,
+) -> Result<(), AllocError> {
     if let Some(call) = given.call
         && done.is_bare
     {
@@ -94,9 +99,9 @@ fn add_refused(
     alloc: Global,
     out: &mut String,
     refused: &Refused,
-    given: Given,
+    given: JobInputs,
 ) -> Result<(), AllocError> {
-    let Given {
+    let JobInputs {
         module: bytes,
         saved,
         call,
@@ -139,7 +144,7 @@ fn spot_of(
 fn add_line(
     alloc: Global,
     out: &mut String,
-    given: Given,
+    given: JobInputs,
     line: u32,
     misfit: &Misfit,
 ) -> Result<(), AllocError> {
@@ -148,7 +153,7 @@ fn add_line(
         return add_misfit(out, given.saved, number, None);
     };
     let spot = spot_of(alloc, misfit, given.module, stood)?;
-    let thread = Thread {
+    let thread = UnfitThread {
         number: stood.thread,
         turn: stood.turn,
         spot: spot.as_str(),

@@ -15,6 +15,6 @@ mod records;
 mod site;
 mod validity;
 
-pub use explained::{Given, call_of, explain};
+pub use explained::{JobInputs, call_of, explain};
 pub use object::write_undone;
-pub use records::{Thread, add_misfit};
+pub use records::{UnfitThread, add_misfit};

@@ -7,7 +7,7 @@ ghost use Rattle.report_reasons.specs.Objects as specified;
 ghost use Rattle.report_reasons.specs.Objects.{WritesFailed, WritesRefused, WritesUndone, told_json};
 
 use report_jobs::{Failed, Refused, Undone};
-use report_json::{Failure, Refusal, write_failed, write_refusal};
+use report_json::{Failure, RefusalObject, write_failed, write_refusal};
 use report_memory::Unlaid;
 use show_text::Unwritten;
 use spawn_host::CallFault;
@@ -36,33 +36,33 @@ fn unlaid_words(why: Unlaid) -> &'static str
 }
 
 /// What is refused, as an object has it.
-fn told(refused: &Refused) -> report_json::Refused<'static>
+fn told(refused: &Refused) -> report_json::RefusedObject<'static>
     ensures json { refused_json result ≡ told_json refused.now }
     ensures status { status_of_refused result ≡ refused_status refused.now }
 {
     match refused {
-        Refused::Read { kind, offset } => report_json::Refused::Read {
+        Refused::Read { kind, offset } => report_json::RefusedObject::Read {
             kind: *kind,
             offset: *offset,
         },
-        Refused::Rule(kind) => report_json::Refused::Rule(*kind),
+        Refused::Rule(kind) => report_json::RefusedObject::Rule(*kind),
         Refused::RuleInBody {
             kind,
             function,
             instruction,
-        } => report_json::Refused::RuleInBody {
+        } => report_json::RefusedObject::RuleInBody {
             kind: *kind,
             function: *function,
             instruction: *instruction,
         },
-        Refused::Unlaid { why, .. } => report_json::Refused::Call(unlaid_words(*why)),
-        Refused::Call { fault, .. } => report_json::Refused::Call(call_words(*fault)),
-        Refused::Absent(absent) => report_json::Refused::Call(absent.words()),
-        Refused::Header(line) => report_json::Refused::Header(*line),
-        Refused::Unreadable(line) => report_json::Refused::Unreadable(*line),
-        Refused::EndMissing => report_json::Refused::EndMissing,
-        Refused::Line(line, _) => report_json::Refused::Line(*line),
-        Refused::EndLine(line, _) => report_json::Refused::EndLine(*line),
+        Refused::Unlaid { why, .. } => report_json::RefusedObject::Call(unlaid_words(*why)),
+        Refused::Call { fault, .. } => report_json::RefusedObject::Call(call_words(*fault)),
+        Refused::Absent(absent) => report_json::RefusedObject::Call(absent.words()),
+        Refused::Header(line) => report_json::RefusedObject::Header(*line),
+        Refused::Unreadable(line) => report_json::RefusedObject::Unreadable(*line),
+        Refused::EndMissing => report_json::RefusedObject::EndMissing,
+        Refused::Line(line, _) => report_json::RefusedObject::Line(*line),
+        Refused::EndLine(line, _) => report_json::RefusedObject::EndLine(*line),
     }
 }
 
@@ -75,7 +75,7 @@ fn write_refused<W: Write>(
 ) -> Result<(), Unwritten>
     ensures { OnOk result (WritesRefused refused.now hints.now (W.contents out.old) (W.contents out.new)) }
 {
-    let refusal = Refusal {
+    let refusal = RefusalObject {
         refused: told(refused),
         hints,
     };

@@ -86,7 +86,7 @@ pub(crate) fn add_unread(
 
 /// The thread of a line that doesn't fit.
 #[derive(Clone, Copy)]
-pub struct Thread<'a> {
+pub struct UnfitThread<'a> {
     pub number: u32,
     /// What it comes to in place of the line, where that is known.
     pub turn: Option<Turn>,
@@ -100,7 +100,7 @@ pub fn add_misfit(
     out: &mut String,
     saved: &[u8],
     number: usize,
-    thread: Option<Thread>,
+    thread: Option<UnfitThread>,
 ) -> Result<(), AllocError> {
     add_text(out, saved, number)?;
     if let Some(thread) = thread {
@@ -112,8 +112,8 @@ pub fn add_misfit(
 }
 
 /// Adds what a thread does in place of the record's line, and where it stands.
-fn add_instead(out: &mut String, thread: Thread) -> Result<(), AllocError> {
-    let Thread { number, turn, spot } = thread;
+fn add_instead(out: &mut String, thread: UnfitThread) -> Result<(), AllocError> {
+    let UnfitThread { number, turn, spot } = thread;
     match turn {
         Some(Turn::Wants(event)) => {
             let words = EventWords(event);

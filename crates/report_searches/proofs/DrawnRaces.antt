@@ -8,7 +8,7 @@ use Rattle.search_finds.specs.Judged.{IsPassed}
 use Rattle.search_finds.specs.Noted.{AreNotedBy}
 use Rattle.search_finds.specs.declared.finding.Halt.{Halt}
 use Rattle.search_finds.specs.declared.finding.Halt.TheVariants as halts
-use Rattle.search_finds.specs.declared.met.Table.{Table}
+use Rattle.search_finds.specs.declared.met.EndingTable.{EndingTable}
 use Rattle.search_finds.proofs.Noting.{noted_weaker}
 use Rattle.search_races.specs.Races.{SaysOfRun}
 use Rattle.selection.specs.declared.sought.Sought.{Sought}
@@ -20,7 +20,7 @@ use Rattle.report_searches.specs.Searches.{IsRaceKept}
 use Rattle.std.specs.Prelude.{is_some}
 
 -- where the search stops, none that was made has a race
-pub none_races : (q : Requested) (s : Sought) (t : Table) (h : Halt) → ((f : _) → h ≡ halts.Found f → ⊥)
+pub none_races : (q : Requested) (s : Sought) (t : EndingTable) (h : Halt) → ((f : _) → h ≡ halts.Found f → ⊥)
     → AreNotedBy (IsPassed (SaysRaceOf q) s h) q s t → s.stops ≡ true → AreNotedBy (λ run made. SaysRaceOf q made false) q s t
 none_races q s t (halts.Found f) unfound noted stops = absurd (unfound f refl)
 none_races q s t halts.AllMade unfound noted stops =

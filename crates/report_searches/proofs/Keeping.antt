@@ -16,7 +16,7 @@ use Rattle.report_searches.specs.declared.all.EndlessRun.{EndlessRun}
 use Rattle.report_searches.specs.declared.all.EndlessRun.TheVariants.{ToNoEnd, Round}
 use Rattle.report_searches.specs.declared.found.FoundRun.{FoundRun}
 use Rattle.report_searches.specs.declared.found.KeptRun.{KeptRun}
-use Rattle.report_searches.specs.declared.whole.Whole.{Whole}
+use Rattle.report_searches.specs.declared.whole.WholeSearch.{WholeSearch}
 use Rattle.report_searches.proofs.Sought.{known_is_sought}
 
 -- one that never ends isn't shrunk
@@ -61,7 +61,7 @@ module _ (q : Requested) (s : Search) (asked : IsAskedBy s.call q) (save : Write
       find_kept has.made has.find (subst (IsLookedFor s.sought) (sym has.ends) sought) (made_kept k has.made has.made_is kept)
 
   -- what was found of every order
-  module _ (w : Whole) (status : ℕ) (few : status ≤ 1) where
+  module _ (w : WholeSearch) (status : ℕ) (few : status ≤ 1) where
     first_kept : (f : FoundRun) (k : KeptRun) → status ≡ 1 → HasFirst q s w f → IsKeptOf q s f k → KeepsMade s k.made save
         → Finds q.parts s save status
     first_kept f k one first is kept = elim first.one [
@@ -108,7 +108,7 @@ module _ (q : Requested) (s : Search) (asked : IsAskedBy s.call q) (save : Write
     ]
 
 -- where the search doesn't stop nothing is kept of what was found
-pub quiet_by : (q : Requested) (s : Search) (w : Whole) (o : Option FoundRun) (p : Option KeptRun) (save : WriterChange) → HasFound q s w o
+pub quiet_by : (q : Requested) (s : Search) (w : WholeSearch) (o : Option FoundRun) (p : Option KeptRun) (save : WriterChange) → HasFound q s w o
     → AreKeptOf q s o p → KeepsFound s p save → stops_behind s ≡ false → save.new ≡ save.old
 quiet_by q s w None None save has is kept quiet = kept
 quiet_by q s w None (Some k) save has is kept quiet = absurd is
@@ -116,13 +116,13 @@ quiet_by q s w (Some f) None save has is kept quiet = absurd is
 quiet_by q s w (Some f) (Some k) save has is kept quiet = absurd (true≢false (sym has.0 ∙ quiet))
 
 -- what was found can be kept: a run of it is one by the call
-one_can : (q : Requested) (s : Search) (w : Whole) (f : FoundRun) → HasFirst q s w f → CanBeKept q s f.made
+one_can : (q : Requested) (s : Search) (w : WholeSearch) (f : FoundRun) → HasFirst q s w f → CanBeKept q s f.made
 one_can q s w f first = elim first.one [
   | inl met ↦ subst (CanBeKept q s) (sym met.made_is) met.find
   | inr other ↦ subst (CanBeKept q s) (sym other.none) tt
 ]
 
-pub found_can : (q : Requested) (s : Search) (w : Whole) (o : Option FoundRun) → HasFound q s w o → IfSome o (λ f. CanBeKept q s f.made)
+pub found_can : (q : Requested) (s : Search) (w : WholeSearch) (o : Option FoundRun) → HasFound q s w o → IfSome o (λ f. CanBeKept q s f.made)
 found_can q s w None has = tt
 found_can q s w (Some f) has = elim has.1 [
   | inl first ↦ one_can q s w f first

@@ -5,7 +5,7 @@ use Rattle.search_endings.specs.Endings.{Ending}
 use Rattle.search_finds.specs.Finds.{IsLookedFor}
 use Rattle.search_modules.specs.Endings.{HasSought}
 use Rattle.search_modules.specs.Races.{NeverRaces}
-use Rattle.search_race_free.specs.declared.race.Race.{Race}
+use Rattle.search_race_free.specs.declared.race.ThreadRace.{ThreadRace}
 use Rattle.search_reach.specs.declared.ending.Ended.{Ended}
 use Rattle.search_reach.specs.declared.search.Verdict.{Verdict}
 use Rattle.search_reach.specs.declared.search.Verdict.TheVariants as verdicts
@@ -16,7 +16,7 @@ use Rattle.report_searches.specs.Racing.{IsAsked, IsFreelyComplete, IsKnownOf, I
 use Rattle.report_searches.specs.declared.whole.Racing.TheVariants.{Never, Found, Unknown}
 
 -- where every order isn't wanted, races are asked for
-pub asked_found : (s : Search) (r : Race) → s.every_order ≡ false → IsAsked s (Found r)
+pub asked_found : (s : Search) (r : ThreadRace) → s.every_order ≡ false → IsAsked s (Found r)
 asked_found s r every = ((λ yes. absurd (true≢false (sym yes ∙ every))), (λ is. absurd cc))
 
 pub asked_unknown : (s : Search) → s.every_order ≡ false → IsAsked s Unknown
@@ -52,7 +52,7 @@ whole_by q s all complete known every sought = record {
 }
 
 -- no race is found by a verdict
-pub unfound_by : (v : Verdict) (r : Race) → racing_by v ≡ Found r → ⊥
+pub unfound_by : (v : Verdict) (r : ThreadRace) → racing_by v ≡ Found r → ⊥
 unfound_by verdicts.All r is = absurd cc
 unfound_by verdicts.TooMany r is = absurd cc
 unfound_by verdicts.CannotTell r is = absurd cc

@@ -14,7 +14,7 @@ use Rattle.report_searches.specs.Racing.{IsAsked, IsKnownOf, IsWhole, allows, ke
 use Rattle.report_searches.specs.Searches.{Finds, IsRaceKept, IsSureToEnd, IsWellAt, KeepsNoneOrRace}
 use Rattle.report_searches.specs.declared.whole.Racing.{Racing}
 use Rattle.report_searches.specs.declared.whole.Racing.TheVariants.{Unasked, Never, Found, Unknown}
-use Rattle.report_searches.specs.declared.whole.Whole.{Whole}
+use Rattle.report_searches.specs.declared.whole.WholeSearch.{WholeSearch}
 use Rattle.report_searches.proofs.Sure.{every_by, can_by, sure_by}
 
 -- one of two that isn't so
@@ -32,7 +32,7 @@ never_by q s false (Found r) known asked allowed never every = absurd (true≢fa
 never_by q s false Unknown known asked allowed never every = absurd (true≢false (sym allowed))
 
 -- what status 0 says
-pub well_by : (q : Requested) (s : Search) → IsAskedBy s.call q → (w : Whole) → IsWhole q s w → (status : ℕ) → IsStatusOf s w status
+pub well_by : (q : Requested) (s : Search) → IsAskedBy s.call q → (w : WholeSearch) → IsWhole q s w → (status : ℕ) → IsStatusOf s w status
     → IsWellAt q.parts s status
 well_by q s asked w whole status is all zero =
     let dump = s.sought.dump in

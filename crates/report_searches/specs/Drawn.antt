@@ -9,7 +9,7 @@ use Rattle.search_endings.specs.Endings.{Ending}
 use Rattle.selection.specs.declared.sought.Sought.{Sought}
 use Rattle.selection.specs.Ways.{way_of}
 use Rattle.search_finds.specs.declared.met.Met.{Met}
-use Rattle.search_finds.specs.declared.met.Table.{Table}
+use Rattle.search_finds.specs.declared.met.EndingTable.{EndingTable}
 use Rattle.report_lines.specs.Drawn.{met_line, stopped_line, unseen_line}
 
 -- The lines of the table: of each ending how often it was met in how many runs, in which first and how that was drawn.
@@ -17,7 +17,7 @@ abbrev pub table_line : Sought → ℕ → Met → List ℕ
 table_line s runs met =
     met_line (record { times = met.times; runs = runs; first = met.first }) (way_of s.way met.first) met.ending
 
-abbrev pub table_lines : Sought → Table → List ℕ
+abbrev pub table_lines : Sought → EndingTable → List ℕ
 table_lines s table = flat_map (table_line s table.runs) table.met.items
 
 -- A thread found the log full; and a run that ended so was cut. So many runs of a table were.
@@ -34,22 +34,22 @@ is_cut e = list_any found_it_full e.outcomes
 abbrev pub runs_if_cut : Met → ℕ
 runs_if_cut m = if is_cut m.ending then m.times else 0
 
-abbrev pub cut_in : Table → ℕ
+abbrev pub cut_in : EndingTable → ℕ
 cut_in table = sum_by runs_if_cut table.met.items
 
 -- So many endings were met in one run alone; and in so many the first run was one of the last half.
-abbrev pub singles_in : Table → ℕ
+abbrev pub singles_in : EndingTable → ℕ
 singles_in table = count_by (λ m. m.times == 1) table.met.items
 
-abbrev pub late_in : Sought → Table → ℕ
+abbrev pub late_in : Sought → EndingTable → ℕ
 late_in s table = count_by (λ m. leb (table.runs / 2) (m.first - s.from)) table.met.items
 
 -- What is unseen, where some runs were made.
-abbrev pub unseen_text : Sought → Table → List ℕ
+abbrev pub unseen_text : Sought → EndingTable → List ℕ
 unseen_text s table =
     if table.runs == 0 then [] else
     unseen_line (length table.met.items) (late_in s table) (singles_in table) table.runs
 
 -- What stands behind a table where nothing was found: that the search was told to end, where it was, and what is unseen.
-abbrev pub behind_text : Bool → Sought → Table → List ℕ
+abbrev pub behind_text : Bool → Sought → EndingTable → List ℕ
 behind_text is_told s table = (if is_told then stopped_line table.runs s.runs else []) ++ unseen_text s table

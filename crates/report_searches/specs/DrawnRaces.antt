@@ -5,7 +5,7 @@ use Rattle.spawn_host.specs.Requests.{Requested}
 use Rattle.search_scheduled.specs.declared.running.MadeRun.{MadeRun}
 use Rattle.search_finds.specs.Judged.{IsFindBy}
 use Rattle.search_finds.specs.Sizes.{size_in}
-use Rattle.search_finds.specs.declared.met.Table.{Table}
+use Rattle.search_finds.specs.declared.met.EndingTable.{EndingTable}
 use Rattle.search_races.specs.Races.{SaysOfRun}
 use Rattle.selection.specs.declared.sought.Sought.{Sought}
 use Rattle.report_command.specs.declared.search.Search.{Search}
@@ -29,13 +29,13 @@ no_race_text runs = if runs == 0 then [] else no_race_line runs
 
 -- What stands behind a table where no run has a race: that the search was told to end, where it was, that none has one,
 -- and what is unseen.
-abbrev pub unraced_text : Sought → Table → List ℕ
+abbrev pub unraced_text : Sought → EndingTable → List ℕ
 unraced_text s table = no_race_text table.runs ++ unseen_text s table
 
-abbrev pub stopped_text : Bool → Sought → Table → List ℕ
+abbrev pub stopped_text : Bool → Sought → EndingTable → List ℕ
 stopped_text is_told s table = if is_told then stopped_line table.runs s.runs else []
 
-abbrev pub raceless_text : Bool → Sought → Table → List ℕ
+abbrev pub raceless_text : Bool → Sought → EndingTable → List ℕ
 raceless_text is_told s table = stopped_text is_told s table ++ unraced_text s table
 
 -- The run with a race that was found, or where that is asked for one by the call that was shrunk and has one too; the sizes

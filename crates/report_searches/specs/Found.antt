@@ -28,7 +28,7 @@ use Rattle.report_searches.specs.declared.all.EndlessRun.{EndlessRun}
 use Rattle.report_searches.specs.declared.all.EndlessRun.TheVariants.{ToNoEnd, Round}
 use Rattle.report_searches.specs.declared.found.FoundRun.{FoundRun}
 use Rattle.report_searches.specs.declared.found.KeptRun.{KeptRun}
-use Rattle.report_searches.specs.declared.whole.Whole.{Whole}
+use Rattle.report_searches.specs.declared.whole.WholeSearch.{WholeSearch}
 
 -- A size, and those of a run that was shrunk, where that is asked for.
 abbrev pub size_of : Size → RunSize
@@ -93,7 +93,7 @@ abbrev pub HasOne : Requested → Search → List ℕ → ℕ → Ending → Fou
 HasOne q s choices number ending f = HasMet q s choices number ending f ⊎ HasOther q s choices number ending f
 
 -- It is the first ending that is looked for. Of a search that makes plain accesses at once they are filled in.
-pub record HasFirst (q : Requested) (s : Search) (w : Whole) (f : FoundRun) : Type 0 where
+pub record HasFirst (q : Requested) (s : Search) (w : WholeSearch) (f : FoundRun) : Type 0 where
   pub number : ℕ
   pub ending : Ending
   pub is_first : IsFirstSought s.sought w.all.endings.keys number ending
@@ -119,7 +119,7 @@ abbrev pub HasFilled : Requested → Search → Bool → EndlessRun → FoundRun
 HasFilled q s is_free known f = (run : EndlessRun) × IsFilled is_free known run × HasEndless q s run f
 
 -- It is of the kind that is looked for, and known of all runs.
-pub record HasKnown (q : Requested) (s : Search) (w : Whole) (f : FoundRun) : Type 0 where
+pub record HasKnown (q : Requested) (s : Search) (w : WholeSearch) (f : FoundRun) : Type 0 where
   pub known : EndlessRun
   pub is_known : IsKnown s.sought.target w.all.liveness known
   pub unsought : All (λ e. IsLookedFor s.sought e → ⊥) w.all.endings.keys
@@ -131,7 +131,7 @@ pub record HasNothing (s : Search) (all : Ended Ending) : Type 0 where
   pub endless : stops_behind s ≡ true → HasNoEndless s.sought.target all.liveness
 
 -- What was found of every order.
-abbrev pub HasFound : Requested → Search → Whole → Option FoundRun → Type 0
+abbrev pub HasFound : Requested → Search → WholeSearch → Option FoundRun → Type 0
 HasFound q s w None = HasNothing s w.all
 HasFound q s w (Some f) = (stops_behind s ≡ true) × (HasFirst q s w f ⊎ HasKnown q s w f)
 

@@ -5,15 +5,15 @@ use Rattle.std.specs.List.{slice_get}
 use Rattle.search_reach.specs.declared.ending.Ended.{Ended}
 use Rattle.search_endings.specs.Endings.{Ending}
 use Rattle.search_finds.specs.Finds.{IsLookedFor}
-use Rattle.search_finds.specs.declared.met.Table.{Table}
+use Rattle.search_finds.specs.declared.met.EndingTable.{EndingTable}
 use Rattle.selection.specs.declared.sought.Sought.{Sought}
 use Rattle.report_command.specs.declared.search.Search.{Search}
 use Rattle.report_searches.specs.Complete.{threads_end_well, AreAllWell}
 use Rattle.report_searches.specs.Racing.{allows}
-use Rattle.report_searches.specs.declared.whole.Whole.{Whole}
+use Rattle.report_searches.specs.declared.whole.WholeSearch.{WholeSearch}
 
 -- Runs were made; in each ending of the table all threads ended well, and none is looked for.
-pub record IsAllWell (s : Sought) (table : Table) : Type 0 where
+pub record IsAllWell (s : Sought) (table : EndingTable) : Type 0 where
   pub some : table.runs ≢ 0
   pub well : All (λ met. (threads_end_well met.ending ≡ true) × (IsLookedFor s met.ending → ⊥)) table.met.items
 
@@ -34,6 +34,6 @@ abbrev pub stops_behind : Search → Bool
 stops_behind s = s.sought.stops && not s.races
 
 -- The status is 0 where all is well, and there are no races or these are allowed, and else 1.
-pub record IsStatusOf (s : Search) (w : Whole) (status : ℕ) : Type 0 where
+pub record IsStatusOf (s : Search) (w : WholeSearch) (status : ℕ) : Type 0 where
   pub well : (status ≡ 0) ↔ (AreAllWell s.sought w.all × (allows s.allow_races w.racing ≡ true))
   pub statuses : status ≤ 1

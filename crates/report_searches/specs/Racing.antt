@@ -5,8 +5,8 @@ use Rattle.std.specs.Io.KnownBytes.{Appends}
 use Rattle.types.specs.declared.parts.Parts.{Parts}
 use Rattle.spawn_host.specs.Requests.{Requested}
 use Rattle.search_reach.specs.declared.ending.Ended.{Ended}
-use Rattle.search_reach.specs.declared.search.Order.{Order}
-use Rattle.search_reach.specs.declared.search.Order.TheVariants as orders
+use Rattle.search_reach.specs.declared.search.SearchOrder.{SearchOrder}
+use Rattle.search_reach.specs.declared.search.SearchOrder.TheVariants as orders
 use Rattle.search_reach.specs.declared.search.Verdict.{Verdict}
 use Rattle.search_reach.specs.declared.search.Verdict.TheVariants as verdicts
 use Rattle.search_endings.specs.Endings.{Ending}
@@ -18,7 +18,7 @@ use Rattle.report_command.specs.declared.search.Search.{Search}
 use Rattle.report_jobs.specs.Prints.{WriterChange, KeepsRecord}
 use Rattle.report_looks.specs.Raced.{SaysPair}
 use Rattle.report_looks.specs.Sighted.{CanBeTold, IsFirstRace}
-use Rattle.search_race_free.specs.declared.race.Race.{Race}
+use Rattle.search_race_free.specs.declared.race.ThreadRace.{ThreadRace}
 use Rattle.report_searches.specs.declared.raced.Raced.{Raced}
 use Rattle.report_searches.specs.declared.raced.Raced.TheVariants as raced
 use Rattle.report_searches.specs.declared.raced.RacyRun.{RacyRun}
@@ -26,7 +26,7 @@ use Rattle.report_searches.specs.Early.{SaysSought}
 use Rattle.report_searches.specs.Searches.{FindsEvery, FindsNoOther, IsCompleteOf}
 use Rattle.report_searches.specs.declared.whole.Racing.{Racing}
 use Rattle.report_searches.specs.declared.whole.Racing.TheVariants.{Unasked, Never, Found, Unknown}
-use Rattle.report_searches.specs.declared.whole.Whole.{Whole}
+use Rattle.report_searches.specs.declared.whole.WholeSearch.{WholeSearch}
 use Rattle.report_searches.specs.declared.whole.FirstLook.{FirstLook}
 use Rattle.report_searches.specs.declared.whole.FirstLook.TheVariants as looks
 
@@ -42,7 +42,7 @@ abbrev pub IsAsked : Search → Racing → Type 0
 IsAsked s racing = (s.every_order ≡ true) ↔ (racing ≡ Unasked)
 
 -- In which order the states are gone on from.
-abbrev pub order_by : Bool → Order
+abbrev pub order_by : Bool → SearchOrder
 order_by true = orders.Depth
 order_by false = orders.Breadth
 
@@ -69,7 +69,7 @@ IsCompleteBy q dump false all = IsCompleteOf q dump all
 
 -- What is found of all runs, and of their races: where the first search met all, that there are none. Where a search ends
 -- at what is looked for, its verdict says whether it did.
-pub record IsWhole (q : Requested) (s : Search) (w : Whole) : Type 0 where
+pub record IsWhole (q : Requested) (s : Search) (w : WholeSearch) : Type 0 where
   pub complete : IsCompleteBy q s.sought.dump w.is_free w.all
   pub known : IsKnownOf q w.racing
   pub asked : IsAsked s w.racing
@@ -118,14 +118,15 @@ CanTell (raced.Run run) = CanBeTold run.made.record run.race
 CanTell (raced.Threads r) = Unit {0}
 CanTell raced.Untold = Unit {0}
 
-abbrev pub found : Race → Racing
+abbrev pub found : ThreadRace → Racing
 found r = Found r
 
 -- Of a race that is known a run by the call that has one is told, or the threads, and else nothing.
 abbrev pub IsRacedOf : Requested → Search → Racing → Raced → Type 0
-IsRacedOf q s racing (raced.Run run) = ((r : Race) × (racing ≡ Found r)) × IsFind q s.sought.limit run.made × IsRacyRun q.parts run
+IsRacedOf q s racing (raced.Run run) = ((r : ThreadRace) × (racing ≡ Found r)) × IsFind q s.sought.limit run.made
+    × IsRacyRun q.parts run
 IsRacedOf q s racing (raced.Threads r) = racing ≡ Found r
-IsRacedOf q s racing raced.Untold = (r : Race) → racing ≡ Found r → ⊥
+IsRacedOf q s racing raced.Untold = (r : ThreadRace) → racing ≡ Found r → ⊥
 
 -- Its lines: the race of the run in the words of `races`, or the threads alone.
 abbrev pub SaysRaced : Parts → Raced → List ℕ → Type 0

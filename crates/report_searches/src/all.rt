@@ -12,7 +12,7 @@ use search_endings::Ending;
 use search_finds::is_looked_for;
 use search_modules::turn_choices;
 use search_reach::{FairRuns, Liveness};
-use selection::{Find, Target};
+use selection::{Find, SearchTarget};
 use spawn_host::Request;
 use std::alloc::{AllocError, Global};
 
@@ -84,21 +84,21 @@ fn finds_for_ever(find: Find) -> bool
 
 /// Whether a run to where none ends is looked for: where nothing is said, where its words are, and where a result is
 /// expected, to which it doesn't come.
-fn looks_for_no_end(target: Target) -> bool
+fn looks_for_no_end(target: SearchTarget) -> bool
     ensures { result ≡ specified.looks_for_no_end target.entry }
 {
     target.expect.is_some() || finds_no_end(target.find)
 }
 
 /// Whether one that goes round for ever is.
-fn looks_for_ever(target: Target) -> bool
+fn looks_for_ever(target: SearchTarget) -> bool
     ensures { result ≡ specified.looks_for_ever target.entry }
 {
     target.expect.is_some() || finds_for_ever(target.find)
 }
 
 /// Whether runs to where none ends are looked for, and there is one.
-fn has_no_end(liveness: &Liveness, target: Target) -> bool
+fn has_no_end(liveness: &Liveness, target: SearchTarget) -> bool
     ensures { (result ≡ true) ↔ HasNoEnd target.entry liveness.now }
 {
     looks_for_no_end(target) && !liveness.endless.is_empty()
@@ -106,7 +106,7 @@ fn has_no_end(liveness: &Liveness, target: Target) -> bool
 
 /// The run that never ends, where one is looked for: to the first state from which no run ends, or else round a cycle
 /// of a fair run.
-fn endless_of<'a>(liveness: &'a Liveness, target: Target) -> Option<EndlessRun<'a>>
+fn endless_of<'a>(liveness: &'a Liveness, target: SearchTarget) -> Option<EndlessRun<'a>>
     ensures none { IfNone result ((HasNoEnd target.entry liveness.now → ⊥)
         × ((c : _) → GoesRound target.entry liveness.now c → ⊥)) }
     ensures some { IfSome result (IsKnownIn target.entry liveness.now) }
@@ -129,7 +129,7 @@ fn endless_of<'a>(liveness: &'a Liveness, target: Target) -> Option<EndlessRun<'
 /// The same, where it is known what never ends.
 pub(crate) fn endless_run<'a>(
     liveness: &'a Option<Liveness>,
-    target: Target,
+    target: SearchTarget,
 ) -> Option<EndlessRun<'a>>
     ensures none { IfNone result (HasNoEndless target.entry liveness.now) }
     ensures some { IfSome result (IsKnown target.entry liveness.now) }
@@ -199,7 +199,7 @@ pub(crate) fn choices_in<'a>(filled: &'a Option<Vec<usize>>, noted: &'a [usize])
 
 /// The choices of each event to where it is sure that a run never ends, and once round.
 #[derive(Drop)]
-pub(crate) struct Course {
+pub(crate) struct Lasso {
     pub path: Vec<usize>,
     pub round: Vec<usize>,
 }
@@ -210,7 +210,7 @@ pub(crate) fn course_of(
     request: &Request,
     dump: u32,
     run: &EndlessRun,
-) -> Result<Course, AllocError> {
+) -> Result<Lasso, AllocError> {
     let path = turn_choices(alloc, request, dump as usize, run.path())?;
     let mut noted = Vec::new(alloc);
     noted.extend_from_slice(run.path())?;
@@ -220,7 +220,7 @@ pub(crate) fn course_of(
     for place in path.len()..all.len() {
         round.push(all[place])?;
     }
-    Ok(Course { path, round })
+    Ok(Lasso { path, round })
 }
 
 /// Whether a search stops at an ending that is looked for, or a run that never ends.

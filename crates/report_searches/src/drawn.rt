@@ -6,7 +6,7 @@ ghost use Rattle.report_searches.specs.DrawnRaces.{no_race_line, no_race_text, r
 use crate::table::write_unseen_of;
 use report_command::Sought;
 use report_lines::write_stopped;
-use search_finds::Table;
+use search_finds::EndingTable;
 use std::io::{self, Write};
 
 /// What is said behind the table of a search that found nothing: that it was told to end, where it was, and what is
@@ -14,7 +14,7 @@ use std::io::{self, Write};
 pub fn write_behind<W: Write>(
     out: &mut W,
     sought: &Sought,
-    table: &Table,
+    table: &EndingTable,
     is_told: bool,
 ) -> io::Result<()>
     ensures { Wrote W.contents out.old out.new result (behind_text is_told sought.now table.now) }
@@ -46,7 +46,7 @@ fn write_no_race<W: Write>(out: &mut W, runs: u64) -> io::Result<()>
 }
 
 /// That no run of the table has a race, and what is unseen.
-fn write_unraced<W: Write>(out: &mut W, sought: &Sought, table: &Table) -> io::Result<()>
+fn write_unraced<W: Write>(out: &mut W, sought: &Sought, table: &EndingTable) -> io::Result<()>
     ensures { Wrote W.contents out.old out.new result (unraced_text sought.now table.now) }
 {
     write_no_race(out, table.runs)?;
@@ -57,7 +57,7 @@ fn write_unraced<W: Write>(out: &mut W, sought: &Sought, table: &Table) -> io::R
 fn write_stopped_if<W: Write>(
     out: &mut W,
     sought: &Sought,
-    table: &Table,
+    table: &EndingTable,
     is_told: bool,
 ) -> io::Result<()>
     ensures { Wrote W.contents out.old out.new result (stopped_text is_told sought.now table.now) }
@@ -73,7 +73,7 @@ fn write_stopped_if<W: Write>(
 pub fn write_raceless<W: Write>(
     out: &mut W,
     sought: &Sought,
-    table: &Table,
+    table: &EndingTable,
     is_told: bool,
 ) -> io::Result<()>
     ensures { Wrote W.contents out.old out.new result (raceless_text is_told sought.now table.now) }

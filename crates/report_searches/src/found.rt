@@ -14,7 +14,7 @@ use crate::all::{
 use crate::asked::no_memory;
 use crate::complete::are_well;
 use crate::smaller::smaller_if_asked;
-use crate::whole::Whole;
+use crate::whole::WholeSearch;
 use report_command::{Search, Sought};
 use report_jobs::Trouble;
 use report_json::{FoundAs, RunSize, Shrunk};
@@ -226,16 +226,16 @@ fn known_found(
 
 /// What comes behind the endings of every order: the status, and what was found.
 #[derive(Drop)]
-pub struct Behind {
+pub struct StatusAndFound {
     pub status: u8,
     pub found: Option<FoundRun>,
 }
 
 /// Nothing was found, with this status.
-fn nothing(status: u8) -> Behind
+fn nothing(status: u8) -> StatusAndFound
     ensures { result ≡ record { status = status; found = None } }
 {
-    Behind {
+    StatusAndFound {
         status,
         found: None,
     }
@@ -248,8 +248,8 @@ pub fn behind_of(
     alloc: Global,
     request: &Request,
     search: &Search,
-    whole: &Whole,
-) -> Result<Behind, Trouble>
+    whole: &WholeSearch,
+) -> Result<StatusAndFound, Trouble>
     ensures has { IfOk result (λ b. HasFound request.now search.now whole.now b.found) }
     ensures status { IfOk result (λ b. IsStatusOf search.now whole.now b.status) }
     ensures one { IfOk result (λ b. IfSome b.found (λ _. b.status ≡ 1)) }
@@ -273,7 +273,7 @@ pub fn behind_of(
             ..first
         };
         let found = ending_found(alloc, request, search, sought)?;
-        return Ok(Behind {
+        return Ok(StatusAndFound {
             status: 1,
             found: Some(found),
         });
@@ -290,7 +290,7 @@ pub fn behind_of(
     match endless_run(&whole.all.liveness, search.sought.target) {
         Some(run) => {
             let found = known_found(alloc, request, search, whole.is_free, &run)?;
-            Ok(Behind {
+            Ok(StatusAndFound {
                 status: 1,
                 found: Some(found),
             })

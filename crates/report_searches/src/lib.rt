@@ -28,14 +28,14 @@ mod table;
 mod told;
 mod whole;
 
-pub use asked::{Asked, jobs_of, no_memory};
+pub use asked::{SearchRequest, jobs_of, no_memory};
 pub use complete::write_complete;
 pub use drawn::{write_behind, write_raceless};
-pub use found::{Behind, FoundRun, KeptRun, behind_of, kept_if_found, kept_of};
+pub use found::{FoundRun, KeptRun, StatusAndFound, behind_of, kept_if_found, kept_of};
 pub use kept::{keep_found, keep_made, keep_raced, keep_run};
 pub use raced::{KeptRace, Raced, RacyRun, kept_race, raced_of, trouble_of, write_raced};
 pub use table::{cut_in_all, late_of, singles_of, status_of_none, write_cut_of, write_table};
 pub use told::{
     write_found, write_if_found, write_if_kept, write_kept_lines, write_run, write_shrunk,
 };
-pub use whole::{FirstLook, Racing, Whole, first_look, whole_of};
+pub use whole::{FirstLook, Racing, WholeSearch, first_look, whole_of};

@@ -9,7 +9,7 @@ ghost use Rattle.report_searches.specs.Racing as specified;
 ghost use Rattle.report_searches.specs.Racing.{CanTell, IsRacedIn, IsRacedOf, SaysRaced, Tells, threads_line};
 ghost use Rattle.report_searches.specs.Searches.{IsOfSystem};
 
-use crate::asked::{Asked, no_memory};
+use crate::asked::{SearchRequest, no_memory};
 use crate::found::shrunk_if;
 use crate::smaller::smaller_racy;
 use crate::whole::{FirstLook, Racing};
@@ -17,8 +17,8 @@ use report_command::Sought;
 use report_jobs::Trouble;
 use report_json::Shrunk;
 use report_looks::{FirstRace, first_race};
-use search_finds::{Found, Hears, run_round, size_of};
-use search_modules::{Race, race_choices};
+use search_finds::{Hears, NumberedRun, run_round, size_of};
+use search_modules::{ThreadRace, race_choices};
 use search_scheduled::MadeRun;
 use show_text::Unwritten;
 use spawn_host::Request;
@@ -38,7 +38,7 @@ pub enum Raced<'m, 'n> {
     /// None is known.
     Untold,
     /// These threads race in some run; none was made in which they do.
-    Threads(Race),
+    Threads(ThreadRace),
     /// A run that has one.
     Run(RacyRun<'m, 'n>),
 }
@@ -57,8 +57,8 @@ pub fn trouble_of(unwritten: Unwritten) -> Trouble
 fn run_of_race<'a>(
     alloc: Global,
     request: &'a Request,
-    asked: Asked<'a>,
-    race: Race,
+    asked: SearchRequest<'a>,
+    race: ThreadRace,
     way: &[usize],
 ) -> Result<Raced<'a, 'a>, Trouble>
     ensures raced { IfOk result
@@ -82,7 +82,7 @@ fn run_of_race<'a>(
 fn raced_by<'a>(
     alloc: Global,
     request: &'a Request,
-    asked: Asked<'a>,
+    asked: SearchRequest<'a>,
     racing: Racing,
     way: &[usize],
 ) -> Result<Raced<'a, 'a>, Trouble>
@@ -99,7 +99,7 @@ fn raced_by<'a>(
 pub fn raced_of<'a>(
     alloc: Global,
     request: &'a Request,
-    asked: Asked<'a>,
+    asked: SearchRequest<'a>,
     look: &FirstLook,
 ) -> Result<Raced<'a, 'a>, Trouble>
     ensures raced { IfOk result
@@ -126,15 +126,15 @@ pub struct KeptRace<'m, 'n> {
 pub fn kept_race<'a, F: Hears>(
     alloc: Global,
     request: &'a Request,
-    asked: Asked<'a>,
-    found: Found,
+    asked: SearchRequest<'a>,
+    found: NumberedRun,
     follower: &mut F,
 ) -> Result<KeptRace<'a, 'a>, Trouble>
     requires { IsFindBy (SaysRaceOf request.now) request.now asked.search.now.sought.limit found.made }
     ensures has { IfOk result (HasRacy request.now asked.entry.search.now found.run found.made) }
     ensures trouble { IfErr result IsOfSystem }
 {
-    let Found { run, made } = found;
+    let NumberedRun { run, made } = found;
     let was = size_of(&made.record);
     let made = smaller_racy(alloc, request, asked.search, made, follower)?;
     let is = size_of(&made.record);
@@ -150,10 +150,10 @@ pub fn kept_race<'a, F: Hears>(
 }
 
 /// Writes the line of two threads that race in a run that wasn't made.
-fn write_threads<W: Write>(out: &mut W, race: Race) -> io::Result<()>
+fn write_threads<W: Write>(out: &mut W, race: ThreadRace) -> io::Result<()>
     ensures { Wrote W.contents out.old out.new result (threads_line race.one race.other) }
 {
-    let Race { one, other } = race;
+    let ThreadRace { one, other } = race;
     write!(out, "race: t{one} and t{other}; no run was made for it\n")
 }
 

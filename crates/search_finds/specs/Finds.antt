@@ -10,7 +10,7 @@ use Rattle.search_scheduled.specs.Headers.{IsOfRequest}
 use Rattle.search_scheduled.specs.Heard.{IsHeardRun}
 use Rattle.search_scheduled.specs.declared.running.MadeRun.{MadeRun}
 use Rattle.search_endings.specs.Endings.{Ending}
-use Rattle.search_finds.specs.declared.met.Table.{Table}
+use Rattle.search_finds.specs.declared.met.EndingTable.{EndingTable}
 use Rattle.search_finds.specs.Endings.{ending_left}
 use Rattle.search_finds.specs.Words.{HasLineWith}
 use Rattle.selection.specs.declared.sought.Find.{Find}
@@ -57,5 +57,5 @@ abbrev pub IsFound : Requested → Sought → MadeRun → Type 0
 IsFound q s made = IsFind q s.limit made × EndsAsLookedFor s s.dump made.end
 
 -- None of them is looked for.
-abbrev pub HasNoneLookedFor : Sought → Table → Type 0
+abbrev pub HasNoneLookedFor : Sought → EndingTable → Type 0
 HasNoneLookedFor s table = All (λ met. IsLookedFor s met.ending → ⊥) table.met.items

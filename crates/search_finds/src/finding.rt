@@ -9,14 +9,14 @@ ghost use Rattle.search_finds.specs.Searching.{IsMadeIn, IsMetIn, IsFoundIn, Are
 ghost use Rattle.search_finds.specs.Searching.{AreSparesIn, first_of};
 ghost use Rattle.search_finds.specs.Halts.{IfFound};
 
-use crate::ahead::Ahead;
+use crate::ahead::RunsAhead;
 use crate::hears::Hears;
 use crate::judging::{EndsSo, Judges};
 use crate::search::{JudgedEnding, RunMaker};
-use crate::{Table, ending_of};
+use crate::{EndingTable, ending_of};
 use search_reach::Wish;
 use search_scheduled::{MadeRun, SearchFault, Spares, run_along, run_with_spares};
-use search_strategies::{Along, Drawn, Watch, Watched};
+use search_strategies::{Along, Drawn, EndWatch, Watched};
 use selection::{Sought, Way};
 use spawn_host::Request;
 use std::alloc::Global;
@@ -27,7 +27,7 @@ const PIECE: u64 = 128;
 
 /// A run that was found, and its number.
 #[derive(Drop)]
-pub struct Found {
+pub struct NumberedRun {
     pub run: u64,
     pub made: MadeRun,
 }
@@ -36,7 +36,7 @@ pub struct Found {
 #[derive(Drop)]
 pub enum Halt {
     /// The last that was noted is the one that is looked for.
-    Found(Found),
+    Found(NumberedRun),
     /// All were made, and none was found.
     AllMade,
     /// The follower told it to end, and none was found.
@@ -46,22 +46,22 @@ pub enum Halt {
 /// The endings that were met, and why no further run was made.
 #[derive(Drop)]
 pub struct SearchResult {
-    pub table: Table,
+    pub table: EndingTable,
     pub halt: Halt,
 }
 
 /// Who makes runs: so many threads, each of which gives a run up where that is to be seen, and asks of each run that it
 /// made whether it is looked for.
-struct Crew<'a, 'w, 'j, R, W, J> {
+struct FindingCrew<'a, 'w, 'j, R, W, J> {
     rt: &'a R,
     jobs: usize,
     watch: &'w W,
     judge: &'j J,
 }
 
-impl<R, W, J> Drop for Crew<'_, '_, '_, R, W, J> {
+impl<R, W, J> Drop for FindingCrew<'_, '_, '_, R, W, J> {
     fn drop(self) {
-        let Crew {
+        let FindingCrew {
             rt: _,
             jobs: _,
             watch: _,
@@ -71,7 +71,7 @@ impl<R, W, J> Drop for Crew<'_, '_, '_, R, W, J> {
 }
 
 /// How many entries the run has in which a thread goes on as long as it can, 1 to 1,000,000.
-fn plain_entries<W: Watch>(
+fn plain_entries<W: EndWatch>(
     alloc: Global,
     request: &Request,
     limit: u32,
@@ -87,7 +87,7 @@ fn plain_entries<W: Watch>(
 }
 
 /// Among how many entries the points lie at which priorities change: those of that run, where a way has such points.
-fn entries_of<W: Watch>(
+fn entries_of<W: EndWatch>(
     alloc: Global,
     request: &Request,
     sought: &Sought,
@@ -131,7 +131,7 @@ fn entries_unless_told<F: Hears>(
 impl<'m, 'a> RunMaker<'m, 'a> {
     /// Makes the run of this number, with the threads that the runs before it didn't start. Where that is asked for, it is
     /// heard where threads stand.
-    fn run<W: Watch>(
+    fn run<W: EndWatch>(
         &self,
         alloc: Global,
         watch: &W,
@@ -173,7 +173,7 @@ impl<'m, 'a> RunMaker<'m, 'a> {
 
     /// The ending of the run of this number, with the threads that the runs before it didn't start; none where it was
     /// given up.
-    fn ending<W: Watch, J: Judges>(
+    fn ending<W: EndWatch, J: Judges>(
         &self,
         alloc: Global,
         watch: &W,
@@ -219,21 +219,26 @@ impl<'m, 'a> RunMaker<'m, 'a> {
     ///
     /// # Errors
     /// `NoEnd` where it isn't looked for now, which none is.
-    fn found<J: Judges>(&self, alloc: Global, judge: &J, run: u64) -> Result<Found, SearchFault>
+    fn found<J: Judges>(
+        &self,
+        alloc: Global,
+        judge: &J,
+        run: u64,
+    ) -> Result<NumberedRun, SearchFault>
         ensures found { IfOk result (λ found. IsFoundIn (J.judges judge.now self.now.request.now) self.now found.made) }
         ensures drawn { IfOk result (λ found. IsMadeIn self.now run found.made) }
         ensures number { IfOk result (λ found. found.run ≡ run) }
     {
         let made = self.run_anew(alloc, judge.hears(), run)?;
         if judge.is_sought(alloc, self.request, &made)? {
-            Ok(Found { run, made })
+            Ok(NumberedRun { run, made })
         } else {
             Err(SearchFault::NoEnd)
         }
     }
 
     /// The endings of runs in a row, the last first: of all of them, or where one is given up of those before it.
-    fn endings<W: Watch, J: Judges>(
+    fn endings<W: EndWatch, J: Judges>(
         &self,
         alloc: Global,
         watch: &W,
@@ -276,12 +281,12 @@ impl<'m, 'a> RunMaker<'m, 'a> {
 
     /// The endings of the runs that a job makes ahead, the last first: of all of them, or where one is given up of those
     /// before it.
-    fn endings_of<W: Watch, J: Judges>(
+    fn endings_of<W: EndWatch, J: Judges>(
         &self,
         alloc: Global,
         watch: &W,
         judge: &J,
-        ahead: Ahead,
+        ahead: RunsAhead,
         job: usize,
     ) -> Result<Vec<JudgedEnding>, SearchFault>
         requires { job + 1 < 2 ^ 64 }
@@ -298,7 +303,7 @@ impl<'m, 'a> RunMaker<'m, 'a> {
         judge: &J,
         endings: &mut Vec<JudgedEnding>,
         pieces: &mut Vec<Result<Vec<JudgedEnding>, SearchFault>>,
-        ahead: Ahead,
+        ahead: RunsAhead,
         job: usize,
     ) -> Result<(), SearchFault>
         requires last { length pieces.old.items ≡ job + 1 }
@@ -320,11 +325,11 @@ impl<'m, 'a> RunMaker<'m, 'a> {
     }
 
     /// The endings of runs that are made ahead, the last first, up to one that is given up.
-    fn endings_by<R: Threads + Sync, W: Watch + Sync, J: Judges + Sync>(
+    fn endings_by<R: Threads + Sync, W: EndWatch + Sync, J: Judges + Sync>(
         &self,
         alloc: Global,
-        crew: &Crew<R, W, J>,
-        ahead: Ahead,
+        crew: &FindingCrew<R, W, J>,
+        ahead: RunsAhead,
     ) -> Result<Vec<JudgedEnding>, SearchFault>
         ensures { IfOk result (λ endings. AreMetIn (J.judges crew.now.judge.now self.now.request.now) self.now ahead.from endings.items) }
     {
@@ -348,10 +353,10 @@ impl<'m, 'a> RunMaker<'m, 'a> {
 
     /// The ending of the run of this number, with which `left` runs are left: one that was made ahead, or it is made,
     /// and others after it, the more the more were made before. None where it was given up.
-    fn next_ending<R: Threads + Sync, W: Watch + Sync, J: Judges + Sync>(
+    fn next_ending<R: Threads + Sync, W: EndWatch + Sync, J: Judges + Sync>(
         &self,
         alloc: Global,
-        crew: &Crew<R, W, J>,
+        crew: &FindingCrew<R, W, J>,
         run: u64,
         left: u64,
         ahead: &mut Vec<JudgedEnding>,
@@ -367,7 +372,7 @@ impl<'m, 'a> RunMaker<'m, 'a> {
         let made = run.saturating_sub(self.sought.from);
         let share = made / (crew.jobs as u64).max(1);
         let piece = (share / 2).saturating_add(1).min(PIECE);
-        let more = Ahead {
+        let more = RunsAhead {
             from: run,
             count: left,
             piece,
@@ -381,7 +386,7 @@ impl<'m, 'a> RunMaker<'m, 'a> {
     fn noted_next<R: Threads + Sync, F: Hears, J: Judges + Sync>(
         &self,
         alloc: Global,
-        crew: &Crew<R, F::Watch, J>,
+        crew: &FindingCrew<R, F::Watch, J>,
         run: u64,
         left: u64,
         ahead: &mut Vec<JudgedEnding>,
@@ -408,7 +413,7 @@ impl<'m, 'a> RunMaker<'m, 'a> {
     fn first<R: Threads + Sync, F: Hears, J: Judges + Sync>(
         &self,
         alloc: Global,
-        crew: &Crew<R, F::Watch, J>,
+        crew: &FindingCrew<R, F::Watch, J>,
         follower: &mut F,
     ) -> Result<SearchResult, SearchFault>
         requires few { self.now.sought.now.from + self.now.sought.now.runs < 2 ^ 64 }
@@ -426,7 +431,7 @@ impl<'m, 'a> RunMaker<'m, 'a> {
         ensures told { IfOk result (λ s. s.halt ≡ Halt.Told → F.wish follower.new ≡ Wish.End) }
     {
         let sought = self.sought;
-        let mut table = Table::new(alloc);
+        let mut table = EndingTable::new(alloc);
         let mut ahead = Vec::new(alloc);
         let end = sought.from + sought.runs;
         for run in sought.from..end {
@@ -490,7 +495,7 @@ pub fn first_judged<R: Threads + Sync, F: Hears, J: Judges + Sync>(
     let watch = follower.watch();
     let told = entries_unless_told(alloc, request, sought, &watch, follower)?;
     let Some(entries) = told else {
-        let table = Table::new(alloc);
+        let table = EndingTable::new(alloc);
         let halt = Halt::Told;
         return Ok(SearchResult { table, halt });
     };
@@ -499,7 +504,7 @@ pub fn first_judged<R: Threads + Sync, F: Hears, J: Judges + Sync>(
         sought,
         entries,
     };
-    let crew = Crew {
+    let crew = FindingCrew {
         rt,
         jobs,
         watch: &watch,

@@ -13,7 +13,7 @@ use crate::size::{schedule_of, size_of};
 use crate::spins::without_spins;
 use search_reach::Wish;
 use search_scheduled::{MadeRun, SearchFault, Spares, run_with_spares};
-use search_strategies::{Along, Watch, Watched};
+use search_strategies::{Along, EndWatch, Watched};
 use spawn_host::Request;
 use std::alloc::{AllocError, Global};
 
@@ -58,7 +58,7 @@ fn without(alloc: Global, schedule: &[u32], cut: Cut) -> Result<Vec<u32>, AllocE
 }
 
 /// Makes the run along a schedule: it is given where it is smaller than another and is looked for.
-fn tried<W: Watch, J: Judges>(
+fn tried<W: EndWatch, J: Judges>(
     alloc: Global,
     request: &Request,
     limit: u32,
@@ -94,7 +94,7 @@ fn tried<W: Watch, J: Judges>(
 
 /// The run along a schedule, where it is smaller than another and is looked for, and else that; and whether it is
 /// smaller.
-fn better<W: Watch, J: Judges>(
+fn better<W: EndWatch, J: Judges>(
     alloc: Global,
     request: &Request,
     limit: u32,
@@ -128,7 +128,7 @@ fn stretches_of(alloc: Global, made: &MadeRun) -> Result<usize, AllocError> {
 
 /// Of a run a smaller one that is looked for too, without what lies between two moments in which all is the same, or all
 /// that is one thread's; and without rounds in which a thread saw what it saw in the round before.
-fn without_waits<W: Watch, J: Judges>(
+fn without_waits<W: EndWatch, J: Judges>(
     alloc: Global,
     request: &Request,
     limit: u32,

@@ -8,7 +8,7 @@ use Rattle.std.proofs.lemmas.List.{take_more}
 use Rattle.std.proofs.lemmas.List.Elements.{Contains-append_left, Contains-append_right, Contains-append_cases, Contains-push, Contains-push_cases}
 use Rattle.std.proofs.lemmas.List.Sorted.{IsPermutation-insert, Contains-permutation, IsPermutation-sym}
 use Rattle.schedule.proofs.Basics.{same_or_not}
-use Rattle.search_settled.specs.declared.access.Access.{Access}
+use Rattle.search_settled.specs.declared.access.NextAccess.{NextAccess}
 use Rattle.search_race_free.specs.declared.owning.Touch.{Touch}
 use Rattle.search_race_free.specs.Touches.{access_at, AreOfOthers}
 
@@ -46,19 +46,19 @@ Contains-inserted xs i y x = (there, back)
     back (inl c) = Contains-permutation (y ∷ xs) (insert xs i y) x (IsPermutation-insert xs i y) (Contains-append_right (y ∷ []) xs x c)
     back (inr e) = Contains-permutation (y ∷ xs) (insert xs i y) x (IsPermutation-insert xs i y) (subst (λ z. Contains (y ∷ xs) z) (sym e) (0, omega arith, refl))
 
-pub access-here : (xs : List (Option Access)) (i : ℕ) (d : Option Access) → i < length xs → access_at xs i ≡ get_or xs i d
+pub access-here : (xs : List (Option NextAccess)) (i : ℕ) (d : Option NextAccess) → i < length xs → access_at xs i ≡ get_or xs i d
 access-here [] i d h = absurd (omega (arith, h))
 access-here (x ∷ xs) zero d h = refl
 access-here (x ∷ xs) (suc i) d h = access-here xs i d (omega (arith, h))
 
-pub access-past : (xs : List (Option Access)) (i : ℕ) → length xs ≤ i → access_at xs i ≡ None
+pub access-past : (xs : List (Option NextAccess)) (i : ℕ) → length xs ≤ i → access_at xs i ≡ None
 access-past [] i h = refl
 access-past (x ∷ xs) zero h = absurd (omega (arith, h))
 access-past (x ∷ xs) (suc i) h = access-past xs i (omega (arith, h))
 
 -- Of all places: those below the length, and none beyond.
-pub at_all : (P : ℕ → Access → Type 0) (xs : List (Option Access)) (n : ℕ) → length xs ≤ n
-    → ((t : ℕ) → t < n → (a : Access) → access_at xs t ≡ Some a → P t a) → (t : ℕ) (a : Access) → access_at xs t ≡ Some a → P t a
+pub at_all : (P : ℕ → NextAccess → Type 0) (xs : List (Option NextAccess)) (n : ℕ) → length xs ≤ n
+    → ((t : ℕ) → t < n → (a : NextAccess) → access_at xs t ≡ Some a → P t a) → (t : ℕ) (a : NextAccess) → access_at xs t ≡ Some a → P t a
 at_all P xs n long all t a h = by (cases_lt t (length xs))
   where
     by : (t < length xs) ⊎ (length xs ≤ t) → P t a

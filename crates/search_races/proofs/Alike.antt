@@ -3,8 +3,8 @@ use Rattle.std.proofs.Common.{◌≡◌, ℕ, zero, suc, ◌<◌, ◌≤◌, Lis
 use Rattle.std.proofs.lemmas.Option.{slice_get-get_or, slice_get-map}
 use Rattle.types.specs.declared.parts.Parts.{Parts}
 use Rattle.interp.specs.declared.place.CodePlace.{CodePlace}
-use Rattle.race_history.specs.declared.access.Kind.{Kind}
-use Rattle.race_history.specs.declared.access.Kind.TheVariants.{Plain, Atomic}
+use Rattle.race_history.specs.declared.access.AccessKind.{AccessKind}
+use Rattle.race_history.specs.declared.access.AccessKind.TheVariants.{Plain, Atomic}
 use Rattle.show_rows.specs.declared.rows.Row.{Row}
 use Rattle.show_rows.specs.Listing.{is_atomic_in, row_in}
 use Rattle.show_rows.specs.Spots.{is_atomic}
@@ -30,5 +30,5 @@ module _ (m : Parts) (rows : Filled) (places : List CodePlace) (has : (j : ℕ) 
   pub kinds_same : (n : ℕ) → n ≤ length places → kinds_in m rows n ≡ kinds_in m (map row_heard places) n
   kinds_same zero few = refl
   kinds_same (suc n) few =
-      ap (λ (l : List Kind). l ++ kind_in m rows n ∷ []) (kinds_same n (omega (arith, few)))
-      ∙ ap (λ (x : Kind). kinds_in m (map row_heard places) n ++ x ∷ []) (kind_same n (omega (arith, few)))
+      ap (λ (l : List AccessKind). l ++ kind_in m rows n ∷ []) (kinds_same n (omega (arith, few)))
+      ∙ ap (λ (x : AccessKind). kinds_in m (map row_heard places) n ++ x ∷ []) (kind_same n (omega (arith, few)))

@@ -29,7 +29,7 @@ use Rattle.search_scheduled.specs.declared.ear.Places.{Places}
 use Rattle.search_scheduled.specs.Courses as courses
 use Rattle.search_scheduled.specs.Heard.{IsHeard, IsHeardOn, HearsAnswer, HearsSettled, HearsPlace, IsMadeBy, place_in}
 use Rattle.search_scheduled.specs.SpareThreads.{HasBegun}
-use Rattle.race_history.specs.declared.access.Kind.{Kind}
+use Rattle.race_history.specs.declared.access.AccessKind.{AccessKind}
 use Rattle.show_rows.specs.declared.rows.Row.{Row}
 use Rattle.show_rows.specs.declared.rows.Rows.{Rows}
 use Rattle.show_rows.specs.Rows.{RowsSee, number_before}
@@ -456,6 +456,6 @@ heard_so q limit made d find listens alike is says =
       end = made.end;
       run = find.run;
       rows_are = x.1;
-      says = subst (λ (l : List Kind). Says made.record.log l is)
+      says = subst (λ (l : List AccessKind). Says made.record.log l is)
           (sym (kinds_same q.parts x.0 made.heard.places.items x.2 (length made.record.log) (omega (arith, x.3)))) says;
     }

@@ -11,19 +11,19 @@ use replay::{ReplayFault, replay_watched};
 use replay_text::Record;
 use replay_walk::{Walk, Watch};
 use shared_memory_sequential::OneMemory;
-use show_rows::{Next, Row, Rows, Stood};
+use show_rows::{NextStood, Row, Rows, Stood};
 use std::alloc::Global;
 use types::Entry;
 use validate_module::ValidModule;
 
 /// The rows of a record that is replayed, and what the thread of the next entry does.
 #[derive(Drop)]
-struct Seen<'a> {
+struct RowsAndNext<'a> {
     rows: Rows<'a>,
-    next: Next<'a>,
+    next: NextStood<'a>,
 }
 
-impl<'a, 'm> Watch<Thread<'m>> for Seen<'a> {
+impl<'a, 'm> Watch<Thread<'m>> for RowsAndNext<'a> {
     ghost use Rattle.show_rows.specs.Rows.{RowsSee};
 
     ghost sees = { λ old moment new. RowsSee old.rows moment new.rows };
@@ -80,8 +80,8 @@ pub fn rows_seen(
             });
         }
     };
-    let next = Next::new(log);
-    let mut seen = Seen { rows, next };
+    let next = NextStood::new(log);
+    let mut seen = RowsAndNext { rows, next };
     match replay_watched(alloc, module, record, &mut seen) {
         Ok(_) => Ok(seen.rows.rows),
         Err(fault) => Err(Unseen {

@@ -14,8 +14,8 @@ use Rattle.search_reach.specs.Meeting.{HasMetAt, OfStateAt, HasFirst, GoesOn, Ha
 use Rattle.search_reach.specs.Sought.{ArePassed, HasSoughtFrom, SaysFrom, SeeksAmong}
 use Rattle.search_reach.specs.Levels.{HasLevels, HasGoneThrough, IsBehind, levels_by}
 use Rattle.search_reach.specs.declared.search.Levels.{Levels}
-use Rattle.search_reach.specs.declared.search.Order.{Order}
-use Rattle.search_reach.specs.declared.search.Order.TheVariants.{Breadth, Depth}
+use Rattle.search_reach.specs.declared.search.SearchOrder.{SearchOrder}
+use Rattle.search_reach.specs.declared.search.SearchOrder.TheVariants.{Breadth, Depth}
 use Rattle.search_reach.specs.declared.search.Verdict.{Verdict}
 use Rattle.search_reach.proofs.Passing.{passed-more, sought-more, all-passed, seeks-none, seeks-some}
 use Rattle.search_reach.proofs.Leveling.{levels-longer, levels-all, levels-none, levels-more}
@@ -383,7 +383,7 @@ module _ {S W E : Type 0} (k : StepSystem S W E) (eq : S → S → Bool) where
   -- where the first state has ended as is looked for
   pub reached-first : (has : List S → Type 0) (sought : E → Type 0) (moves : List Move) (most : ℕ) (wish : Wish) → moves ≡ []
       → ((x y : S) → eq x y ≡ true → (w : W) (left : ℕ → ℕ) → k.stands x w left → k.stands y w left) → HasFirst k has
-      → (is : Bool) → is ≡ true → OfStates k has (SaysFrom k sought 0 is) → (order : Order) (levels : Option ℕ) → levels ≡ levels_by order 0
+      → (is : Bool) → is ≡ true → OfStates k has (SaysFrom k sought 0 is) → (order : SearchOrder) (levels : Option ℕ) → levels ≡ levels_by order 0
       → IsReached k has eq most wish sought moves verdicts.Sought levels
   reached-first has sought moves most wish none same f is holds said order levels counted =
       let says = subst (λ b. OfStates k has (SaysFrom k sought 0 b)) holds said in
@@ -404,6 +404,6 @@ module _ {S W E : Type 0} (k : StepSystem S W E) (eq : S → S → Bool) where
         gone_through = subst (HasGoneThrough k (f.state ∷ [])) (sym counted) (through order);
       }
     where
-      through : (order : Order) → HasGoneThrough k (f.state ∷ []) (levels_by order 0)
+      through : (order : SearchOrder) → HasGoneThrough k (f.state ∷ []) (levels_by order 0)
       through Breadth = levels-none k eq same (f.state ∷ []) [] 0 (explored-first eq k f.state f.is)
       through Depth = tt

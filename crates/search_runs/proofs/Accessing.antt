@@ -23,7 +23,7 @@ use Rattle.schedule_threads.specs.Threads.{machine_of}
 use Rattle.interp_trait.specs.Turns.{spawned_in}
 use Rattle.search_threads.specs.Unlimited.{Unlimited.Missing, Unlimited.Away, unlimited_wants}
 use Rattle.search_threads.specs.Budgets.{started_without}
-use Rattle.search_settled.specs.declared.access.Access.{Access}
+use Rattle.search_settled.specs.declared.access.NextAccess.{NextAccess}
 use Rattle.search_settled.specs.Accesses.{IsPlain, Conflict}
 use Rattle.search_race_free.specs.Wanted.{ArePlain, AreIndependent, WantsPlain, next_access}
 use Rattle.search_race_free.specs.Wanted as nexts
@@ -126,7 +126,7 @@ plain b = record {
     access-at w n e wants = is-access w.shared.memory (is_plain (w.threads n)) e wants.plain
 
 -- who is gone can't go on
-gone-not : (b : Called) (w : systems.State Shared Walker) (n : ℕ) (a : Access) → unlimited_wants (machine_of b.program) (w.threads n) ≡ Gone
+gone-not : (b : Called) (w : systems.State Shared Walker) (n : ℕ) (a : NextAccess) → unlimited_wants (machine_of b.program) (w.threads n) ≡ Gone
     → next_access (system_of b) access_of w n ≡ Some a → ⊥
 gone-not b w n a gone h = none-some a (sym (ap (nexts.access_by (system_of b) access_of w.shared (w.threads n)) gone) ∙ h)
 

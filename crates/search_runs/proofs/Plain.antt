@@ -12,7 +12,7 @@ use Rattle.types.specs.declared.limits.TheConstants.{PAGE_SIZE}
 use Rattle.shared_memory.specs.Numbers.{le_number, le_bytes}
 use Rattle.shared_memory.specs.Memory.{Memory, pages, loaded, written, combined, can_grow, grown, if_within, reply_of, state_after}
 use Rattle.shared_memory.proofs.Numbers.{length-le_bytes}
-use Rattle.search_settled.specs.declared.access.Access.{Access}
+use Rattle.search_settled.specs.declared.access.NextAccess.{NextAccess}
 use Rattle.search_settled.specs.Accesses.{HasByte, Meet, Conflict}
 use Rattle.search_runs.specs.Accesses.{no_bytes, in_bounds, access_by}
 use Rattle.search_runs.proofs.Bytes as bytes
@@ -33,7 +33,7 @@ IsAccess m (Cmpxchg addr width expected replacement) = ⊥
 IsAccess m (Ask question) = ⊥
 IsAccess m (Told answer) = ⊥
 
-abbrev inside : Bool → Bool → ℕ → ℕ → Access
+abbrev inside : Bool → Bool → ℕ → ℕ → NextAccess
 inside plain writes addr width = record { plain = plain; writes = writes; addr = addr; width = width }
 
 both-true : (s t : Bool) → (s && t) ≡ true → (s ≡ true) × (t ≡ true)
@@ -81,7 +81,7 @@ in-is m plain writes addr width reach e = ap (λ t. if t then inside (plain && n
 abbrev pub Apart : ℕ → ℕ → ℕ → ℕ → Type 0
 Apart a w b v = (w ≡ 0) ⊎ ((v ≡ 0) ⊎ ((a + w ≤ b) ⊎ (b + v ≤ a)))
 
-pub apart-of : (x y : Access) → (Meet x y → ⊥) → Apart x.addr x.width y.addr y.width
+pub apart-of : (x y : NextAccess) → (Meet x y → ⊥) → Apart x.addr x.width y.addr y.width
 apart-of x y never = elim (cases_lt 0 x.width) [
   | inr none ↦ inl (omega (arith, none))
   | inl some ↦ elim (cases_lt 0 y.width) [
@@ -170,7 +170,7 @@ longer m (Ask question) = omega arith
 longer m (Told answer) = omega arith
 
 -- What a write leaves to bytes that its thread's access doesn't meet.
-abbrev pub Spares : Access → ℕ → ℕ → Type 0
+abbrev pub Spares : NextAccess → ℕ → ℕ → Type 0
 Spares x b v = x.writes ≡ true → Meet x (inside true true b v) → ⊥
 
 spares-apart : (m : Memory) (p : Bool) (a w r b v : ℕ) → nat_le r (length m.bytes) ≡ true → Spares (in_bounds m p true a w r) b v → Apart a w b v
@@ -253,7 +253,7 @@ module _ (m : Memory) (p : Bool) (b v k : ℕ) (within : b + v ≤ length m.byte
   long : length (written m b v k).bytes ≡ length m.bytes
   long = bytes.length-splice m.bytes (le_bytes v k) b v (length-le_bytes v k) within
 
-  meet-back : (x y : Access) → Meet x y → Meet y x
+  meet-back : (x y : NextAccess) → Meet x y → Meet y x
   meet-back x y h = (h.0, (h.1.1, h.1.0))
 
   store-apart : (t writes : Bool) (a w r : ℕ) → nat_le r (length m.bytes) ≡ true → (Meet (in_bounds m t writes a w r) (inside true true b v) → ⊥) → Apart b v a w
@@ -414,7 +414,7 @@ module _ (m : Memory) (p : Bool) (b v k : ℕ) (within : b + v ≤ length m.byte
   written-same (Told answer) h = refl
 
 -- the bytes that an event touches are the same in a memory as long
-in-meets : (m z : Memory) (plain one other : Bool) (addr width reach : ℕ) (y : Access) → length z.bytes ≡ length m.bytes
+in-meets : (m z : Memory) (plain one other : Bool) (addr width reach : ℕ) (y : NextAccess) → length z.bytes ≡ length m.bytes
     → Meet (in_bounds m plain one addr width reach) y → Meet (in_bounds z plain other addr width reach) y
 in-meets m z plain one other addr width reach y h meet = subst (λ x. Meet x y) (sym (in-same m z plain other addr width reach h)) (by (nat_le reach (length m.bytes)) meet)
   where
@@ -423,7 +423,7 @@ in-meets m z plain one other addr width reach y h meet = subst (λ x. Meet x y) 
     by true g = g
     by false g = g
 
-meets-still : (m z : Memory) (p : Bool) (f : Event) (y : Access) → length z.bytes ≡ length m.bytes → Meet (access_by m p f) y → Meet (access_by z p f) y
+meets-still : (m z : Memory) (p : Bool) (f : Event) (y : NextAccess) → length z.bytes ≡ length m.bytes → Meet (access_by m p f) y → Meet (access_by z p f) y
 meets-still m z p Size y h meet = meet
 meets-still m z p (Grow more) y h meet = meet
 meets-still m z p (Load addr width reach) y h meet = in-meets m z p false false addr width reach y h meet
@@ -460,7 +460,7 @@ module _ (m : Memory) (p q : Bool) (f : Event) where
   conflict-still (Load b v r) fits c = c
   conflict-still (Store b v r k) fits c = record {
     meet = meets-still m (state_after m (Store b v r k)) p f (access_by m q (Store b v r k)) (as-long m (Store b v r k) fits) c.meet;
-    write = inr (ap (λ (y : Access). y.writes) (in-is m q true b v r (le-leb r (length m.bytes) fits.reaches)));
+    write = inr (ap (λ (y : NextAccess). y.writes) (in-is m q true b v r (le-leb r (length m.bytes) fits.reaches)));
   }
   conflict-still (Rmw op addr width value) is c = absurd is
   conflict-still (Cmpxchg addr width expected replacement) is c = absurd is

@@ -20,16 +20,16 @@ pub struct Stood {
 /// Keeps, of the entry that comes next along a log, what its thread does: behind a walk, of the first one that doesn't
 /// fit.
 #[derive(Drop)]
-pub struct Next<'a> {
+pub struct NextStood<'a> {
     log: &'a [Entry],
     /// `None` behind the last entry.
     pub stood: Option<Stood>,
 }
 
-impl<'a> Next<'a> {
+impl<'a> NextStood<'a> {
     /// Before the log's first entry.
     pub fn new(log: &'a [Entry]) -> Self {
-        Next { log, stood: None }
+        NextStood { log, stood: None }
     }
 
     /// Where the thread of the entry of this number stands among these, if there is such an entry.
@@ -44,7 +44,7 @@ impl<'a> Next<'a> {
     }
 }
 
-impl<'a, 'm> Watch<Thread<'m>> for Next<'a> {
+impl<'a, 'm> Watch<Thread<'m>> for NextStood<'a> {
     ghost sees = { λ old moment new. Unit {0} };
 
     fn came(&mut self, entries: usize, walk: &Walk<Thread<'m>>)

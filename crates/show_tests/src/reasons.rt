@@ -5,7 +5,7 @@ use interp_trait::Turn;
 use replay_text::{RecordFault, read_record};
 use report_command::CallWords;
 use report_jobs::{Advised, Done, JobResult, Refused, Undone, load, load_checked, of_refusal};
-use report_reasons::{Given, Thread, add_misfit, explain};
+use report_reasons::{JobInputs, UnfitThread, add_misfit, explain};
 use spawn_host::CallFault;
 use std::alloc::Global;
 use std::process::Abort;
@@ -103,7 +103,7 @@ static MODULES: [Case; 14] = [
 ];
 
 /// What is said of what came of a job that was given these bytes, behind a line that was there before.
-fn said_of(alloc: Global, ended: &JobResult, given: Given) -> Result<String, Fail> {
+fn said_of(alloc: Global, ended: &JobResult, given: JobInputs) -> Result<String, Fail> {
     let mut lines = String::new(alloc);
     lines.push_str("before\n")?;
     explain(alloc, &mut lines, ended, given)?;
@@ -114,8 +114,8 @@ fn said_of(alloc: Global, ended: &JobResult, given: Given) -> Result<String, Fai
 }
 
 /// A job that was given this module, and nothing else.
-fn of_module(bytes: &[u8]) -> Given<'_> {
-    Given {
+fn of_module(bytes: &[u8]) -> JobInputs<'_> {
+    JobInputs {
         module: bytes,
         saved: &[],
         call: None,
@@ -183,7 +183,7 @@ fn said_of_text(alloc: Global, bytes: &[u8]) -> Result<String, Fail> {
         Err(RecordFault::EndMissing) => Refused::EndMissing,
         _ => return Err("a record".into()),
     };
-    let given = Given {
+    let given = JobInputs {
         module: &[],
         saved: bytes,
         call: None,
@@ -209,14 +209,14 @@ const LOG: &[u8] =
 /// A line of `LOG` that doesn't fit, and the lines that are said of it.
 struct Unfit {
     number: usize,
-    thread: Option<Thread<'static>>,
+    thread: Option<UnfitThread<'static>>,
     lines: &'static str,
 }
 
 static UNFIT: [Unfit; 4] = [
     Unfit {
         number: 6,
-        thread: Some(Thread {
+        thread: Some(UnfitThread {
             number: 4,
             turn: None,
             spot: "lock+0x9",
@@ -227,7 +227,7 @@ static UNFIT: [Unfit; 4] = [
     },
     Unfit {
         number: 6,
-        thread: Some(Thread {
+        thread: Some(UnfitThread {
             number: 4,
             turn: Some(Turn::Wants(Event::Rmw {
                 op: RmwOp::Xchg,
@@ -244,7 +244,7 @@ static UNFIT: [Unfit; 4] = [
     },
     Unfit {
         number: 6,
-        thread: Some(Thread {
+        thread: Some(UnfitThread {
             number: 4,
             turn: Some(Turn::Ended(Outcome::Stop(Stop::OutOfFuel))),
             spot: "lock+0x9",
@@ -356,7 +356,7 @@ fn said_of_call(alloc: Global, bytes: &[u8], call: &Call) -> Result<String, Fail
         fault: CallFault::WrongArguments,
         module: load(alloc, bytes)?,
     };
-    let given = Given {
+    let given = JobInputs {
         module: bytes,
         saved: &[],
         call: Some(&words),

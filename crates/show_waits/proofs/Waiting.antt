@@ -7,7 +7,7 @@ use Rattle.std.specs.List.{AllZip}
 use Rattle.types.specs.declared.event.Entry.{Entry}
 use Rattle.types.specs.declared.outcome.ThreadReport.{ThreadReport}
 use Rattle.selection.specs.Choices.{touched}
-use Rattle.selection.specs.declared.choice.Span.{Span}
+use Rattle.selection.specs.declared.choice.NumberSpan.{NumberSpan}
 use Rattle.show_rows.proofs.Zipped.{zip_next}
 use Rattle.show_named.specs.declared.lasts.Act.{Act}
 use Rattle.show_named.specs.declared.lasts.Act.TheVariants as acts
@@ -47,7 +47,7 @@ entry_of act log before k last d = ap (λ (e : Entry). e.thread) (get_or_from_sl
 -- for whom a thread waits, by where it stands
 module _ (log : List Entry) (ends : List ThreadReport) (n m : ℕ) (w : WaitsFor log ends n m) (s : Stand) (is : IsStand n log s) where
   last_there : IsLast (acts.OtherWrite s.addrs n) log (length log) w.place
-  last_there = subst (λ (a : Span). IsLast (acts.OtherWrite a n) log (length log) w.place) (same_stand n log w.stand s w.is is) w.last
+  last_there = subst (λ (a : NumberSpan). IsLast (acts.OtherWrite a n) log (length log) w.place) (same_stand n log w.stand s w.is is) w.last
 
   pub no_other : HasNone (acts.OtherWrite s.addrs n) log (length log) → ⊥
   no_other none = none w.place last_there.entry last_there.earlier last_there.at last_there.does

@@ -3,7 +3,7 @@ use Rattle.std.specs.Global.{Vec}
 use Rattle.types.specs.declared.event.Entry.{Entry}
 use Rattle.types.specs.declared.event.Event.TheVariants.{Size}
 use Rattle.types.specs.declared.event.Reply.TheVariants.{Value}
-use Rattle.race_history.specs.declared.access.Kind.TheVariants.{Plain}
+use Rattle.race_history.specs.declared.access.AccessKind.TheVariants.{Plain}
 use Rattle.race_history.specs.declared.lasts.Last.{Last}
 use Rattle.race_history.specs.declared.race.Race.{Race}
 use Rattle.race_history.specs.Lasts.{AreLasts, table}

@@ -2,22 +2,22 @@ use Rattle.std.proofs.Common.{ℕ, ◌≡◌, ◌∙◌, Option, None, ap, subst
 use Rattle.spawn_host.specs.Requests.{Requested}
 use Rattle.report_command.specs.declared.search.Search.{Search}
 use Rattle.report_searches.specs.Prints.{IsStatusOf}
-use Rattle.report_searches.specs.declared.whole.Whole.{Whole}
+use Rattle.report_searches.specs.declared.whole.WholeSearch.{WholeSearch}
 use Rattle.report_searches.specs.Found.{HasFound, HasNothing}
-use Rattle.report_searches.specs.declared.found.Behind.{Behind}
+use Rattle.report_searches.specs.declared.found.StatusAndFound.{StatusAndFound}
 use Rattle.report_searches.specs.declared.found.FoundRun.{FoundRun}
 use Rattle.report_searches.proofs.Printed.{first_is_sought, status_0, status_1, well_has_none}
 use Rattle.report_searches.proofs.Sought.{none_of}
 use Rattle.report_searches.proofs.found.behind_of.Goals as goal
 
 -- where nothing was found, with a status
-has_nothing : (q : Requested) (s : Search) (w : Whole) (status : ℕ) (b : Behind) → b ≡ record { status = status; found = None } → HasNothing s w.all
+has_nothing : (q : Requested) (s : Search) (w : WholeSearch) (status : ℕ) (b : StatusAndFound) → b ≡ record { status = status; found = None } → HasNothing s w.all
     → HasFound q s w b.found
-has_nothing q s w status b is none = subst (λ (o : Option FoundRun). HasFound q s w o) (sym (ap (λ (x : Behind). x.found) is)) none
+has_nothing q s w status b is none = subst (λ (o : Option FoundRun). HasFound q s w o) (sym (ap (λ (x : StatusAndFound). x.found) is)) none
 
-at_status : (s : Search) (w : Whole) (status : ℕ) (b : Behind) → b ≡ record { status = status; found = None } → IsStatusOf s w status
+at_status : (s : Search) (w : WholeSearch) (status : ℕ) (b : StatusAndFound) → b ≡ record { status = status; found = None } → IsStatusOf s w status
     → IsStatusOf s w b.status
-at_status s w status b is said = subst (λ (n : ℕ). IsStatusOf s w n) (sym (ap (λ (x : Behind). x.status) is)) said
+at_status s w status b is said = subst (λ (n : ℕ). IsStatusOf s w n) (sym (ap (λ (x : StatusAndFound). x.status) is)) said
 
 pub returns-then-not-stops-clause-has : goal.returns-then-not-stops-clause-has
 returns-then-not-stops-clause-has c =

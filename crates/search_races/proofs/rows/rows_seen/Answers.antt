@@ -3,7 +3,7 @@ use Rattle.types.specs.declared.event.Entry.{Entry}
 use Rattle.replay_text.specs.declared.parts.RecordParts.{RecordParts}
 use Rattle.show_rows.specs.declared.rows.Row.{Row}
 use Rattle.show_rows.specs.Rows.{RowsSee}
-use Rattle.search_races.specs.declared.rows.Seen.{Seen}
+use Rattle.search_races.specs.declared.rows.RowsAndNext.{RowsAndNext}
 use Rattle.search_races.proofs.Pulled.{replayed}
 use Rattle.search_races.proofs.rows.rows_seen.Goals as goal
 
@@ -20,7 +20,7 @@ returns-in-Ok-replay_watched-clause-run c =
         last = c.replay_watched.new.watch.rows;
         log = c.in-Ok.ensures.log ∙ log;
         empty = c.in-Ok.ensures.rows ∙ ap (λ (l : List Entry). replicate {A = Option Row} (length l) None) log;
-        sees = replayed RowsSee (λ (w : Seen). w.rows) m r end (record { rows = c.in-Ok.rows; next = c.new-next.result })
+        sees = replayed RowsSee (λ (w : RowsAndNext). w.rows) m r end (record { rows = c.in-Ok.rows; next = c.new-next.result })
             c.replay_watched.new.watch c.in-Ok-replay_watched.ensures.seen;
         filled = refl;
       },

@@ -1,6 +1,6 @@
 use Rattle.std.proofs.Common.{refl, sym, ◌∙◌}
 use Rattle.search_settled.specs.Known.{IsTurn}
-use Rattle.search_settled.specs.declared.met.Turn.TheVariants.{Still, Alone}
+use Rattle.search_settled.specs.declared.met.QuietTurn.TheVariants.{Still, Alone}
 use Rattle.search_settled.proofs.Threads.{if-some-at}
 use Rattle.search_settled.proofs.Rows.{grows-then}
 use Rattle.search_settled.proofs.Knowing.{of-read, of-numbers, count-low, event-none, event-some, own-before, own-lost, known-grows, alone}

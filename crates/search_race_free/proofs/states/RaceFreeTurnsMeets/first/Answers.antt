@@ -1,6 +1,6 @@
 use Rattle.std.proofs.Common.{subst, ap, ◌∙◌}
 use Rattle.search_table.specs.Tables.{states_of, with_row}
-use Rattle.search_race_free.specs.declared.met.Table.{Table}
+use Rattle.search_race_free.specs.declared.met.StateTable.{StateTable}
 use Rattle.search_race_free.specs.Same.{owning_alike}
 use Rattle.search_race_free.specs.Search.{IsCameFirst}
 use Rattle.search_race_free.proofs.Beginning.{begun-first, race-first, stuck-first}
@@ -18,7 +18,7 @@ returns-in_ok-put-in-To-clause-first g c _ =
     let row = c.in_ok-row-in-To.ensures in
     let put = c.in_ok-put-in-To.ensures in
     let t = c.args.tables.now in
-    let met : Table g.row.M-Shared.Denot g.row.M-Thread.Denot = record { parts = c.held_row.new.parts; states = c.put.new.self } in
+    let met : StateTable g.row.M-Shared.Denot g.row.M-Thread.Denot = record { parts = c.held_row.new.parts; states = c.put.new.self } in
     first-ahead k (g.M.Moves.ends m) (g.M.Moves.stuck m) (record { met = met; ahead = t.ahead })
     (none-yet k (g.M.Moves.ends m) (g.M.Moves.stuck m) t c.requires)
     (first-put k (g.M.Moves.ends m) (g.M.Moves.stuck m) g.M.Shared.PartialEq.eq g.M.Thread.PartialEq.eq
