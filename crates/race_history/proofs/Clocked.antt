@@ -1,5 +1,6 @@
 -- The clock of an entry from those of the entries just before it.
-use Rattle.std.proofs.Common.{◌≡◌, ◌∙◌, ◌⊎◌, ◌<◌, ◌+◌, ◌++◌, ℕ, List, [], ◌∷◌, length, get_or, set, max, inl, inr, refl, sym, ap, subst, arith, get_or-set_other, get_or-set_same}
+use Rattle.std.proofs.Common.{◌≡◌, ◌∙◌, ◌⊎◌, ◌<◌, ◌+◌, ◌++◌, ℕ, List, [], ◌∷◌, length, get_or, set, max, inl, inr, refl}
+use Rattle.std.proofs.Common.{sym, ap, subst, arith, get_or-set_other, get_or-set_same}
 use Rattle.std.specs.Global.{Vec}
 use Rattle.std.specs.List.{All, Contains, fold}
 use Rattle.std.proofs.lemmas.Bool.{cases_eq, cases_lt}

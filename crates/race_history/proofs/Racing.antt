@@ -1,5 +1,6 @@
 -- The races that are found.
-use Rattle.std.proofs.Common.{◌≡◌, ◌∙◌, ◌⊎◌, ◌<◌, ◌≤◌, ◌+◌, ◌++◌, ◌/◌, ◌%◌, ℕ, List, [], true, length, get_or, map, filter, take, drop, inl, inr, refl, sym, ap, subst, arith}
+use Rattle.std.proofs.Common.{◌≡◌, ◌∙◌, ◌⊎◌, ◌<◌, ◌≤◌, ◌+◌, ◌++◌, ◌/◌, ◌%◌, ℕ, List, [], true, length, get_or, map}
+use Rattle.std.proofs.Common.{filter, take, drop, inl, inr, refl, sym, ap, subst, arith}
 use Rattle.std.specs.Prelude.{nat_le}
 use Rattle.std.specs.List.{All, AllPairs, Contains}
 use Rattle.std.proofs.lemmas.Bool.{and_from, and_parts, cases_lt, le-leb, leb-true}
@@ -20,7 +21,9 @@ use Rattle.race_history.specs.Clocks.{AreClocks}
 use Rattle.race_history.specs.Found.{clashes, race_of}
 use Rattle.race_history.specs.Races.{AreInOrder, AreRaces, AreRacing, Conflict, HasEach, IsCut, IsEarlier, IsLastRace, IsNamed}
 use Rattle.race_history.specs.Tests.{conflicts}
-use Rattle.race_history.proofs.Lists.{Contains-at, Contains-filter, Contains-map, Contains-none, IsAt-get, all_pairs_append, all_pairs_map, all_pairs_none, all_pairs_take, filter-Contains, map-Contains}
+use Rattle.race_history.proofs.Lists.{Contains-at, Contains-filter, Contains-map, Contains-none, IsAt-get}
+use Rattle.race_history.proofs.Lists.{all_pairs_append, all_pairs_map, all_pairs_none, all_pairs_take, filter-Contains}
+use Rattle.race_history.proofs.Lists.{map-Contains}
 use Rattle.race_history.proofs.Places.{IsAccess-same, access_thread, access_word, thread_is}
 use Rattle.race_history.proofs.Words.{conflict_from, conflict_to}
 use Rattle.race_history.proofs.Reading.{near, words}

@@ -1,5 +1,6 @@
 -- Which write an access reads from.
-use Rattle.std.proofs.Common.{◌≡◌, ◌∙◌, ◌<◌, ◌≤◌, ◌+◌, ◌/◌, ◌%◌, ◌++◌, ◌&&◌, ℕ, List, [], ◌∷◌, true, Option, Some, None, length, get_or, inl, inr, refl, sym, ap, subst, arith}
+use Rattle.std.proofs.Common.{◌≡◌, ◌∙◌, ◌<◌, ◌≤◌, ◌+◌, ◌/◌, ◌%◌, ◌++◌, ◌&&◌, ℕ, List, [], ◌∷◌, true, Option, Some, None}
+use Rattle.std.proofs.Common.{length, get_or, inl, inr, refl, sym, ap, subst, arith}
 use Rattle.std.specs.List.{Contains, fold}
 use Rattle.std.proofs.lemmas.Bool.{and_from, and_parts, cases_lt, cond-true}
 use Rattle.std.proofs.lemmas.List.{length_push}

@@ -33,7 +33,8 @@ use Rattle.search_race_free.proofs.Reducing.{path-steps, resting, somewhere, kep
 module _ {X T E V A G H M : Type 0} (k : ThreadSystem X T E V A G H M)
     (tame : AreTame k.system k.first k.most) (plain : ArePlain k.system k.accesses k.first) where
   -- by turns of their own
-  beginning-by : (owned : List Touch) (c : RestingState G H) (b : IsBeginning k c) → RestsBy k.system k.accesses (Within owned) (own-within owned) k.first b.settled
+  beginning-by : (owned : List Touch) (c : RestingState G H) (b : IsBeginning k c) → RestsBy k.system k.accesses (Within owned)
+      (own-within owned) k.first b.settled
   beginning-by owned c b =
       to_rest k.system k.accesses (Within owned) (own-within owned) k.most k.first b.settled (tame.few k.first (stays (StepsBy k.system) k.first)) b.rest
 
@@ -42,7 +43,8 @@ module _ {X T E V A G H M : Type 0} (k : ThreadSystem X T E V A G H M)
       let r = beginning-by [] c b in (
         b.settled,
         record {
-          reached = reached-along (wanted_in k) (next_in k) (IsReached k.system k.first) (plain-laws k.system k.accesses k.first k.most tame plain) (Within []) r.order
+          reached = reached-along (wanted_in k) (next_in k) (IsReached k.system k.first) (plain-laws k.system k.accesses k.first k.most tame plain)
+              (Within []) r.order
               k.first b.settled (stays (StepsBy k.system) k.first) r.makes;
           rests = λ m. (b.rest.each m).rests;
           settled_is = b.settled_is;
@@ -67,7 +69,8 @@ module _ {X T E V A G H M : Type 0} (k : ThreadSystem X T E V A G H M)
     beginning = b;
   }
 
-  pub begun-races : (x : Owning (RestingState G H)) (wanted : List (Option NextAccess)) (one other : ℕ) → x.owned.items ≡ [] → IsBeginning k x.flat → AreWanted k x.flat wanted
+  pub begun-races : (x : Owning (RestingState G H)) (wanted : List (Option NextAccess)) (one other : ℕ) → x.owned.items ≡ [] → IsBeginning k x.flat →
+      AreWanted k x.flat wanted
       → AreInTheWay wanted x.owned.items one other → HasRace k.system k.first k.accesses one other
   begun-races x wanted one other none b are way = way-races k tame plain x wanted one other (begun-owned x none b) are way
 
@@ -141,7 +144,8 @@ module _ {X T E V A G H M : Type 0} (k : ThreadSystem X T E V A G H M)
           let l = lost st.settled (resting k ends stuck tame plain beyond s w stands.0 st) in
           record {
             end = l.0;
-            path = onward (StepsBy k.system) w st.settled l.0 (path-steps k ends stuck tame plain beyond (Within s.owned.items) st.order w st.settled st.makes) l.1;
+            path = onward (StepsBy k.system) w st.settled l.0 (path-steps k ends stuck tame plain beyond (Within s.owned.items) st.order w st.settled st.makes)
+                l.1;
             is = inl l.2;
           }
 

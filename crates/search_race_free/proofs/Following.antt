@@ -31,7 +31,8 @@ module _ {X T E V A G H M : Type 0} (k : ThreadSystem X T E V A G H M) (s : Owni
   }
 
   -- a thread that can't go on
-  pub below-same : (before : List (Option NextAccess)) (i : ℕ) (xs : List (NextState (Owning (RestingState G H)))) → AreWanted k s.flat before → access_at before i ≡ None
+  pub below-same : (before : List (Option NextAccess)) (i : ℕ) (xs : List (NextState (Owning (RestingState G H)))) → AreWanted k s.flat before →
+      access_at before i ≡ None
       → HasReducedBelow k s i xs → HasReducedBelow k s (i + 1) xs
   below-same before i xs are none so = record {
     all = λ z at n low a wants. elim (split n i low) [
@@ -43,7 +44,8 @@ module _ {X T E V A G H M : Type 0} (k : ThreadSystem X T E V A G H M) (s : Owni
   }
 
   -- a thread that can
-  pub below-more : (i : ℕ) (xs : List (NextState (Owning (RestingState G H)))) (y : NextState (Owning (RestingState G H))) → y.thread ≡ i → ComesOf k s i y.state
+  pub below-more : (i : ℕ) (xs : List (NextState (Owning (RestingState G H)))) (y : NextState (Owning (RestingState G H))) → y.thread ≡ i →
+      ComesOf k s i y.state
       → HasReducedBelow k s i xs → HasReducedBelow k s (i + 1) (xs ++ y ∷ [])
   below-more i xs y is of so = record {
     all = λ z at n low a wants. elim (split n i low) [

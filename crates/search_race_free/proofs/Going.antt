@@ -1,5 +1,6 @@
 -- A thread that makes plain turns alone.
-use Rattle.std.proofs.Common.{◌≡◌, ◌≢◌, ◌⊎◌, inl, inr, ℕ, Bool, true, false, not, true≢false, refl, sym, ◌∙◌, ap, subst, arith, List, [], ◌∷◌, ◌++◌, Contains, Option, Some}
+use Rattle.std.proofs.Common.{◌≡◌, ◌≢◌, ◌⊎◌, inl, inr, ℕ, Bool, true, false, not, true≢false, refl, sym, ◌∙◌, ap, subst}
+use Rattle.std.proofs.Common.{arith, List, [], ◌∷◌, ◌++◌, Contains, Option, Some}
 use Rattle.schedule.specs.System.{State}
 use Rattle.schedule.specs.Scheduled.{after_turn, after_event}
 use Rattle.search_graph.specs.Paths.{Reaches}
@@ -39,7 +40,8 @@ pub rest-plainly : {W : Type 0} (wants : W → ℕ → Option NextAccess) (next 
 rest-plainly wants next own one [] w z p = subst (λ x. Reaches (StepsPlainly wants next one) w x) p (stays (StepsPlainly wants next one) w)
 rest-plainly wants next own one (t ∷ ts) w z p =
     onward (StepsPlainly wants next one) w (next w t) z
-    (one_step (StepsPlainly wants next one) w (next w t) (record { thread = t; access = p.0.access; wanted = p.0.wanted; plain = λ e. p.0.plain; leads = refl }))
+    (one_step (StepsPlainly wants next one) w (next w t)
+    (record { thread = t; access = p.0.access; wanted = p.0.wanted; plain = λ e. p.0.plain; leads = refl }))
     (rest-plainly wants next own one ts (next w t) z p.1)
 
 module _ {X T E V A G H M : Type 0} (k : ThreadSystem X T E V A G H M)
@@ -52,7 +54,8 @@ module _ {X T E V A G H M : Type 0} (k : ThreadSystem X T E V A G H M)
     pub resting : IsResting k c settled
     pub others : (u : ℕ) → u ≢ n → (a : NextAccess) → wanted_in k z u ≡ Some a → times u order ≡ 0
 
-  pub comes-to-rest : (owned : List Touch) (b : RestingState G H) (n : ℕ) (c : RestingState G H) → IsAfterEvent k b n c → (z : State X T) → IsResting k b z → ComesToRestAfter owned n c z
+  pub comes-to-rest : (owned : List Touch) (b : RestingState G H) (n : ℕ) (c : RestingState G H) → IsAfterEvent k b n c → (z : State X T) → IsResting k b z →
+      ComesToRestAfter owned n c z
   comes-to-rest owned b n c come z at =
       let e = come z at in
       let made : next_in k z n ≡ after_event k.system z n e.0 = ap (after_turn k.system z n) e.1 in
@@ -60,14 +63,16 @@ module _ {X T E V A G H M : Type 0} (k : ThreadSystem X T E V A G H M)
       let reached = reaches_next k.system k.accesses k.first k.most tame plain z n at.reached in
       let there : IsReached k.system k.first (after_event k.system z n e.0) = subst (IsReached k.system k.first) made reached in
       let r : RestsBy k.system k.accesses (Within owned) (own-within owned) (after_event k.system z n e.0) by.settled =
-      to_rest k.system k.accesses (Within owned) (own-within owned) k.most (after_event k.system z n e.0) by.settled (tame.few (after_event k.system z n e.0) there) by.rest in
+      to_rest k.system k.accesses (Within owned) (own-within owned) k.most (after_event k.system z n e.0) by.settled
+      (tame.few (after_event k.system z n e.0) there) by.rest in
       let makes : Rest k owned r.order (next_in k z n) by.settled = subst (λ w. Rest k owned r.order w by.settled) (sym made) r.makes in
       record {
         order = r.order;
         settled = by.settled;
         makes = makes;
         resting = record {
-          reached = reached-along (wanted_in k) (next_in k) (IsReached k.system k.first) (plain-laws k.system k.accesses k.first k.most tame plain) (Within owned) r.order
+          reached = reached-along (wanted_in k) (next_in k) (IsReached k.system k.first) (plain-laws k.system k.accesses k.first k.most tame plain)
+              (Within owned) r.order
               (next_in k z n) by.settled reached makes;
           rests = λ m. (by.rest.each m).rests;
           settled_is = by.settled_is;
@@ -78,7 +83,8 @@ module _ {X T E V A G H M : Type 0} (k : ThreadSystem X T E V A G H M)
       }
 
   -- What was touched is touched still, where the turn is plain or another's.
-  pub touched-on : (owned : List Touch) (b : RestingState G H) (n : ℕ) (c : RestingState G H) (a : NextAccess) → IsAfterEvent k b n c → WantsSome k b n a → (x : Touch) (byte : ℕ)
+  pub touched-on : (owned : List Touch) (b : RestingState G H) (n : ℕ) (c : RestingState G H) (a : NextAccess) → IsAfterEvent k b n c → WantsSome k b n a →
+      (x : Touch) (byte : ℕ)
       → (n ≡ x.thread → IsPlain a) → HasTouched k b x byte → HasTouched k c x byte
   touched-on owned b n c a come wants x byte unless h =
       let at = h.is in
@@ -104,7 +110,8 @@ module _ {X T E V A G H M : Type 0} (k : ThreadSystem X T E V A G H M)
       }
 
   -- The plain turn's own touch.
-  pub touched-now : (owned : List Touch) (b : RestingState G H) (n : ℕ) (c : RestingState G H) (a : NextAccess) → RestsSomewhere k b → IsAfterEvent k b n c → WantsSome k b n a → IsPlain a
+  pub touched-now : (owned : List Touch) (b : RestingState G H) (n : ℕ) (c : RestingState G H) (a : NextAccess) → RestsSomewhere k b → IsAfterEvent k b n c →
+      WantsSome k b n a → IsPlain a
       → (byte : ℕ) → HasByte a byte → HasTouched k c (record { thread = n; access = a }) byte
   touched-now owned b n c a at come wants p byte has =
       let r = comes-to-rest owned b n c come at.0 at.1 in
@@ -143,7 +150,8 @@ module _ {X T E V A G H M : Type 0} (k : ThreadSystem X T E V A G H M)
         conflict = record { meet = (meet.0, (meet.1.0, t.has)); write = by t c.write };
       }
     where
-      by : (t : HasTouched k s.flat h.touch h.conflict.meet.0) → (a.writes ≡ true) ⊎ (h.touch.access.writes ≡ true) → (a.writes ≡ true) ⊎ (t.access.writes ≡ true)
+      by : (t : HasTouched k s.flat h.touch h.conflict.meet.0) → (a.writes ≡ true) ⊎ (h.touch.access.writes ≡ true) →
+          (a.writes ≡ true) ⊎ (t.access.writes ≡ true)
       by t (inl w) = inl w
       by t (inr w) = inr (t.writes w)
 
@@ -170,7 +178,8 @@ module _ {X T E V A G H M : Type 0} (k : ThreadSystem X T E V A G H M)
   }
 
   -- A plain turn, and what is owned then.
-  pub goes-on-alone : (s x : Owning (RestingState G H)) (m : ℕ) (a : NextAccess) → IsOwned k s → WantsSome k s.flat m a → IsPlain a → StrikesNobody s.owned.items m a
+  pub goes-on-alone : (s x : Owning (RestingState G H)) (m : ℕ) (a : NextAccess) → IsOwned k s → WantsSome k s.flat m a → IsPlain a →
+      StrikesNobody s.owned.items m a
       → IsAfterEvent k s.flat m x.flat → IsPut s.owned.items (record { thread = m; access = a }) x.owned.items → ComesAlone k m s x
   goes-on-alone s x m a owned wants p nobody come put = record {
     owned = record {
@@ -205,16 +214,19 @@ module _ {X T E V A G H M : Type 0} (k : ThreadSystem X T E V A G H M)
       apart : (t u : Touch) → Contains s.owned.items t ⊎ (t ≡ new) → Contains s.owned.items u ⊎ (u ≡ new) → t.thread ≢ u.thread → Conflict t.access u.access → ⊥
       apart t u (inl c) (inl e) d h = owned.apart t u c e d h
       apart t u (inl c) (inr e) d h =
-          nobody t c (λ q. d (q ∙ sym (ap (λ (v : Touch). v.thread) e))) (subst (λ (v : Touch). Conflict v.access t.access) e (conflict-swap t.access u.access h))
+          nobody t c (λ q. d (q ∙ sym (ap (λ (v : Touch). v.thread) e)))
+          (subst (λ (v : Touch). Conflict v.access t.access) e (conflict-swap t.access u.access h))
       apart t u (inr c) (inl e) d h =
           nobody u e (λ q. d (ap (λ (v : Touch). v.thread) c ∙ sym q)) (subst (λ (v : Touch). Conflict v.access u.access) c h)
       apart t u (inr c) (inr e) d h = d (ap (λ (v : Touch). v.thread) (c ∙ sym e))
 
   -- who can go on can after plain turns of others
-  still-wants : (owned : List Touch) (u : ℕ) (ts : List ℕ) (w z : State X T) (a : NextAccess) → IsReached k.system k.first w → Rest k owned ts w z → times u ts ≡ 0
+  still-wants : (owned : List Touch) (u : ℕ) (ts : List ℕ) (w z : State X T) (a : NextAccess) → IsReached k.system k.first w → Rest k owned ts w z →
+      times u ts ≡ 0
       → wanted_in k w u ≡ Some a → (b : NextAccess) × (wanted_in k z u ≡ Some b)
   still-wants owned u ts w z a r p none h =
-      goes-along (wanted_in k) (next_in k) (IsReached k.system k.first) (plain-laws k.system k.accesses k.first k.most tame plain) (Within owned) u a ts w z r p none h
+      goes-along (wanted_in k) (next_in k) (IsReached k.system k.first) (plain-laws k.system k.accesses k.first k.most tame plain) (Within owned) u a ts w
+      z r p none h
 
   -- One way alone after another.
   pub alone-after : (m : ℕ) (s x y : Owning (RestingState G H)) → ComesAlone k m s x → ComesAlone k m x y → ComesAlone k m s y
@@ -227,7 +239,8 @@ module _ {X T E V A G H M : Type 0} (k : ThreadSystem X T E V A G H M)
         record {
           order = p.order ++ q.order;
           settled = q.settled;
-          makes = along-both (wanted_in k) (next_in k) (IsReached k.system k.first) (plain-laws k.system k.accesses k.first k.most tame plain) (Within y.owned.items)
+          makes = along-both (wanted_in k) (next_in k) (IsReached k.system k.first) (plain-laws k.system k.accesses k.first k.most tame plain)
+              (Within y.owned.items)
               p.order q.order z p.settled q.settled
               (rest-more (wanted_in k) (next_in k) (Within x.owned.items) (Within y.owned.items) p.order z p.settled two.grows p.makes) q.makes;
           resting = q.resting;
@@ -239,7 +252,8 @@ module _ {X T E V A G H M : Type 0} (k : ThreadSystem X T E V A G H M)
         };
   }
 
-  pub lost-after : (stuck : State X T → Type 0) (m : ℕ) (s x : Owning (RestingState G H)) → ComesAlone k m s x → GetsLost k stuck x.flat → GetsLost k stuck s.flat
+  pub lost-after : (stuck : State X T → Type 0) (m : ℕ) (s x : Owning (RestingState G H)) → ComesAlone k m s x → GetsLost k stuck x.flat →
+      GetsLost k stuck s.flat
   lost-after stuck m s x one lost z at =
       let p = one.each z at in
       let l = lost p.settled p.resting in
@@ -247,7 +261,8 @@ module _ {X T E V A G H M : Type 0} (k : ThreadSystem X T E V A G H M)
     where
       rest-steps : (ts : List ℕ) (w z : State X T) → Rest k x.owned.items ts w z → Reaches (StepsBy k.system) w z
       rest-steps [] w z p = subst (λ v. Reaches (StepsBy k.system) w v) p (stays (StepsBy k.system) w)
-      rest-steps (t ∷ ts) w z p = onward (StepsBy k.system) w (next_in k w t) z (one_step (StepsBy k.system) w (next_in k w t) (t, refl)) (rest-steps ts (next_in k w t) z p.1)
+      rest-steps (t ∷ ts) w z p = onward (StepsBy k.system) w (next_in k w t) z (one_step (StepsBy k.system) w (next_in k w t) (t, refl))
+          (rest-steps ts (next_in k w t) z p.1)
 
 pub not_false : (b : Bool) → not b ≡ false → b ≡ true
 not_false true e = refl

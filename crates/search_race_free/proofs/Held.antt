@@ -46,7 +46,8 @@ module _ {G H : Type 0} where
   parted-all [] = refl
   parted-all (k ∷ ks) = ap (λ l. k ∷ l) (parted-all ks)
 
-  among-parted : (cs : List (RestingState (Held G) H)) (s : Owning (RestingState G H)) (i : ℕ) → slice_get (map parted cs) i ≡ Some s → slice_get cs i ≡ Some (held s)
+  among-parted : (cs : List (RestingState (Held G) H)) (s : Owning (RestingState G H)) (i : ℕ) → slice_get (map parted cs) i ≡ Some s →
+      slice_get cs i ≡ Some (held s)
   among-parted [] s i at = absurd (cc at)
   among-parted (c ∷ cs) s zero at = ap (λ o. option_map held o) at
   among-parted (c ∷ cs) s (suc i) at = among-parted cs s i at
@@ -65,17 +66,20 @@ module _ {G H : Type 0} (eq_shared : G → G → Bool) (eq_thread : H → H → 
       turned true false true = refl
       turned true false false = refl
 
-  apart-held : (x : Owning (RestingState G H)) (ks : List (Owning (RestingState G H))) → AllByRecursion (λ d. flat_eq (held_eq eq_shared) eq_thread (held x) d ≡ false) (map held ks)
+  apart-held : (x : Owning (RestingState G H)) (ks : List (Owning (RestingState G H))) →
+      AllByRecursion (λ d. flat_eq (held_eq eq_shared) eq_thread (held x) d ≡ false) (map held ks)
       → AllByRecursion (λ d. owning_eq eq_shared eq_thread x d ≡ false) ks
   apart-held x [] h = tt
   apart-held x (y ∷ ks) h = (sym (same-eq x y) ∙ h.0, apart-held x ks h.1)
 
-  pub distinct-held : (ks : List (Owning (RestingState G H))) → IsDistinct (flat_eq (held_eq eq_shared) eq_thread) (map held ks) → IsDistinct (owning_eq eq_shared eq_thread) ks
+  pub distinct-held : (ks : List (Owning (RestingState G H))) → IsDistinct (flat_eq (held_eq eq_shared) eq_thread) (map held ks) →
+      IsDistinct (owning_eq eq_shared eq_thread) ks
   unfolding IsDistinct
   distinct-held [] h = tt
   distinct-held (k ∷ ks) h = (apart-held k ks h.0, distinct-held ks h.1)
 
-  pub gains-held : (ks : List (Owning (RestingState G H))) (ys : List (NextState (RestingState (Held G) H))) (ls : List (RestingState (Held G) H)) → Gains (map held ks) ys ls
+  pub gains-held : (ks : List (Owning (RestingState G H))) (ys : List (NextState (RestingState (Held G) H))) (ls : List (RestingState (Held G) H)) →
+      Gains (map held ks) ys ls
       → Gains ks (map next_parted ys) (map parted ls)
   gains-held ks ys ls g = record {
     more = map parted g.more;
@@ -86,15 +90,18 @@ module _ {G H : Type 0} (eq_shared : G → G → Bool) (eq_thread : H → H → 
         (next_parted f.0, contains-map ys f.0 f.1, ap parted f.2);
   }
     where
-      contains-map : (ys : List (NextState (RestingState (Held G) H))) (y : NextState (RestingState (Held G) H)) → Contains ys y → Contains (map next_parted ys) (next_parted y)
+      contains-map : (ys : List (NextState (RestingState (Held G) H))) (y : NextState (RestingState (Held G) H)) → Contains ys y → Contains (map next_parted ys)
+          (next_parted y)
       contains-map ys y c =
           here (map next_parted ys) c.0 (next_parted y) (slice_get-map next_parted ys c.0 ∙ ap (option_map next_parted) (at-of ys y c))
 
   pub notes-held : (ls : List (RestingState (Held G) H)) (at : ℕ) (ys : List (NextState (RestingState (Held G) H))) (before after : List Move)
-      → Notes (flat_eq (held_eq eq_shared) eq_thread) ls at ys before after → Notes (owning_eq eq_shared eq_thread) (map parted ls) at (map next_parted ys) before after
+      → Notes (flat_eq (held_eq eq_shared) eq_thread) ls at ys before after → Notes (owning_eq eq_shared eq_thread) (map parted ls) at (map next_parted ys)
+      before after
   notes-held ls at ys before after n = record { new = n.new; is = n.is; are = all ys n.new n.are }
     where
-      one : (y : NextState (RestingState (Held G) H)) (m : Move) → IsNoted (flat_eq (held_eq eq_shared) eq_thread) ls at y m → IsNoted (owning_eq eq_shared eq_thread) (map parted ls) at (next_parted y) m
+      one : (y : NextState (RestingState (Held G) H)) (m : Move) → IsNoted (flat_eq (held_eq eq_shared) eq_thread) ls at y m →
+          IsNoted (owning_eq eq_shared eq_thread) (map parted ls) at (next_parted y) m
       one y m h =
           let has = h.next in
           record {
@@ -152,7 +159,8 @@ module _ {S W E : Type 0} (k : StepSystem S W E) where
       (record { can = c.can; second = c.second; is = c.is; end = c.end; path = c.path; rest = like.state c.end (λ (n : ℕ). 0) c.rest })
 
   -- of s, which stands for what its copy does
-  pub next-like : (s copy : S) → StandsAlike s copy → StandsAlike copy s → (xs ys : List (NextState S)) → AllZip IsLike xs ys → AreNext k copy xs → AreNext k s ys
+  pub next-like : (s copy : S) → StandsAlike s copy → StandsAlike copy s → (xs ys : List (NextState S)) → AllZip IsLike xs ys → AreNext k copy xs →
+      AreNext k s ys
   next-like s copy there back xs ys like next =
       let o = next.orderly in
       record {
@@ -200,7 +208,8 @@ module _ {G H : Type 0} (eq_shared : G → G → Bool) (eq_thread : H → H → 
   pub rows-none : (t : StateParts (Held G) H) (rs : List NextRow) → rs ≡ [] → AreHeldRows eq_shared eq_thread t [] rs
   rows-none t rs none = record { next = []; are = subst (λ l. AllZip (IsNextRow t) l []) (sym none) tt; equal = tt }
 
-  pub rows-more : (t u : StateParts (Held G) H) → Grows t u → (xs : List (NextState (Owning (RestingState G H)))) (rs after : List NextRow) (x : NextState (Owning (RestingState G H))) (r : NextRow)
+  pub rows-more : (t u : StateParts (Held G) H) → Grows t u → (xs : List (NextState (Owning (RestingState G H)))) (rs after : List NextRow)
+      (x : NextState (Owning (RestingState G H))) (r : NextRow)
       → AreHeldRows eq_shared eq_thread t xs rs → r.thread ≡ x.thread → IsHeldRow eq_shared eq_thread u x.state r.row.items → after ≡ rs ++ r ∷ []
       → AreHeldRows eq_shared eq_thread u (xs ++ x ∷ []) after
   rows-more t u grows xs rs after x r so thread row pushed =
@@ -210,7 +219,8 @@ module _ {G H : Type 0} (eq_shared : G → G → Bool) (eq_thread : H → H → 
         next = so.next ++ new ∷ [];
         are = subst (λ l. AllZip (IsNextRow u) l (so.next ++ new ∷ [])) (sym pushed)
             (all_zipped_more (IsNextRow u) rs so.next r new (next-grow t u grows rs so.next so.are) (record { thread = sym thread; of = y.1 }));
-        equal = all_zipped_more (λ (a : NextState (Owning (RestingState G H))) (b : NextState (RestingState (Held G) H)). (a.thread ≡ b.thread) × (owning_eq eq_shared eq_thread a.state (parted b.state) ≡ true))
+        equal = all_zipped_more (λ (a : NextState (Owning (RestingState G H))) (b : NextState (RestingState (Held G) H)). (a.thread ≡ b.thread) ×
+            (owning_eq eq_shared eq_thread a.state (parted b.state) ≡ true))
             xs so.next x new so.equal (refl, y.2);
       }
 
@@ -219,7 +229,8 @@ module _ {G H : Type 0} (eq_shared : G → G → Bool) (eq_thread : H → H → 
       → (t : StateTable G H) → ArePartsDistinct (held_eq eq_shared) eq_thread t.parts → (ks : List (Owning (RestingState G H))) → HasOwning t ks
       → IsDistinct (owning_eq eq_shared eq_thread) ks
   owning-distinct shared thread t distinct ks has =
-      distinct-held eq_shared eq_thread ks (states-distinct (held_eq eq_shared) eq_thread held-back thread t.parts distinct t.states has.table (map held ks) has.are)
+      distinct-held eq_shared eq_thread ks (states-distinct (held_eq eq_shared) eq_thread held-back thread t.parts distinct t.states has.table
+      (map held ks) has.are)
     where
       held-back : (x y : Held G) → held_eq eq_shared x y ≡ true → held_eq eq_shared y x ≡ true
       held-back x y e =
@@ -233,11 +244,13 @@ module _ {G H : Type 0} where
   pub owning-none : (t : StateTable G H) → AreStates t.states → states_of t.states ≡ [] → HasOwning t []
   owning-none t are empty = record { table = are; are = subst (λ rs. AllZip (IsOf t.parts) rs []) (sym empty) tt }
 
-  pub owning-count : (t : StateTable G H) (ks : List (Owning (RestingState G H))) → HasOwning t ks → (count : ℕ) → count ≡ length (states_of t.states) → count ≡ length ks
+  pub owning-count : (t : StateTable G H) (ks : List (Owning (RestingState G H))) → HasOwning t ks → (count : ℕ) → count ≡ length (states_of t.states) →
+      count ≡ length ks
   owning-count t ks has count is = is ∙ (sym (zip-length (IsOf t.parts) (states_of t.states) (map held ks) has.are) ∙ length-map ks held)
 
   -- the row of a state
-  pub row-at : (t : StateTable G H) (ks : List (Owning (RestingState G H))) → AreOf t.parts t.states (map held ks) → (at : ℕ) (s : Owning (RestingState G H)) → slice_get ks at ≡ Some s
+  pub row-at : (t : StateTable G H) (ks : List (Owning (RestingState G H))) → AreOf t.parts t.states (map held ks) → (at : ℕ) (s : Owning (RestingState G H)) →
+      slice_get ks at ≡ Some s
       → (r : List ℕ) × (slice_get (states_of t.states) at ≡ Some r) × IsOf t.parts r (held s)
   row-at t ks are at s is =
       beside-back (IsOf t.parts) (states_of t.states) (map held ks) are at (held s) (slice_get-map held ks at ∙ ap (option_map held) is)
@@ -265,8 +278,10 @@ module _ {X T E V A G H M : Type 0} (k : ThreadSystem X T E V A G H M) where
     others = f.others;
   }
 
-  pub copy-stands : (s copy : Owning (RestingState G H)) → IsCopy k s copy → (w : State X T) (left : ℕ → ℕ) → StandsBefore k s w left → StandsBefore k copy w left
+  pub copy-stands : (s copy : Owning (RestingState G H)) → IsCopy k s copy → (w : State X T) (left : ℕ → ℕ) → StandsBefore k s w left →
+      StandsBefore k copy w left
   copy-stands s copy is = stands-there k s copy (flat-copy s copy is) (flat-back s copy is) (sym is.owned)
 
-  pub stands-copy : (s copy : Owning (RestingState G H)) → IsCopy k s copy → (w : State X T) (left : ℕ → ℕ) → StandsBefore k copy w left → StandsBefore k s w left
+  pub stands-copy : (s copy : Owning (RestingState G H)) → IsCopy k s copy → (w : State X T) (left : ℕ → ℕ) → StandsBefore k copy w left →
+      StandsBefore k s w left
   stands-copy s copy is = stands-there k copy s (flat-back s copy is) (flat-copy s copy is) is.owned

@@ -25,7 +25,8 @@ use Rattle.search_race_free.specs.Wanted.{ArePlain}
 use Rattle.search_race_free.specs.Reduced.{reduced_steps}
 use Rattle.search_race_free.specs.Search.{NoneBeyond, NobodyGoesOn, IsKnown}
 use Rattle.search_race_free.specs.Met.{held, parted, held_eq, HasOwning, IsHeldRow, AreHeldRows, IsCopy, IsStateAt}
-use Rattle.search_race_free.proofs.Held.{next_parted, held-all, row-state, row-at, gains-held, notes-held, IsLike, StandsAlike, next-like, copy-stands, stands-copy}
+use Rattle.search_race_free.proofs.Held.{next_parted, held-all, row-state, row-at, gains-held, notes-held, IsLike}
+use Rattle.search_race_free.proofs.Held.{StandsAlike, next-like, copy-stands, stands-copy}
 use Rattle.search_race_free.proofs.Beginning.{known-met, ending-is}
 
 module _ {X T E V A G H M O : Type 0} (k : ThreadSystem X T E V A G H M) (ends : State X T → O → Type 0) (stuck : State X T → Type 0) where
@@ -37,7 +38,8 @@ module _ {X T E V A G H M O : Type 0} (k : ThreadSystem X T E V A G H M) (ends :
     comes = (let c = met.comes in record { end = c.end; path = c.path; is = (c.is.0, copy-stands k s copy is c.end c.is.0 c.is.1) });
   }
 
-  pub stuck-copy : (s copy : Owning (RestingState G H)) → IsCopy k s copy → AllGetStuck (reduced_steps k ends stuck) copy → AllGetStuck (reduced_steps k ends stuck) s
+  pub stuck-copy : (s copy : Owning (RestingState G H)) → IsCopy k s copy → AllGetStuck (reduced_steps k ends stuck) copy →
+      AllGetStuck (reduced_steps k ends stuck) s
   stuck-copy s copy is all w stands = all w (stands.0, copy-stands k s copy is w stands.0 stands.1)
 
   pub copy-at : (t : StateTable G H) (at : ℕ) (o : Option (Owning (RestingState G H))) → IsStateAt k t at o → (copy : Owning (RestingState G H)) → o ≡ Some copy
@@ -48,7 +50,8 @@ module _ {X T E V A G H M O : Type 0} (k : ThreadSystem X T E V A G H M) (ends :
       subst (IsCopy k s) same c.2
 
   -- the row of a state that was met
-  pub row-met : (t : StateTable G H) (at : ℕ) → HasMetAt (reduced_steps k ends stuck) (HasOwning t) at → (row : List ℕ) → slice_get (states_of t.states) at ≡ Some row
+  pub row-met : (t : StateTable G H) (at : ℕ) → HasMetAt (reduced_steps k ends stuck) (HasOwning t) at →
+      (row : List ℕ) → slice_get (states_of t.states) at ≡ Some row
       → (s : Owning (RestingState G H)) × IsOf t.parts row (held s) × IsMet (reduced_steps k ends stuck) s
   row-met t at met row is =
       let r = row-at t met.0 (met.2).are at met.1 met.3 in
@@ -114,7 +117,8 @@ module _ {X T E V A G H M O : Type 0} (k : ThreadSystem X T E V A G H M) (ends :
   like-all (x ∷ xs) [] h = absurd h
   like-all (x ∷ xs) (y ∷ ys) h = (record { thread = (h.0).0; state = alike x.state (parted y.state) (h.0).1 }, like-all xs ys h.1)
 
-  pub next-put : (t new : StateTable G H) (at : ℕ) (o : Option (Owning (RestingState G H))) → IsStateAt k t at o → (copy : Owning (RestingState G H)) → o ≡ Some copy
+  pub next-put : (t new : StateTable G H) (at : ℕ) (o : Option (Owning (RestingState G H))) → IsStateAt k t at o → (copy : Owning (RestingState G H)) →
+      o ≡ Some copy
       → (xs : List (NextState (Owning (RestingState G H)))) → AreNext (reduced_steps k ends stuck) copy xs
       → Grows t.parts new.parts → AreStates new.states → (rs : List NextRow) → AreHeldRows eq_shared eq_thread new.parts xs rs
       → (before after : List Move) → PutsRows (held_eq eq_shared) eq_thread new.parts t.states new.states at rs before after

@@ -1,5 +1,6 @@
 -- What was made ahead is taken, put together, and stays right where the table grows.
-use Rattle.std.proofs.Common.{◌≡◌, ◌↔◌, Bool, ℕ, zero, suc, ◌+◌, ◌<◌, ◌≤◌, ◌⊎◌, List, [], ◌∷◌, ◌++◌, length, map, inl, inr, Some, refl, sym, ◌∙◌, ap, subst, arith}
+use Rattle.std.proofs.Common.{◌≡◌, ◌↔◌, Bool, ℕ, zero, suc, ◌+◌, ◌<◌, ◌≤◌, ◌⊎◌, List, [], ◌∷◌, ◌++◌, length, map, inl}
+use Rattle.std.proofs.Common.{inr, Some, refl, sym, ◌∙◌, ap, subst, arith}
 use Rattle.std.specs.Prelude.{IfOk, Result}
 use Rattle.std.specs.Global.{Vec}
 use Rattle.std.specs.List.{slice_get}
@@ -70,7 +71,8 @@ module _ {X T E V A G H M : Type 0} (k : ThreadSystem X T E V A G H M) where
   }
 
   -- a copy of the state at a place, where the table grows
-  module _ (t new : StateTable G H) (grows : Grows t.parts new.parts) (ks ls more : List (Owning (RestingState G H))) (was : AreOf t.parts t.states (map held ks))
+  module _ (t new : StateTable G H) (grows : Grows t.parts new.parts) (ks ls more : List (Owning (RestingState G H)))
+      (was : AreOf t.parts t.states (map held ks))
       (are : AreOf new.parts new.states (map held ls)) (longer : ls ≡ ks ++ more) where
     state-grows : (at : ℕ) (copy : Owning (RestingState G H)) → at < length ks → IsStateAt k t at (Some copy) → IsStateAt k new at (Some copy)
     state-grows at copy low so vs v have there =
@@ -90,13 +92,15 @@ module _ {X T E V A G H M : Type 0} (k : ThreadSystem X T E V A G H M) where
       each = λ i at came there is. absurd (omega (arith, none, is));
     }
 
-    pub same-ahead : (t : StateTable G H) (old new : Ahead G H) → IsAhead k stuck t old → new.end ≡ old.end → new.came.items ≡ old.came.items → IsAhead k stuck t new
+    pub same-ahead : (t : StateTable G H) (old new : Ahead G H) → IsAhead k stuck t old → new.end ≡ old.end → new.came.items ≡ old.came.items →
+        IsAhead k stuck t new
     same-ahead t old new so end same = record {
       within = subst (λ n. n ≤ length (states_of t.states)) (sym end) so.within;
       each = λ i at came there is. so.each i at came (subst (λ l. slice_get l i ≡ Some came) same there) (is ∙ end);
     }
 
-    pub fewer-ahead : (t : StateTable G H) (old new : Ahead G H) → IsAhead k stuck t old → new.end ≡ old.end → (one : Arrival (Vec (NextState (Owning (RestingState G H)))))
+    pub fewer-ahead : (t : StateTable G H) (old new : Ahead G H) → IsAhead k stuck t old → new.end ≡ old.end →
+        (one : Arrival (Vec (NextState (Owning (RestingState G H)))))
         → old.came.items ≡ new.came.items ++ one ∷ [] → IsAhead k stuck t new
     fewer-ahead t old new so end one took = record {
       within = subst (λ n. n ≤ length (states_of t.states)) (sym end) so.within;
@@ -111,7 +115,8 @@ module _ {X T E V A G H M : Type 0} (k : ThreadSystem X T E V A G H M) where
         so.each (length new.came.items) at one (subst (λ l. slice_get l (length new.came.items) ≡ Some one) (sym took) (get-last new.came.items one))
         (omega (arith, long, end))
 
-    pub more-ahead : (t : StateTable G H) (old new : Ahead G H) → IsAhead k stuck t old → new.end ≡ old.end → (one : Arrival (Vec (NextState (Owning (RestingState G H)))))
+    pub more-ahead : (t : StateTable G H) (old new : Ahead G H) → IsAhead k stuck t old → new.end ≡ old.end →
+        (one : Arrival (Vec (NextState (Owning (RestingState G H)))))
         → new.came.items ≡ old.came.items ++ one ∷ [] → ((at : ℕ) → at + length old.came.items + 1 ≡ old.end → ComesOfPlace k stuck t at one)
         → IsAhead k stuck t new
     more-ahead t old new so end one put is_one = record {
@@ -131,7 +136,8 @@ module _ {X T E V A G H M : Type 0} (k : ThreadSystem X T E V A G H M) where
             subst (ComesOfPlace k stuck t at) same (is_one at (omega (arith, far, place)))
         one-there i at came place (suc j, far, there) = absurd (none-some came there)
 
-    pub put-ahead : (t : StateTable G H) (old before new : Ahead G H) → IsAhead k stuck t old → IsAhead k stuck t before → new.end ≡ old.end → ArePut old before new
+    pub put-ahead : (t : StateTable G H) (old before new : Ahead G H) → IsAhead k stuck t old → IsAhead k stuck t before → new.end ≡ old.end →
+        ArePut old before new
         → IsAhead k stuck t new
     put-ahead t old before new so first end put = elim put [
       | inl same ↦ same-ahead t old new so end same
@@ -158,7 +164,8 @@ module _ {X T E V A G H M : Type 0} (k : ThreadSystem X T E V A G H M) where
     other-pieces t all rest last is are i piece at =
         are i piece (subst (λ l. slice_get l i ≡ Some piece) (sym is) (keeps-longer rest (last ∷ []) i piece at))
 
-    pub grown-ahead : (t new : StateTable G H) → Grows t.parts new.parts → (ks ls more : List (Owning (RestingState G H))) → HasOwning t ks → HasOwning new ls → ls ≡ ks ++ more
+    pub grown-ahead : (t new : StateTable G H) → Grows t.parts new.parts → (ks ls more : List (Owning (RestingState G H))) → HasOwning t ks → HasOwning new ls →
+        ls ≡ ks ++ more
         → (a : Ahead G H) → IsAhead k stuck t a → IsAhead k stuck new a
     grown-ahead t new grows ks ls more was are longer a so =
         let long : length ks ≡ length (states_of t.states) =
@@ -188,10 +195,12 @@ module _ {X T E V A G H M O : Type 0} (k : ThreadSystem X T E V A G H M) (ends :
       (r.0, s.0, r.1, s.1, r.2 s.0 (here r.0 place s.0 s.1))
 
   -- what a table has, and what was made ahead
-  pub owning-at : (t : AheadTables G H) (at : ℕ) → HasMetAt (reduced_steps k ends stuck) (HasAhead k stuck t) at → HasMetAt (reduced_steps k ends stuck) (HasOwning t.met) at
+  pub owning-at : (t : AheadTables G H) (at : ℕ) → HasMetAt (reduced_steps k ends stuck) (HasAhead k stuck t) at → HasMetAt (reduced_steps k ends stuck)
+      (HasOwning t.met) at
   owning-at t at met = (met.0, met.1, (met.2).owning, met.3, met.4)
 
-  pub owning-sound : (t : AheadTables G H) → HasSound (reduced_steps k ends stuck) (HasAhead k stuck t) → HasSound (reduced_steps k ends stuck) (HasOwning t.met)
+  pub owning-sound : (t : AheadTables G H) → HasSound (reduced_steps k ends stuck) (HasAhead k stuck t) → HasSound (reduced_steps k ends stuck)
+      (HasOwning t.met)
   owning-sound t r = (r.0, (r.1).owning, r.2)
 
   -- nothing was made ahead of a table without states

@@ -37,7 +37,8 @@ module _ {W : Type 0} (wants : W → ℕ → Option NextAccess) (next : W → �
   clear-of : NoneMeetIn → (one u : ℕ) (e g : NextAccess) (w : W) → R w → u ≢ one → wants w one ≡ Some e → IsPlain e → wants w u ≡ Some g → Conflict g e → ⊥
   clear-of never one u e g w r d wanted p h c = never w r one u e g d wanted h (plain-race e g p (conflict-swap g e c))
 
-  lead-same : NoneMeetIn → (one u : ℕ) (g : NextAccess) (es : List NextAccess) (w v : W) → R w → u ≢ one → Lead one es w v → wants w u ≡ Some g → wants v u ≡ Some g
+  lead-same : NoneMeetIn → (one u : ℕ) (g : NextAccess) (es : List NextAccess) (w v : W) → R w → u ≢ one → Lead one es w v → wants w u ≡ Some g →
+      wants v u ≡ Some g
   lead-same never one u g [] w v r d l h = ap (λ x. wants x u) (sym l) ∙ h
   lead-same never one u g (e ∷ es) w v r d l h =
       lead-same never one u g es (next w one) v (laws.on w one e r l.0) d l.2
@@ -47,7 +48,8 @@ module _ {W : Type 0} (wants : W → ℕ → Option NextAccess) (next : W → �
   lead-none one u [] w v r d l h = ap (λ x. wants x u) (sym l) ∙ h
   lead-none one u (e ∷ es) w v r d l h = lead-none one u es (next w one) v (laws.on w one e r l.0) d l.2 (laws.none w one u e r d l.0 l.1 h)
 
-  lead-back : NoneMeetIn → (one u : ℕ) (f : NextAccess) (es : List NextAccess) (w v : W) → R w → u ≢ one → Lead one es w v → wants v u ≡ Some f → wants w u ≡ Some f
+  lead-back : NoneMeetIn → (one u : ℕ) (f : NextAccess) (es : List NextAccess) (w v : W) → R w → u ≢ one → Lead one es w v → wants v u ≡ Some f →
+      wants w u ≡ Some f
   lead-back never one u f es w v r d l h = by (wants w u) refl
     where
       by : (o : Option NextAccess) → wants w u ≡ o → wants w u ≡ Some f

@@ -1,5 +1,6 @@
 -- The states after each thread's next turn are those that a search asks for.
-use Rattle.std.proofs.Common.{◌≡◌, ◌≢◌, ◌≤◌, ◌<◌, ◌==◌, cond, Bool, true, false, ◌⊎◌, inl, inr, refl, sym, ◌∙◌, subst, arith, ℕ, suc, List, [], ◌∷◌, ◌++◌, Contains, Option, Some}
+use Rattle.std.proofs.Common.{◌≡◌, ◌≢◌, ◌≤◌, ◌<◌, ◌==◌, cond, Bool, true, false, ◌⊎◌, inl, inr, refl, sym, ◌∙◌, subst}
+use Rattle.std.proofs.Common.{arith, ℕ, suc, List, [], ◌∷◌, ◌++◌, Contains, Option, Some}
 use Rattle.std.proofs.lemmas.Bool.{cases_lt}
 use Rattle.std.proofs.lemmas.Option.{same_Some}
 use Rattle.schedule.specs.System.{Kind.Turn, State}
@@ -19,8 +20,10 @@ use Rattle.search_race_free.specs.declared.owning.Owning.{Owning}
 use Rattle.search_race_free.specs.Orders.{times, MakesPlain}
 use Rattle.search_race_free.specs.Wanted.{own_turn, ArePlain}
 use Rattle.search_race_free.specs.Owned.{Within, IsSafe}
-use Rattle.search_race_free.specs.Reduced.{wanted_in, next_in, Rest, IsResting, RestsSomewhere, IsKept, StandsBefore, reduced_steps, IsAfterTurn, ComesOf, HasReduced}
-use Rattle.search_race_free.proofs.Moving.{times-here, times-append, AreApart, PlainLaws, reached-along, along-both, goes-along, back-along, wanted-along, sooner, past}
+use Rattle.search_race_free.specs.Reduced.{wanted_in, next_in, Rest, IsResting, RestsSomewhere, IsKept, StandsBefore}
+use Rattle.search_race_free.specs.Reduced.{reduced_steps, IsAfterTurn, ComesOf, HasReduced}
+use Rattle.search_race_free.proofs.Moving.{times-here, times-append, AreApart, PlainLaws, reached-along, along-both}
+use Rattle.search_race_free.proofs.Moving.{goes-along, back-along, wanted-along, sooner, past}
 use Rattle.search_race_free.proofs.Racing.{conflict-swap}
 use Rattle.search_race_free.proofs.Turning.{going_on, turn_access, event_access, reaches_next, plain-laws}
 use Rattle.search_race_free.proofs.Striking.{struck, within-apart}
@@ -72,14 +75,16 @@ module _ {X T E V A G H M O : Type 0} (k : ThreadSystem X T E V A G H M) (ends :
   ]
 
   -- a path of such turns
-  pub path-can : (owned : ℕ → NextAccess → Type 0) (ts : List ℕ) (w z : State X T) → MakesPlain (wanted_in k) (next_in k) owned ts w z → Reaches (CanStep (turning k.system)) w z
+  pub path-can : (owned : ℕ → NextAccess → Type 0) (ts : List ℕ) (w z : State X T) → MakesPlain (wanted_in k) (next_in k) owned ts w z →
+      Reaches (CanStep (turning k.system)) w z
   path-can owned [] w z p = subst (λ x. Reaches (CanStep (turning k.system)) w x) p (stays (CanStep (turning k.system)) w)
   path-can owned (t ∷ ts) w z p =
       onward (CanStep (turning k.system)) w (next_in k w t) z
       (one_step (CanStep (turning k.system)) w (next_in k w t) (record { thread = t; can = can-by w t p.0.access p.0.wanted; is = refl }))
       (path-can owned ts (next_in k w t) z p.1)
 
-  pub path-steps : (owned : ℕ → NextAccess → Type 0) (ts : List ℕ) (w z : State X T) → MakesPlain (wanted_in k) (next_in k) owned ts w z → Reaches (StepsBy k.system) w z
+  pub path-steps : (owned : ℕ → NextAccess → Type 0) (ts : List ℕ) (w z : State X T) → MakesPlain (wanted_in k) (next_in k) owned ts w z →
+      Reaches (StepsBy k.system) w z
   path-steps owned [] w z p = subst (λ x. Reaches (StepsBy k.system) w x) p (stays (StepsBy k.system) w)
   path-steps owned (t ∷ ts) w z p =
       onward (StepsBy k.system) w (next_in k w t) z (one_step (StepsBy k.system) w (next_in k w t) (t, refl)) (path-steps owned ts (next_in k w t) z p.1)
@@ -128,7 +133,8 @@ module _ {X T E V A G H M O : Type 0} (k : ThreadSystem X T E V A G H M) (ends :
     own-apart w left st = within-apart k.system k.accesses s.owned.items st.settled (safe-at w left st)
 
     -- what a thread that has no turn left before it rests does then it does next, and the other way round
-    then-same : (w : State X T) (left : ℕ → ℕ) (n : ℕ) (st : StandsBefore k s w left) → times n st.order ≡ 0 → (a : NextAccess) → wanted_in k st.settled n ≡ Some a
+    then-same : (w : State X T) (left : ℕ → ℕ) (n : ℕ) (st : StandsBefore k s w left) → times n st.order ≡ 0 →
+        (a : NextAccess) → wanted_in k st.settled n ≡ Some a
         → wanted_in k w n ≡ Some a
     then-same w left n st none a wants =
         back-along (wanted_in k) (next_in k) (IsReached k.system k.first) laws (Within s.owned.items) n a st.order w st.settled st.reached st.makes none wants
@@ -139,18 +145,21 @@ module _ {X T E V A G H M O : Type 0} (k : ThreadSystem X T E V A G H M) (ends :
     same-then : (w : State X T) (left : ℕ → ℕ) (n : ℕ) (st : StandsBefore k s w left) → times n st.order ≡ 0 → (a : NextAccess) → wanted_in k w n ≡ Some a
         → wanted_in k st.settled n ≡ Some a
     same-then w left n st none a wants =
-        let g = goes-along (wanted_in k) (next_in k) (IsReached k.system k.first) laws (Within s.owned.items) n a st.order w st.settled st.reached st.makes none wants in
+        let g = goes-along (wanted_in k) (next_in k) (IsReached k.system k.first) laws (Within s.owned.items) n a st.order w st.settled st.reached st.makes
+        none wants in
         g.1 ∙ (sym (then-same w left n st none g.0 g.1) ∙ wants)
 
     -- what a thread that has one left does next it owns
     owns-then : (w : State X T) (left : ℕ → ℕ) (n : ℕ) (st : StandsBefore k s w left) (a : NextAccess) → 0 < times n st.order → wanted_in k w n ≡ Some a
         → Within s.owned.items n a
     owns-then w left n st a some wants =
-        let m = wanted-along (wanted_in k) (next_in k) (IsReached k.system k.first) laws (Within s.owned.items) (own-apart w left st) n st.order w st.settled st.reached st.makes some in
+        let m = wanted-along (wanted_in k) (next_in k) (IsReached k.system k.first) laws (Within s.owned.items) (own-apart w left st) n st.order w st.settled
+        st.reached st.makes some in
         subst (λ b. Within s.owned.items n b) (same_Some m.access a (sym m.wanted ∙ wants)) m.is_own
 
     -- an access of a thread that has none left doesn't conflict with one of a thread that has
-    clear-then : (w : State X T) (left : ℕ → ℕ) (st : StandsBefore k s w left) (n u : ℕ) (a b : NextAccess) → n ≢ u → times n st.order ≡ 0 → wanted_in k w n ≡ Some a
+    clear-then : (w : State X T) (left : ℕ → ℕ) (st : StandsBefore k s w left) (n u : ℕ) (a b : NextAccess) → n ≢ u → times n st.order ≡ 0 →
+        wanted_in k w n ≡ Some a
         → Within s.owned.items u b → Conflict a b → ⊥
     clear-then w left st n u a b d none wants own c =
         let x = struck s.owned.items a b u c own in
@@ -221,7 +230,8 @@ module _ {X T E V A G H M O : Type 0} (k : ThreadSystem X T E V A G H M) (ends :
           }
 
       -- the turn of a thread that rests: what the others have left comes after it
-      module _ (w y : State X T) (left : ℕ → ℕ) (n : ℕ) (st : StandsBefore k s w left) (a : NextAccess) (none : times n st.order ≡ 0) (wants : wanted_in k w n ≡ Some a)
+      module _ (w y : State X T) (left : ℕ → ℕ) (n : ℕ) (st : StandsBefore k s w left) (a : NextAccess) (none : times n st.order ≡ 0)
+          (wants : wanted_in k w n ≡ Some a)
           (made : y ≡ next_in k w n) (x : NextState (Owning (RestingState G H))) (among : Contains xs x) (by : x.thread ≡ n) where
         comes_of : ComesOf k s n x.state
         comes_of = subst (λ t. ComesOf k s t x.state) by (next.each x among)
@@ -236,7 +246,8 @@ module _ {X T E V A G H M O : Type 0} (k : ThreadSystem X T E V A G H M) (ends :
         others_first =
             more-within (wanted_in k) (next_in k) (Within s.owned.items) (Within x.state.owned.items) n st.order (next_in k w n) (next_in k st.settled n) none
             (let c = comes_of in c.owned)
-            (past (wanted_in k) (next_in k) (IsReached k.system k.first) laws (Within s.owned.items) n a st.order w st.settled st.reached st.makes none wants clear)
+            (past (wanted_in k) (next_in k) (IsReached k.system k.first) laws (Within s.owned.items) n a st.order w st.settled st.reached st.makes none
+            wants clear)
 
         no_more : (u : ℕ) → u ≢ n → HasOf xs u → times u (st.order ++ then.order) ≤ left u
         no_more u d has =
@@ -285,7 +296,8 @@ module _ {X T E V A G H M O : Type 0} (k : ThreadSystem X T E V A G H M) (ends :
           let of = (next.each x among).each st.settled (resting w stands.0 st) in
           elim (cases_lt 0 (times x.thread st.order)) [
             | inl some ↦
-                (let m = wanted-along (wanted_in k) (next_in k) (IsReached k.system k.first) laws (Within s.owned.items) (own-apart w stands.0 st) x.thread st.order w st.settled st.reached st.makes some in
+                (let m = wanted-along (wanted_in k) (next_in k) (IsReached k.system k.first) laws (Within s.owned.items) (own-apart w stands.0 st) x.thread
+                st.order w st.settled st.reached st.makes some in
                 can-by w x.thread m.access m.wanted)
             | inr few ↦
                 (let none : times x.thread st.order ≡ 0 = omega (arith, few) in

@@ -30,7 +30,8 @@ struck owned a b u c within =
     by o (inl h) = inl h
     by o (inr h) = inr (o.writes h)
 
-module _ {X T E V A : Type 0} (s : System X T E V A) (accesses : X → T → E → NextAccess) (owned : List Touch) (z : State X T) (safe : IsSafe s accesses owned z) where
+module _ {X T E V A : Type 0} (s : System X T E V A) (accesses : X → T → E → NextAccess) (owned : List Touch) (z : State X T)
+    (safe : IsSafe s accesses owned z) where
   pub within-apart : AreApart (Within owned)
   within-apart t u e f d own_e own_f c =
       let y = struck owned f e t c own_e in

@@ -222,7 +222,8 @@ module _ {X T E V A : Type 0} (s : System X T E V A) (accesses : X → T → E �
 
     independent_of : (w : State X T) (t u : ℕ) (f : E) (a b : NextAccess) → u ≢ t → WantsPlain s accesses first w t f → accesses w.shared (w.threads t) f ≡ a
         → next_access s accesses w u ≡ Some b → (Conflict b a → ⊥) → (g : E) → s.wants (w.threads u) ≡ Calls g → AreIndependent s w.shared t f u g
-    independent_of w t u f a b d h is k clear g calls = plain.independent w t f h u g calls d (λ c. clear (subst (λ x. Conflict x a) other (subst (Conflict (accesses w.shared (w.threads u) g)) is c)))
+    independent_of w t u f a b d h is k clear g calls = plain.independent w t f h u g calls d
+        (λ c. clear (subst (λ x. Conflict x a) other (subst (Conflict (accesses w.shared (w.threads u) g)) is c)))
       where
         other : accesses w.shared (w.threads u) g ≡ b
         other = same_Some (accesses w.shared (w.threads u) g) b (sym (event_access w u g calls) ∙ k)

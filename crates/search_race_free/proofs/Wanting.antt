@@ -1,5 +1,6 @@
 -- What each thread does next, of one thread after the other.
-use Rattle.std.proofs.Common.{◌≡◌, inl, inr, ℕ, zero, suc, ◌+◌, ◌<◌, ◌≤◌, List, [], ◌∷◌, ◌++◌, length, Option, Some, None, refl, sym, ◌∙◌, ap, subst, arith, length-append}
+use Rattle.std.proofs.Common.{◌≡◌, inl, inr, ℕ, zero, suc, ◌+◌, ◌<◌, ◌≤◌, List, [], ◌∷◌, ◌++◌, length, Option, Some}
+use Rattle.std.proofs.Common.{None, refl, sym, ◌∙◌, ap, subst, arith, length-append}
 use Rattle.std.specs.List.{slice_get}
 use Rattle.std.proofs.lemmas.Bool.{cases_lt}
 use Rattle.schedule.specs.System.{Want.Gone, State}
@@ -27,7 +28,8 @@ module _ {X T E V A G H M : Type 0} (k : ThreadSystem X T E V A G H M) where
   pub is-somewhere : (c : RestingState G H) → RestsSomewhere k c → IsSomewhere k c
   is-somewhere c at = (at.0, record { reached = at.1.reached; settled_is = at.1.settled_is })
 
-  pub thread-at : (c : RestingState G H) (z : State X T) → IsResting k c z → (n : ℕ) (t : H) → slice_get c.threads.items n ≡ Some t → IsThreadOf k c.shared t n z
+  pub thread-at : (c : RestingState G H) (z : State X T) → IsResting k c z → (n : ℕ) (t : H) → slice_get c.threads.items n ≡ Some t →
+      IsThreadOf k c.shared t n z
   thread-at c z at n t h = let is = at.settled_is in (at.reached, is.shared, is.each n t h)
 
   pub gone-next : (z : State X T) (n : ℕ) → k.system.wants (z.threads n) ≡ Gone → wanted_in k z n ≡ None
@@ -47,7 +49,8 @@ module _ {X T E V A G H M : Type 0} (k : ThreadSystem X T E V A G H M) where
   pub wanted-none : (c : RestingState G H) → WantedSoFar c 0 []
   wanted-none c = record { len = refl; each = λ z at t low. absurd (omega (arith, low)) }
 
-  pub wanted-more : (c : RestingState G H) (n : ℕ) (xs : List (Option NextAccess)) (t : H) (o : Option NextAccess) → WantedSoFar c n xs → slice_get c.threads.items n ≡ Some t
+  pub wanted-more : (c : RestingState G H) (n : ℕ) (xs : List (Option NextAccess)) (t : H) (o : Option NextAccess) → WantedSoFar c n xs →
+      slice_get c.threads.items n ≡ Some t
       → IsAccessOf k c.shared t n o → WantedSoFar c (n + 1) (xs ++ o ∷ [])
   wanted-more c n xs t o so at of = record {
     len = length-append xs (o ∷ []) ∙ ap (λ m. m + 1) so.len;

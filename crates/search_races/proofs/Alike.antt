@@ -1,5 +1,7 @@
 -- Rows at the same places have the same kinds.
-use Rattle.std.proofs.Common.{◌≡◌, ℕ, zero, suc, ◌<◌, ◌≤◌, List, ◌∷◌, [], ◌++◌, length, map, Option, Some, option_and_then, option_map, slice_get, get_or, refl, sym, ap, ◌∙◌, arith, if◌then◌else◌, Bool}
+use Rattle.std.proofs.Common.{◌≡◌, ℕ, zero, suc, ◌<◌, ◌≤◌, List, ◌∷◌, [], ◌++◌, length, map, Option, Some}
+use Rattle.std.proofs.Common.{option_and_then, option_map, slice_get, get_or, refl, sym, ap, ◌∙◌, arith, if◌then◌else◌}
+use Rattle.std.proofs.Common.{Bool}
 use Rattle.std.proofs.lemmas.Option.{slice_get-get_or, slice_get-map}
 use Rattle.types.specs.declared.parts.Parts.{Parts}
 use Rattle.interp.specs.declared.place.CodePlace.{CodePlace}

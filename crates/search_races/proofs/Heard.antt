@@ -1,5 +1,7 @@
 -- Where threads were heard to stand while a run was made, a replay of its record sees them stand.
-use Rattle.std.proofs.Common.{◌≡◌, ◌≢◌, ◌⊎◌, ℕ, Bool, map, zero, suc, ◌+◌, ◌<◌, true, List, [], ◌∷◌, ◌++◌, length, take, replicate, Option, Some, None, slice_get, slice_set, inl, inr, refl, sym, ap, subst, ◌∙◌, arith, append-nil, length-set, length-append}
+use Rattle.std.proofs.Common.{◌≡◌, ◌≢◌, ◌⊎◌, ℕ, Bool, map, zero, suc, ◌+◌, ◌<◌, true, List, [], ◌∷◌, ◌++◌, length, take}
+use Rattle.std.proofs.Common.{replicate, Option, Some, None, slice_get, slice_set, inl, inr, refl, sym, ap, subst, ◌∙◌}
+use Rattle.std.proofs.Common.{arith, append-nil, length-set, length-append}
 use Rattle.std.proofs.lemmas.List.{length-map}
 use Rattle.std.proofs.lemmas.Bool.{cases_eq}
 use Rattle.std.proofs.lemmas.List.{length-replicate}
@@ -39,7 +41,9 @@ use Rattle.search_races.specs.Heard.{row_heard}
 use Rattle.search_races.specs.Races.{Says, SaysOfRun}
 use Rattle.search_races.specs.Rows.{AreRowsOf, kinds_of}
 use Rattle.search_races.proofs.Alike.{kinds_same}
-use Rattle.search_races.proofs.Stood.{Filled, RowHas, row_of, stands_there, has_set, keeps_set, see_in, see_length, see_keeps, see_has, left_in, behind_keeps, behind_is, last_keeps, round_in, round_length, with_rows, round_of, round_sees}
+use Rattle.search_races.proofs.Stood.{Filled, RowHas, row_of, stands_there, has_set, keeps_set, see_in, see_length}
+use Rattle.search_races.proofs.Stood.{see_keeps, see_has, left_in, behind_keeps, behind_is, last_keeps, round_in}
+use Rattle.search_races.proofs.Stood.{round_length, with_rows, round_of, round_sees}
 
 -- what stands in a list behind a beginning of it
 at_end : {X : Type 0} (xs ys : List X) (y : X) → slice_get (xs ++ y ∷ ys) (length xs) ≡ Some y

@@ -1,5 +1,6 @@
 -- Plain accesses of a module's threads are nobody else's concern, unless they conflict.
-use Rattle.std.proofs.Common.{◌≡◌, ◌≢◌, ◌==◌, ◌&&◌, Bool, true, cond, nat_lt, ℕ, zero, suc, ◌+◌, ◌<◌, ◌≤◌, ◌⊎◌, inl, inr, length, List, [], ◌∷◌, Option, Some, None, refl, sym, ◌∙◌, ap, subst, arith}
+use Rattle.std.proofs.Common.{◌≡◌, ◌≢◌, ◌==◌, ◌&&◌, Bool, true, cond, nat_lt, ℕ, zero, suc, ◌+◌, ◌<◌, ◌≤◌, ◌⊎◌, inl}
+use Rattle.std.proofs.Common.{inr, length, List, [], ◌∷◌, Option, Some, None, refl, sym, ◌∙◌, ap, subst, arith}
 use Rattle.std.specs.List.{slice_get}
 use Rattle.std.specs.Prelude.{replicate}
 use Rattle.std.proofs.lemmas.Bool.{cases_lt}
@@ -58,7 +59,8 @@ starts-nobody b x m (events.Ask question) u is = absurd is
 starts-nobody b x m (events.Told answer) u is = absurd is
 
 -- whom an event starts the queue says
-starts-same : (b : Called) (x y : Shared) (f : Event) (u : ℕ) → y.queue ≡ x.queue → started_without {O = Outcome} (begun_at b y f u) ≡ started_without {O = Outcome} (begun_at b x f u)
+starts-same : (b : Called) (x y : Shared) (f : Event) (u : ℕ) → y.queue ≡ x.queue → started_without {O = Outcome} (begun_at b y f u) ≡ started_without
+    {O = Outcome} (begun_at b x f u)
 starts-same b x y events.Size u h = refl
 starts-same b x y (events.Grow more) u h = refl
 starts-same b x y (events.Load addr width reach) u h = refl

@@ -59,11 +59,7 @@ impl<'m> Ear<Thread<'m>> for Places {
 }
 
 /// The thread of this number is heard, if there is one.
-pub(crate) fn hear_at<T, E: Ear<T>>(
-    threads: &[T],
-    n: u32,
-    ear: &mut E,
-) -> Result<(), CourseFault>
+pub(crate) fn hear_at<T, E: Ear<T>>(threads: &[T], n: u32, ear: &mut E) -> Result<(), CourseFault>
     ensures heard { OnOk result (IsHeardAt E.hears threads.now n ear.old ear.new) }
     ensures fault { IfErr result (λ fault. fault ≡ NoMemory) }
 {

@@ -1,5 +1,6 @@
 -- The next states, of one thread after the other.
-use Rattle.std.proofs.Common.{◌≡◌, ◌⊎◌, inl, inr, ℕ, zero, suc, ◌+◌, ◌^◌, ◌<◌, ◌≤◌, List, [], ◌∷◌, ◌++◌, length, Option, Some, None, refl, sym, ◌∙◌, ap, subst, arith, Contains}
+use Rattle.std.proofs.Common.{◌≡◌, ◌⊎◌, inl, inr, ℕ, zero, suc, ◌+◌, ◌^◌, ◌<◌, ◌≤◌, List, [], ◌∷◌, ◌++◌, length, Option}
+use Rattle.std.proofs.Common.{Some, None, refl, sym, ◌∙◌, ap, subst, arith, Contains}
 use Rattle.std.specs.List.{slice_get}
 use Rattle.std.proofs.lemmas.Bool.{cases_lt}
 use Rattle.std.proofs.lemmas.List.Elements.{Contains-push, Contains-push_cases, Contains-append_left}
@@ -14,7 +15,8 @@ use Rattle.search_settled.specs.Next.{IsAt, IsNextBy, IsNextOf, IsSomewhere, IsS
 use Rattle.search_settled.specs.declared.flat.RestingState.{RestingState}
 use Rattle.search_settled.specs.Known.{AllComeFrom}
 use Rattle.search_settled.specs.Threads.{ThreadSystem}
-use Rattle.search_settled.specs.Flat.{AreBounded, IsThreadOf, IsEventOf, IsEventAt, RestsAfter, IsMove, AllComeAfter, MovesSomewhere, IsStuckByMove, HasNextBelow}
+use Rattle.search_settled.specs.Flat.{AreBounded, IsThreadOf, IsEventOf, IsEventAt, RestsAfter, IsMove, AllComeAfter}
+use Rattle.search_settled.specs.Flat.{MovesSomewhere, IsStuckByMove, HasNextBelow}
 
 slice_get-get_some : {B : Type 0} (xs : List B) (m : ℕ) → m < length xs → (x : B) × (slice_get xs m ≡ Some x)
 slice_get-get_some [] m within = absurd (omega (arith, within))
@@ -71,9 +73,11 @@ module _ {X T E V A G H M : Type 0} (k : ThreadSystem X T E V A G H M) where
 
     pub stays : k.count (k.system.after z.shared n e) ≤ m → (after_event k.system z n e).threads m ≡ z.threads m
     stays past =
-        ap (λ o. or_started o (hears_any k.system (put z.threads n (k.system.takes (z.threads n) (k.system.reply z.shared n e)) m) (k.system.gives z.shared n e m)))
+        ap (λ o. or_started o (hears_any k.system (put z.threads n (k.system.takes (z.threads n) (k.system.reply z.shared n e)) m)
+        (k.system.gives z.shared n e m)))
         (bounded.none z reached n m e calls past)
-        ∙ (ap (λ o. hears_any k.system (put z.threads n (k.system.takes (z.threads n) (k.system.reply z.shared n e)) m) o) (no_answer (k.system.gives z.shared n e m) refl)
+        ∙ (ap (λ o. hears_any k.system (put z.threads n (k.system.takes (z.threads n) (k.system.reply z.shared n e)) m) o)
+        (no_answer (k.system.gives z.shared n e m) refl)
         ∙ put-other z.threads n (k.system.takes (z.threads n) (k.system.reply z.shared n e)) m apart)
 
   module _ (tame : AreTame k.system k.first k.most) (bounded : AreBounded k.system k.first k.count k.most)
@@ -141,7 +145,8 @@ module _ {X T E V A G H M : Type 0} (k : ThreadSystem X T E V A G H M) where
     }
 
   -- from what holds of all threads that are moved so
-  pub come-from : (c : RestingState G H) (x : G) (made : M) (n : ℕ) (rested : List H) → AllComeAfter k x made n c.threads.items rested → AllComeFrom k c x made n rested
+  pub come-from : (c : RestingState G H) (x : G) (made : M) (n : ℕ) (rested : List H) → AllComeAfter k x made n c.threads.items rested →
+      AllComeFrom k c x made n rested
   come-from c x made n rested all = record { len = λ z e at move. all.len z e move; each = λ z e at move. all.each z e move }
 
   -- one thread after the other
@@ -177,7 +182,8 @@ module _ {X T E V A G H M : Type 0} (k : ThreadSystem X T E V A G H M) where
   split n i low = elim (cases_lt n i) [ inl h ↦ inl h | inr h ↦ inr (omega (arith, h, low)) ]
 
   -- a thread that wants no event
-  pub below-same : (c : RestingState G H) (i : ℕ) (xs : List (NextState (RestingState G H))) (t : H) → Below c i xs → slice_get c.threads.items i ≡ Some t → IsEventAt k c.shared t i None
+  pub below-same : (c : RestingState G H) (i : ℕ) (xs : List (NextState (RestingState G H))) (t : H) → Below c i xs → slice_get c.threads.items i ≡ Some t →
+      IsEventAt k c.shared t i None
       → Below c (i + 1) xs
   below-same c i xs t so at none = record {
     all = λ z is n low e wants. elim (split n i low) [
@@ -236,7 +242,8 @@ module _ {X T E V A G H M : Type 0} (k : ThreadSystem X T E V A G H M) where
       ]
 
   -- the number of a thread that is there fits
-  pub number-fits : AreBounded k.system k.first k.count k.most → (c : RestingState G H) → IsSomewhere k c → (n : ℕ) (t : H) → slice_get c.threads.items n ≡ Some t
+  pub number-fits : AreBounded k.system k.first k.count k.most → (c : RestingState G H) → IsSomewhere k c →
+      (n : ℕ) (t : H) → slice_get c.threads.items n ≡ Some t
       → n < 2 ^ 32
   number-fits bounded c at n t h =
       let is = at.1.settled_is in

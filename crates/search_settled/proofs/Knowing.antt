@@ -125,7 +125,8 @@ module _ {X T E V A G H M : Type 0} (k : ThreadSystem X T E V A G H M) where
       (z, a.0, record { reached = of.0; wants = a.1; is = a.3 }, of.2)
 
   -- where nothing can be told of it
-  pub own-lost : (stuck : State X T → Type 0) (g : G) (h : H) (n : ℕ) (p : G × M) → IsEventAt k g h n (Some p) → IsStuckBy k stuck p.1 n h n → IsLostBy k stuck n g h
+  pub own-lost : (stuck : State X T → Type 0) (g : G) (h : H) (n : ℕ) (p : G × M) → IsEventAt k g h n (Some p) → IsStuckBy k stuck p.1 n h n →
+      IsLostBy k stuck n g h
   own-lost stuck g h n p event lost z of =
       let a = event z of in
       (a.0, a.1, lost z a.0 (record { reached = of.0; wants = a.1; is = a.3 }) of.2)
@@ -133,7 +134,8 @@ module _ {X T E V A G H M : Type 0} (k : ThreadSystem X T E V A G H M) where
   module _ (eq_shared : G → G → Bool) (eq_thread : H → H → Bool) (symm : (x y : G) → eq_shared x y ≡ true → eq_shared y x ≡ true)
       (same_shared : (x y : G) → eq_shared x y ≡ true → (w : X) → k.shares x w → k.shares y w)
       (same_thread : (x y : H) → eq_thread x y ≡ true → (w : T) → k.is_thread x w → k.is_thread y w) where
-    pub event-alike : (g : G) (h : H) (n : ℕ) (x y : G) (made : M) → eq_shared x y ≡ true → IsEventAt k g h n (Some (x, made)) → IsEventAt k g h n (Some (y, made))
+    pub event-alike : (g : G) (h : H) (n : ℕ) (x y : G) (made : M) → eq_shared x y ≡ true → IsEventAt k g h n (Some (x, made)) →
+        IsEventAt k g h n (Some (y, made))
     event-alike g h n x y made e is z of =
         let a = is z of in
         (a.0, a.1, same_shared x y e (k.system.after z.shared n a.0) a.2, a.3)
@@ -174,7 +176,8 @@ noted-at known slot o one at is shared thread n a b c = (
 )
 
 pub from-put : (items : List (Option Known)) (slot : ℕ) (new : Known) (before : List (Option Known))
-    → ((s : ℕ) (k : Known) → slice_get items s ≡ Some (Some k) → (was : ℕ) × (slice_get before was ≡ Some (Some k))) → AreFrom before new (slice_set items slot (Some new))
+    → ((s : ℕ) (k : Known) → slice_get items s ≡ Some (Some k) → (was : ℕ) × (slice_get before was ≡ Some (Some k))) →
+    AreFrom before new (slice_set items slot (Some new))
 from-put items slot new before old s k at = elim (set-at items slot (Some new) s (Some k) at) [
   | inl h ↦ (let same : new ≡ k = cc h.1 in inl (sym same))
   | inr h ↦ inr (old s k h.1)

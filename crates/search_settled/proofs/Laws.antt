@@ -80,7 +80,8 @@ module _ {X T E V A G H M O : Type 0} (k : ThreadSystem X T E V A G H M) (ends :
           is = a.3;
         }
 
-    module _ (bounded : AreBounded k.system k.first k.count k.most) (c : RestingState G H) (xs : List (NextState (RestingState G H))) (next : HasNext k c xs) where
+    module _ (bounded : AreBounded k.system k.first k.count k.most) (c : RestingState G H) (xs : List (NextState (RestingState G H)))
+        (next : HasNext k c xs) where
       -- a thread with a next state makes an event once it rests
       calls_at : (w : State X T) (turns : ℕ → ℕ) (st : StandsForState k c w turns) (u : ℕ) → HasOf xs u
           → (e : E) × (k.system.wants (st.settled.threads u) ≡ Calls e)

@@ -1,5 +1,6 @@
 -- The rows of the next states, of one thread after the other.
-use Rattle.std.proofs.Common.{◌≡◌, inl, inr, ℕ, zero, suc, ◌+◌, ◌^◌, ◌<◌, ◌≤◌, ◌&&◌, Bool, true, List, [], ◌∷◌, ◌++◌, length, Some, None, refl, sym, ◌∙◌, ap, subst, arith, true≢false}
+use Rattle.std.proofs.Common.{◌≡◌, inl, inr, ℕ, zero, suc, ◌+◌, ◌^◌, ◌<◌, ◌≤◌, ◌&&◌, Bool, true, List, [], ◌∷◌, ◌++◌}
+use Rattle.std.proofs.Common.{length, Some, None, refl, sym, ◌∙◌, ap, subst, arith, true≢false}
 use Rattle.std.specs.Prelude.{slice_set, take}
 use Rattle.std.specs.Cmp.{first_so, second_so}
 use Rattle.std.specs.List.{slice_get, AllZip}
@@ -24,7 +25,8 @@ use Rattle.search_settled.specs.Threads.{ThreadSystem, IsFlat}
 use Rattle.search_settled.specs.Next.{IsAt, IsSomewhere, IsNextBy, IsNextOf, IsStuckAfter}
 use Rattle.search_settled.specs.Flat.{AreBounded, IsThreadOf, IsEventAt, HasNextBelow}
 use Rattle.search_settled.specs.Same.{same_length, flat_eq, flat_alike}
-use Rattle.search_settled.specs.Known.{IsOf, IsNextRow, IsTurn, IsMade, OfNumbers, AreOfThread, IsThreadAt, AreNextBelow, AreNextRows, IsRowAfter, IsRowOfEqual, IsLostBy}
+use Rattle.search_settled.specs.Known.{IsOf, IsNextRow, IsTurn, IsMade, OfNumbers, AreOfThread, IsThreadAt}
+use Rattle.search_settled.specs.Known.{AreNextBelow, AreNextRows, IsRowAfter, IsRowOfEqual, IsLostBy}
 use Rattle.search_settled.proofs.Rows.{grows-then, next-grow, row-grows, threads-grow, beside, zip-length}
 use Rattle.search_settled.proofs.Knowing.{of-numbers}
 use Rattle.search_settled.proofs.Following.{come-from, below-none, below-same, below-more, below-all}
@@ -69,12 +71,14 @@ module _ {X T E V A G H M : Type 0} (k : ThreadSystem X T E V A G H M) where
       let low = bounded.numbered in
       omega (arith, len, few, low)
 
-  pub of-state : (t : StateParts G H) (shared : ℕ) (numbers : List ℕ) (thread n : ℕ) (c : RestingState G H) → (a : IsThreadAt k t (shared ∷ numbers) thread n c) → (z : State X T) → IsAt k c z
+  pub of-state : (t : StateParts G H) (shared : ℕ) (numbers : List ℕ) (thread n : ℕ) (c : RestingState G H) →
+      (a : IsThreadAt k t (shared ∷ numbers) thread n c) → (z : State X T) → IsAt k c z
       → IsThreadOf k c.shared a.thread_is n z
   of-state t shared numbers thread n c a z at = (at.reached, (at.settled_is).shared, (at.settled_is).each n a.thread_is a.among)
 
   -- its number
-  pub low-at : AreBounded k.system k.first k.count k.most → (t : StateParts G H) (shared : ℕ) (numbers : List ℕ) (thread n : ℕ) (c : RestingState G H) → IsThreadAt k t (shared ∷ numbers) thread n c → n < k.most
+  pub low-at : AreBounded k.system k.first k.count k.most → (t : StateParts G H) (shared : ℕ) (numbers : List ℕ) (thread n : ℕ) (c : RestingState G H) →
+      IsThreadAt k t (shared ∷ numbers) thread n c → n < k.most
   low-at bounded t shared numbers thread n c a =
       let at = a.somewhere in
       let is = at.1.settled_is in
@@ -91,7 +95,8 @@ module _ {X T E V A G H M : Type 0} (k : ThreadSystem X T E V A G H M) where
       let low = slice_get_within c.threads.items n a.thread_is a.among in
       omega (arith, long, low)
 
-  pub of-thread : (t : StateParts G H) (shared : ℕ) (numbers : List ℕ) (thread n : ℕ) (c : RestingState G H) → IsThreadAt k t (shared ∷ numbers) thread n c → AreOfThread k t shared thread n
+  pub of-thread : (t : StateParts G H) (shared : ℕ) (numbers : List ℕ) (thread n : ℕ) (c : RestingState G H) → IsThreadAt k t (shared ∷ numbers) thread n c →
+      AreOfThread k t shared thread n
   of-thread t shared numbers thread n c a =
       let at = a.somewhere in
       record {
@@ -104,10 +109,12 @@ module _ {X T E V A G H M : Type 0} (k : ThreadSystem X T E V A G H M) where
       }
 
   -- the same next state by another name
-  next-alike : (f y : RestingState G H) → ((z : State X T) → IsFlat k f z → IsFlat k y z) → (z : State X T) (n : ℕ) (e : E) → IsNextBy k z n e f → IsNextBy k z n e y
+  next-alike : (f y : RestingState G H) → ((z : State X T) → IsFlat k f z → IsFlat k y z) → (z : State X T) (n : ℕ) (e : E) → IsNextBy k z n e f →
+      IsNextBy k z n e y
   next-alike f y alike z n e is = record { settled = is.settled; rest = is.rest; settled_is = alike is.settled is.settled_is }
 
-  below-alike : (c : RestingState G H) (i n : ℕ) (xs : List (NextState (RestingState G H))) (f y : RestingState G H) → ((z : State X T) → IsFlat k f z → IsFlat k y z)
+  below-alike : (c : RestingState G H) (i n : ℕ) (xs : List (NextState (RestingState G H))) (f y : RestingState G H) →
+      ((z : State X T) → IsFlat k f z → IsFlat k y z)
       → HasNextBelow k c i (xs ++ record { thread = n; state = f } ∷ []) → HasNextBelow k c i (xs ++ record { thread = n; state = y } ∷ [])
   below-alike c i n xs f y alike so = record {
     all = λ z is m low e wants. (let r = so.all z is m low e wants in elim (Contains-push_cases xs old r.0 r.1) [
@@ -129,7 +136,8 @@ module _ {X T E V A G H M : Type 0} (k : ThreadSystem X T E V A G H M) where
       new = record { thread = n; state = y }
 
   -- as the table grows
-  pub at-grows : (t u : StateParts G H) → Grows t u → (shared : ℕ) (numbers : List ℕ) (thread n : ℕ) (c : RestingState G H) → IsThreadAt k t (shared ∷ numbers) thread n c → IsThreadAt k u (shared ∷ numbers) thread n c
+  pub at-grows : (t u : StateParts G H) → Grows t u → (shared : ℕ) (numbers : List ℕ) (thread n : ℕ) (c : RestingState G H) →
+      IsThreadAt k t (shared ∷ numbers) thread n c → IsThreadAt k u (shared ∷ numbers) thread n c
   at-grows t u grows shared numbers thread n c a = record {
     of = row-grows t u grows (shared ∷ numbers) c.shared c.threads.items a.of;
     somewhere = a.somewhere;
@@ -142,7 +150,8 @@ module _ {X T E V A G H M : Type 0} (k : ThreadSystem X T E V A G H M) where
   below-grows t u grows c n rs so = record { next = so.next; below = so.below; are = next-grow t u grows rs so.next so.are }
 
   -- the turn that it is told to be
-  pub told-of : (t u : StateParts G H) → Grows t u → (shared : ℕ) (numbers : List ℕ) (thread n : ℕ) (c : RestingState G H) → IsThreadAt k t (shared ∷ numbers) thread n c → (m : EventOutcome G M) (turn : QuietTurn)
+  pub told-of : (t u : StateParts G H) → Grows t u → (shared : ℕ) (numbers : List ℕ) (thread n : ℕ) (c : RestingState G H) →
+      IsThreadAt k t (shared ∷ numbers) thread n c → (m : EventOutcome G M) (turn : QuietTurn)
       → m ≡ Told turn → OfNumbers k t shared thread (λ g h. IsMade k u g h n m) → OfNumbers k u shared thread (λ g h. IsTurn k u g h n turn)
   unfolding at-grows
   told-of t u grows shared numbers thread n c a m turn is so =
@@ -155,8 +164,10 @@ module _ {X T E V A G H M : Type 0} (k : ThreadSystem X T E V A G H M) where
   heard-of t u shared thread n m after made is so g h a b = subst (λ (x : EventOutcome G M). IsMade k u g h n x) is (so g h a b)
 
   -- what put_next adds
-  module _ (tame : AreTame k.system k.first k.most) (bounded : AreBounded k.system k.first k.count k.most) (t u v : StateParts G H) (first : Grows t u) (second : Grows u v)
-      (shared : ℕ) (numbers : List ℕ) (thread n : ℕ) (c : RestingState G H) (at : IsThreadAt k t (shared ∷ numbers) thread n c) (rs : List NextRow) (so : AreNextBelow k t c n rs) where
+  module _ (tame : AreTame k.system k.first k.most) (bounded : AreBounded k.system k.first k.count k.most) (t u v : StateParts G H) (first : Grows t u)
+      (second : Grows u v)
+      (shared : ℕ) (numbers : List ℕ) (thread n : ℕ) (c : RestingState G H) (at : IsThreadAt k t (shared ∷ numbers) thread n c) (rs : List NextRow)
+      (so : AreNextBelow k t c n rs) where
     both : Grows t v
     both = grows-then t u v first second
 
@@ -216,7 +227,8 @@ module _ {X T E V A G H M : Type 0} (k : ThreadSystem X T E V A G H M) where
                 (next-grow t v both rs so.next so.are) (record { thread = sym by; of = w.of });
           }
 
-  pub stuck-lost : (stuck : State X T → Type 0) (t : StateParts G H) (shared : ℕ) (numbers : List ℕ) (thread n : ℕ) (c : RestingState G H) → IsThreadAt k t (shared ∷ numbers) thread n c
+  pub stuck-lost : (stuck : State X T → Type 0) (t : StateParts G H) (shared : ℕ) (numbers : List ℕ) (thread n : ℕ) (c : RestingState G H) →
+      IsThreadAt k t (shared ∷ numbers) thread n c
       → OfNumbers k t shared thread (IsLostBy k stuck n) → IsStuckAfter k stuck c
   stuck-lost stuck t shared numbers thread n c at lost z is =
       let l = lost c.shared at.thread_is (at.of).0 at.thread_at z (of-state t shared numbers thread n c at z is) in
@@ -292,7 +304,8 @@ module _ {G H : Type 0} (eq : H → H → Bool) where
   pub row-first : (t : StateParts G H) (first : ℕ) (row : List ℕ) → row ≡ first ∷ [] → RowSoFar eq t first [] row
   row-first t first row is = record { numbers = []; equal = []; are = is; same = refl; threads = tt }
 
-  pub row-more : (t u : StateParts G H) → Grows t u → (first : ℕ) (threads : List H) (row after : List ℕ) (thread : H) (number : ℕ) → RowSoFar eq t first threads row
+  pub row-more : (t u : StateParts G H) → Grows t u → (first : ℕ) (threads : List H) (row after : List ℕ) (thread : H) (number : ℕ) →
+      RowSoFar eq t first threads row
       → HasEqual eq u.threads.keys number thread → after ≡ row ++ number ∷ [] → RowSoFar eq u first (threads ++ thread ∷ []) after
   row-more t u grows first threads row after thread number so has pushed = record {
     numbers = so.numbers ++ number ∷ [];
@@ -304,7 +317,8 @@ module _ {G H : Type 0} (eq : H → H → Bool) where
   }
 
 pub row-done : {G H : Type 0} (eq_shared : G → G → Bool) (eq_thread : H → H → Bool) (t u : StateParts G H) → Grows t u → (c : RestingState G H) (first : ℕ)
-    → HasEqual eq_shared t.shared.keys first c.shared → (row : List ℕ) → RowSoFar eq_thread u first c.threads.items row → IsRowOfEqual eq_shared eq_thread u c row
+    → HasEqual eq_shared t.shared.keys first c.shared → (row : List ℕ) → RowSoFar eq_thread u first c.threads.items row →
+    IsRowOfEqual eq_shared eq_thread u c row
 row-done eq_shared eq_thread t u grows c first has row so = record {
   shared = has.key;
   threads = so.equal;

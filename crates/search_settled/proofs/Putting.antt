@@ -54,7 +54,8 @@ module _ {G H : Type 0} (eq_shared : G → G → Bool) (eq_thread : H → H → 
   puts-none t s at moves ks (x ∷ xs) are next = absurd next
 
   -- what is among the rows then
-  record Put (t : StateParts G H) (v : States) (ks ls : List (RestingState G H)) (xs : List (NextState (RestingState G H))) (x : NextState (RestingState G H)) : Type 0 where
+  record Put (t : StateParts G H) (v : States) (ks ls : List (RestingState G H)) (xs : List (NextState (RestingState G H))) (x : NextState (RestingState G H)) :
+      Type 0 where
     pub states : List (RestingState G H)
     pub are : AreOf t v states
     pub begins : Begins ls states
@@ -62,7 +63,8 @@ module _ {G H : Type 0} (eq_shared : G → G → Bool) (eq_thread : H → H → 
 
   module _ (self_shared : (x : G) → eq_shared x x ≡ true) (self_thread : (x : H) → eq_thread x x ≡ true) (t : StateParts G H) (s u v : States)
       (r : NextRow) (put : states_of v ≡ with_row (states_of u) r.row.items) where
-    put-one : (ks ls : List (RestingState G H)) (xs : List (NextState (RestingState G H))) (x : NextState (RestingState G H)) → IsNextRow t r x → AreOf t u ls → Gains ks xs ls → Put t v ks ls xs x
+    put-one : (ks ls : List (RestingState G H)) (xs : List (NextState (RestingState G H))) (x : NextState (RestingState G H)) → IsNextRow t r x → AreOf t u ls →
+        Gains ks xs ls → Put t v ks ls xs x
     put-one ks ls xs x is are gains = by (list_any (words_eq r.row.items) (states_of u)) refl
       where
         by : (b : Bool) → list_any (words_eq r.row.items) (states_of u) ≡ b → Put t v ks ls xs x

@@ -89,7 +89,8 @@ module _ {G H : Type 0} where
   states-grow t u grows s cs are =
       all-zip-weaker (IsOf t) (IsOf u) (λ r c is. row-grows t u grows r c.shared c.threads.items is) (states_of s) cs are
 
-  pub next-grow : (t u : StateParts G H) → Grows t u → (rs : List NextRow) (xs : List (NextState (RestingState G H))) → AllZip (IsNextRow t) rs xs → AllZip (IsNextRow u) rs xs
+  pub next-grow : (t u : StateParts G H) → Grows t u → (rs : List NextRow) (xs : List (NextState (RestingState G H))) → AllZip (IsNextRow t) rs xs →
+      AllZip (IsNextRow u) rs xs
   next-grow t u grows rs xs are =
       all-zip-weaker (IsNextRow t) (IsNextRow u)
       (λ r x is. record { thread = is.thread; of = row-grows t u grows r.row.items x.state.shared x.state.threads.items is.of }) rs xs are
@@ -112,7 +113,8 @@ module _ {G H : Type 0} (eq_shared : G → G → Bool) (eq_thread : H → H → 
   pointwise-refl self (x ∷ xs) = ap (λ t. t && pointwise eq_thread xs xs) (self x) ∙ pointwise-refl self xs
 
   -- states of one row are equal
-  pub row-alike : ((x : G) → eq_shared x x ≡ true) → ((x : H) → eq_thread x x ≡ true) → (t : StateParts G H) (r : List ℕ) (c d : RestingState G H) → IsOf t r c → IsOf t r d
+  pub row-alike : ((x : G) → eq_shared x x ≡ true) → ((x : H) → eq_thread x x ≡ true) → (t : StateParts G H) (r : List ℕ) (c d : RestingState G H) →
+      IsOf t r c → IsOf t r d
       → flat_eq eq_shared eq_thread c d ≡ true
   row-alike shared_self thread_self t [] c d is there = absurd is
   row-alike shared_self thread_self t (n ∷ ns) c d is there =
@@ -154,14 +156,16 @@ module _ {G H : Type 0} (eq_shared : G → G → Bool) (eq_thread : H → H → 
         by false e = e
         by true e = absurd (true≢false (sym (words-self r) ∙ (ap (words_eq r) (row-one r s c d is there e) ∙ apart)))
 
-    states-apart : (r : List ℕ) (c : RestingState G H) → IsOf t r c → (rs : List (List ℕ)) (cs : List (RestingState G H)) → AllByRecursion (λ s. words_eq r s ≡ false) rs
+    states-apart : (r : List ℕ) (c : RestingState G H) → IsOf t r c → (rs : List (List ℕ)) (cs : List (RestingState G H)) →
+        AllByRecursion (λ s. words_eq r s ≡ false) rs
         → AllZip (IsOf t) rs cs → AllByRecursion (λ d. flat_eq eq_shared eq_thread c d ≡ false) cs
     states-apart r c is [] [] apart are = tt
     states-apart r c is [] (d ∷ cs) apart are = absurd are
     states-apart r c is (s ∷ rs) [] apart are = absurd are
     states-apart r c is (s ∷ rs) (d ∷ cs) apart are = (row-apart r s c d is are.0 apart.0, states-apart r c is rs cs apart.1 are.1)
 
-    all-distinct : (rs : List (List ℕ)) (cs : List (RestingState G H)) → IsDistinct words_eq rs → AllZip (IsOf t) rs cs → IsDistinct (flat_eq eq_shared eq_thread) cs
+    all-distinct : (rs : List (List ℕ)) (cs : List (RestingState G H)) → IsDistinct words_eq rs → AllZip (IsOf t) rs cs →
+        IsDistinct (flat_eq eq_shared eq_thread) cs
     unfolding IsDistinct
     all-distinct [] [] d are = tt
     all-distinct [] (c ∷ cs) d are = absurd are

@@ -19,7 +19,9 @@ use Rattle.show_rows.specs.Listing.{IsCallText, IsPlaceText, context_at, is_atom
 use Rattle.show_rows.proofs.Chosen.{keeps_same}
 use Rattle.show_named.specs.declared.data_map.DataMap.{DataMap}
 use Rattle.show_named.specs.declared.folds.FoldedRounds.{FoldedRounds}
-use Rattle.show_named.specs.Folds.{AddsFolded, AddsNoted, AddsPart, AddsParts, AreAlike, AreOfOne, AreRounds, AreToldAlike, AreNamedWords, IsAnswered, IsBy, IsRoundsOf, Repeats, often_text, without_caller}
+use Rattle.show_named.specs.Folds.{AddsFolded, AddsNoted, AddsPart, AddsParts, AreAlike, AreOfOne, AreRounds}
+use Rattle.show_named.specs.Folds.{AreToldAlike, AreNamedWords, IsAnswered, IsBy, IsRoundsOf, Repeats, often_text}
+use Rattle.show_named.specs.Folds.{without_caller}
 use Rattle.show_named.specs.Rows.{AddsEntries}
 use Rattle.show_named.proofs.Listed.{entry_behind, keeps_keeps, keeps_then}
 

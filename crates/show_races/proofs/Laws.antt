@@ -1,5 +1,6 @@
 -- What is found of the races of a run, from what is told of all of them.
-use Rattle.std.proofs.Common.{ℕ, zero, suc, ◌≡◌, ◌∙◌, ◌≤◌, ◌<◌, ◌+◌, Bool, true, false, List, [], ◌∷◌, ◌++◌, All, Contains, length, get_or, inl, inr, ap, refl, sym, subst, arith}
+use Rattle.std.proofs.Common.{ℕ, zero, suc, ◌≡◌, ◌∙◌, ◌≤◌, ◌<◌, ◌+◌, Bool, true, false, List, [], ◌∷◌, ◌++◌, All}
+use Rattle.std.proofs.Common.{Contains, length, get_or, inl, inr, ap, refl, sym, subst, arith}
 use Rattle.std.proofs.lemmas.Bool.{cases_lt}
 use Rattle.std.proofs.lemmas.List.Elements.{All-contains, Contains-get_or}
 use Rattle.std.proofs.lemmas.List.{length-append}
@@ -62,7 +63,8 @@ module _ (log : List Entry) (kinds : List AccessKind) where
       let here : r.first < r.second = m.racing.earlier in
       let there : s.first < s.second = t.racing.earlier in
       elim (cases_lt r.first s.first) [
-        | inl before ↦ absurd (m.last s.first before (omega (arith, there, met)) (subst (λ (a : ThreadAccess). IsAccess log kinds s.first a) (sym same) t.racing.made))
+        | inl before ↦ absurd (m.last s.first before (omega (arith, there, met))
+            (subst (λ (a : ThreadAccess). IsAccess log kinds s.first a) (sym same) t.racing.made))
         | inr ge ↦ elim (cases_lt s.first r.first) [
           | inl after ↦ absurd (t.last r.first after (omega (arith, here, met)) made)
           | inr le ↦

@@ -76,5 +76,6 @@ race_says shown story kinds r name one other order text named (row, says, one_is
           ∙ (ap (λ (x : List ℕ). x ++ (codes ": " ++ (one ++ (codes "; " ++ (other ++ (codes "\n" ++ (order ++ codes "\n"))))))) named
           ∙ (ap (λ (x : List ℕ). name_text kinds r ++ (codes ": " ++ (x ++ (codes "; " ++ (other ++ (codes "\n" ++ (order ++ codes "\n"))))))) one_is
           ∙ (ap (λ (x : List ℕ). name_text kinds r ++ (codes ": " ++ (entry_text row ++ (codes "; " ++ (x ++ (codes "\n" ++ (order ++ codes "\n"))))))) other_is
-          ∙ ap (λ (x : List ℕ). name_text kinds r ++ (codes ": " ++ (entry_text row ++ (codes "; " ++ (entry_text row2 ++ (codes "\n" ++ (x ++ codes "\n"))))))) ordered)));
+          ∙ ap (λ (x : List ℕ). name_text kinds r ++ (codes ": " ++ (entry_text row ++ (codes "; " ++ (entry_text row2 ++ (codes "\n" ++ (x ++ codes "\n")))))))
+          ordered)));
     }

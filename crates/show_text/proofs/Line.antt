@@ -4,7 +4,8 @@ use Rattle.std.proofs.Common.{length, map, take, drop, get_or, Option, Some, Non
 use Rattle.std.specs.List.{slice_get, filter, filter_map, flat_map, range_with_len}
 use Rattle.std.specs.Option.{option_to_list}
 use Rattle.std.proofs.lemmas.Bool.{eqb-true, ltb-true, ltb-false, eq-eqb, ne_eqb, cond-true, cond-false}
-use Rattle.std.proofs.lemmas.List.{append-nil, take_more, take_all, take-append-le, drop-append-le, drop_all, drop_min, drop-drop, length_push, map_push, map-id}
+use Rattle.std.proofs.lemmas.List.{append-nil, take_more, take_all, take-append-le, drop-append-le, drop_all, drop_min}
+use Rattle.std.proofs.lemmas.List.{drop-drop, length_push, map_push, map-id}
 use Rattle.std.proofs.lemmas.List.Concat.{flat_map-append}
 use Rattle.std.proofs.lemmas.List.Elements.{filter-append, filter_map-append}
 use Rattle.std.proofs.lemmas.List.FromFn.{map-range_with_len_more}
@@ -15,7 +16,8 @@ use Rattle.show_text.specs.declared.woken.Wake.{Wake}
 use Rattle.show_text.specs.declared.woken.NotifyCall.{NotifyCall}
 use Rattle.show_text.specs.declared.woken.Waking.{Waking}
 use Rattle.show_text.specs.declared.woken.SleepingThread.{SleepingThread}
-use Rattle.show_text.specs.Woken.{is_at, left_behind, kept_of, woken_of, wake_of, most_by, woken_from, sleeper_by, sleeper_at, asleep, notified_by, notified_at, woken_before, line_at, woken_by}
+use Rattle.show_text.specs.Woken.{is_at, left_behind, kept_of, woken_of, wake_of, most_by, woken_from, sleeper_by}
+use Rattle.show_text.specs.Woken.{sleeper_at, asleep, notified_by, notified_at, woken_before, line_at, woken_by}
 
 filter_off : (p : SleepingThread → Bool) (xs : List SleepingThread) (s : SleepingThread) → p s ≡ false → filter p (xs ++ s ∷ []) ≡ filter p xs
 filter_off p xs s e =
@@ -45,7 +47,8 @@ gone_more p m kept gone s true e short h =
     ap (filter p) (append-nil kept) ∙ (h ∙ (old ∙ sym (ap (drop m) (filter_on p gone s e) ∙ new)))
 
 -- A notify with so many to wake has come past some sleepers.
-pub record IsPast (notify addr most : ℕ) (before : List Wake) (gone : List SleepingThread) (left : ℕ) (kept : List SleepingThread) (wakes : List Wake) : Type 0 where
+pub record IsPast (notify addr most : ℕ) (before : List Wake) (gone : List SleepingThread) (left : ℕ) (kept : List SleepingThread) (wakes : List Wake) :
+    Type 0 where
   left_is : left ≡ most - length (filter (is_at addr) gone)
   wakes_are : wakes ≡ before ++ map (wake_of notify) (take most (filter (is_at addr) gone))
   kept_are : (other : ℕ) → filter (is_at other) kept ≡ drop (cond (eqb addr other) most 0) (filter (is_at other) gone)

@@ -91,7 +91,8 @@ module _ (n : ℕ) {log : List Entry} {p q : ℕ} {e : Entry} (x : IsEntryAt log
   this_place k addrs is t = subst (λ j. TouchesAt n log j addrs) is t
 
   counts : (b : Bool) → is_touch n e ≡ b → count_from n log p ≡ length (cond b (e ∷ filter (is_touch n) (drop q log)) (filter (is_touch n) (drop q log)))
-  counts b is = ap (λ l. length (filter (is_touch n) l)) x.more ∙ ap (λ c. length (cond c (e ∷ filter (is_touch n) (drop q log)) (filter (is_touch n) (drop q log)))) is
+  counts b is = ap (λ l. length (filter (is_touch n) l)) x.more ∙
+      ap (λ c. length (cond c (e ∷ filter (is_touch n) (drop q log)) (filter (is_touch n) (drop q log)))) is
 
   -- at this place or behind it
   above : (k : ℕ) → p ≤ k → (k ≡ p) ⊎ (q ≤ k)

@@ -1,5 +1,7 @@
 -- Who waits for whom, and where that comes back to where it began.
-use Rattle.std.proofs.Common.{◌≡◌, ◌<◌, ◌≤◌, ◌+◌, ◌++◌, inl, inr, ℕ, List, [], ◌∷◌, length, take, get_or, append_assoc, length-append, All, Option, Some, None, refl, sym, ap, subst, ◌∙◌, slice_get, slice_index_or, arith}
+use Rattle.std.proofs.Common.{◌≡◌, ◌<◌, ◌≤◌, ◌+◌, ◌++◌, inl, inr, ℕ, List, [], ◌∷◌, length, take, get_or, append_assoc}
+use Rattle.std.proofs.Common.{length-append, All, Option, Some, None, refl, sym, ap, subst, ◌∙◌, slice_get}
+use Rattle.std.proofs.Common.{slice_index_or, arith}
 use Rattle.std.proofs.lemmas.Bool.{cases_lt}
 use Rattle.std.proofs.lemmas.List.Elements.{All-head, All-nil, All-push, All-tail}
 use Rattle.std.proofs.lemmas.Option.{get_or_from_slice_get}
@@ -54,7 +56,8 @@ module _ (log : List Entry) (ends : List ThreadReport) (n m : ℕ) (w : WaitsFor
 
   pub same_writer : (k : ℕ) (last : IsLast (acts.OtherWrite s.addrs n) log (length log) k) → m ≡ last.entry.thread
   same_writer k last =
-      let e : Some w.last.entry ≡ Some last.entry = sym w.last.at ∙ (ap (slice_get log) (same_last (acts.OtherWrite s.addrs n) log (length log) w.place k last_there last) ∙ last.at) in
+      let e : Some w.last.entry ≡ Some last.entry = sym w.last.at ∙
+      (ap (slice_get log) (same_last (acts.OtherWrite s.addrs n) log (length log) w.place k last_there last) ∙ last.at) in
       let same : w.last.entry ≡ last.entry = cc e in
       sym w.writer ∙ ap (λ (x : Entry). x.thread) same
 

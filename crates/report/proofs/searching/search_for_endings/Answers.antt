@@ -77,7 +77,8 @@ returns-in-AllMade-clause-tells g c =
     let headed = contents c.tell_table.new.out in
     let after = contents c.end_without.new.out in
     let save = changed g.S.Write.contents c.args.save.now c.args.save.now in
-    if_both c.end_without.result (λ (done : Done). EndsNone s.form s.sought table false None (behind_text false s.sought table) done.status (change headed after))
+    if_both c.end_without.result (λ (done : Done). EndsNone s.form s.sought table false None (behind_text false s.sought table) done.status
+    (change headed after))
     (λ (done : Done). IsStatusOfTable s.sought table done.status)
     (λ (done : Done). TellsDrawn q.parts s (change before after) save done.status)
     (λ done rest is. record {
@@ -90,7 +91,8 @@ returns-in-AllMade-clause-tells g c =
         is_told = false;
         all_made = λ _. c.in-Ok.ensures.all_made c.in-AllMade.is;
         none = λ _ stops. c.in-Ok.ensures.none c.in-AllMade.is stops;
-        tells = none_told s.form s.sought table false None (behind_text false s.sought table) done.status before headed after c.in_ok-tell_table.ensures.tells rest;
+        tells = none_told s.form s.sought table false None (behind_text false s.sought table) done.status before headed after
+            c.in_ok-tell_table.ensures.tells rest;
         status_is = is;
         kept = refl;
       });
@@ -107,7 +109,8 @@ returns-clause-tells g c =
     let headed = contents c.tell_table.new.out in
     let after = contents c.end_without-in-Told.new.out in
     let save = changed g.S.Write.contents c.args.save.now c.args.save.now in
-    if_both c.end_without-in-Told.result (λ (done : Done). EndsNone s.form s.sought table true None (behind_text true s.sought table) done.status (change headed after))
+    if_both c.end_without-in-Told.result (λ (done : Done). EndsNone s.form s.sought table true None (behind_text true s.sought table) done.status
+    (change headed after))
     (λ (done : Done). IsStatusOfTable s.sought table done.status)
     (λ (done : Done). TellsDrawn q.parts s (change before after) save done.status)
     (λ done rest is. record {
@@ -120,7 +123,8 @@ returns-clause-tells g c =
         is_told = true;
         all_made = λ no. absurd (true≢false no);
         none = λ no _. absurd (true≢false no);
-        tells = none_told s.form s.sought table true None (behind_text true s.sought table) done.status before headed after c.in_ok-tell_table.ensures.tells rest;
+        tells = none_told s.form s.sought table true None (behind_text true s.sought table) done.status before headed after
+            c.in_ok-tell_table.ensures.tells rest;
         status_is = is;
         kept = refl;
       });

@@ -21,5 +21,6 @@ returns-in-Json-clause-tells g c =
     let table = c.args.table.now in
     let is_told = c.args.is_told in
     let out = changed g.W.Write.contents c.args.out.now c.write_none.new.out in
-    subst (λ (form : Form). IfOk c.write_none.result (λ _. EndsNone form s table is_told None (behind_text is_told s table) c.args.status out)) (sym c.in-Json.is)
+    subst (λ (form : Form). IfOk c.write_none.result (λ _. EndsNone form s table is_told None (behind_text is_told s table) c.args.status out))
+    (sym c.in-Json.is)
     c.write_none.ensures.written

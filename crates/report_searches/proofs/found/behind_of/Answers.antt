@@ -11,7 +11,8 @@ use Rattle.report_searches.proofs.Sought.{none_of}
 use Rattle.report_searches.proofs.found.behind_of.Goals as goal
 
 -- where nothing was found, with a status
-has_nothing : (q : Requested) (s : Search) (w : WholeSearch) (status : ℕ) (b : StatusAndFound) → b ≡ record { status = status; found = None } → HasNothing s w.all
+has_nothing : (q : Requested) (s : Search) (w : WholeSearch) (status : ℕ) (b : StatusAndFound) → b ≡ record { status = status; found = None } →
+    HasNothing s w.all
     → HasFound q s w b.found
 has_nothing q s w status b is none = subst (λ (o : Option FoundRun). HasFound q s w o) (sym (ap (λ (x : StatusAndFound). x.found) is)) none
 

@@ -11,4 +11,5 @@ returns-in_default-clause-noted g c =
 
 pub returns-clause-drawn : goal.returns-clause-drawn
 returns-clause-drawn g c =
-    drawn_of c.args.request.now c.args.sought.now c.in-Some.entries (rw c.in-Some.is at c.in_ok-told.ensures.points) c.in_ok-searched.searched.halt c.in_ok-searched.ensures.drawn
+    drawn_of c.args.request.now c.args.sought.now c.in-Some.entries (rw c.in-Some.is at c.in_ok-told.ensures.points) c.in_ok-searched.searched.halt
+    c.in_ok-searched.ensures.drawn

@@ -12,9 +12,11 @@ returns-then-meets-clause-some c =
 
 pub loop-other-preserved : goal.loop-other-preserved
 loop-other-preserved c = record {
-  missed = below_one_more (λ (u : ℕ). (b : NextAccess) → access_at c.args.wanted.now u ≡ Some b → u ≢ c.args.thread → Race c.args.access b → ⊥) c.loop-other.other
+  missed = below_one_more (λ (u : ℕ). (b : NextAccess) → access_at c.args.wanted.now u ≡ Some b → u ≢ c.args.thread → Race c.args.access b → ⊥)
+      c.loop-other.other
       c.loop-other.invariant.missed
-      (λ b at d r. true≢false (sym (c.meets.ensures.1 (b, sym (access-here c.args.wanted.now c.loop-other.other None c.loop-other-test.true) ∙ at, d, r)) ∙ c.if-meets.false));
+      (λ b at d r. true≢false (sym (c.meets.ensures.1 (b, sym (access-here c.args.wanted.now c.loop-other.other None c.loop-other-test.true) ∙ at, d, r)) ∙
+      c.if-meets.false));
 }
 
 pub returns-clause-none : goal.returns-clause-none

@@ -28,6 +28,31 @@ returns g c =
     let n_levels = count_given (codes "gone_through") number levels endings in
     let given_is = ap given c.levels_of-levels.ensures in
     let fields = complete_fields complete in
-    let all : 5 + c.count_races.result + (c.given.result + c.given-2.result + c.given-3.result) ≡ count fields = omega (arith, n_levels, n_live, n_found, n_more, given_is) in
-    on_ok_weaker c.end_map.result (object_sent fields _ _ _ _ _ all c.in_ok-begin_map.ensures
-    (_, c.in_ok-put.ensures, (_, same_field (codes "verdict") _ _ _ _ (ap text c.verdict_of.ensures) c.in_ok-put-2.ensures, (_, c.in_ok-put-3.ensures, (_, c.in_ok-put-4.ensures, (_, given_same (codes "gone_through") _ _ _ _ c.levels_of-levels.ensures c.in_ok-put_if.ensures, (_, same_field (codes "endings") _ _ _ _ (ap (list_of ending_json) c.as_slice.ensures.keys) c.in_ok-put_list.ensures, sent_more (races_fields complete.races) live _ _ _ c.in_ok-put_races.ensures (_, c.in_ok-put_if-2.ensures, (_, c.in_ok-put_if-3.ensures, refl))))))))) c.end_map.ensures
+    let all : 5 + c.count_races.result + (c.given.result + c.given-2.result + c.given-3.result) ≡ count fields = omega
+    (arith, n_levels, n_live, n_found, n_more, given_is) in
+    on_ok_weaker c.end_map.result (object_sent fields _ _ _ _ _ all c.in_ok-begin_map.ensures (
+      _,
+      c.in_ok-put.ensures,
+      (
+        _,
+        same_field (codes "verdict") _ _ _ _ (ap text c.verdict_of.ensures) c.in_ok-put-2.ensures,
+        (
+          _,
+          c.in_ok-put-3.ensures,
+          (
+            _,
+            c.in_ok-put-4.ensures,
+            (
+              _,
+              given_same (codes "gone_through") _ _ _ _ c.levels_of-levels.ensures c.in_ok-put_if.ensures,
+              (
+                _,
+                same_field (codes "endings") _ _ _ _ (ap (list_of ending_json) c.as_slice.ensures.keys) c.in_ok-put_list.ensures,
+                sent_more (races_fields complete.races) live _ _ _ c.in_ok-put_races.ensures (_, c.in_ok-put_if-2.ensures, (_, c.in_ok-put_if-3.ensures, refl)),
+              ),
+            ),
+          ),
+        ),
+      ),
+    ))
+    c.end_map.ensures

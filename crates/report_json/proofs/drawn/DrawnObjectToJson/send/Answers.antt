@@ -16,5 +16,21 @@ returns g c =
     let n_more = count_more (races_fields drawn.races) last in
     let fields = drawn_fields drawn in
     let all : 5 + c.count_races.result ≡ count fields = omega (arith, n_end, n_more) in
-    on_ok_weaker c.end_map.result (object_sent fields _ _ _ _ _ all c.in_ok-begin_map.ensures
-    (_, c.in_ok-put.ensures, (_, same_field (codes "verdict") _ _ _ _ (ap text c.verdict_of.ensures) c.in_ok-put-2.ensures, (_, c.in_ok-put-3.ensures, (_, c.in_ok-put_list.ensures, sent_more (races_fields drawn.races) last _ _ _ c.in_ok-put_races.ensures (_, c.in_ok-put_end.ensures, refl)))))) c.end_map.ensures
+    on_ok_weaker c.end_map.result (object_sent fields _ _ _ _ _ all c.in_ok-begin_map.ensures (
+      _,
+      c.in_ok-put.ensures,
+      (
+        _,
+        same_field (codes "verdict") _ _ _ _ (ap text c.verdict_of.ensures) c.in_ok-put-2.ensures,
+        (
+          _,
+          c.in_ok-put-3.ensures,
+          (
+            _,
+            c.in_ok-put_list.ensures,
+            sent_more (races_fields drawn.races) last _ _ _ c.in_ok-put_races.ensures
+                (_, c.in_ok-put_end.ensures, refl),
+          ),
+        ),
+      ),
+    )) c.end_map.ensures

@@ -14,5 +14,20 @@ returns g c =
     let n_hints = count_some (codes "hints") (λ hint. text hint.now) run.hints.now [] in
     let fields = run_fields run in
     let all : 3 + c.from.result + c.some.result ≡ count fields = omega (arith, n_bytes, n_hints) in
-    on_ok_weaker c.end_map.result (object_sent fields _ _ _ _ _ all c.in_ok-begin_map.ensures
-    (_, same_field (codes "status") _ _ _ _ (ap number c.status_of.ensures) c.in_ok-put.ensures, (_, c.in_ok-put-2.ensures, (_, c.in_ok-put-3.ensures, (_, same_bytes _ _ _ _ _ _ refl c.first_bytes.ensures c.in_ok-put_bytes.ensures, (_, c.in_ok-put_some.ensures, refl)))))) c.end_map.ensures
+    on_ok_weaker c.end_map.result (object_sent fields _ _ _ _ _ all c.in_ok-begin_map.ensures (
+      _,
+      same_field (codes "status") _ _ _ _ (ap number c.status_of.ensures) c.in_ok-put.ensures,
+      (
+        _,
+        c.in_ok-put-2.ensures,
+        (
+          _,
+          c.in_ok-put-3.ensures,
+          (
+            _,
+            same_bytes _ _ _ _ _ _ refl c.first_bytes.ensures c.in_ok-put_bytes.ensures,
+            (_, c.in_ok-put_some.ensures, refl),
+          ),
+        ),
+      ),
+    )) c.end_map.ensures

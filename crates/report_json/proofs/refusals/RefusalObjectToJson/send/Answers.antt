@@ -13,4 +13,5 @@ returns g c =
     let fields = refusal_fields refusal in
     let all : 2 + c.some.result ≡ count fields = omega (arith, n_hints) in
     on_ok_weaker c.end_map.result (object_sent fields _ _ _ _ _ all c.in_ok-begin_map.ensures
-    (_, same_field (codes "status") _ _ _ _ (ap number c.status.ensures) c.in_ok-put.ensures, (_, c.in_ok-put-2.ensures, (_, c.in_ok-put_some.ensures, refl)))) c.end_map.ensures
+    (_, same_field (codes "status") _ _ _ _ (ap number c.status.ensures) c.in_ok-put.ensures, (_, c.in_ok-put-2.ensures, (_, c.in_ok-put_some.ensures, refl))))
+    c.end_map.ensures

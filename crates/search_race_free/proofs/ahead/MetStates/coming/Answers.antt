@@ -14,7 +14,8 @@ pub returns-in_default : goal.returns-in_default
 returns-in_default g c =
     let m = c.args.self.now.system.now in
     let met = c.requires in
-    absurd (copy-none (g.M.Moves.threads m) (g.M.Moves.ends m) (g.M.Moves.stuck m) c.args.self.now.table.now c.args.at c.in_ok-state.field-0 c.in_ok-state.ensures
+    absurd (copy-none (g.M.Moves.threads m) (g.M.Moves.ends m) (g.M.Moves.stuck m) c.args.self.now.table.now c.args.at c.in_ok-state.field-0
+    c.in_ok-state.ensures
     c.in_default.is met.0 met.1 met.2 met.3)
 
 pub next_states-requires : goal.next_states-requires

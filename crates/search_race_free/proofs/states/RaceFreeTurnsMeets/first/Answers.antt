@@ -22,7 +22,8 @@ returns-in_ok-put-in-To-clause-first g c _ =
     first-ahead k (g.M.Moves.ends m) (g.M.Moves.stuck m) (record { met = met; ahead = t.ahead })
     (none-yet k (g.M.Moves.ends m) (g.M.Moves.stuck m) t c.requires)
     (first-put k (g.M.Moves.ends m) (g.M.Moves.stuck m) g.M.Shared.PartialEq.eq g.M.Thread.PartialEq.eq
-    (owning_alike g.M.Shared.PartialEq.eq g.M.Thread.PartialEq.eq g.met.M.Shared.Eq.laws g.met.M.Thread.Eq.laws k (g.met.M.Moves.same_shared m) (g.met.M.Moves.same_thread m))
+    (owning_alike g.M.Shared.PartialEq.eq g.M.Thread.PartialEq.eq g.met.M.Shared.Eq.laws g.met.M.Thread.Eq.laws k (g.met.M.Moves.same_shared m)
+    (g.met.M.Moves.same_thread m))
     t.met met c.requires.owning put.are c.in_ok-row-in-To.row.items
     (put.states ∙ ap (with_row (states_of t.met.states)) c.as_slice.ensures.value) c.in-To.state
     (begun-first k (g.met.M.Moves.tame m) (g.met.M.Accesses.plain m) (g.M.Moves.ends m) (g.M.Moves.stuck m) c.in-To.state
