@@ -3,5 +3,6 @@ pub mod RunMoments
 pub mod RaceObjects
 pub mod Raced
 pub mod Sighted
+pub mod Scenes
 pub mod Silent
 pub mod Looked

@@ -22,6 +22,7 @@ mod objects;
 mod pairing;
 mod printing;
 mod racing;
+mod scenes;
 mod showing;
 mod sighting;
 mod wanted;

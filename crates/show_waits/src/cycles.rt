@@ -101,3 +101,37 @@ pub(crate) fn cycle_from(
     }
     Ok(None)
 }
+
+/// Puts a cycle behind the others, if there is one: the thread, and the others that wait in it.
+fn put_cycle(
+    alloc: Global,
+    cycles: &mut Vec<Vec<usize>>,
+    n: usize,
+    others: Option<Vec<usize>>,
+) -> Result<(), AllocError> {
+    let Some(others) = others else {
+        return Ok(());
+    };
+    let mut cycle = Vec::with_capacity(alloc, others.len())?;
+    cycle.push(n)?;
+    cycle.extend_from_slice(others.as_slice())?;
+    cycles.push(cycle)
+}
+
+/// The cycles in which threads wait for one another at the end of a log, each from its thread of the lowest number on.
+///
+/// # Errors
+/// Where memory is refused.
+pub fn cycles_told(
+    alloc: Global,
+    log: &[Entry],
+    ends: &[ThreadReport],
+) -> Result<Vec<Vec<usize>>, AllocError> {
+    let waits = waits_of(alloc, log, ends)?;
+    let mut cycles = Vec::new(alloc);
+    for n in 0..ends.len() {
+        let others = cycle_from(alloc, waits.as_slice(), n)?;
+        put_cycle(alloc, &mut cycles, n, others)?;
+    }
+    Ok(cycles)
+}
