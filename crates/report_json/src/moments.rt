@@ -1,11 +1,10 @@
 //! Moments of a run: what threads and memory are like before an entry, and behind the last one; and a last write.
-ghost use Rattle.std.specs.Prelude.{◌≡◌, IfErr, OnOk};
+ghost use Rattle.std.specs.Prelude.{◌≡◌, IfErr};
 ghost use Rattle.replay_forms.specs.Texts.{Wrote};
 ghost use Rattle.report_json.specs.Json.{json_line};
 ghost use Rattle.report_json.specs.Moments as specified;
-ghost use Rattle.report_json.specs.Moments.{end_json, ended_json, last_json, memory_json, moment_json, sleeper_json};
+ghost use Rattle.report_json.specs.Moments.{cycle_json, end_json, ended_json, last_json, memory_json, moment_json, sleeper_json};
 ghost use Rattle.report_json.specs.Moments.{state_json, thread_json, waits_json, wrote_json};
-ghost use Rattle.report_json.specs.Sent.{SendsField};
 ghost use Rattle.report_json.specs.Unwritten.{LeavesAs};
 
 use crate::ends::Hex;
@@ -230,9 +229,7 @@ impl ToJson for EndedThread<'_> {
 }
 
 impl ToJson for Vec<usize> {
-    ghost use Rattle.report_json.specs.Json.{list_of, number};
-
-    ghost json = { λ v. list_of number v.items };
+    ghost json = { cycle_json };
 
     fn send<S: Serializer>(&self, alloc: Global, out: &mut S) -> Result<(), S::Error> {
         send_list(alloc, out, self.as_slice())

@@ -3,4 +3,3 @@ pub mod Walked
 mod Listed
 mod Nexts
 mod Scenes
-mod Told

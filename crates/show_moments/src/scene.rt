@@ -81,17 +81,18 @@ fn other_of(race: Race, at: usize) -> Option<usize>
 fn put_if_any<T: Drop>(items: &mut Vec<T>, item: Option<T>) -> Result<(), AllocError>
     ensures { OnOk result (items.new.items ≡ items.old.items ++ option_to_list item.entry) }
 {
-    match item {
-        Some(item) => items.push(item),
-        None => Ok(()),
+    if let Some(item) = item {
+        items.push(item)?;
     }
+    Ok(())
 }
 
 /// Puts an item behind the others.
 fn put<T: Drop>(items: &mut Vec<T>, item: T) -> Result<(), AllocError>
     ensures { OnOk result (items.new.items ≡ items.old.items ++ item.entry ∷ []) }
 {
-    items.push(item)
+    items.push(item)?;
+    Ok(())
 }
 
 /// The type at a place, if there are so many.

@@ -115,7 +115,8 @@ fn put_cycle(
     let mut cycle = Vec::with_capacity(alloc, others.len())?;
     cycle.push(n)?;
     cycle.extend_from_slice(others.as_slice())?;
-    cycles.push(cycle)
+    cycles.push(cycle)?;
+    Ok(())
 }
 
 /// The cycles in which threads wait for one another at the end of a log, each from its thread of the lowest number on.
