@@ -1,3 +1,4 @@
+pub mod Ends
 pub mod PageMoments
 pub mod RunMoments
 pub mod RaceObjects

@@ -17,6 +17,7 @@ use Rattle.report_command.specs.declared.form.Form.{Form}
 use Rattle.report_command.specs.declared.form.Form.TheVariants.{Lines, Json}
 use Rattle.show_named.specs.declared.data_map.DataMap.{DataMap}
 use Rattle.show_rows.specs.declared.listing.Shown.{Shown}
+use Rattle.report_looks.specs.Ends.{WritesEnd}
 use Rattle.report_looks.specs.Scenes.{WritesScene}
 use Rattle.report_looks.specs.declared.wanted.Here.{Here}
 
@@ -44,13 +45,13 @@ pub record IsViewOf (m : Parts) (shown : Shown) (map : DataMap) (is_raw : Bool) 
   pub of_data : view.map.now ≡ map
   pub raw : view.is_raw ≡ is_raw
 
--- What threads and memory are like before an entry is written, in lines or as an object; of the end nothing is said here.
+-- What threads and memory are like before an entry, or at the end, is written, in lines or as an object.
 abbrev pub WritesIn : Form → MomentView → Moment → List Race → Option (List ℕ) → Option (List ℕ) → Type 0
 WritesIn Lines view moment races old new = WritesMoment view moment races old new
 WritesIn Json view moment races old new = WritesScene view moment races old new
 
 abbrev pub WritesAt : MomentView → Bool → Form → Moment → Option (List ℕ) → Option (List ℕ) → Type 0
-WritesAt view true form moment old new = Unit {0}
+WritesAt view true form moment old new = WritesEnd form view moment old new
 WritesAt view false form moment old new = (races : List Race) × WritesIn form view moment races old new
 
 pub record WritesHere (m : Parts) (shown : Shown) (map : DataMap) (here : Here) (moment : Moment)

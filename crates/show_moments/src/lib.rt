@@ -22,4 +22,5 @@ pub use lines::write_moment;
 pub use moment::{Bytes, Moment};
 pub use scene::{MomentView, Scene};
 pub use standing::{OpenFunction, ThreadSnapshot};
+pub use texts::dump_text;
 pub use told::{Stance, ToldMoment, ToldNext, ToldThread};

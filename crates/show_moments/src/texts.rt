@@ -86,7 +86,10 @@ impl fmt::Display for Byte {
 }
 
 /// Bytes from an address on, with the address of the first one in each line.
-pub(crate) fn dump_text(alloc: Global, addr: u64, bytes: &[u8]) -> Result<String, AllocError>
+///
+/// # Errors
+/// Where memory is refused.
+pub fn dump_text(alloc: Global, addr: u64, bytes: &[u8]) -> Result<String, AllocError>
     ensures { IfOk result (λ text. string_bytes text ≡ specified.dump_text addr bytes.now) }
 {
     let mut text = String::new(alloc);
