@@ -16,7 +16,7 @@ row_fields named =
     is (codes "line") (number named.row.line)
     ∷ is (codes "thread") (number named.row.words.entry.thread)
     ∷ is (codes "words") (text (words_text named.row.words))
-    ∷ is_given (codes "data") string_json named.«data»
+    ∷ is_given (codes "data") string_json named.name
     ∷ is_given (codes "at") place_json named.row.place
     ∷ []
 

@@ -35,7 +35,7 @@ impl ToJson for Words<'_> {
 #[derive(Drop)]
 pub struct NamedRow<'a> {
     pub row: Row<'a>,
-    pub data: Option<String>,
+    pub name: Option<String>,
 }
 
 impl ToJson for NamedRow<'_> {
@@ -43,11 +43,11 @@ impl ToJson for NamedRow<'_> {
 
     fn send<S: Serializer>(&self, alloc: Global, out: &mut S) -> Result<(), S::Error> {
         let Row { line, words, place } = self.row;
-        out.begin_map(Some(3 + given(&self.data) + given(&place)))?;
+        out.begin_map(Some(3 + given(&self.name) + given(&place)))?;
         put(alloc, out, "line", &line)?;
         put(alloc, out, "thread", &words.entry.thread)?;
         put(alloc, out, "words", &words)?;
-        put_if(alloc, out, "data", &self.data)?;
+        put_if(alloc, out, "data", &self.name)?;
         put_if(alloc, out, "at", &place)?;
         out.end_map()
     }

@@ -39,7 +39,7 @@ fn are_printed(alloc: Global, rows: &[NamedRow], text: &str) -> bool {
 
 /// An entry without a name.
 fn nameless(row: Row<'static>) -> NamedRow<'static> {
-    NamedRow { row, data: None }
+    NamedRow { row, name: None }
 }
 
 #[test]
@@ -56,7 +56,7 @@ fn entries(rt: HostRuntime) -> Result<(), Fail> {
     });
     let named = NamedRow {
         row: LOAD,
-        data: Some(String::from_str(rt.alloc(), "queue.head")?),
+        name: Some(String::from_str(rt.alloc(), "queue.head")?),
     };
     if !are_printed(rt.alloc(), &[], "{\"status\":0,\"rows\":[]}\n") {
         return Err(Fail::new("no entry"));

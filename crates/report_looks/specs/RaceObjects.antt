@@ -66,7 +66,7 @@ pub record IsNamedRowAt (shown : Shown) (map : DataMap) (story : Story) (at : �
   pub made : Entry
   pub stands : slice_get shown.record.now.log at ≡ Some made
   pub row_of : IsRowOf shown story at made named.row
-  pub data_is : OnSome named.«data» (HasData map made.event)
+  pub named_as : OnSome named.name (HasData map made.event)
 
 -- What was written is the row of the entry at a place; and those of the entries at these places, in order.
 abbrev pub AddsRow : Shown → DataMap → Story → ℕ → Bool → Option (List ℕ) → Option (List ℕ) → Type 0

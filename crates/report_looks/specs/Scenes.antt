@@ -1,5 +1,5 @@
 -- What an object has of a moment, and of a last write.
-use Rattle.std.specs.Prelude.{ℕ, ◌≡◌, ◌<◌, List, [], ◌∷◌, map, length, Option, Some, None}
+use Rattle.std.specs.Prelude.{ℕ, ◌≡◌, ◌<◌, ◌≤◌, List, [], length, Option, Some, None}
 use Rattle.std.specs.List.{AllZip}
 use Rattle.std.specs.Io.KnownBytes.{Appends}
 use Rattle.race_history.specs.declared.race.Race.{Race}
@@ -96,13 +96,10 @@ asleep_in None = []
 asleep_in (Some queue) = queue.sleepers.items
 
 -- The bytes that are wanted, if some are.
-abbrev pub IsMemoryBy : Moment → ℕ → Option MemoryBytes → Type 0
-IsMemoryBy moment 0 memory = memory ≡ None
-IsMemoryBy moment count None = ⊥
-IsMemoryBy moment count (Some memory) = (memory.addr ≡ moment.wanted.addr) × (memory.bytes.now ≡ moment.bytes.items)
-
 abbrev pub IsMemoryOf : Moment → Option MemoryBytes → Type 0
-IsMemoryOf moment memory = IsMemoryBy moment moment.wanted.count memory
+IsMemoryOf moment None = moment.wanted.count ≡ 0
+IsMemoryOf moment (Some memory) = (1 ≤ moment.wanted.count) × (memory.addr ≡ moment.wanted.addr)
+    × (memory.bytes.now ≡ moment.bytes.items)
 
 -- The object has what is told of the moment.
 pub record IsObjectOf (s : Seen) (told : ToldMoment) (m : MomentShown) : Type 0 where

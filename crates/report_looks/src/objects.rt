@@ -70,10 +70,10 @@ pub(crate) fn named_row<'a>(
     ensures { IfOk result (IsNamedRowAt shown.now map.now story.now at) }
 {
     let entry = &shown.record.log.as_slice()[at];
-    let data = map.data_of(alloc, entry.event)?;
+    let name = map.data_of(alloc, entry.event)?;
     Ok(NamedRow {
         row: row_of(shown, story, at, entry),
-        data,
+        name,
     })
 }
 

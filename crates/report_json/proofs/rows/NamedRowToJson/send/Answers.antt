@@ -11,7 +11,7 @@ pub returns : goal.returns
 returns g c =
     let named = c.args.self.now in
     let last = is_given (codes "at") place_json named.row.place ∷ [] in
-    let n_data = count_given (codes "data") string_json named.«data» last in
+    let n_data = count_given (codes "data") string_json named.name last in
     let n_at = count_given (codes "at") place_json named.row.place [] in
     let fields = row_fields named in
     let all : 3 + c.given.result + c.given-2.result ≡ count fields = omega (arith, n_data, n_at) in
