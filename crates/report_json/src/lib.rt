@@ -27,8 +27,8 @@ pub use drawn::{Coverage, Drawn, DrawnEnd, DrawnRuns, MetEnding, write_drawn};
 pub use ends::{RunEnd, status_of, write_run};
 pub use found::{Found, FoundAs, RunSize, Shrunk};
 pub use moments::{
-    EndShown, EndedThread, LastRow, MemoryBytes, MomentShown, MomentThread, ThreadState, WaitsFor, write_end, write_last,
-    write_moment,
+    EndShown, EndedThread, LastRow, MemoryBytes, MomentShown, MomentThread, ThreadState, WaitsFor,
+    write_end, write_last, write_moment,
 };
 pub use places::{Offset, Place, Source};
 pub use raced::{RacingThreads, RunRaces};
@@ -36,4 +36,6 @@ pub use races::{NextWrite, RaceEntry, RacePair, RacePairs, write_races};
 pub use refusals::{
     Failure, Refusal, Refused, write_accepted, write_done, write_failed, write_refusal,
 };
-pub use rows::{NamedRow, Row, begin_rows, end_rows, the_rows_are_one_object, write_row, write_rows};
+pub use rows::{
+    NamedRow, Row, begin_rows, end_rows, the_rows_are_one_object, write_row, write_rows,
+};

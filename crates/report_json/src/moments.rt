@@ -8,7 +8,9 @@ ghost use Rattle.report_json.specs.Moments.{state_json, thread_json, waits_json,
 ghost use Rattle.report_json.specs.Unwritten.{LeavesAs};
 
 use crate::ends::Hex;
-use crate::object::{ToJson, given, put, put_if, put_list, put_some, send_list, send_two, some, write_line};
+use crate::object::{
+    ToJson, given, put, put_if, put_list, put_some, send_list, send_two, some, write_line,
+};
 use crate::rows::NamedRow;
 use serde::Serializer;
 use shared_memory::Sleeper;

@@ -1,7 +1,8 @@
 //! Entries and races.
 
 use report_json::{
-    NamedRow, NextWrite, Place, RaceEntry, RacePair, RacePairs, Row, Source, write_races, write_rows,
+    NamedRow, NextWrite, Place, RaceEntry, RacePair, RacePairs, Row, Source, write_races,
+    write_rows,
 };
 use show_places::FunctionName;
 use show_text::{Context, Words};

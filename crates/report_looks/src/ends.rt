@@ -75,10 +75,7 @@ fn write_told<W: Write>(
 }
 
 /// How these threads ended, from thread 0 on.
-fn ends_told<'c>(
-    scene: &'c Scene,
-    reports: &[ThreadReport],
-) -> Result<Vec<ToldEnd<'c>>, AllocError>
+fn ends_told<'c>(scene: &'c Scene, reports: &[ThreadReport]) -> Result<Vec<ToldEnd<'c>>, AllocError>
     ensures { IfOk result (λ ends. AreEnds (seen scene.now) reports.now ends.items) }
 {
     let mut ends = Vec::with_capacity(scene.alloc, reports.len())?;
@@ -123,11 +120,7 @@ fn write_lines<W: Write>(scene: &Scene, ends: &[ToldEnd], out: &mut W) -> Result
 }
 
 /// Writes of each thread how it ended, and its open functions.
-fn write_threads<W: Write>(
-    alloc: Global,
-    ends: &[ToldEnd],
-    out: &mut W,
-) -> Result<(), Unwritten>
+fn write_threads<W: Write>(alloc: Global, ends: &[ToldEnd], out: &mut W) -> Result<(), Unwritten>
     ensures { OnOk result (WritesEnds ends.now (W.contents out.old) (W.contents out.new)) }
 {
     for k in 0..ends.len() {
@@ -153,11 +146,7 @@ fn write_object<W: Write>(scene: &Scene, ends: &[ToldEnd], out: &mut W) -> Resul
 {
     let record = scene.view.shown.record;
     let threads = ended_threads(scene, ends)?;
-    let cycles = cycles_told(
-        scene.alloc,
-        record.log.as_slice(),
-        record.ends.as_slice(),
-    )?;
+    let cycles = cycles_told(scene.alloc, record.log.as_slice(), record.ends.as_slice())?;
     let object = EndShown {
         threads: threads.as_slice(),
         cycles: cycles.as_slice(),
@@ -210,11 +199,7 @@ fn waits_of<'a>(
 }
 
 /// What a thread waits for, as the object has it.
-fn wait_of<'a>(
-    scene: &'a Scene,
-    thread: usize,
-    wait: ToldWait,
-) -> Result<WaitsFor<'a>, AllocError>
+fn wait_of<'a>(scene: &'a Scene, thread: usize, wait: ToldWait) -> Result<WaitsFor<'a>, AllocError>
     requires { IsToldWait thread scene.now.view.shown.record.now.log wait }
     ensures { IfOk result (IsWaitObject (seen scene.now) wait) }
 {

@@ -116,10 +116,7 @@ fn next_object<'a>(
 }
 
 /// A thread at a moment.
-fn thread_object<'a>(
-    scene: &'a Scene,
-    told: &'a ToldThread,
-) -> Result<MomentThread<'a>, AllocError>
+fn thread_object<'a>(scene: &'a Scene, told: &'a ToldThread) -> Result<MomentThread<'a>, AllocError>
     ensures { IfOk result (IsThreadObject (seen scene.now) told.now) }
 {
     match &told.next {

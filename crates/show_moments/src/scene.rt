@@ -308,7 +308,10 @@ impl<'c> Scene<'_, '_, '_, '_, '_, '_, '_, 'c, '_, '_, '_> {
     {
         let CodePlace { function, instr } = opened.place;
         let code = self.view.shown.code;
-        let frame = self.view.map.frame(self.alloc, code.named_offset(opened.place))?;
+        let frame = self
+            .view
+            .map
+            .frame(self.alloc, code.named_offset(opened.place))?;
         let locals = self.view.valid.local_types(self.alloc, function)?;
         let operands = operand_types(self.alloc, self.view.valid, function, instr)?;
         let is_listed = self.view.is_raw || !frame.is_known;

@@ -1,7 +1,7 @@
 //! What is told of an open function: where it is, the words of its locals and operands, and the values of its variables;
-//! and that as text. It is made by `show_moments`, and told as lines or as an object.
+//! and that as text. `show_moments` makes it; lines and objects tell it.
 //!
-//! Proved: `functions_text` is exactly the text that is defined for these functions, one behind the other.
+//! Proved: the lines of open functions are exactly those that are defined for them, one behind the other.
 //!
 //! - `specs/Values.antt`: a word by its type, a number that may have a sign, a variable's value.
 //! - `specs/Functions.antt`: an open function.

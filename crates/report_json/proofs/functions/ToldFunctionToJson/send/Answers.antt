@@ -34,11 +34,34 @@ returns g c =
     let s_values = some_same _ _ c.as_slice-values.ensures.value in
     let fields = function_fields f in
     let all : 1 + (c.given.result + c.given-2.result + c.given-3.result) + c.some.result + c.some-2.result + c.some-3.result
-        ≡ count fields =
+    ≡ count fields =
     omega (arith, n_offset, n_source, n_inlined, n_locals, n_operands, n_values, s_locals, s_operands, s_values) in
-    on_ok_weaker c.end_map.result (object_sent fields _ _ _ _ _ all c.in_ok-begin_map.ensures
-    (_, c.in_ok-put.ensures, (_, c.in_ok-put_offset.ensures, (_, c.in_ok-put_source.ensures, (_, c.in_ok-put_if.ensures,
-    (_, same_some (codes "locals") word_json _ _ _ _ c.as_slice-locals.ensures.value c.in_ok-put_some.ensures,
-    (_, same_some (codes "operands") word_json _ _ _ _ c.as_slice-operands.ensures.value c.in_ok-put_some-2.ensures,
-    (_, same_some (codes "values") value_json _ _ _ _ c.as_slice-values.ensures.value c.in_ok-put_some-3.ensures,
-    refl)))))))) c.end_map.ensures
+    on_ok_weaker c.end_map.result (object_sent fields _ _ _ _ _ all c.in_ok-begin_map.ensures (
+      _,
+      c.in_ok-put.ensures,
+      (
+        _,
+        c.in_ok-put_offset.ensures,
+        (
+          _,
+          c.in_ok-put_source.ensures,
+          (
+            _,
+            c.in_ok-put_if.ensures,
+            (
+              _,
+              same_some (codes "locals") word_json _ _ _ _ c.as_slice-locals.ensures.value c.in_ok-put_some.ensures,
+              (
+                _,
+                same_some (codes "operands") word_json _ _ _ _ c.as_slice-operands.ensures.value c.in_ok-put_some-2.ensures,
+                (
+                  _,
+                  same_some (codes "values") value_json _ _ _ _ c.as_slice-values.ensures.value c.in_ok-put_some-3.ensures,
+                  refl,
+                ),
+              ),
+            ),
+          ),
+        ),
+      ),
+    )) c.end_map.ensures

@@ -14,6 +14,16 @@ returns g c =
     let n_memory = count_given (codes "memory") memory_json e.memory [] in
     let fields = end_fields e in
     let all : 2 + c.some.result + c.given.result ≡ count fields = omega (arith, n_cycles, n_memory) in
-    on_ok_weaker c.end_map.result (object_sent fields _ _ _ _ _ all c.in_ok-begin_map.ensures
-    (_, c.in_ok-put.ensures, (_, c.in_ok-put_list.ensures, (_, c.in_ok-put_some.ensures,
-    (_, c.in_ok-put_if.ensures, refl))))) c.end_map.ensures
+    on_ok_weaker c.end_map.result (object_sent fields _ _ _ _ _ all c.in_ok-begin_map.ensures (
+      _,
+      c.in_ok-put.ensures,
+      (
+        _,
+        c.in_ok-put_list.ensures,
+        (
+          _,
+          c.in_ok-put_some.ensures,
+          (_, c.in_ok-put_if.ensures, refl),
+        ),
+      ),
+    )) c.end_map.ensures

@@ -15,6 +15,16 @@ returns g c =
     let n_waits = count_given (codes "waits") waits_json t.waits [] in
     let fields = ended_fields t in
     let all : 2 + c.some.result + c.given.result ≡ count fields = omega (arith, n_functions, n_waits) in
-    on_ok_weaker c.end_map.result (object_sent fields _ _ _ _ _ all c.in_ok-begin_map.ensures
-    (_, c.in_ok-put.ensures, (_, c.in_ok-put-2.ensures, (_, c.in_ok-put_some.ensures,
-    (_, c.in_ok-put_if.ensures, refl))))) c.end_map.ensures
+    on_ok_weaker c.end_map.result (object_sent fields _ _ _ _ _ all c.in_ok-begin_map.ensures (
+      _,
+      c.in_ok-put.ensures,
+      (
+        _,
+        c.in_ok-put-2.ensures,
+        (
+          _,
+          c.in_ok-put_some.ensures,
+          (_, c.in_ok-put_if.ensures, refl),
+        ),
+      ),
+    )) c.end_map.ensures

@@ -18,6 +18,20 @@ returns g c =
     let fields = moment_fields m in
     let all : 3 + (c.some.result + c.some-2.result + c.given.result) ≡ count fields =
     omega (arith, n_races, n_asleep, n_memory) in
-    on_ok_weaker c.end_map.result (object_sent fields _ _ _ _ _ all c.in_ok-begin_map.ensures
-    (_, c.in_ok-put.ensures, (_, c.in_ok-put-2.ensures, (_, c.in_ok-put_list.ensures, (_, c.in_ok-put_some.ensures,
-    (_, c.in_ok-put_some-2.ensures, (_, c.in_ok-put_if.ensures, refl))))))) c.end_map.ensures
+    on_ok_weaker c.end_map.result (object_sent fields _ _ _ _ _ all c.in_ok-begin_map.ensures (
+      _,
+      c.in_ok-put.ensures,
+      (
+        _,
+        c.in_ok-put-2.ensures,
+        (
+          _,
+          c.in_ok-put_list.ensures,
+          (
+            _,
+            c.in_ok-put_some.ensures,
+            (_, c.in_ok-put_some-2.ensures, (_, c.in_ok-put_if.ensures, refl)),
+          ),
+        ),
+      ),
+    )) c.end_map.ensures

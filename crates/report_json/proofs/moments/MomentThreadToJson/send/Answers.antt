@@ -21,6 +21,20 @@ returns g c =
     let fields = thread_fields t in
     let all : 2 + (c.given.result + c.given-2.result + c.given-3.result) + c.some.result ≡ count fields =
     omega (arith, n_entry, n_asked, n_write, n_functions) in
-    on_ok_weaker c.end_map.result (object_sent fields _ _ _ _ _ all c.in_ok-begin_map.ensures
-    (_, c.in_ok-put.ensures, (_, c.in_ok-put-2.ensures, (_, c.in_ok-put_if.ensures, (_, c.in_ok-put_if-2.ensures,
-    (_, c.in_ok-put_if-3.ensures, (_, c.in_ok-put_some.ensures, refl))))))) c.end_map.ensures
+    on_ok_weaker c.end_map.result (object_sent fields _ _ _ _ _ all c.in_ok-begin_map.ensures (
+      _,
+      c.in_ok-put.ensures,
+      (
+        _,
+        c.in_ok-put-2.ensures,
+        (
+          _,
+          c.in_ok-put_if.ensures,
+          (
+            _,
+            c.in_ok-put_if-2.ensures,
+            (_, c.in_ok-put_if-3.ensures, (_, c.in_ok-put_some.ensures, refl)),
+          ),
+        ),
+      ),
+    )) c.end_map.ensures

@@ -13,6 +13,12 @@ returns g c =
     let given_is = ap given c.timeout_of-timeout.ensures in
     let fields = sleeper_fields s in
     let all : 2 + c.given.result ≡ count fields = omega (arith, n_timeout, given_is) in
-    on_ok_weaker c.end_map.result (object_sent fields _ _ _ _ _ all c.in_ok-begin_map.ensures
-    (_, c.in_ok-put.ensures, (_, c.in_ok-put-2.ensures,
-    (_, same_given (codes "timeout") number _ _ _ _ c.timeout_of-timeout.ensures c.in_ok-put_if.ensures, refl)))) c.end_map.ensures
+    on_ok_weaker c.end_map.result (object_sent fields _ _ _ _ _ all c.in_ok-begin_map.ensures (
+      _,
+      c.in_ok-put.ensures,
+      (
+        _,
+        c.in_ok-put-2.ensures,
+        (_, same_given (codes "timeout") number _ _ _ _ c.timeout_of-timeout.ensures c.in_ok-put_if.ensures, refl),
+      ),
+    )) c.end_map.ensures

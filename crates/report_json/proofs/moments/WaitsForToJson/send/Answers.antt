@@ -13,6 +13,20 @@ returns g c =
     let n_other = count_given (codes "other_write") last_json w.other_write last in
     let fields = waits_fields w in
     let all : 5 + c.given.result ≡ count fields = omega (arith, n_other) in
-    on_ok_weaker c.end_map.result (object_sent fields _ _ _ _ _ all c.in_ok-begin_map.ensures
-    (_, c.in_ok-put.ensures, (_, c.in_ok-put-2.ensures, (_, c.in_ok-put-3.ensures, (_, c.in_ok-put-4.ensures,
-    (_, c.in_ok-put_if.ensures, (_, c.in_ok-put-5.ensures, refl))))))) c.end_map.ensures
+    on_ok_weaker c.end_map.result (object_sent fields _ _ _ _ _ all c.in_ok-begin_map.ensures (
+      _,
+      c.in_ok-put.ensures,
+      (
+        _,
+        c.in_ok-put-2.ensures,
+        (
+          _,
+          c.in_ok-put-3.ensures,
+          (
+            _,
+            c.in_ok-put-4.ensures,
+            (_, c.in_ok-put_if.ensures, (_, c.in_ok-put-5.ensures, refl)),
+          ),
+        ),
+      ),
+    )) c.end_map.ensures

@@ -15,6 +15,20 @@ returns g c =
     let n_at = count_given (codes "at") place_json named.row.place [] in
     let fields = row_fields named in
     let all : 3 + c.given.result + c.given-2.result ≡ count fields = omega (arith, n_data, n_at) in
-    on_ok_weaker c.end_map.result (object_sent fields _ _ _ _ _ all c.in_ok-begin_map.ensures
-    (_, c.in_ok-put.ensures, (_, c.in_ok-put-2.ensures, (_, c.in_ok-put-3.ensures, (_, c.in_ok-put_if.ensures,
-    (_, c.in_ok-put_if-2.ensures, refl)))))) c.end_map.ensures
+    on_ok_weaker c.end_map.result (object_sent fields _ _ _ _ _ all c.in_ok-begin_map.ensures (
+      _,
+      c.in_ok-put.ensures,
+      (
+        _,
+        c.in_ok-put-2.ensures,
+        (
+          _,
+          c.in_ok-put-3.ensures,
+          (
+            _,
+            c.in_ok-put_if.ensures,
+            (_, c.in_ok-put_if-2.ensures, refl),
+          ),
+        ),
+      ),
+    )) c.end_map.ensures
