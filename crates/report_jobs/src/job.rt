@@ -39,6 +39,7 @@ pub fn check<W: Write>(
 ) -> Result<Done, Undone<'static>>
     ensures accepted { ended_status result ≡ 0
         → IsAccepted form bytes.now (W.contents out.old) (W.contents out.new) }
+    ensures done { IfOk result (λ done. done.status ≤ 1) }
     ensures refused { ended_status result ≡ 2 → IsNoValidModule bytes.now }
     ensures why { IfErr result (λ why. undone_status why ≡ 2 → RefusesModule bytes.now why) }
     ensures silent { ended_status result ≡ 2 → Stays out.old out.new }
@@ -144,6 +145,7 @@ where
     requires { job.now.call.fuel ≤ MOST_FUEL }
     ensures made { ended_status result ≤ 1 → HasRun «module».now over.now job.now
         (written W.contents E.contents S.contents streams.old streams.new) (ended_status result) }
+    ensures done { IfOk result (λ done. done.status ≤ 1) }
     ensures refused { ended_status result ≡ 2 → IsNoValidModule «module».now }
     ensures why { IfErr result (λ why. undone_status why ≡ 2 → RefusesModule «module».now why) }
     ensures cannot { ended_status result ≡ 3 → CannotRun «module».now over.now job.now }
@@ -183,6 +185,7 @@ pub fn replay_saved<W: Write, E: Write>(
 ) -> Result<Done, Undone<'static>>
     ensures replayed { ended_status result ≤ 1 → IsReplayed «module».now saved.now look
         (changed W.contents out.old out.new) (changed E.contents err.old err.new) (ended_status result) }
+    ensures done { IfOk result (λ done. done.status ≤ 1) }
     ensures refused { ended_status result ≡ 2 → IsNoValidModule «module».now }
     ensures why { IfErr result (λ why. undone_status why ≡ 2 → RefusesModule «module».now why) }
     ensures none { ended_status result ≡ 4 → IsNoRecordOf «module».now saved.now }

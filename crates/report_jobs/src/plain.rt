@@ -1,5 +1,5 @@
 //! The plain jobs of the command line: a check, a run and a replay.
-ghost use Rattle.std.specs.Prelude.{◌≡◌, false, IfErr};
+ghost use Rattle.std.specs.Prelude.{◌≡◌, ◌≤◌, false, IfErr, IfOk};
 ghost use Rattle.report_command.specs.Jobs.{IsInRange};
 ghost use Rattle.report_jobs.specs.Plain.{IsPlain, PerformsPlain};
 ghost use Rattle.report_jobs.specs.Prints.{written};
@@ -46,6 +46,7 @@ where
     requires plain { IsPlain job.now }
     ensures performs { PerformsPlain job.now «module».now saved.now
         (written W.contents E.contents S.contents streams.old streams.new) (ended_status result) }
+    ensures done { IfOk result (λ done. done.status ≤ 1) }
     ensures why { IfErr result (λ why. undone_status why ≡ 2 → RefusesModule «module».now why) }
     ensures wrong { IfErr result (λ why. undone_status why ≡ 4 → RefusesRecord «module».now saved.now why) }
     ensures silent { IsRefusal (ended_status result)

@@ -1,5 +1,6 @@
 -- The races that a run has, and the first one, by other names of what they are told by.
-use Rattle.std.proofs.Common.{ℕ, ◌≡◌, ◌∙◌, ◌<◌, Bool, true, false, List, [], Option, length, get_or, ap, subst, sym, arith, All}
+use Rattle.std.proofs.Common.{ℕ, ◌≡◌, ◌∙◌, ◌<◌, ◌==◌, Bool, true, false, List, [], ◌∷◌, Option, length, get_or, ap, subst, sym, arith, All}
+use Rattle.std.proofs.lemmas.Bool.{eqb-true}
 use Rattle.std.proofs.lemmas.List.Elements.{Contains-get_or}
 use Rattle.types.specs.declared.event.Entry.{Entry}
 use Rattle.types.specs.declared.parts.Parts.{Parts}
@@ -127,3 +128,8 @@ says_race m r f first d = record {
   rows_are = first.seen.2;
   says = (get_or f.told.races.pairs.items 0 d, race_of m r f first d);
 }
+
+-- a list that is the same as one without elements
+pub empty_by : (xs ys : List Race) → xs ≡ ys → true ≡ (length xs == 0) → ys ≡ []
+empty_by [] ys same is = sym same
+empty_by (x ∷ xs) ys same is = let none : length (x ∷ xs) ≡ 0 = eqb-true (length (x ∷ xs)) 0 (sym is) in absurd (omega arith)

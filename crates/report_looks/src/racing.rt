@@ -47,6 +47,7 @@ pub fn races_saved<W: Write, E: Write, S: Write>(
     ensures racy { ended_status result ≡ 1 → OfModule IsRacy «module».now saved.now }
     ensures prints { ended_status result ≤ 1 → OfModule
         (PrintsRaces most form (changed W.contents streams.old.out streams.new.out)) «module».now saved.now }
+    ensures done { IfOk result (λ done. done.status ≤ 1) }
     ensures refused { ended_status result ≡ 2 → IsNoValidModule «module».now }
     ensures why { IfErr result (λ why. undone_status why ≡ 2 → RefusesModule «module».now why) }
     ensures none { ended_status result ≡ 4 → IsNoRecordOf «module».now saved.now }

@@ -45,6 +45,7 @@ pub fn show_saved<W: Write, E: Write, S: Write>(
     ensures prints { ended_status result ≡ 0 → OfModule (PrintsShow how.now (stream_of how.now.view
         (changed W.contents streams.old.out streams.new.out) (changed S.contents streams.old.save streams.new.save)))
         code.entry.«module».now saved.now }
+    ensures done { IfOk result (λ done. done.status ≡ 0) }
     ensures refused { ended_status result ≡ 2 → IsNoValidModule code.entry.«module».now }
     ensures why { IfErr result (λ why. undone_status why ≡ 2 → RefusesModule code.entry.«module».now why) }
     ensures absent { ended_status result ≡ 3 → IsRecordOf code.entry.«module».now saved.now }
@@ -76,6 +77,7 @@ fn show_to<W: Write>(
     ensures shown { ended_status result ≡ 0 → IsRecordOf code.entry.«module».now saved.now }
     ensures prints { ended_status result ≡ 0
         → OfModule (PrintsShow how.now (changed W.contents out.old out.new)) code.entry.«module».now saved.now }
+    ensures done { IfOk result (λ done. done.status ≡ 0) }
     ensures refused { ended_status result ≡ 2 → IsNoValidModule code.entry.«module».now }
     ensures why { IfErr result (λ why. undone_status why ≡ 2 → RefusesModule code.entry.«module».now why) }
     ensures absent { ended_status result ≡ 3 → IsRecordOf code.entry.«module».now saved.now }

@@ -23,6 +23,7 @@ module _ {W V : Type 0} (sees : V → Sight Thread → V → Type 0) (of : W →
 
   shown : (w : Walk Thread) (e : Entry) (old new : W) → IsShown meaning_in whole w e old new
       → IsShown meaning_in sees w e (of old) (of new)
+  unfolding told
   shown w e old new s = record {
     between = of s.between;
     told = told w e.thread _ old s.between s.told;

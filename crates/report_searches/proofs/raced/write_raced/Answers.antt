@@ -14,10 +14,6 @@ returns-in-Ok-clause-tells g c m raced =
     let pair = c.in-Ok.ensures m (subst (IsRacedIn m) c.in-Run.is raced) in
     subst (λ (x : Raced). Tells out (SaysRaced m x)) (sym c.in-Run.is) pair
 
-pub returns-in-Threads-clause-tells : goal.returns-in-Threads-clause-tells
-returns-in-Threads-clause-tells g c m raced =
-    let out = changed g.W.Write.contents c.args.out.now c.write_threads.new.out in
-    subst (λ (x : Raced). Tells out (SaysRaced m x)) (sym c.in-Threads.is) (_, c.in_ok-write_threads-in-Threads.ensures, refl)
 
 pub returns-in-Untold-clause-tells : goal.returns-in-Untold-clause-tells
 returns-in-Untold-clause-tells g c m raced =

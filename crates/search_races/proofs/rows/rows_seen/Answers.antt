@@ -9,7 +9,7 @@ use Rattle.search_races.proofs.rows.rows_seen.Goals as goal
 
 pub returns-in-Ok-replay_watched-clause-run : goal.returns-in-Ok-replay_watched-clause-run
 returns-in-Ok-replay_watched-clause-run c =
-    let log = c.as_slice.ensures ∙ ap (λ (r : RecordParts). r.log) c.parts.ensures.parts in
+    let log = c.as_slice-log.ensures ∙ ap (λ (r : RecordParts). r.log) c.parts.ensures.parts in
     let m = c.args.module.now.parts in
     let r = c.args.record.now in
     let end = c.in-Ok-replay_watched.field-0 in (
@@ -20,7 +20,8 @@ returns-in-Ok-replay_watched-clause-run c =
         last = c.replay_watched.new.watch.rows;
         log = c.in-Ok.ensures.log ∙ log;
         empty = c.in-Ok.ensures.rows ∙ ap (λ (l : List Entry). replicate {A = Option Row} (length l) None) log;
-        sees = replayed RowsSee (λ (w : Seen). w.rows) m r end _ _ c.in-Ok-replay_watched.ensures.seen;
+        sees = replayed RowsSee (λ (w : Seen). w.rows) m r end (record { rows = c.in-Ok.rows; next = c.new-next.result })
+            c.replay_watched.new.watch c.in-Ok-replay_watched.ensures.seen;
         filled = refl;
       },
     )
