@@ -45,14 +45,15 @@ pub record IsViewOf (m : Parts) (shown : Shown) (map : DataMap) (is_raw : Bool) 
   pub of_data : view.map.now ≡ map
   pub raw : view.is_raw ≡ is_raw
 
--- What threads and memory are like before an entry, or at the end, is written, in lines or as an object.
-abbrev pub WritesIn : Form → MomentView → Moment → List Race → Option (List ℕ) → Option (List ℕ) → Type 0
-WritesIn Lines view moment races old new = WritesMoment view moment races old new
-WritesIn Json view moment races old new = WritesScene view moment races old new
+-- What threads and memory are like before an entry is written, in lines or as an object, with what that entry races.
+abbrev pub WritesIn : Form → MomentView → Moment → Option (List ℕ) → Option (List ℕ) → Type 0
+WritesIn Lines view moment old new = (races : List Race) × WritesMoment view moment races old new
+WritesIn Json view moment old new = (races : List Race) × WritesScene view moment races old new
 
+-- That, or what the end is like.
 abbrev pub WritesAt : MomentView → Bool → Form → Moment → Option (List ℕ) → Option (List ℕ) → Type 0
 WritesAt view true form moment old new = WritesEnd form view moment old new
-WritesAt view false form moment old new = (races : List Race) × WritesIn form view moment races old new
+WritesAt view false form moment old new = WritesIn form view moment old new
 
 pub record WritesHere (m : Parts) (shown : Shown) (map : DataMap) (here : Here) (moment : Moment)
     (old new : Option (List ℕ)) : Type 0 where

@@ -3,7 +3,7 @@ ghost use Rattle.std.specs.Prelude.{◌≡◌, false, All, IfOk, OnOk};
 ghost use Rattle.show_races.specs.Told.{IsWithin};
 ghost use Rattle.report_looks.specs.Looked as looked;
 ghost use Rattle.report_looks.specs.PageMoments.{AreMarks};
-ghost use Rattle.report_looks.specs.RunMoments.{IsMomentIn, WritesHere};
+ghost use Rattle.report_looks.specs.RunMoments.{IsMomentIn, WritesHere, WritesIn};
 ghost use Rattle.report_looks.specs.Looked.{PrintsAsked, WritesBelow, WritesEntries, WritesFoldedOf, WritesLastIn, WritesRowsOf};
 
 use crate::ends::write_end;
@@ -232,8 +232,22 @@ fn print_moment<W: Write>(
     if here.is_end {
         return write_end(alloc, view, moment, here.form, out);
     }
-    let races = races_in(alloc, shown, MOST_MARKS)?;
-    match here.form {
+    print_scene(alloc, view, moment, here.form, out)
+}
+
+/// Writes what threads and memory are like before an entry, in lines or as an object.
+fn print_scene<W: Write>(
+    alloc: Global,
+    view: MomentView,
+    moment: &Moment,
+    form: Form,
+    out: &mut W,
+) -> Result<(), Unwritten>
+    ensures says { OnOk result (WritesIn form view.entry moment.now (W.contents out.old) (W.contents out.new)) }
+    ensures whole { OnOk result (moment.now.is_short ≡ false) }
+{
+    let races = races_in(alloc, view.shown, MOST_MARKS)?;
+    match form {
         Form::Lines => write_moment(alloc, view, moment, &races, out),
         Form::Json => write_scene(alloc, view, moment, &races, out),
     }

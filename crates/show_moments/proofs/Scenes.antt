@@ -14,8 +14,12 @@ use Rattle.show_told.specs.declared.values.TypedWord.{TypedWord}
 use Rattle.show_moments.specs.declared.standing.ThreadSnapshot.{ThreadSnapshot}
 use Rattle.show_moments.specs.declared.standing.OpenFunction.{OpenFunction}
 use Rattle.show_moments.specs.declared.told.ToldThread.{ToldThread}
+use Rattle.types.specs.declared.event.Entry.{Entry}
+use Rattle.show_moments.specs.declared.told.ToldNext.{ToldNext}
 use Rattle.show_moments.specs.Scenes.{Seen, AreFunctions, AreThreads, AreValues, IsFunctionOf, IsThread, IsValue}
-use Rattle.show_moments.specs.Scenes.{typed_word, typed_words}
+use Rattle.show_moments.specs.Scenes.{IsNext, IsNextIfAny, IsNextOf, IsNumber, IsThreadBy, IsToldOf, IsValueBy}
+use Rattle.show_moments.specs.Scenes.{is_spawned, log_of, typed_word, typed_words}
+use Rattle.show_moments.specs.Values.{has_parts, number_of}
 
 -- Threads, from 0 on.
 pub no_threads : (s : Seen) → AreThreads s 0 []
@@ -122,3 +126,31 @@ pub typed_all : (types : List ValType) (words : List ℕ) (k : ℕ) (typed : Lis
     → typed ≡ map (typed_word types) (take k (enumerate_from 0 words)) → typed ≡ typed_words words types
 typed_all types words k typed le is = is ∙ ap (map (typed_word types))
     (take_all k (enumerate_from 0 words) (omega (arith, le, length-enumerate_from 0 words)))
+
+-- A thread that wasn't spawned, and one that was.
+pub not_spawned : (s : Seen) (thread : ℕ) (b : Bool) → b ≡ is_spawned s.moment.queue thread → b ≡ false → IsThread s thread None
+not_spawned s thread b is not = subst (λ (x : Bool). IsThreadBy s thread x None) (sym not ∙ is) tt
+
+pub spawned : (s : Seen) (thread : ℕ) (b : Bool) (told : ToldThread) → b ≡ is_spawned s.moment.queue thread → b ≡ true
+    → told.thread ≡ thread → IsNextIfAny s thread told.next → IsThread s thread (Some told)
+spawned s thread b told is there same next = subst (λ (x : Bool). IsThreadBy s thread x (Some told)) (sym there ∙ is) (same, next)
+
+-- What a thread comes to, and that it is gone.
+pub comes : (s : Seen) (thread at : ℕ) (log : List Entry) (next : ToldNext) → log ≡ log_of s
+    → IsNextOf log s.moment.at thread (Some at) → IsNext s at next → IsNextIfAny s thread (Some next)
+comes s thread at log next same is told =
+    (Some at, subst (λ (l : List Entry). IsNextOf l s.moment.at thread (Some at)) same is, told)
+
+pub is_gone : (s : Seen) (thread : ℕ) (log : List Entry) → log ≡ log_of s → IsNextOf log s.moment.at thread None
+    → IsNextIfAny s thread None
+is_gone s thread log same is = (None, subst (λ (l : List Entry). IsNextOf l s.moment.at thread None) same is, tt)
+
+-- A value that is a number there, one that isn't, and one with parts.
+pub parts_told : (s : Seen) (o : OpenFunction) (v : FrameValue) (b : Bool) (told : ToldValue) → b ≡ has_parts v.kind → b ≡ true
+    → IsToldOf v None None told → IsValue s o v (Some told)
+parts_told s o v b told is has says = subst (λ (x : Bool). IsValueBy s o v x (Some told)) (sym has ∙ is) says
+
+pub number_told : (s : Seen) (o : OpenFunction) (v : FrameValue) (b : Bool) (found : Option ℕ) (told : Option ToldValue)
+    → b ≡ has_parts v.kind → b ≡ false → found ≡ number_of o s.moment.memory.items v → IsNumber s v found told → IsValue s o v told
+number_told s o v b found told is not number says = subst (λ (x : Bool). IsValueBy s o v x told) (sym not ∙ is)
+    (subst (λ (n : Option ℕ). IsNumber s v n told) number says)
