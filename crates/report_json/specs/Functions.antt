@@ -1,5 +1,5 @@
 -- Open functions.
-use Rattle.std.specs.Prelude.{ℕ, List, [], ◌∷◌, ◌++◌, codes, Option, Some, None, String, decimal, false, string_bytes}
+use Rattle.std.specs.Prelude.{ℕ, List, [], ◌∷◌, ◌++◌, codes, Option, Some, None, decimal, false, string_bytes}
 use Rattle.std.specs.Fmt.{digits}
 use Rattle.std.specs.Borrow.{Bor}
 use Rattle.types.specs.declared.value.Value.{Value}

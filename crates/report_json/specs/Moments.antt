@@ -1,5 +1,6 @@
 -- Moments of a run, and a last write.
-use Rattle.std.specs.Prelude.{ℕ, ℤ, pos, negsuc, List, [], ◌∷◌, codes, Option, Some, None, Vec}
+use Rattle.std.specs.Prelude.{ℕ, ℤ, pos, negsuc, List, [], ◌∷◌, codes, Option, Some, None}
+use Rattle.std.specs.Global.{Vec}
 use Rattle.hex.specs.Hex.{encode_lower}
 use Rattle.shared_memory.specs.declared.sleeper.Sleeper.{Sleeper}
 use Rattle.report_json.specs.declared.moments.EndShown.{EndShown}

@@ -3,7 +3,7 @@ use Rattle.std.specs.Prelude.{ℕ, ◌≡◌, ◌≤◌, ◌<◌, ◌+◌, ◌^�
 use Rattle.std.specs.Prelude.{if◌then◌else◌, cond, List, [], ◌∷◌, ◌++◌, map, filter_map, find, length, option_to_list}
 use Rattle.std.specs.Prelude.{Option, Some, None, IsSome, String, option_and_then, option_map, string_bytes}
 use Rattle.std.specs.Borrow.{Bor}
-use Rattle.std.specs.Global.{Vec}
+use Rattle.std.specs.Global.{Global, Vec}
 use Rattle.std.specs.List.{AllZip, enumerate_from, slice_get, list_any}
 use Rattle.types.specs.declared.event.Event.{Event}
 use Rattle.types.specs.declared.event.Event.TheVariants.{Ask, Told}
@@ -133,7 +133,7 @@ pub record Points (map : DataMap) (kind : Kind) (number : ℕ) : Type 0 where
   pub points : is_pointer kind ≡ true
   pub within : IsSome (find (holds number) map.spans.items.items)
 
-abbrev pub IsTarget : Seen → Kind → ℕ → Option String → Type 0
+abbrev pub IsTarget : Seen → Kind → ℕ → Option (String Global) → Type 0
 IsTarget s kind number None = Unit {0}
 IsTarget s kind number (Some name) = Points s.map kind number
 
@@ -141,7 +141,7 @@ IsTarget s kind number (Some name) = Points s.map kind number
 abbrev pub told_number : FrameValue → ℕ → ToldNumber
 told_number v number = record { is_signed = is_signed v.kind; bits = v.bits; number = number }
 
-pub record IsToldOf (v : FrameValue) (number : Option ToldNumber) (target : Option String) (told : ToldValue) : Type 0 where
+pub record IsToldOf (v : FrameValue) (number : Option ToldNumber) (target : Option (String Global)) (told : ToldValue) : Type 0 where
   pub label : string_bytes told.label ≡ string_bytes v.label
   pub number_is : told.number ≡ number
   pub target_is : told.target ≡ target
@@ -149,7 +149,7 @@ pub record IsToldOf (v : FrameValue) (number : Option ToldNumber) (target : Opti
 -- It is told if it is a number in its frame.
 abbrev pub IsNumber : Seen → FrameValue → Option ℕ → Option ToldValue → Type 0
 IsNumber s v (Some number) (Some told) =
-    (target : Option String) × IsTarget s v.kind number target × IsToldOf v (Some (told_number v number)) target told
+    (target : Option (String Global)) × IsTarget s v.kind number target × IsToldOf v (Some (told_number v number)) target told
 IsNumber s v None None = Unit {0}
 IsNumber s v number told = ⊥
 

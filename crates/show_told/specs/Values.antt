@@ -1,6 +1,7 @@
 -- Words of locals and operands, and the values of variables.
 use Rattle.std.specs.Prelude.{ℕ, ◌-◌, ◌%◌, ◌^◌, ◌&&◌, nat_le, nat_lt, if◌then◌else◌}
 use Rattle.std.specs.Prelude.{List, [], ◌++◌, codes, Option, Some, None, String, string_bytes}
+use Rattle.std.specs.Global.{Global}
 use Rattle.std.specs.Fmt.{decimal}
 use Rattle.types.specs.declared.value.ValType.TheVariants.{I32, I64}
 use Rattle.types.specs.declared.value.ValType.{ValType}
@@ -42,7 +43,7 @@ abbrev pub number_text : ToldNumber → List ℕ
 number_text t = signed_text t.number (sign_of t)
 
 -- To what a value points, if it does.
-abbrev pub target_text : Option String → List ℕ
+abbrev pub target_text : Option (String Global) → List ℕ
 target_text None = []
 target_text (Some name) = codes " <" ++ (plain_text (string_bytes name) ++ codes ">")
 
