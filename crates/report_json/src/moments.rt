@@ -103,9 +103,10 @@ impl ToJson for MomentThread<'_> {
 }
 
 /// How long a thread sleeps at most; a time below 0 has no end.
-fn timeout_of(timeout: i64) -> Option<u64>
-    ensures { result ≡ specified.timeout_of timeout }
+fn timeout_of(sleeper: Sleeper) -> Option<u64>
+    ensures { result ≡ specified.timeout_of sleeper.timeout }
 {
+    let timeout = sleeper.timeout;
     if timeout < 0 {
         return None;
     }
@@ -116,7 +117,7 @@ impl ToJson for Sleeper {
     ghost json = { sleeper_json };
 
     fn send<S: Serializer>(&self, alloc: Global, out: &mut S) -> Result<(), S::Error> {
-        let timeout = timeout_of(self.timeout);
+        let timeout = timeout_of(*self);
         out.begin_map(Some(2 + given(&timeout)))?;
         put(alloc, out, "thread", &self.thread)?;
         put(alloc, out, "address", &self.addr)?;
