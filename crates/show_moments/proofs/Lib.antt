@@ -1,6 +1,6 @@
 pub mod Seen
 pub mod Walked
-mod Lines
 mod Listed
 mod Nexts
 mod Scenes
+mod Telling

@@ -4,7 +4,7 @@ use Rattle.show_moments.specs.Scenes.{seen_by}
 use Rattle.show_moments.specs.Texts.{dump_text}
 use Rattle.show_moments.specs.declared.told.ToldThread.{ToldThread}
 use Rattle.std.proofs.Common.{ℕ}
-use Rattle.show_moments.proofs.Lines.{moment_of}
+use Rattle.show_moments.proofs.Telling.{moment_of}
 use Rattle.show_moments.proofs.lines.write_moment.Goals as goal
 
 pub returns-clause-says : goal.returns-clause-says

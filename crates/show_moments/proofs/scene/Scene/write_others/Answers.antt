@@ -2,8 +2,8 @@ use Rattle.std.proofs.Common.{get_or, refl}
 use Rattle.show_rows.proofs.Texts.{none_yet, text_next}
 use Rattle.show_moments.specs.Lines.{SaysOther}
 use Rattle.show_moments.specs.Scenes.{seen}
-use Rattle.show_moments.proofs.Lines.{all_told}
-use Rattle.show_moments.proofs.lines.Scene.write_others.Goals as goal
+use Rattle.show_moments.proofs.Telling.{all_told}
+use Rattle.show_moments.proofs.scene.Scene.write_others.Goals as goal
 
 pub loop-k-init : goal.loop-k-init
 loop-k-init g c = none_yet (SaysOther (seen c.args.self.now)) c.args.others.now _

@@ -1,8 +1,8 @@
 use Rattle.show_rows.proofs.Texts.{none_yet, text_next}
 use Rattle.show_moments.specs.Lines.{SaysThread}
 use Rattle.show_moments.specs.Scenes.{seen}
-use Rattle.show_moments.proofs.Lines.{all_told}
-use Rattle.show_moments.proofs.lines.Scene.write_threads.Goals as goal
+use Rattle.show_moments.proofs.Telling.{all_told}
+use Rattle.show_moments.proofs.scene.Scene.write_threads.Goals as goal
 
 pub loop-k-init : goal.loop-k-init
 loop-k-init g c = none_yet (SaysThread (seen c.args.self.now)) c.args.threads.now _

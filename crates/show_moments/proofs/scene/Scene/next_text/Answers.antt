@@ -1,6 +1,6 @@
 use Rattle.show_moments.specs.Scenes.{seen}
-use Rattle.show_moments.proofs.Lines.{next_says}
-use Rattle.show_moments.proofs.lines.Scene.next_text.Goals as goal
+use Rattle.show_moments.proofs.Telling.{next_says}
+use Rattle.show_moments.proofs.scene.Scene.next_text.Goals as goal
 
 pub returns : goal.returns
 returns c = next_says (seen c.args.self.now) c.args.next.now c.as_slice.result.now c.in-Some.entry.now c.words_at-words.result

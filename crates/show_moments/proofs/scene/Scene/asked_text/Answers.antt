@@ -1,6 +1,6 @@
 use Rattle.show_moments.specs.Scenes.{seen}
-use Rattle.show_moments.proofs.Lines.{asked_says}
-use Rattle.show_moments.proofs.lines.Scene.asked_text.Goals as goal
+use Rattle.show_moments.proofs.Telling.{asked_says}
+use Rattle.show_moments.proofs.scene.Scene.asked_text.Goals as goal
 
 pub returns : goal.returns
 returns c = asked_says (seen c.args.self.now) c.args.asked c.as_slice.result.now c.in-Some.entry.now c.words_at-words.result
