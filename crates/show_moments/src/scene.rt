@@ -79,7 +79,7 @@ fn other_of(race: Race, at: usize) -> Option<usize>
 
 /// Puts an item behind the others, if there is one.
 fn put_if_any<T: Drop>(items: &mut Vec<T>, item: Option<T>) -> Result<(), AllocError>
-    ensures { OnOk result (items.new.items ≡ items.old.items ++ option_to_list item.entry) }
+    ensures { OnOk result (items.new.items ≡ items.old.items ++ option_to_list item) }
 {
     if let Some(item) = item {
         items.push(item)?;
@@ -89,7 +89,7 @@ fn put_if_any<T: Drop>(items: &mut Vec<T>, item: Option<T>) -> Result<(), AllocE
 
 /// Puts an item behind the others.
 fn put<T: Drop>(items: &mut Vec<T>, item: T) -> Result<(), AllocError>
-    ensures { OnOk result (items.new.items ≡ items.old.items ++ item.entry ∷ []) }
+    ensures { OnOk result (items.new.items ≡ items.old.items ++ item ∷ []) }
 {
     items.push(item)?;
     Ok(())

@@ -122,7 +122,7 @@ fn cycle_at(
 
 /// Puts a cycle behind the others, if there is one.
 fn put_if_any(cycles: &mut Vec<Vec<usize>>, cycle: Option<Vec<usize>>) -> Result<(), AllocError>
-    ensures { OnOk result (cycles.new.items ≡ cycles.old.items ++ option_to_list cycle.entry) }
+    ensures { OnOk result (cycles.new.items ≡ cycles.old.items ++ option_to_list cycle) }
 {
     if let Some(cycle) = cycle {
         cycles.push(cycle)?;

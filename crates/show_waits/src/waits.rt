@@ -71,7 +71,9 @@ pub fn wait_told(log: &[Entry], n: usize) -> Option<ToldWait>
     ensures waits { IfSome result (IsToldWait n log.now) }
     ensures none { result ≡ None → TouchesNothing n log.now }
 {
-    let stand = stand_of(log, n)?;
+    let Some(stand) = stand_of(log, n) else {
+        return None;
+    };
     let addrs = stand.addrs;
     Some(ToldWait {
         stand,

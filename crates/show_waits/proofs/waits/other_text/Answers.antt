@@ -3,9 +3,9 @@ use Rattle.show_named.proofs.Places.{says_last}
 use Rattle.show_named.specs.declared.lasts.Act.TheVariants as acts
 use Rattle.show_waits.proofs.waits.other_text.Goals as goal
 
-pub returns-then-not-is_own : goal.returns-then-not-is_own
-returns-then-not-is_own c =
-    inr (λ own. true≢false (sym (c.requires.own.1 own) ∙ c.if-not-is_own.true), c.new.ensures.bytes)
+pub returns-then-not-wait : goal.returns-then-not-wait
+returns-then-not-wait c =
+    inr (λ own. true≢false (sym (c.requires.own.1 own) ∙ c.if-not-wait.true), c.new.ensures.bytes)
 
 pub returns : goal.returns
 returns c =
