@@ -1,5 +1,5 @@
 -- What is told of a moment.
-use Rattle.std.specs.Prelude.{ℕ, ◌≡◌, ◌≤◌, ◌<◌, ◌+◌, ◌^◌, ◌==◌, ◌||◌, not, min, zero, suc, nat_le, Bool, true, false}
+use Rattle.std.specs.Prelude.{ℕ, ◌≡◌, ◌≤◌, ◌<◌, ◌+◌, ◌-◌, ◌^◌, ◌==◌, ◌||◌, not, min, zero, suc, nat_le, Bool, true, false}
 use Rattle.std.specs.Prelude.{if◌then◌else◌, cond, List, [], ◌∷◌, ◌++◌, map, filter_map, find, length, option_to_list}
 use Rattle.std.specs.Prelude.{Option, Some, None, IsSome, String, option_and_then, option_map, string_bytes}
 use Rattle.std.specs.Borrow.{Bor}

@@ -276,7 +276,7 @@ impl<'c> Scene<'_, '_, '_, '_, '_, '_, '_, 'c, '_, '_, '_> {
         &self,
         standing: Option<&ThreadSnapshot>,
     ) -> Result<Vec<ToldFunction<'c>>, AllocError>
-        ensures { IfOk result (λ told. IsStanding (specified.seen self.now) (specified.standing_of standing) told.items) }
+        ensures { IfOk result (λ told. IsStanding (specified.seen self.now) (specified.standing_of standing.entry) told.items) }
     {
         match standing {
             Some(standing) => self.functions(standing),
