@@ -1,6 +1,6 @@
 -- What is told of a moment, one thing behind the other.
 use Rattle.std.proofs.Common.{◌≡◌, ◌∙◌, ℕ, suc, ◌+◌, ◌<◌, ◌≤◌, Bool, true, false, List, [], ◌∷◌, ◌++◌, length, take, get_or, map}
-use Rattle.std.proofs.Common.{Option, Some, None, option_to_list, filter_map, append_assoc, append-nil, refl, sym, ap, subst, arith}
+use Rattle.std.proofs.Common.{cond, not, ◌||◌, Option, Some, None, option_to_list, filter_map, append_assoc, append-nil, refl, sym, ap, subst, arith}
 use Rattle.std.proofs.lemmas.List.{take_more, take_all}
 use Rattle.std.proofs.lemmas.List.Elements.{filter_map-append}
 use Rattle.std.proofs.lemmas.List.FromFn.{length-enumerate_from, get_or-enumerate_from}
@@ -18,13 +18,14 @@ use Rattle.types.specs.declared.event.Entry.{Entry}
 use Rattle.show_moments.specs.declared.told.ToldNext.{ToldNext}
 use Rattle.show_moments.specs.Scenes.{Seen, AreFunctions, AreThreads, AreValues, IsFunctionOf, IsThread, IsValue}
 use Rattle.show_moments.specs.Scenes.{IsNext, IsNextIfAny, IsNextOf, IsNumber, IsThreadBy, IsToldOf, IsValueBy}
-use Rattle.show_moments.specs.Scenes.{is_spawned, log_of, typed_word, typed_words}
+use Rattle.dwarf_frames.specs.declared.frames.Frame.{Frame}
+use Rattle.show_moments.specs.Scenes.{is_spawned, listed, log_of, typed_word, typed_words}
 use Rattle.show_moments.specs.Values.{has_parts, number_of}
 
 -- Threads, from 0 on.
-pub no_threads : (s : Seen) → AreThreads s 0 []
+pub no_threads : (s : Seen) (told : List ToldThread) → told ≡ [] → AreThreads s 0 told
 unfolding AreThreads
-no_threads s = refl
+no_threads s told none = none
 
 pub threads_next : (s : Seen) (n : ℕ) (front told : List ToldThread) (last : Option ToldThread) → told ≡ front ++ option_to_list last
     → AreThreads s n front → IsThread s n last → AreThreads s (n + 1) told
@@ -84,22 +85,6 @@ pub values_all : (s : Seen) (o : OpenFunction) (values : List FrameValue) (k : �
     → AreValues s o (take k values) told → AreValues s o values told
 values_all s o values k told le all = subst (λ (vs : List FrameValue). AreValues s o vs told) (take_all k values le) all
 
--- What is found of items, from the first on.
-found_one : {X Y : Type 0} (f : X → Option Y) (x : X) → filter_map f (x ∷ []) ≡ option_to_list (f x)
-found_one f x = by_cases (f x)
-  where
-    by_cases : (o : Option _) → filter_map (λ (y : Option _). y) (o ∷ []) ≡ option_to_list o
-    by_cases o = one_given o
-
-pub found_next : {X Y : Type 0} (f : X → Option Y) (xs : List X) (k : ℕ) (z x : X) (found more : List Y) → k < length xs
-    → x ≡ get_or xs k z → found ≡ filter_map f (take k xs) → more ≡ found ++ option_to_list (f x)
-    → more ≡ filter_map f (take (k + 1) xs)
-found_next {X} {Y} f xs k z x found more lt is before adds =
-    let e : take (k + 1) xs ≡ take k xs ++ x ∷ [] = take_more xs k z lt ∙ ap (λ (y : X). take k xs ++ y ∷ []) (sym is) in
-    adds ∙ (ap (λ (ys : List Y). ys ++ option_to_list (f x)) before
-    ∙ (ap (λ (ys : List Y). filter_map f (take k xs) ++ ys) (sym (found_one f x))
-    ∙ (sym (filter_map-append f (take k xs) (x ∷ [])) ∙ ap (filter_map f) (sym e))))
-
 -- Words with their types, from the first on.
 map_push : {X Y : Type 0} (f : X → Y) (xs : List X) (x : X) → map f (xs ++ x ∷ []) ≡ map f xs ++ f x ∷ []
 map_push f [] x = refl
@@ -154,3 +139,11 @@ pub number_told : (s : Seen) (o : OpenFunction) (v : FrameValue) (b : Bool) (fou
     → b ≡ has_parts v.kind → b ≡ false → found ≡ number_of o s.moment.memory.items v → IsNumber s v found told → IsValue s o v told
 number_told s o v b found told is not number says = subst (λ (x : Bool). IsValueBy s o v x told) (sym not ∙ is)
     (subst (λ (n : Option ℕ). IsNumber s v n told) number says)
+
+-- Words are listed where that is asked for, or no functions are known.
+pub listed_told : (s : Seen) (frame : Frame) (b : Bool) (words : List ℕ) (types kinds : List ValType) (typed : List TypedWord)
+    → typed ≡ cond b (typed_words words types) [] → b ≡ (s.raw || not frame.is_known) → types ≡ kinds
+    → typed ≡ listed s frame words kinds
+listed_told s frame b words types kinds typed is b_is same =
+    is ∙ (ap (λ (x : Bool). cond x (typed_words words types) []) b_is
+    ∙ ap (λ (ts : List ValType). cond (s.raw || not frame.is_known) (typed_words words ts) []) same)

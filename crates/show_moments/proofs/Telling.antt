@@ -20,6 +20,7 @@ use Rattle.show_moments.specs.declared.moment.Moment.{Moment}
 use Rattle.show_moments.specs.declared.scene.MomentView.{MomentView}
 use Rattle.show_moments.specs.declared.told.ToldMoment.{ToldMoment}
 use Rattle.show_moments.specs.declared.told.ToldNext.{ToldNext}
+use Rattle.show_moments.specs.declared.told.ToldThread.{ToldThread}
 use Rattle.show_moments.specs.Lines.{SaysAsked, SaysComes, SaysNext, SaysStance, WritesMoment, WritesOthers, WritesThreads}
 use Rattle.show_moments.specs.Scenes.{Seen, IsTold, log_of, seen_by}
 use Rattle.show_moments.specs.Texts.{queue_text, dump_text}
@@ -70,22 +71,22 @@ asked_says s asked log made said line text same within made_is of line_is is =
     (said, of, is ∙ ap (λ (n : ℕ). words_text said ++ (codes ", since line " ++ (decimal n ++ codes "; "))) line_is)
 
 pub moment_of : (view : MomentView) (moment : Moment) (races : List Race) (story : Story) (told : ToldMoment) (log : List Entry)
-    (queue dump : List ℕ) (a b c d e : Option (List ℕ)) → log ≡ view.shown.record.now.log → IsStoryOf log story
+    (threads : List ToldThread) (others queue dump : List ℕ) (a b c d e : Option (List ℕ)) → log ≡ view.shown.record.now.log → IsStoryOf log story
     → IsTold (seen_by view story moment) races told
-    → WritesThreads (seen_by view story moment) told.threads.items a b
-    → WritesOthers (seen_by view story moment) told.races.items b c
+    → threads ≡ told.threads.items → WritesThreads (seen_by view story moment) threads a b
+    → others ≡ told.races.items → WritesOthers (seen_by view story moment) others b c
     → queue ≡ queue_text moment.queue → dump ≡ dump_text moment.wanted.addr moment.bytes.items → Appends c d (queue ++ dump)
     → Keeps d e → WritesMoment view moment races a e
-moment_of view moment races story told log queue dump a b c d e same of_log is says raced queue_is dump_is wrote last = record {
+moment_of view moment races story told log threads others queue dump a b c d e same of_log is ts says os raced queue_is dump_is wrote last = record {
   story = story;
   of_log = subst (λ (l : List Entry). IsStoryOf l story) same of_log;
   told = told;
   is_told = is;
   writes = record {
     said = b;
-    says = says;
+    says = subst (λ (xs : List ToldThread). WritesThreads (seen_by view story moment) xs a b) ts says;
     raced = c;
-    races_with = raced;
+    races_with = subst (λ (xs : List ℕ). WritesOthers (seen_by view story moment) xs b c) os raced;
     ends = appends_keeps c d e (queue_text moment.queue ++ dump_text moment.wanted.addr moment.bytes.items)
         (subst (λ (t : List ℕ). Appends c d (queue_text moment.queue ++ t)) dump_is
         (subst (λ (t : List ℕ). Appends c d (t ++ dump)) queue_is wrote)) last;

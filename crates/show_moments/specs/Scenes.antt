@@ -1,6 +1,6 @@
 -- What is told of a moment.
 use Rattle.std.specs.Prelude.{ℕ, ◌≡◌, ◌≤◌, ◌<◌, ◌+◌, ◌-◌, ◌^◌, ◌==◌, ◌||◌, not, min, zero, suc, nat_le, Bool, true, false}
-use Rattle.std.specs.Prelude.{if◌then◌else◌, cond, List, [], ◌∷◌, ◌++◌, map, filter_map, find, length, option_to_list}
+use Rattle.std.specs.Prelude.{if◌then◌else◌, cond, List, [], ◌∷◌, ◌++◌, map, filter_map, flat_map, find, length, option_to_list}
 use Rattle.std.specs.Prelude.{Option, Some, None, IsSome, String, option_and_then, option_map, string_bytes}
 use Rattle.std.specs.Borrow.{Bor}
 use Rattle.std.specs.Global.{Global, Vec}
@@ -251,7 +251,10 @@ AreThreads s (suc thread) told = (front : List ToldThread) × (last : Option Tol
 abbrev pub other_of : ℕ → Race → Option ℕ
 other_of at race = if race.first == at then Some race.second else if race.second == at then Some race.first else None
 
+abbrev pub others_of : ℕ → Race → List ℕ
+others_of at race = option_to_list (other_of at race)
+
 -- What is told of a moment: what each thread comes to, and with which entries that of the moment races, of these races.
 pub record IsTold (s : Seen) (races : List Race) (told : ToldMoment) : Type 0 where
   pub threads : AreThreads s MOST_THREADS told.threads.items
-  pub others : told.races.items ≡ filter_map (other_of s.moment.at) races
+  pub others : told.races.items ≡ flat_map (others_of s.moment.at) races

@@ -1,6 +1,6 @@
 //! What is told of a moment, by what is kept of it.
 
-ghost use Rattle.std.specs.Prelude.{◌≡◌, ◌==◌, ◌<◌, ◌++◌, ◌∷◌, [], IfOk, OnOk, cond, length, option_to_list, filter_map};
+ghost use Rattle.std.specs.Prelude.{◌≡◌, ◌==◌, ◌<◌, ◌++◌, ◌∷◌, [], IfOk, OnOk, cond, length, option_to_list, flat_map, not, ◌||◌};
 ghost use Rattle.std.specs.List.{list_any, slice_get};
 ghost use Rattle.show_named.specs.Lasts.{IsLastIfAny};
 ghost use Rattle.show_named.specs.declared.lasts.Act.TheVariants as acts;
@@ -12,7 +12,7 @@ use crate::moment::Moment;
 use crate::standing::{OpenFunction, ThreadSnapshot};
 use crate::told::{Stance, ToldMoment, ToldNext, ToldThread};
 use crate::values::{has_parts, is_pointer, is_signed, number_of};
-use dwarf_frames::FrameValue;
+use dwarf_frames::{Frame, FrameValue};
 use interp::CodePlace;
 use race_history::Race;
 use selection::{Span, touched};
@@ -314,7 +314,7 @@ impl<'c> Scene<'_, '_, '_, '_, '_, '_, '_, 'c, '_, '_, '_> {
             .frame(self.alloc, code.named_offset(opened.place))?;
         let locals = self.view.valid.local_types(self.alloc, function)?;
         let operands = operand_types(self.alloc, self.view.valid, function, instr)?;
-        let is_listed = self.view.is_raw || !frame.is_known;
+        let is_listed = self.is_listed(&frame);
         let locals = typed_words(self.alloc, is_listed, opened.locals, types_of(&locals))?;
         let operands = typed_words(self.alloc, is_listed, opened.operands, types_of(&operands))?;
         let values = self.values(opened, frame.values.as_slice())?;
@@ -326,6 +326,13 @@ impl<'c> Scene<'_, '_, '_, '_, '_, '_, '_, 'c, '_, '_, '_> {
             around: code.around(opened.place),
             values,
         })
+    }
+
+    /// Whether locals and operands are listed as they are.
+    fn is_listed(&self, frame: &Frame) -> bool
+        ensures { result ≡ (self.now.view.is_raw || not frame.now.is_known) }
+    {
+        self.view.is_raw || !frame.is_known
     }
 
     /// The values of a frame that are numbers there, or have parts that aren't told.
@@ -388,7 +395,7 @@ impl<'c> Scene<'_, '_, '_, '_, '_, '_, '_, 'c, '_, '_, '_> {
     /// The entries with which that of this moment races.
     fn others(&self, races: &[Race]) -> Result<Vec<usize>, AllocError>
         ensures { IfOk result
-            (λ others. others.items ≡ filter_map (specified.other_of self.now.moment.now.at) races.now) }
+            (λ others. others.items ≡ flat_map (specified.others_of self.now.moment.now.at) races.now) }
     {
         let mut others = Vec::new(self.alloc);
         for k in 0..races.len() {
