@@ -17,8 +17,8 @@ returns c =
       locals_are = c.in_ok-locals.ensures;
       operands = c.in_ok-operands.operands;
       operands_are = c.in_ok-operands.ensures;
-      has_locals = listed_told s frame _ _ _ _ _ c.in_ok-locals-2.ensures c.is_listed.ensures c.types_of.ensures;
-      has_operands = listed_told s frame _ _ _ _ _ c.in_ok-operands-2.ensures c.is_listed.ensures c.types_of-2.ensures;
+      has_locals = listed_told s frame _ _ _ _ _ c.in_ok-locals-2.ensures c.is_listed-is_listed.ensures c.types_of.ensures;
+      has_operands = listed_told s frame _ _ _ _ _ c.in_ok-operands-2.ensures c.is_listed-is_listed.ensures c.types_of-2.ensures;
       around = c.around.ensures;
       values = subst (λ (vs : List FrameValue). AreValues s c.args.opened vs c.in_ok-values.values.items) c.as_slice.ensures.value
           c.in_ok-values.ensures;
