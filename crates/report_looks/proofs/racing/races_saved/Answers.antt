@@ -18,4 +18,4 @@ returns-clause-wrong g c =
     let e = c.in-Err-tell_races.field-0 in
     subst (λ (why : Undone). undone_status why ≡ 4 → RefusesRecord bytes saved why) (sym c.of_unfit.ensures)
     (refuses_record c.in-Ok.valid e.stood bytes saved c.in-Ok.valid.parts c.in-Ok.ensures.ok.0 c.in-Ok.ensures.ok.1.valid e.unfit
-    c.in-Err-tell_races.ensures.unfit)
+        c.in-Err-tell_races.ensures.unfit)
