@@ -224,9 +224,9 @@ pub(crate) const JSON: Row = row!("json" "", Kind::Flag, for [Check, Run, Replay
     "Print one JSON object in place of lines, also of a refusal");
 
 pub(crate) const SHOW_JSON: Row = Argument {
-    help: "Print one JSON object in place of rows, also of a refusal",
+    help: "Print one JSON object in place of rows or lines, also of a refusal",
     commands: &[CommandName::Show],
-    conflicts: &["at", "last-write", "html", "trace"],
+    conflicts: &["html", "trace"],
     ..JSON
 };
 

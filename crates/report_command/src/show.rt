@@ -7,7 +7,7 @@ ghost use Rattle.report_command.specs.Found.{HasFlag};
 ghost use Rattle.report_command.specs.Jobs.{IsInRange, IsLookInRange};
 ghost use Rattle.report_command.specs.Views as views;
 ghost use Rattle.report_command.specs.Views.{IsViewInRange, path_of};
-ghost use Rattle.report_command.specs.Options.{AsksBytes, AsksColor, AsksEntries, AsksLook};
+ghost use Rattle.report_command.specs.Options.{AsksBytes, AsksColor, AsksEntries, AsksForm, AsksLook};
 ghost use Rattle.report_command.specs.Options.{AsksNamed, AsksShown, AsksView};
 
 use crate::command_line::Job;
@@ -33,6 +33,7 @@ pub struct At {
     pub count: u32,
     /// Whether the locals and operands of all functions are shown as they are.
     pub is_raw: bool,
+    pub form: Form,
 }
 
 /// The last write of some bytes before a moment.
@@ -40,6 +41,7 @@ pub struct At {
 pub struct LastWrite<'a> {
     pub bytes: Data<'a>,
     pub before: When,
+    pub form: Form,
 }
 
 /// What is made of a record.
@@ -78,12 +80,9 @@ impl<'a> View<'a> {
     {
         match self {
             View::Object => Form::Json,
-            View::Rows
-            | View::Unfolded
-            | View::Moment(_)
-            | View::Write(_)
-            | View::Page(_)
-            | View::Trace(_) => Form::Lines,
+            View::Moment(at) => at.form,
+            View::Write(write) => write.form,
+            View::Rows | View::Unfolded | View::Page(_) | View::Trace(_) => Form::Lines,
         }
     }
 }
@@ -134,6 +133,7 @@ fn shown_at(matches: &ArgMatches, when: When) -> Result<At, Refusal<'static>>
     ensures when { IfOk result (λ at. at.when ≡ when) }
     ensures bytes { IfOk result (λ at. AsksBytes (found_of matches.now) at.addr at.count) }
     ensures raw { IfOk result (λ at. HasFlag (found_of matches.now) (codes "raw") at.is_raw) }
+    ensures form { IfOk result (λ at. AsksForm (found_of matches.now) at.form) }
 {
     let (addr, count) = match BYTES.value::<BytesReader>(matches)? {
         Some(bytes) => bytes,
@@ -144,6 +144,7 @@ fn shown_at(matches: &ArgMatches, when: When) -> Result<At, Refusal<'static>>
         addr,
         count,
         is_raw: RAW.is_set(matches),
+        form: form_of(matches),
     })
 }
 
@@ -153,11 +154,17 @@ fn shown_of<'a>(matches: &ArgMatches<'a>) -> Result<View<'a>, Refusal<'static>>
     ensures asks { IfOk result (AsksShown (found_of matches.now)) }
 {
     let at = AT.value::<MomentReader>(matches)?;
+    let form = form_of(matches);
     match (LAST_WRITE.value::<WrittenReader>(matches)?, at) {
-        (Some(bytes), Some(before)) => Ok(View::Write(LastWrite { bytes, before })),
+        (Some(bytes), Some(before)) => Ok(View::Write(LastWrite {
+            bytes,
+            before,
+            form,
+        })),
         (Some(bytes), None) => Ok(View::Write(LastWrite {
             bytes,
             before: When::End,
+            form,
         })),
         (None, Some(when)) => Ok(View::Moment(shown_at(matches, when)?)),
         (None, None) => Ok(entries_of(matches)),
