@@ -4,7 +4,7 @@ use Rattle.std.specs.Prelude.{nat_lt, slice_get}
 use Rattle.std.specs.List.{Contains}
 use Rattle.std.specs.Option.{option_to_list}
 use Rattle.std.proofs.lemmas.Bool.{cases_eq, cases_lt, cond-false, cond-true, eq-eqb, lt-ltb, ltb-true, ne_eqb}
-use Rattle.std.proofs.lemmas.List.{get_or_append_left, get_or_default, get_or_push, length_push}
+use Rattle.std.proofs.lemmas.List.{get_or_default}
 use Rattle.std.proofs.lemmas.List.Elements.{Contains-append_cases, Contains-append_left, Contains-append_right}
 use Rattle.std.proofs.lemmas.Option.{cond_some, get_or_from_slice_get, none-some, same_Some, slice_get-get_or, slice_get_within}
 use Rattle.types.specs.declared.event.Entry.{Entry}
@@ -14,7 +14,7 @@ use Rattle.race_history.specs.Places.{IsAt, thread_at}
 use Rattle.race_history.specs.Order.{IsEdge, IsOfOneThread, IsStartOf, ReadsFrom, Starts, Wakes}
 use Rattle.race_history.specs.Calls.{AreStarts, AreWakers}
 use Rattle.race_history.specs.Writers.{AreWriters}
-use Rattle.race_history.specs.Sources.{AreSources, HaveSources, if_before, last_of, start_before}
+use Rattle.race_history.specs.Sources.{AreSources, if_before, last_of, start_before}
 use Rattle.race_history.proofs.Lists.{Contains-cons_cases, Contains-here, Contains-none, IsAt-any}
 
 some_in : (o : Option ℕ) (x : ℕ) → Contains (option_to_list o) x → o ≡ Some x
@@ -172,27 +172,6 @@ module _ (log : List Entry) (kinds : List Kind) (place : ℕ) (within : place < 
       ]
     ];
   }
-
--- one more
-pub sources_more : (log : List Entry) (kinds : List Kind) (end : ℕ) (lists : List (List ℕ)) (here : List ℕ) → HaveSources log kinds end lists
-    → AreSources log kinds end here → HaveSources log kinds (end + 1) (lists ++ here ∷ [])
-sources_more log kinds end lists here h is =
-    let count : length lists ≡ end = h.count in
-    record {
-      count = length_push lists here ∙ ap (λ (n : ℕ). n + 1) count;
-      each = λ place lt. elim (cases_lt place end) [
-        | inl before ↦
-            let within : place < length lists = omega arith in
-            subst (λ (l : List ℕ). AreSources log kinds place l) (sym (get_or_append_left lists (here ∷ []) [] place within)) (h.each place before)
-        | inr le ↦
-            let e : place ≡ end = omega arith in
-            subst (λ (l : List ℕ). AreSources log kinds place l) (sym (get_or_push lists here [] place (count ∙ sym e)))
-            (subst (λ (n : ℕ). AreSources log kinds n here) (sym e) is)
-      ];
-    }
-
-pub sources_none : (log : List Entry) (kinds : List Kind) → HaveSources log kinds 0 []
-sources_none log kinds = record { count = refl; each = λ place lt. absurd (omega arith) }
 
 -- those that are gathered
 pub sources_next : (log : List Entry) (kinds : List Kind) (place : ℕ) → place < length log

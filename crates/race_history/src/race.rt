@@ -8,7 +8,6 @@ use crate::access::Kind;
 use crate::calls::find_calls;
 use crate::clocks::{count_threads, make_clocks};
 use crate::found::find_races;
-use crate::sources::find_sources;
 use crate::writers::find_writers;
 use std::alloc::{AllocError, Global};
 use types::Entry;
@@ -54,7 +53,6 @@ pub fn races_of(
     let threads = count_threads(log);
     let writers = find_writers(alloc, log, kinds)?;
     let calls = find_calls(alloc, log)?;
-    let sources = find_sources(alloc, log, kinds, writers.as_slice(), &calls, threads)?;
-    let clocks = make_clocks(alloc, log, kinds, sources.as_slice(), threads)?;
+    let clocks = make_clocks(alloc, log, kinds, writers.as_slice(), &calls, threads)?;
     find_races(alloc, log, kinds, clocks.as_slice(), threads, most)
 }

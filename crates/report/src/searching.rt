@@ -258,10 +258,7 @@ fn search_for_races<R: Threads + Sync, F: Hears, W: Write, S: Write>(
     let search = asked.search;
     let sought = &search.sought;
     let jobs = jobs_of(rt, search);
-    let judge = RaceJudge {
-        module: request.module(),
-    };
-    let searched = match first_judged(rt, alloc, request, sought, &judge, jobs, follower) {
+    let searched = match first_judged(rt, alloc, request, sought, &RaceJudge, jobs, follower) {
         Ok(searched) => searched,
         Err(fault) => return Err(no_memory(fault)),
     };

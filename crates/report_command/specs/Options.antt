@@ -2,6 +2,7 @@
 use Rattle.std.specs.Prelude.{ℕ, ◌≡◌, ◌≢◌, ◌⊎◌, ◌||◌, Bool, true, false, List, map, ◌++◌, codes}
 use Rattle.std.specs.Prelude.{Option, Some, is_some, option_map, IfSome, MatchOption}
 use Rattle.std.specs.Borrow.{Bor}
+use Rattle.std.specs.Str.Iter.{HasSubslice}
 use Rattle.clap.specs.Words.{first_value, rows_of, subcommand_name_of, subcommand_rows_of}
 use Rattle.clap.specs.Words.{HasMatchesOf, app_of, IsParsedFrom}
 use Rattle.clap.specs.declared.builder.command.Command.{Command}
@@ -179,21 +180,33 @@ IsWay word (Priorities depth) = (digits : List ℕ) × (word ≡ codes "pct:" ++
 abbrev pub AsksWay : Found → Way → Type 0
 AsksWay f way = (word : List ℕ) × (first_value f (codes "strategy") ≡ Some word) × IsWay word way
 
+-- The words in which a search through every order says that no run ends from some state, and that a fair run goes on for
+-- ever.
+abbrev pub no_end_words : List ℕ
+no_end_words = codes "from which no run ends"
+
+abbrev pub for_ever_words : List ℕ
+for_ever_words = codes "a fair run can go on for ever"
+
+-- What is looked for by words that are given: a line of a thread that has them; or what the words say that they are a part
+-- of, the first of the two where they are a part of both.
+abbrev pub IsFindOf : List ℕ → Find → Type 0
+IsFindOf words (Words text) = text.now ≡ words
+IsFindOf words Nothing = ⊥
+IsFindOf words Failure = ⊥
+IsFindOf words NoEnd = HasSubslice no_end_words words
+IsFindOf words ForEver = HasSubslice for_ever_words words × (HasSubslice no_end_words words → ⊥)
+
+abbrev pub AsksFindOf : Found → Find → Type 0
+AsksFindOf f find = (words : List ℕ) × (first_value f (codes "find") ≡ Some words) × IsFindOf words find
+
 -- What is looked for by words; where none are given a trap or a stop, or nothing where a result is expected.
 abbrev pub AsksFind : Found → Find → Type 0
 AsksFind f (Words words) = HasText f (codes "find") words
 AsksFind f Nothing = HasNo f (codes "find") × (is_given f (codes "expect") ≡ true)
 AsksFind f Failure = HasNo f (codes "find") × HasNo f (codes "expect")
-AsksFind f NoEnd = is_given f (codes "find") ≡ true
-AsksFind f ForEver = is_given f (codes "find") ≡ true
-
--- What is looked for by words that are given.
-abbrev pub IsFindOf : List ℕ → Find → Type 0
-IsFindOf words (Words text) = text.now ≡ words
-IsFindOf words Nothing = ⊥
-IsFindOf words Failure = ⊥
-IsFindOf words NoEnd = Unit {0}
-IsFindOf words ForEver = Unit {0}
+AsksFind f NoEnd = AsksFindOf f NoEnd
+AsksFind f ForEver = AsksFindOf f ForEver
 
 abbrev pub AsksResult : Found → Option Outcome → Type 0
 AsksResult f result = IsReadIfAny IsSpelledBy f (codes "expect") result

@@ -1,6 +1,5 @@
 -- What is so of a search that looks for a drawn run with a race.
-use Rattle.std.proofs.Common.{ℕ, ◌≡◌, Bool, IsTrue, true, false, List, refl, subst}
-use Rattle.types.specs.declared.parts.Parts.{Parts}
+use Rattle.std.proofs.Common.{ℕ, ◌≡◌, IsTrue, true, false, List, refl, subst}
 use Rattle.spawn_host.specs.Requests.{Requested}
 use Rattle.search_scheduled.specs.Headers.{IsOfCall}
 use Rattle.search_scheduled.specs.declared.running.MadeRun.{MadeRun}
@@ -19,10 +18,6 @@ use Rattle.report_jobs.specs.Prints.{WriterChange, KeepsRecord}
 use Rattle.report_searches.specs.DrawnRaces.{SaysRaceOf}
 use Rattle.report_searches.specs.Searches.{IsRaceKept}
 use Rattle.std.specs.Prelude.{is_some}
-
--- what a judge of a module says of a run
-abbrev pub says_in : Parts → MadeRun → Bool → Type 0
-says_in m made is = SaysOfRun m made.record is
 
 -- where the search stops, none that was made has a race
 pub none_races : (q : Requested) (s : Sought) (t : Table) (h : Halt) → ((f : _) → h ≡ halts.Found f → ⊥)

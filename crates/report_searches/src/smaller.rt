@@ -57,11 +57,8 @@ pub(crate) fn smaller_racy<F: Hears>(
     if !search.shrink {
         return Ok(found);
     }
-    let judge = RaceJudge {
-        module: request.module(),
-    };
     let limit = search.sought.limit;
-    let made = match shrunk_by(alloc, request, limit, &judge, found, follower) {
+    let made = match shrunk_by(alloc, request, limit, &RaceJudge, found, follower) {
         Ok(made) => made,
         Err(fault) => return Err(no_memory(fault)),
     };

@@ -129,11 +129,13 @@ fn entries_unless_told<F: Hears>(
 }
 
 impl<'m, 'a> RunMaker<'m, 'a> {
-    /// Makes the run of this number, with the threads that the runs before it didn't start.
+    /// Makes the run of this number, with the threads that the runs before it didn't start. Where that is asked for, it is
+    /// heard where threads stand.
     fn run<W: Watch>(
         &self,
         alloc: Global,
         watch: &W,
+        hears: bool,
         run: u64,
         spares: &mut Spares<'m>,
     ) -> Result<MadeRun, SearchFault>
@@ -149,7 +151,7 @@ impl<'m, 'a> RunMaker<'m, 'a> {
         } = *self.sought;
         let drawn = Drawn::new(way, seed, run, self.entries);
         let mut watched = Watched::new(drawn, watch);
-        run_with_spares(alloc, self.request, limit, &mut watched, spares)
+        run_with_spares(alloc, self.request, limit, hears, &mut watched, spares)
     }
 
     /// The ending of a run, and whether it is looked for.
@@ -161,11 +163,11 @@ impl<'m, 'a> RunMaker<'m, 'a> {
         made: &MadeRun,
     ) -> Result<JudgedEnding, SearchFault>
         requires { IsMadeIn self.now run made.now }
-        ensures { IfOk result (IsMetIn (J.judges judge.now) self.now run) }
+        ensures { IfOk result (IsMetIn (J.judges judge.now self.now.request.now) self.now run) }
     {
         let _ = run;
         let ending = ending_of(alloc, &made.end, self.sought.dump)?;
-        let is_sought = judge.is_sought(alloc, made)?;
+        let is_sought = judge.is_sought(alloc, self.request, made)?;
         Ok(JudgedEnding { ending, is_sought })
     }
 
@@ -180,10 +182,10 @@ impl<'m, 'a> RunMaker<'m, 'a> {
         spares: &mut Spares<'m>,
     ) -> Result<Option<JudgedEnding>, SearchFault>
         requires { AreSparesIn self.now spares.old }
-        ensures met { IfOk result (λ ending. IfSome ending (IsMetIn (J.judges judge.now) self.now run)) }
+        ensures met { IfOk result (λ ending. IfSome ending (IsMetIn (J.judges judge.now self.now.request.now) self.now run)) }
         ensures spares { IfOk result (λ ending. OnSome ending (AreSparesIn self.now spares.new)) }
     {
-        let made = match self.run(alloc, watch, run, spares) {
+        let made = match self.run(alloc, watch, judge.hears(), run, spares) {
             Ok(made) => made,
             Err(SearchFault::GivenUp) => return Ok(None),
             Err(fault) => return Err(fault),
@@ -193,11 +195,11 @@ impl<'m, 'a> RunMaker<'m, 'a> {
     }
 
     /// Makes the run of this number, with threads of its own.
-    fn run_anew(&self, alloc: Global, run: u64) -> Result<MadeRun, SearchFault>
+    fn run_anew(&self, alloc: Global, hears: bool, run: u64) -> Result<MadeRun, SearchFault>
         ensures { IfOk result (IsMadeIn self.now run) }
     {
         let mut spares = Spares::new(alloc);
-        self.run(alloc, &(), run, &mut spares)
+        self.run(alloc, &(), hears, run, &mut spares)
     }
 
     /// The ending of the run of this number, with threads of its own.
@@ -207,9 +209,9 @@ impl<'m, 'a> RunMaker<'m, 'a> {
         judge: &J,
         run: u64,
     ) -> Result<JudgedEnding, SearchFault>
-        ensures { IfOk result (IsMetIn (J.judges judge.now) self.now run) }
+        ensures { IfOk result (IsMetIn (J.judges judge.now self.now.request.now) self.now run) }
     {
-        let made = self.run_anew(alloc, run)?;
+        let made = self.run_anew(alloc, judge.hears(), run)?;
         self.judged(alloc, judge, run, &made)
     }
 
@@ -218,12 +220,12 @@ impl<'m, 'a> RunMaker<'m, 'a> {
     /// # Errors
     /// `NoEnd` where it isn't looked for now, which none is.
     fn found<J: Judges>(&self, alloc: Global, judge: &J, run: u64) -> Result<Found, SearchFault>
-        ensures found { IfOk result (λ found. IsFoundIn (J.judges judge.now) self.now found.made) }
+        ensures found { IfOk result (λ found. IsFoundIn (J.judges judge.now self.now.request.now) self.now found.made) }
         ensures drawn { IfOk result (λ found. IsMadeIn self.now run found.made) }
         ensures number { IfOk result (λ found. found.run ≡ run) }
     {
-        let made = self.run_anew(alloc, run)?;
-        if judge.is_sought(alloc, &made)? {
+        let made = self.run_anew(alloc, judge.hears(), run)?;
+        if judge.is_sought(alloc, self.request, &made)? {
             Ok(Found { run, made })
         } else {
             Err(SearchFault::NoEnd)
@@ -240,7 +242,7 @@ impl<'m, 'a> RunMaker<'m, 'a> {
         count: usize,
     ) -> Result<Vec<JudgedEnding>, SearchFault>
         requires { from + count < 2 ^ 64 }
-        ensures { IfOk result (λ endings. AreMetIn (J.judges judge.now) self.now from endings.items) }
+        ensures { IfOk result (λ endings. AreMetIn (J.judges judge.now self.now.request.now) self.now from endings.items) }
     {
         let mut endings = Vec::new(alloc);
         let mut spares = Spares::new(alloc);
@@ -263,8 +265,8 @@ impl<'m, 'a> RunMaker<'m, 'a> {
         made: usize,
         wanted: u64,
     )
-        requires { AreMetIn (J.judges judge.now) self.now (first + wanted) endings.old.items }
-        ensures { AreMetIn (J.judges judge.now) self.now (first + made) endings.new.items }
+        requires { AreMetIn (J.judges judge.now self.now.request.now) self.now (first + wanted) endings.old.items }
+        ensures { AreMetIn (J.judges judge.now self.now.request.now) self.now (first + made) endings.new.items }
     {
         let _ = judge;
         if made as u64 != wanted {
@@ -283,7 +285,7 @@ impl<'m, 'a> RunMaker<'m, 'a> {
         job: usize,
     ) -> Result<Vec<JudgedEnding>, SearchFault>
         requires { job + 1 < 2 ^ 64 }
-        ensures { IfOk result (λ endings. AreMetIn (J.judges judge.now) self.now (first_of ahead job) endings.items) }
+        ensures { IfOk result (λ endings. AreMetIn (J.judges judge.now self.now.request.now) self.now (first_of ahead job) endings.items) }
     {
         let wanted = ahead.wanted(job) as usize;
         self.endings(alloc, watch, judge, ahead.first(job), wanted)
@@ -301,11 +303,11 @@ impl<'m, 'a> RunMaker<'m, 'a> {
     ) -> Result<(), SearchFault>
         requires last { length pieces.old.items ≡ job + 1 }
         requires room { job + 1 < 2 ^ 64 }
-        requires endings { AreMetIn (J.judges judge.now) self.now (first_of ahead (job + 1)) endings.old.items }
-        requires pieces { ArePiecesIn (J.judges judge.now) self.now ahead pieces.old.items }
+        requires endings { AreMetIn (J.judges judge.now self.now.request.now) self.now (first_of ahead (job + 1)) endings.old.items }
+        requires pieces { ArePiecesIn (J.judges judge.now self.now.request.now) self.now ahead pieces.old.items }
         ensures last { OnOk result (length pieces.new.items ≡ job) }
-        ensures endings { OnOk result (AreMetIn (J.judges judge.now) self.now (first_of ahead job) endings.new.items) }
-        ensures pieces { OnOk result (ArePiecesIn (J.judges judge.now) self.now ahead pieces.new.items) }
+        ensures endings { OnOk result (AreMetIn (J.judges judge.now self.now.request.now) self.now (first_of ahead job) endings.new.items) }
+        ensures pieces { OnOk result (ArePiecesIn (J.judges judge.now self.now.request.now) self.now ahead pieces.new.items) }
     {
         let Some(piece) = pieces.pop() else {
             return Ok(());
@@ -324,7 +326,7 @@ impl<'m, 'a> RunMaker<'m, 'a> {
         crew: &Crew<R, W, J>,
         ahead: Ahead,
     ) -> Result<Vec<JudgedEnding>, SearchFault>
-        ensures { IfOk result (λ endings. AreMetIn (J.judges crew.now.judge.now) self.now ahead.from endings.items) }
+        ensures { IfOk result (λ endings. AreMetIn (J.judges crew.now.judge.now self.now.request.now) self.now ahead.from endings.items) }
     {
         let (rt, jobs, watch, judge) = (crew.rt, crew.jobs, crew.watch, crew.judge);
         let mut pieces = map_indices(
@@ -333,7 +335,7 @@ impl<'m, 'a> RunMaker<'m, 'a> {
             jobs,
             &|job: usize| -> Result<Vec<JudgedEnding>, SearchFault>
                 requires { job + 1 < 2 ^ 64 }
-                ensures { IfOk result (λ endings. AreMetIn (J.judges judge.entry.now) self.entry.now
+                ensures { IfOk result (λ endings. AreMetIn (J.judges judge.entry.now self.entry.now.request.now) self.entry.now
                     (first_of ahead job) endings.items) }
             { self.endings_of(alloc, watch, judge, ahead, job) },
         )?;
@@ -355,9 +357,9 @@ impl<'m, 'a> RunMaker<'m, 'a> {
         ahead: &mut Vec<JudgedEnding>,
     ) -> Result<Option<JudgedEnding>, SearchFault>
         requires room { run + left < 2 ^ 64 }
-        requires ahead { AreMetIn (J.judges crew.now.judge.now) self.now run ahead.old.items }
-        ensures met { IfOk result (λ ending. IfSome ending (IsMetIn (J.judges crew.now.judge.now) self.now run)) }
-        ensures ahead { OnOk result (AreMetIn (J.judges crew.now.judge.now) self.now (run + 1) ahead.new.items) }
+        requires ahead { AreMetIn (J.judges crew.now.judge.now self.now.request.now) self.now run ahead.old.items }
+        ensures met { IfOk result (λ ending. IfSome ending (IsMetIn (J.judges crew.now.judge.now self.now.request.now) self.now run)) }
+        ensures ahead { OnOk result (AreMetIn (J.judges crew.now.judge.now self.now.request.now) self.now (run + 1) ahead.new.items) }
     {
         if let Some(ending) = ahead.pop() {
             return Ok(Some(ending));
@@ -386,9 +388,9 @@ impl<'m, 'a> RunMaker<'m, 'a> {
         follower: &mut F,
     ) -> Result<Option<JudgedEnding>, SearchFault>
         requires room { run + left < 2 ^ 64 }
-        requires ahead { AreMetIn (J.judges crew.now.judge.now) self.now run ahead.old.items }
-        ensures met { IfOk result (λ ending. IfSome ending (IsMetIn (J.judges crew.now.judge.now) self.now run)) }
-        ensures ahead { OnOk result (AreMetIn (J.judges crew.now.judge.now) self.now (run + 1) ahead.new.items) }
+        requires ahead { AreMetIn (J.judges crew.now.judge.now self.now.request.now) self.now run ahead.old.items }
+        ensures met { IfOk result (λ ending. IfSome ending (IsMetIn (J.judges crew.now.judge.now self.now.request.now) self.now run)) }
+        ensures ahead { OnOk result (AreMetIn (J.judges crew.now.judge.now self.now.request.now) self.now (run + 1) ahead.new.items) }
         ensures told { IfOk result (λ ending. IfNone ending (F.wish follower.new ≡ Wish.End)) }
     {
         if let Some(ending) = self.next_ending(alloc, crew, run, left, ahead)? {
@@ -412,10 +414,10 @@ impl<'m, 'a> RunMaker<'m, 'a> {
         requires few { self.now.sought.now.from + self.now.sought.now.runs < 2 ^ 64 }
         requires points { HasPointsAmong self.now.request.now self.now.sought.now.limit self.now.sought.now.way
             self.now.entries }
-        ensures noted { IfOk result (λ s. AreNotedBy (IsPassed (J.judges crew.now.judge.now) self.now.sought.now s.halt)
+        ensures noted { IfOk result (λ s. AreNotedBy (IsPassed (J.judges crew.now.judge.now self.now.request.now) self.now.sought.now s.halt)
             self.now.request.now self.now.sought.now s.table) }
         ensures found { IfOk result (λ s. IfFound s.halt
-            (λ f. IsFoundIn (J.judges crew.now.judge.now) self.now f.made)) }
+            (λ f. IsFoundIn (J.judges crew.now.judge.now self.now.request.now) self.now f.made)) }
         ensures drawn { IfOk result (λ s. IfFound s.halt (λ f. IsMadeIn self.now f.run f.made)) }
         ensures number { IfOk result
             (λ s. IfFound s.halt (λ f. f.run + 1 ≡ self.now.sought.now.from + s.table.runs)) }
@@ -475,10 +477,10 @@ pub fn first_judged<R: Threads + Sync, F: Hears, J: Judges + Sync>(
     follower: &mut F,
 ) -> Result<SearchResult, SearchFault>
     requires { sought.now.from + sought.now.runs < 2 ^ 64 }
-    ensures noted { IfOk result (λ s. AreNotedBy (IsPassed (J.judges judge.now) sought.now s.halt) request.now sought.now
+    ensures noted { IfOk result (λ s. AreNotedBy (IsPassed (J.judges judge.now request.now) sought.now s.halt) request.now sought.now
         s.table) }
     ensures found { IfOk result (λ s. IfFound s.halt
-        (λ f. IsFindBy (J.judges judge.now) request.now sought.now.limit f.made)) }
+        (λ f. IsFindBy (J.judges judge.now request.now) request.now sought.now.limit f.made)) }
     ensures drawn { IfOk result (λ s. IfFound s.halt (λ f. IsRunOfNumber request.now sought.now f.run f.made)) }
     ensures number { IfOk result (λ s. IfFound s.halt (λ f. f.run + 1 ≡ sought.now.from + s.table.runs)) }
     ensures stops { IfOk result (λ s. IfFound s.halt (λ f. IsTrue sought.now.stops)) }
@@ -558,5 +560,5 @@ pub fn run_of_number(
         sought,
         entries,
     };
-    maker.run_anew(alloc, run)
+    maker.run_anew(alloc, false, run)
 }

@@ -1,7 +1,4 @@
-use Rattle.std.proofs.Common.{rules, ◌<◌, false, true, Some, arith, refl, inl, inr, subst, true≢false}
-use Rattle.types.specs.declared.parts.Parts.{Parts}
-use Rattle.search_finds.specs.Judged.{IsFindBy, IsPassed}
-use Rattle.search_finds.specs.Noted.{AreNotedBy}
+use Rattle.std.proofs.Common.{rules, false, true, Some, arith, refl, inl, inr, true≢false}
 use Rattle.search_finds.proofs.Noting.{plainly_noted}
 use Rattle.report_jobs.specs.Prints.{change, changed}
 use Rattle.report_json.specs.declared.raced.RunRaces.TheVariants as said
@@ -9,7 +6,7 @@ use Rattle.report_searches.specs.DrawnRaces.{raceless_text}
 use Rattle.report.specs.Telling.{EndsNone}
 use Rattle.report.specs.Told.{IsStatusOfTable, TellsDrawnRaces}
 use Rattle.report_searches.proofs.Counted.{cut_within}
-use Rattle.report_searches.proofs.DrawnRaces.{none_races, race_is_kept, says_in}
+use Rattle.report_searches.proofs.DrawnRaces.{none_races, race_is_kept}
 use Rattle.report.proofs.AllTold.{if_both, none_told, racy_told}
 use Rattle.report.proofs.searching.search_for_races.Goals as goal
 
@@ -41,11 +38,7 @@ pub tell_racy-requires-clause-told : goal.tell_racy-requires-clause-told
 tell_racy-requires-clause-told g c = c.in_ok-kept-in-Found.ensures.has.race.told
 
 pub kept_race-requires : goal.kept_race-requires
-kept_race-requires g c =
-    let q = c.args.request.now in
-    let limit = c.args.asked.search.now.sought.limit in
-    let found = rw c.in-Found.is at c.in-Ok.ensures.found in
-    (search rules, subst (λ (p : Parts). IsFindBy (says_in p) q limit c.in-Found.found.made) c.module.ensures found)
+kept_race-requires g c = (search rules, rw c.in-Found.is at c.in-Ok.ensures.found)
 
 pub returns-in-Found-clause-finds : goal.returns-in-Found-clause-finds
 returns-in-Found-clause-finds g c =
@@ -82,8 +75,8 @@ returns-in-Found-clause-tells g c =
           is_last = rw c.in-Found.is at c.in-Ok.ensures.number;
           found = c.in-Found.found.made;
           drawn = rw c.in-Found.is at c.in-Ok.ensures.drawn;
-          races = subst (λ (p : Parts). says_in p c.in-Found.found.made true) c.module.ensures found.1;
-          first = subst (λ (p : Parts). AreNotedBy (λ before made. before < run → says_in p made false) q s.sought table) c.module.ensures noted;
+          races = found.1;
+          first = noted;
           k = k;
           has = c.in_ok-kept-in-Found.ensures.has;
           tells = racy_told s.form q.parts s table run k (contents c.args.out.now) (contents c.tell_table.new.out) (contents c.tell_run.new.out)
@@ -104,8 +97,7 @@ returns-in-AllMade-clause-tells g c =
     let headed = contents c.tell_table.new.out in
     let after = contents c.end_raceless.new.out in
     let save = changed g.S.Write.contents c.args.save.now c.args.save.now in
-    let noted = subst (λ (p : Parts). AreNotedBy (IsPassed (says_in p) s.sought c.in-Ok.searched.halt) q s.sought table) c.module.ensures
-    c.in-Ok.ensures.noted in
+    let noted = c.in-Ok.ensures.noted in
     if_both c.end_raceless.result
     (λ status. EndsNone s.form s.sought table false (Some said.Unknown) (raceless_text false s.sought table) status (change headed after))
     (IsStatusOfTable s.sought table) (TellsDrawnRaces q.parts s (change before after) save)
@@ -137,8 +129,7 @@ returns-clause-tells g c =
     let headed = contents c.tell_table.new.out in
     let after = contents c.end_raceless-in-Told.new.out in
     let save = changed g.S.Write.contents c.args.save.now c.args.save.now in
-    let noted = subst (λ (p : Parts). AreNotedBy (IsPassed (says_in p) s.sought c.in-Ok.searched.halt) q s.sought table) c.module.ensures
-    c.in-Ok.ensures.noted in
+    let noted = c.in-Ok.ensures.noted in
     if_both c.end_raceless-in-Told.result
     (λ status. EndsNone s.form s.sought table true (Some said.Unknown) (raceless_text true s.sought table) status (change headed after))
     (IsStatusOfTable s.sought table) (TellsDrawnRaces q.parts s (change before after) save)

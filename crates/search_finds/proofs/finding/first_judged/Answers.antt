@@ -5,7 +5,7 @@ use Rattle.search_finds.proofs.finding.first_judged.Goals as goal
 
 pub returns-in_default-clause-noted : goal.returns-in_default-clause-noted
 returns-in_default-clause-noted g c =
-    let says = g.J.Judges.judges c.args.judge.now in
+    let says = g.J.Judges.judges c.args.judge.now c.args.request.now in
     let s = c.args.sought.now in
     noted_none (λ run made. IsTrue s.stops → says made false) c.args.request.now s c.new-table.result c.new-table.ensures.0 c.new-table.ensures.1
 

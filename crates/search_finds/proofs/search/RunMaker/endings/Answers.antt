@@ -6,7 +6,7 @@ use Rattle.search_finds.proofs.search.RunMaker.endings.Goals as goal
 pub loop-n-preserved : goal.loop-n-preserved
 loop-n-preserved g c =
     let s = c.args.self.now in
-    let says = g.J.Judges.judges c.args.judge.now in
+    let says = g.J.Judges.judges c.args.judge.now c.args.self.now.request.now in
     let inv = c.loop-n.invariant in
     let met = rw c.in-Some.is at c.in_ok-ending.ensures.met in
     let count : c.args.from + c.loop-n.n ≡ c.args.from + length c.loop-n.endings.items = let n = inv.0 in omega (arith, n) in (
