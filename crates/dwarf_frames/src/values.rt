@@ -1,7 +1,7 @@
 //! The values that a frame has: variables without parts, and the parts of those that have some.
 
 use crate::inlined::Inlined;
-use crate::kinds::{Kind, kind_of};
+use crate::kinds::{ValueKind, kind_of};
 use crate::variables::Variable;
 use crate::wording::type_words;
 use dwarf_data::{Bits, Leaf, bare, leaves_of};
@@ -26,7 +26,7 @@ pub struct FrameValue {
     pub label: String,
     pub location: Location,
     pub size: u8,
-    pub kind: Kind,
+    pub kind: ValueKind,
     /// The type of what it points to, if it does.
     pub target: Option<usize>,
     pub first_bit: u32,
@@ -43,22 +43,22 @@ fn all_bits(size: u64) -> Bits {
 
 /// How the bytes of a value are read, and the type of what it points to, if it does.
 #[derive(Clone, Copy)]
-struct Read {
-    kind: Kind,
+struct ReadAs {
+    kind: ValueKind,
     target: Option<usize>,
 }
 
 /// How the values of a type are read.
-fn read_of(units: &Units, its_type: usize) -> Read {
+fn read_of(units: &Units, its_type: usize) -> ReadAs {
     let kind = kind_of(units, its_type);
-    let target = if kind == Kind::Pointer {
+    let target = if kind == ValueKind::Pointer {
         bare(units, its_type)
             .and_then(|pointer| units.type_of(pointer))
             .and_then(|target| bare(units, target))
     } else {
         None
     };
-    Read { kind, target }
+    ReadAs { kind, target }
 }
 
 /// A value, where its bytes are a number, or only that it is there is told.
@@ -66,13 +66,14 @@ fn told(
     label: String,
     location: Location,
     size: u64,
-    read: Read,
+    read: ReadAs,
     bits: Bits,
 ) -> Option<FrameValue> {
-    let Read { kind, target } = read;
+    let ReadAs { kind, target } = read;
     match kind {
-        Kind::Signed | Kind::Unsigned | Kind::Pointer if size > MOST_BYTES => return None,
-        Kind::Float | Kind::Other => return None,
+        ValueKind::Signed | ValueKind::Unsigned | ValueKind::Pointer if size > MOST_BYTES =>
+            return None,
+        ValueKind::Float | ValueKind::Other => return None,
         _ => {}
     }
     Some(FrameValue {
@@ -138,8 +139,8 @@ fn part_of(
         return Ok(None);
     };
     let read = if leaf.is_cut {
-        Read {
-            kind: Kind::Parts,
+        ReadAs {
+            kind: ValueKind::Parts,
             target: None,
         }
     } else {
@@ -179,7 +180,7 @@ pub(crate) fn values_of(
         if values.len() >= MOST_VALUES {
             break;
         }
-        if variable.kind != Kind::Parts {
+        if variable.kind != ValueKind::Parts {
             add(&mut values, value_of(alloc, units, inlined, variable)?)?;
             continue;
         }

@@ -5,7 +5,7 @@ ghost use Rattle.std.specs.Prelude.{◌≡◌, ◌&&◌, nat_le, nat_lt};
 
 use crate::attributes::Attribute;
 use crate::entries::Units;
-use dwarf_reader::{Cursor, Fault, Value};
+use dwarf_reader::{AttributeValue, Cursor, DebugFault};
 
 /// The most items of a list that are read.
 const MOST_ITEMS: u32 = 4096;
@@ -28,7 +28,7 @@ impl CodeRange {
 
 /// An item of a list.
 #[derive(Clone, Copy)]
-enum Listed {
+enum ListItem {
     End,
     /// From here on offsets are counted.
     Base(u64),
@@ -84,22 +84,22 @@ impl ListKind {
     }
 }
 
-fn between(start: u64, end: u64) -> Listed {
-    Listed::Code(CodeRange { start, end })
+fn between(start: u64, end: u64) -> ListItem {
+    ListItem::Code(CodeRange { start, end })
 }
 
-fn from(start: u64, length: u64) -> Listed {
+fn from(start: u64, length: u64) -> ListItem {
     between(start, start.saturating_add(length))
 }
 
 /// An item of version 4: two offsets from the base. Two zeros end the list, and the greatest number sets the base.
-fn read_pair(cursor: &mut Cursor, base: u64) -> Result<Listed, Fault> {
+fn read_pair(cursor: &mut Cursor, base: u64) -> Result<ListItem, DebugFault> {
     let start = cursor.read_number(4)?;
     let end = cursor.read_number(4)?;
     Ok(if start == 0 && end == 0 {
-        Listed::End
+        ListItem::End
     } else if start == 0xffff_ffff {
-        Listed::Base(end)
+        ListItem::Base(end)
     } else {
         between(base.saturating_add(start), base.saturating_add(end))
     })
@@ -107,9 +107,9 @@ fn read_pair(cursor: &mut Cursor, base: u64) -> Result<Listed, Fault> {
 
 impl<'a> Units<'a> {
     /// An address by its index, in LEB128, in the unit of an entry.
-    fn read_indexed(&self, cursor: &mut Cursor, entry: usize) -> Result<u64, Fault> {
+    fn read_indexed(&self, cursor: &mut Cursor, entry: usize) -> Result<u64, DebugFault> {
         let index = cursor.read_unsigned()?;
-        self.address_of(entry, index).ok_or(Fault::Unreadable)
+        self.address_of(entry, index).ok_or(DebugFault::Unreadable)
     }
 
     /// What is behind the kind of an item of version 5.
@@ -119,12 +119,12 @@ impl<'a> Units<'a> {
         entry: usize,
         kind: ListKind,
         base: u64,
-    ) -> Result<Listed, Fault> {
+    ) -> Result<ListItem, DebugFault> {
         Ok(match kind {
-            ListKind::End => Listed::End,
-            ListKind::Elsewhere => Listed::Elsewhere,
-            ListKind::BaseIndex => Listed::Base(self.read_indexed(cursor, entry)?),
-            ListKind::Base => Listed::Base(cursor.read_number(4)?),
+            ListKind::End => ListItem::End,
+            ListKind::Elsewhere => ListItem::Elsewhere,
+            ListKind::BaseIndex => ListItem::Base(self.read_indexed(cursor, entry)?),
+            ListKind::Base => ListItem::Base(cursor.read_number(4)?),
             ListKind::IndexToIndex => {
                 let start = self.read_indexed(cursor, entry)?;
                 between(start, self.read_indexed(cursor, entry)?)
@@ -155,11 +155,11 @@ impl<'a> Units<'a> {
         entry: usize,
         is_version_5: bool,
         base: u64,
-    ) -> Result<Listed, Fault> {
+    ) -> Result<ListItem, DebugFault> {
         if !is_version_5 {
             return read_pair(cursor, base);
         }
-        let kind = ListKind::of_ranges(cursor.read_u8()?).ok_or(Fault::Unreadable)?;
+        let kind = ListKind::of_ranges(cursor.read_u8()?).ok_or(DebugFault::Unreadable)?;
         self.read_item(cursor, entry, kind, base)
     }
 
@@ -170,16 +170,16 @@ impl<'a> Units<'a> {
         entry: usize,
         is_version_5: bool,
         base: u64,
-    ) -> Result<(Listed, &'a [u8]), Fault> {
+    ) -> Result<(ListItem, &'a [u8]), DebugFault> {
         let item = if is_version_5 {
-            let kind = ListKind::of_locations(cursor.read_u8()?).ok_or(Fault::Unreadable)?;
+            let kind = ListKind::of_locations(cursor.read_u8()?).ok_or(DebugFault::Unreadable)?;
             self.read_item(cursor, entry, kind, base)?
         } else {
             read_pair(cursor, base)?
         };
         let expression: &'a [u8] = match item {
-            Listed::End | Listed::Base(_) => &[],
-            Listed::Code(_) | Listed::Elsewhere => {
+            ListItem::End | ListItem::Base(_) => &[],
+            ListItem::Code(_) | ListItem::Elsewhere => {
                 let len = if is_version_5 {
                     cursor.read_unsigned()?
                 } else {
@@ -205,7 +205,7 @@ impl<'a> Units<'a> {
     }
 
     /// Whether a list of ranges has an offset.
-    fn is_in_ranges(&self, entry: usize, list: Value<'a>, offset: u64) -> Option<bool> {
+    fn is_in_ranges(&self, entry: usize, list: AttributeValue<'a>, offset: u64) -> Option<bool> {
         let is_version_5 = self.unit_of(entry)?.is_version_5;
         let section = if is_version_5 {
             self.sections.range_lists
@@ -213,8 +213,11 @@ impl<'a> Units<'a> {
             self.sections.ranges
         };
         let mut cursor = match list {
-            Value::SectionOffset(at) => self.list_at(section, at)?,
-            Value::ListIndex(index) => self.list_at(section, self.ranges_offset(entry, index)?)?,
+            AttributeValue::SectionOffset(at) => self.list_at(section, at)?,
+            AttributeValue::ListIndex(index) => self.list_at(
+                section,
+                self.ranges_offset(entry, index)?,
+            )?,
             _ => return None,
         };
         let mut base = self.base_address(entry);
@@ -226,10 +229,10 @@ impl<'a> Units<'a> {
                 .read_range(&mut cursor, entry, is_version_5, base)
                 .ok()?
             {
-                Listed::Base(next) => base = next,
-                Listed::Code(range) if range.contains(offset) => return Some(true),
-                Listed::Code(_) => {}
-                Listed::End | Listed::Elsewhere => break,
+                ListItem::Base(next) => base = next,
+                ListItem::Code(range) if range.contains(offset) => return Some(true),
+                ListItem::Code(_) => {}
+                ListItem::End | ListItem::Elsewhere => break,
             }
         }
         None
@@ -239,9 +242,9 @@ impl<'a> Units<'a> {
     pub fn code_of(&self, entry: usize) -> Option<CodeRange> {
         let start = self.address(entry, Attribute::LowPc)?;
         let end = match self.value(entry, Attribute::HighPc)? {
-            Value::Constant(length) => start.saturating_add(length),
-            Value::Address(end) => end,
-            Value::AddressIndex(index) => self.address_of(entry, index)?,
+            AttributeValue::Constant(length) => start.saturating_add(length),
+            AttributeValue::Address(end) => end,
+            AttributeValue::AddressIndex(index) => self.address_of(entry, index)?,
             _ => return None,
         };
         Some(CodeRange { start, end })
@@ -260,7 +263,7 @@ impl<'a> Units<'a> {
 
     /// The expression of the place of an entry while the code at an offset runs: that of the first item of its list that
     /// has the offset.
-    fn listed_at(&self, entry: usize, list: Value<'a>, offset: u64) -> Option<&'a [u8]> {
+    fn listed_at(&self, entry: usize, list: AttributeValue<'a>, offset: u64) -> Option<&'a [u8]> {
         let is_version_5 = self.unit_of(entry)?.is_version_5;
         let section = if is_version_5 {
             self.sections.location_lists
@@ -268,8 +271,8 @@ impl<'a> Units<'a> {
             self.sections.locations
         };
         let mut cursor = match list {
-            Value::SectionOffset(at) => self.list_at(section, at)?,
-            Value::ListIndex(index) => {
+            AttributeValue::SectionOffset(at) => self.list_at(section, at)?,
+            AttributeValue::ListIndex(index) => {
                 self.list_at(section, self.locations_offset(entry, index)?)?
             }
             _ => return None,
@@ -284,11 +287,11 @@ impl<'a> Units<'a> {
                 .read_location(&mut cursor, entry, is_version_5, base)
                 .ok()?
             {
-                (Listed::Base(next), _) => base = next,
-                (Listed::Code(range), place) if range.contains(offset) => return Some(place),
-                (Listed::Code(_), _) => {}
-                (Listed::Elsewhere, place) => elsewhere = Some(place),
-                (Listed::End, _) => return elsewhere,
+                (ListItem::Base(next), _) => base = next,
+                (ListItem::Code(range), place) if range.contains(offset) => return Some(place),
+                (ListItem::Code(_), _) => {}
+                (ListItem::Elsewhere, place) => elsewhere = Some(place),
+                (ListItem::End, _) => return elsewhere,
             }
         }
         None
@@ -297,7 +300,7 @@ impl<'a> Units<'a> {
     /// The expression of the place of an entry while the code at an offset runs.
     pub fn place_at(&self, entry: usize, offset: u64) -> Option<&'a [u8]> {
         match self.value(entry, Attribute::Location)? {
-            Value::Expression(place) => Some(place),
+            AttributeValue::Expression(place) => Some(place),
             list => self.listed_at(entry, list, offset),
         }
     }

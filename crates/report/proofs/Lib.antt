@@ -1,6 +1,5 @@
 mod Plain
 mod Asking
 mod Silent
-mod RacePairs
-mod Kept
-mod Objected
+mod AllTold
+mod Performing

@@ -2,4 +2,5 @@ pub mod Jobs
 pub mod Searched
 pub mod Silent
 pub mod SearchObjects
-pub mod Written
+pub mod Telling
+pub mod Told

@@ -4,3 +4,4 @@ pub mod Zipped
 mod Printed
 mod ObjectRows
 mod RunMoments
+pub mod Sightings

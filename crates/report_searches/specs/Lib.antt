@@ -5,4 +5,5 @@ pub mod Endless
 pub mod Searches
 pub mod Racing
 pub mod Prints
+pub mod Found
 pub mod DrawnRaces

@@ -11,7 +11,7 @@ const KEPT: usize = 16;
 
 /// A function that was under way.
 #[derive(Drop)]
-struct Frame {
+struct HeardFrame {
     /// The function of the module itself, from 1 on; 0 where nothing was heard.
     function: AtomicU64,
     /// The number of an instruction in its flat code.
@@ -22,14 +22,14 @@ struct Frame {
 /// it lets each thread through, and hears where it trapped.
 #[derive(Drop)]
 pub struct Frames {
-    frames: Vec<Frame>,
+    frames: Vec<HeardFrame>,
 }
 
 /// Room for the functions of all threads.
-fn room(alloc: Global) -> Result<Vec<Frame>, AllocError> {
+fn room(alloc: Global) -> Result<Vec<HeardFrame>, AllocError> {
     let mut frames = Vec::with_capacity(alloc, MOST_THREADS * KEPT)?;
     for _ in 0..MOST_THREADS * KEPT {
-        frames.push(Frame {
+        frames.push(HeardFrame {
             function: AtomicU64::new(0),
             instr: AtomicU64::new(0),
         })?;
@@ -48,7 +48,7 @@ impl Frames {
     }
 
     /// That of a thread at a depth, if it is kept.
-    fn frame(&self, thread: usize, depth: usize) -> Option<&Frame> {
+    fn frame(&self, thread: usize, depth: usize) -> Option<&HeardFrame> {
         if depth >= KEPT {
             return None;
         }

@@ -14,7 +14,7 @@ use waiters::KeptQueue;
 
 /// Before an event of a run.
 #[derive(Clone, Copy)]
-pub(crate) struct Moment {
+pub(crate) struct BeforeEvent {
     /// Who makes the event.
     pub thread: u32,
     /// The number of the memory, the queue and all threads.
@@ -105,7 +105,7 @@ pub(crate) struct Moments<'a> {
     before: u64,
     /// What each thread has changed of it.
     changed: [u64; MOST_THREADS],
-    pub seen: Vec<Moment>,
+    pub seen: Vec<BeforeEvent>,
     /// Whether memory was refused for any of this.
     pub is_short: bool,
 }
@@ -175,11 +175,11 @@ impl<'a> Moments<'a> {
     }
 
     /// The moment before the next event of a thread.
-    fn moment(&self, thread: u32) -> Moment {
+    fn moment(&self, thread: u32) -> BeforeEvent {
         let n = thread as usize;
         let number = self.threads.get(n).copied().unwrap_or(0);
         let changed = self.changed.get(n).copied().unwrap_or(0);
-        Moment {
+        BeforeEvent {
             thread,
             run: mixed(self.shared(), self.all),
             own: mixed(number, changed),

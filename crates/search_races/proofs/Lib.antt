@@ -1,1 +1,5 @@
 pub mod Told
+pub mod Pulled
+pub mod Stood
+pub mod Heard
+pub mod Alike

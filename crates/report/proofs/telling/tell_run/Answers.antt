@@ -1,0 +1,17 @@
+use Rattle.std.proofs.Common.{◌≡◌, refl, sym, subst}
+use Rattle.report_command.specs.declared.form.Form.{Form}
+use Rattle.report_jobs.specs.Prints.{changed}
+use Rattle.report_lines.specs.Found.{found_run_line}
+use Rattle.report.specs.Telling.{InLines}
+use Rattle.report.proofs.telling.tell_run.Goals as goal
+
+pub returns-in_ok-write_found-in-Lines-clause-tells : goal.returns-in_ok-write_found-in-Lines-clause-tells
+returns-in_ok-write_found-in-Lines-clause-tells g c =
+    let out = changed g.W.Write.contents c.args.out.now c.write_found.new.out in
+    subst (λ (form : Form). InLines form out (λ text. text ≡ found_run_line c.args.run)) (sym c.in-Lines.is)
+    (found_run_line c.args.run, c.in_ok-write_found-in-Lines.ensures, refl)
+
+pub returns-in-Json-clause-tells : goal.returns-in-Json-clause-tells
+returns-in-Json-clause-tells g c =
+    let out = changed g.W.Write.contents c.args.out.now c.args.out.now in
+    subst (λ (form : Form). InLines form out (λ text. text ≡ found_run_line c.args.run)) (sym c.in-Json.is) refl

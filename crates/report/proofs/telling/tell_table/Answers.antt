@@ -1,0 +1,17 @@
+use Rattle.std.proofs.Common.{◌≡◌, refl, sym, subst}
+use Rattle.std.specs.Prelude.{IfOk}
+use Rattle.report_command.specs.declared.form.Form.{Form}
+use Rattle.report_jobs.specs.Prints.{changed}
+use Rattle.report.specs.Telling.{InLines, head_lines}
+use Rattle.report.proofs.telling.tell_table.Goals as goal
+
+pub returns-in-Lines-clause-tells : goal.returns-in-Lines-clause-tells
+returns-in-Lines-clause-tells g c =
+    let out = changed g.W.Write.contents c.args.out.now c.write_head.new.out in
+    subst (λ (form : Form). IfOk c.write_head.result (λ _. InLines form out (λ text. text ≡ head_lines c.args.sought.now c.args.table.now))) (sym c.in-Lines.is)
+    (c.write_head.ensures.tells)
+
+pub returns-in-Json-clause-tells : goal.returns-in-Json-clause-tells
+returns-in-Json-clause-tells g c =
+    let out = changed g.W.Write.contents c.args.out.now c.args.out.now in
+    subst (λ (form : Form). InLines form out (λ text. text ≡ head_lines c.args.sought.now c.args.table.now)) (sym c.in-Json.is) refl
