@@ -6,7 +6,6 @@ use Rattle.report.specs.Told.{IsStatusOfTable, TellsDrawn}
 use Rattle.report_searches.proofs.Counted.{cut_within}
 use Rattle.report_searches.proofs.Keeping.{run_is_kept}
 use Rattle.report.proofs.AllTold.{if_both, last_told, none_told}
-use Rattle.report_jobs.specs.declared.undone.Done.{Done}
 use Rattle.report.proofs.searching.search_for_endings.Goals as goal
 
 pub tell_table-requires : goal.tell_table-requires
@@ -77,10 +76,9 @@ returns-in-AllMade-clause-tells g c =
     let headed = contents c.tell_table.new.out in
     let after = contents c.end_without.new.out in
     let save = changed g.S.Write.contents c.args.save.now c.args.save.now in
-    if_both c.end_without.result (λ (done : Done). EndsNone s.form s.sought table false None (behind_text false s.sought table) done.status (change headed after))
-    (λ (done : Done). IsStatusOfTable s.sought table done.status)
-    (λ (done : Done). TellsDrawn q.parts s (change before after) save done.status)
-    (λ done rest is. record {
+    if_both c.end_without.result (λ status. EndsNone s.form s.sought table false None (behind_text false s.sought table) status (change headed after))
+    (IsStatusOfTable s.sought table) (TellsDrawn q.parts s (change before after) save)
+    (λ status rest is. record {
       request = q;
       parts_are = refl;
       asked = c.requires.asked;
@@ -90,7 +88,7 @@ returns-in-AllMade-clause-tells g c =
         is_told = false;
         all_made = λ _. c.in-Ok.ensures.all_made c.in-AllMade.is;
         none = λ _ stops. c.in-Ok.ensures.none c.in-AllMade.is stops;
-        tells = none_told s.form s.sought table false None (behind_text false s.sought table) done.status before headed after c.in_ok-tell_table.ensures.tells rest;
+        tells = none_told s.form s.sought table false None (behind_text false s.sought table) status before headed after c.in_ok-tell_table.ensures.tells rest;
         status_is = is;
         kept = refl;
       });
@@ -107,10 +105,9 @@ returns-clause-tells g c =
     let headed = contents c.tell_table.new.out in
     let after = contents c.end_without-in-Told.new.out in
     let save = changed g.S.Write.contents c.args.save.now c.args.save.now in
-    if_both c.end_without-in-Told.result (λ (done : Done). EndsNone s.form s.sought table true None (behind_text true s.sought table) done.status (change headed after))
-    (λ (done : Done). IsStatusOfTable s.sought table done.status)
-    (λ (done : Done). TellsDrawn q.parts s (change before after) save done.status)
-    (λ done rest is. record {
+    if_both c.end_without-in-Told.result (λ status. EndsNone s.form s.sought table true None (behind_text true s.sought table) status (change headed after))
+    (IsStatusOfTable s.sought table) (TellsDrawn q.parts s (change before after) save)
+    (λ status rest is. record {
       request = q;
       parts_are = refl;
       asked = c.requires.asked;
@@ -120,7 +117,7 @@ returns-clause-tells g c =
         is_told = true;
         all_made = λ no. absurd (true≢false no);
         none = λ no _. absurd (true≢false no);
-        tells = none_told s.form s.sought table true None (behind_text true s.sought table) done.status before headed after c.in_ok-tell_table.ensures.tells rest;
+        tells = none_told s.form s.sought table true None (behind_text true s.sought table) status before headed after c.in_ok-tell_table.ensures.tells rest;
         status_is = is;
         kept = refl;
       });
