@@ -209,10 +209,10 @@ where
         search: asked,
         bytes: module,
     };
-    let done = search_module(rt, alloc, valid, whole, follower, out, save)?;
+    let status = search_module(rt, alloc, valid, whole, follower, out, save)?;
     Ok(Done {
         is_bare: is_bare(valid, asked),
-        ..done
+        ..Done::with(status)
     })
 }
 

@@ -23,14 +23,13 @@ use crate::telling::{
     tell_table, tell_whole,
 };
 use report_command::Search;
-use report_jobs::{Advised, Done, Trouble, args_of, request_of};
+use report_jobs::{Trouble, args_of, request_of};
 use report_json::FoundAs;
 use report_searches::{
-    FirstLook, FoundRun, Raced, SearchRequest, WholeSearch, behind_of, first_look, jobs_of,
-    keep_found, keep_made, keep_raced, keep_run, kept_if_found, kept_of, kept_race, no_memory,
-    raced_of, status_of_none, whole_of,
+    FirstLook, FoundRun, Raced, SearchRequest, behind_of, first_look, jobs_of, keep_found,
+    keep_made, keep_raced, keep_run, kept_if_found, kept_of, kept_race, no_memory, raced_of,
+    status_of_none, whole_of,
 };
-use search_endings::Ending;
 use search_finds::{EndingTable, Halt, Hears, SearchResult, first_found, first_judged};
 use search_modules::Hands;
 use search_races::RaceJudge;
@@ -57,31 +56,6 @@ fn hands_of<'r, R: Threads>(rt: &'r R, search: &Search) -> Hands<'r, R> {
         rt,
         jobs: jobs_of(rt, search),
     }
-}
-
-/// What is advised of threads that ended so.
-fn advise(advised: &mut Advised, ending: &Ending) {
-    for outcome in ending.outcomes() {
-        advised.note(*outcome);
-    }
-}
-
-/// What is advised of the endings of drawn runs.
-fn advised_of_table(table: &EndingTable) -> Advised {
-    let mut advised = Advised::none();
-    for met in table.met.as_slice() {
-        advise(&mut advised, &met.ending);
-    }
-    advised
-}
-
-/// What is advised of the endings of all runs.
-fn advised_of(whole: &WholeSearch) -> Advised {
-    let mut advised = Advised::none();
-    for ending in whole.all.endings.as_slice() {
-        advise(&mut advised, ending);
-    }
-    advised
 }
 
 /// The race that a first look at all runs found, if it found one, once it is told, and the record of it kept, where one is
@@ -141,15 +115,15 @@ fn search_orders<R: Threads + Sync, F: Hears, W: Write, S: Write>(
     follower: &mut F,
     out: &mut W,
     save: &mut S,
-) -> Result<Done, Trouble>
+) -> Result<u8, Trouble>
     requires asked { IsAskedBy orders.now.asked.search.now.call request.now }
     requires every_order { orders.now.asked.search.now.all ≡ Some orders.now.most }
     ensures finds { IfOk result
-        (λ done. Finds request.now.parts orders.now.asked.search.now (changed S.contents save.old save.new) done.status) }
+        (Finds request.now.parts orders.now.asked.search.now (changed S.contents save.old save.new)) }
     ensures tells { IfOk result
-        (λ done. TellsAll request.now.parts orders.now.asked.search.now orders.now.most (changed W.contents out.old out.new)
-        (changed S.contents save.old save.new) done.status) }
-    ensures well { IfOk result (λ done. IsWellAt request.now.parts orders.now.asked.search.now done.status) }
+        (TellsAll request.now.parts orders.now.asked.search.now orders.now.most (changed W.contents out.old out.new)
+        (changed S.contents save.old save.new)) }
+    ensures well { IfOk result (IsWellAt request.now.parts orders.now.asked.search.now) }
     ensures unwanted { is_some orders.now.asked.search.now.save ≡ false → Stays save.old save.new }
     ensures trouble { IfErr result IsOfSystem }
 {
@@ -173,11 +147,7 @@ fn search_orders<R: Threads + Sync, F: Hears, W: Write, S: Write>(
         dump: search.sought.dump,
     };
     end_orders(alloc, search, told, out, save)?;
-    Ok(Done {
-        status: behind.status,
-        advised: advised_of(&whole),
-        is_bare: false,
-    })
+    Ok(behind.status)
 }
 
 /// Tells that none of drawn runs was found, and answers the status: 0 where all is well, and else 1.
@@ -187,21 +157,17 @@ fn end_without<W: Write>(
     table: &EndingTable,
     is_told: bool,
     out: &mut W,
-) -> Result<Done, Trouble>
+) -> Result<u8, Trouble>
     requires { cut_in table.now ≤ table.now.runs }
-    ensures tells { IfOk result (λ done. EndsNone search.now.form search.now.sought table.now is_told None
-        (behind_text is_told search.now.sought table.now) done.status (changed W.contents out.old out.new)) }
-    ensures status { IfOk result (λ done. IsStatusOfTable search.now.sought table.now done.status) }
+    ensures tells { IfOk result (λ status. EndsNone search.now.form search.now.sought table.now is_told None
+        (behind_text is_told search.now.sought table.now) status (changed W.contents out.old out.new)) }
+    ensures status { IfOk result (IsStatusOfTable search.now.sought table.now) }
     ensures trouble { IfErr result IsOfSystem }
 {
     let sought = &search.sought;
     let status = status_of_none(alloc, sought, table)?;
     tell_none(alloc, search.form, sought, table, is_told, status, out)?;
-    Ok(Done {
-        status,
-        advised: advised_of_table(table),
-        is_bare: false,
-    })
+    Ok(status)
 }
 
 /// Makes the runs that a search asks for, tells the table of their endings, and the run that was found, or that none was;
@@ -215,13 +181,12 @@ fn search_for_endings<R: Threads + Sync, F: Hears, W: Write, S: Write>(
     follower: &mut F,
     out: &mut W,
     save: &mut S,
-) -> Result<Done, Trouble>
+) -> Result<u8, Trouble>
     requires range { IsSearchInRange search.now }
     requires asked { IsAskedBy search.now.call request.now }
-    ensures finds { IfOk result
-        (λ done. Finds request.now.parts search.now (changed S.contents save.old save.new) done.status) }
-    ensures tells { IfOk result (λ done. TellsDrawn request.now.parts search.now
-        (changed W.contents out.old out.new) (changed S.contents save.old save.new) done.status) }
+    ensures finds { IfOk result (Finds request.now.parts search.now (changed S.contents save.old save.new)) }
+    ensures tells { IfOk result (TellsDrawn request.now.parts search.now
+        (changed W.contents out.old out.new) (changed S.contents save.old save.new)) }
     ensures unwanted { is_some search.now.save ≡ false → Stays save.old save.new }
     ensures trouble { IfErr result IsOfSystem }
 {
@@ -244,11 +209,7 @@ fn search_for_endings<R: Threads + Sync, F: Hears, W: Write, S: Write>(
             let kept = kept_of(alloc, request, search, run, follower)?;
             tell_kept(alloc, search.form, sought, &table, &kept, out)?;
             keep_made(search, &kept.made, save)?;
-            Ok(Done {
-                status: 1,
-                advised: advised_of_table(&table),
-                is_bare: false,
-            })
+            Ok(1)
         }
         Halt::AllMade => end_without(alloc, search, &table, false, out),
         Halt::Told => end_without(alloc, search, &table, true, out),
@@ -262,21 +223,17 @@ fn end_raceless<W: Write>(
     table: &EndingTable,
     is_told: bool,
     out: &mut W,
-) -> Result<Done, Trouble>
+) -> Result<u8, Trouble>
     requires { cut_in table.now ≤ table.now.runs }
-    ensures tells { IfOk result (λ done. EndsNone search.now.form search.now.sought table.now is_told (Some said.Unknown)
-        (raceless_text is_told search.now.sought table.now) done.status (changed W.contents out.old out.new)) }
-    ensures status { IfOk result (λ done. IsStatusOfTable search.now.sought table.now done.status) }
+    ensures tells { IfOk result (λ status. EndsNone search.now.form search.now.sought table.now is_told (Some said.Unknown)
+        (raceless_text is_told search.now.sought table.now) status (changed W.contents out.old out.new)) }
+    ensures status { IfOk result (IsStatusOfTable search.now.sought table.now) }
     ensures trouble { IfErr result IsOfSystem }
 {
     let sought = &search.sought;
     let status = status_of_none(alloc, sought, table)?;
     tell_raceless(alloc, search.form, sought, table, is_told, status, out)?;
-    Ok(Done {
-        status,
-        advised: advised_of_table(table),
-        is_bare: false,
-    })
+    Ok(status)
 }
 
 /// The same up to the first run with a race: tells that and its race, or that none has one.
@@ -288,14 +245,14 @@ fn search_for_races<R: Threads + Sync, F: Hears, W: Write, S: Write>(
     follower: &mut F,
     out: &mut W,
     save: &mut S,
-) -> Result<Done, Trouble>
+) -> Result<u8, Trouble>
     requires range { IsSearchInRange asked.search.now }
     requires asked { IsAskedBy asked.search.now.call request.now }
     requires races { asked.search.now.races ≡ true }
     ensures finds { IfOk result
-        (λ done. Finds request.now.parts asked.entry.search.now (changed S.contents save.old save.new) done.status) }
-    ensures tells { IfOk result (λ done. TellsDrawnRaces request.now.parts asked.entry.search.now
-        (changed W.contents out.old out.new) (changed S.contents save.old save.new) done.status) }
+        (Finds request.now.parts asked.entry.search.now (changed S.contents save.old save.new)) }
+    ensures tells { IfOk result (TellsDrawnRaces request.now.parts asked.entry.search.now
+        (changed W.contents out.old out.new) (changed S.contents save.old save.new)) }
     ensures unwanted { is_some asked.entry.search.now.save ≡ false → Stays save.old save.new }
     ensures trouble { IfErr result IsOfSystem }
 {
@@ -315,11 +272,7 @@ fn search_for_races<R: Threads + Sync, F: Hears, W: Write, S: Write>(
             let kept = kept_race(alloc, request, asked, found, follower)?;
             tell_racy(alloc, search.form, sought, &table, &kept, out)?;
             keep_run(search, &kept.racy.made, save)?;
-            Ok(Done {
-                status: 1,
-                advised: advised_of_table(&table),
-                is_bare: false,
-            })
+            Ok(1)
         }
         Halt::AllMade => end_raceless(alloc, search, &table, false, out),
         Halt::Told => end_raceless(alloc, search, &table, true, out),
@@ -335,17 +288,17 @@ fn search_runs<R: Threads + Sync, F: Hears, W: Write, S: Write>(
     follower: &mut F,
     out: &mut W,
     save: &mut S,
-) -> Result<Done, Trouble>
+) -> Result<u8, Trouble>
     requires range { IsSearchInRange asked.search.now }
     requires asked { IsAskedBy asked.search.now.call request.now }
     ensures finds { IfOk result
-        (λ done. Finds request.now.parts asked.entry.search.now (changed S.contents save.old save.new) done.status) }
+        (Finds request.now.parts asked.entry.search.now (changed S.contents save.old save.new)) }
     ensures prints { asked.entry.search.now.races ≡ false
-        → IfOk result (λ done. TellsDrawn request.now.parts asked.entry.search.now
-        (changed W.contents out.old out.new) (changed S.contents save.old save.new) done.status) }
+        → IfOk result (TellsDrawn request.now.parts asked.entry.search.now
+        (changed W.contents out.old out.new) (changed S.contents save.old save.new)) }
     ensures races { asked.entry.search.now.races ≡ true
-        → IfOk result (λ done. TellsDrawnRaces request.now.parts asked.entry.search.now
-        (changed W.contents out.old out.new) (changed S.contents save.old save.new) done.status) }
+        → IfOk result (TellsDrawnRaces request.now.parts asked.entry.search.now
+        (changed W.contents out.old out.new) (changed S.contents save.old save.new)) }
     ensures unwanted { is_some asked.entry.search.now.save ≡ false → Stays save.old save.new }
     ensures trouble { IfErr result IsOfSystem }
 {
@@ -365,19 +318,16 @@ pub fn search_module<R: Threads + Sync, F: Hears, W: Write, S: Write>(
     follower: &mut F,
     out: &mut W,
     save: &mut S,
-) -> Result<Done, Trouble>
+) -> Result<u8, Trouble>
     requires { IsSearchInRange asked.search.now }
-    ensures finds { IfOk result
-        (λ done. Finds «module».now.parts asked.entry.search.now (changed S.contents save.old save.new) done.status) }
-    ensures well { IfOk result (λ done. IsWellAt «module».now.parts asked.entry.search.now done.status) }
-    ensures drawn { IfOk result
-        (λ done. IsDrawn «module».now.parts asked.entry.search.now (changed W.contents out.old out.new)
-        (changed S.contents save.old save.new) done.status) }
-    ensures drawn_races { IfOk result (λ done. IsDrawnForRaces «module».now.parts asked.entry.search.now
-        (changed W.contents out.old out.new) (changed S.contents save.old save.new) done.status) }
-    ensures prints { IfOk result
-        (λ done. IsPrintedOf «module».now.parts asked.entry.search.now (changed W.contents out.old out.new)
-        (changed S.contents save.old save.new) done.status) }
+    ensures finds { IfOk result (Finds «module».now.parts asked.entry.search.now (changed S.contents save.old save.new)) }
+    ensures well { IfOk result (IsWellAt «module».now.parts asked.entry.search.now) }
+    ensures drawn { IfOk result (IsDrawn «module».now.parts asked.entry.search.now (changed W.contents out.old out.new)
+        (changed S.contents save.old save.new)) }
+    ensures drawn_races { IfOk result (IsDrawnForRaces «module».now.parts asked.entry.search.now
+        (changed W.contents out.old out.new) (changed S.contents save.old save.new)) }
+    ensures prints { IfOk result (IsPrintedOf «module».now.parts asked.entry.search.now (changed W.contents out.old out.new)
+        (changed S.contents save.old save.new)) }
     ensures trouble { IfErr result (IsTroubleOf «module».now.parts asked.entry.search.now.call) }
     ensures silent { IfErr result (λ e. IfRefusedCall e (Stays out.old out.new × Stays save.old save.new)) }
     ensures unwanted { is_some asked.entry.search.now.save ≡ false → Stays save.old save.new }

@@ -118,10 +118,10 @@ AsksMoment f when = (text : List ℕ) × (first_value f (codes "at") ≡ Some te
 abbrev pub AsksBefore : Found → When → Type 0
 AsksBefore f when = MatchOption (first_value f (codes "at")) (when ≡ End) (λ text. IsMoment text when)
 
--- The last write of which bytes, and before which moment.
+-- The last write of which bytes, before which moment, and in which form.
 abbrev pub AsksLastWrite : Found → LastWrite → Type 0
 AsksLastWrite f write = ((text : List ℕ) × (first_value f (codes "last-write") ≡ Some text)
-    × IsData IsStretch text write.bytes) × AsksBefore f write.before
+    × IsData IsStretch text write.bytes) × AsksBefore f write.before × AsksForm f write.form
 
 -- What is made of a record, where no file is.
 abbrev pub AsksShown : Found → RecordView → Type 0
@@ -129,7 +129,7 @@ AsksShown f Rows = HasNo f (codes "last-write") × HasNo f (codes "at") × AsksE
 AsksShown f Unfolded = HasNo f (codes "last-write") × HasNo f (codes "at") × AsksEntries f Unfolded
 AsksShown f Object = HasNo f (codes "last-write") × HasNo f (codes "at") × AsksEntries f Object
 AsksShown f (Moment at) = HasNo f (codes "last-write") × AsksMoment f at.when × AsksBytes f at.addr at.count
-    × HasFlag f (codes "raw") at.is_raw
+    × HasFlag f (codes "raw") at.is_raw × AsksForm f at.form
 AsksShown f (Write write) = AsksLastWrite f write
 AsksShown f (Page path) = ⊥
 AsksShown f (Trace path) = ⊥

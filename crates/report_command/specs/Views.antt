@@ -33,7 +33,7 @@ abbrev pub view_form : RecordView → Form
 view_form Object = Json
 view_form Rows = Lines
 view_form Unfolded = Lines
-view_form (Moment at) = Lines
-view_form (Write write) = Lines
+view_form (Moment at) = at.form
+view_form (Write write) = write.form
 view_form (Page path) = Lines
 view_form (Trace path) = Lines

@@ -237,9 +237,9 @@ pub(crate) const JSON: OptionRow =
     "Print one JSON object in place of lines, also of a refusal");
 
 pub(crate) const SHOW_JSON: OptionRow = CommandArgument {
-    help: "Print one JSON object in place of rows, also of a refusal",
+    help: "Print one JSON object in place of rows or lines, also of a refusal",
     commands: &[CommandName::Show],
-    conflicts: &["at", "last-write", "html", "trace"],
+    conflicts: &["html", "trace"],
     ..JSON
 };
 

@@ -7,7 +7,7 @@ ghost use Rattle.report_command.specs.Found.{HasFlag};
 ghost use Rattle.report_command.specs.Jobs.{IsInRange, IsLookInRange};
 ghost use Rattle.report_command.specs.Views as views;
 ghost use Rattle.report_command.specs.Views.{IsViewInRange, path_of};
-ghost use Rattle.report_command.specs.Options.{AsksBytes, AsksColor, AsksEntries, AsksLook};
+ghost use Rattle.report_command.specs.Options.{AsksBytes, AsksColor, AsksEntries, AsksForm, AsksLook};
 ghost use Rattle.report_command.specs.Options.{AsksNamed, AsksShown, AsksView};
 
 use crate::command_line::Job;
@@ -33,6 +33,7 @@ pub struct At {
     pub count: u32,
     /// Whether the locals and operands of all functions are shown as they are.
     pub is_raw: bool,
+    pub form: Form,
 }
 
 /// The last write of some bytes before a moment.
@@ -40,6 +41,7 @@ pub struct At {
 pub struct LastWrite<'a> {
     pub bytes: Data<'a>,
     pub before: When,
+    pub form: Form,
 }
 
 /// What is made of a record.
@@ -82,12 +84,10 @@ impl<'a> RecordView<'a> {
     {
         match self {
             RecordView::Object => Form::Json,
-            RecordView::Rows
-            | RecordView::Unfolded
-            | RecordView::Moment(_)
-            | RecordView::Write(_)
-            | RecordView::Page(_)
-            | RecordView::Trace(_) => Form::Lines,
+            RecordView::Moment(at) => at.form,
+            RecordView::Write(write) => write.form,
+            RecordView::Rows | RecordView::Unfolded | RecordView::Page(_) | RecordView::Trace(_) =>
+                Form::Lines,
         }
     }
 }
@@ -138,6 +138,7 @@ fn shown_at(matches: &ArgMatches, when: When) -> Result<At, CommandRefusal<'stat
     ensures when { IfOk result (λ at. at.when ≡ when) }
     ensures bytes { IfOk result (λ at. AsksBytes (found_of matches.now) at.addr at.count) }
     ensures raw { IfOk result (λ at. HasFlag (found_of matches.now) (codes "raw") at.is_raw) }
+    ensures form { IfOk result (λ at. AsksForm (found_of matches.now) at.form) }
 {
     let (addr, count) = match BYTES.value::<BytesReader>(matches)? {
         Some(bytes) => bytes,
@@ -148,6 +149,7 @@ fn shown_at(matches: &ArgMatches, when: When) -> Result<At, CommandRefusal<'stat
         addr,
         count,
         is_raw: RAW.is_set(matches),
+        form: form_of(matches),
     })
 }
 
@@ -157,11 +159,17 @@ fn shown_of<'a>(matches: &ArgMatches<'a>) -> Result<RecordView<'a>, CommandRefus
     ensures asks { IfOk result (AsksShown (found_of matches.now)) }
 {
     let at = AT.value::<MomentReader>(matches)?;
+    let form = form_of(matches);
     match (LAST_WRITE.value::<WrittenReader>(matches)?, at) {
-        (Some(bytes), Some(before)) => Ok(RecordView::Write(LastWrite { bytes, before })),
+        (Some(bytes), Some(before)) => Ok(RecordView::Write(LastWrite {
+            bytes,
+            before,
+            form,
+        })),
         (Some(bytes), None) => Ok(RecordView::Write(LastWrite {
             bytes,
             before: When::End,
+            form,
         })),
         (None, Some(when)) => Ok(RecordView::Moment(shown_at(matches, when)?)),
         (None, None) => Ok(entries_of(matches)),

@@ -91,6 +91,18 @@ pub same_bytes : (v w : Bool) (xs ys : List ℕ) (a b : Log) → v ≡ w → xs 
 same_bytes v w xs ys a b wanted are sent =
     subst (λ (zs : List ℕ). SendsField (bytes_field w zs) a b) are (subst (λ (u : Bool). SendsField (bytes_field u xs) a b) wanted sent)
 
+-- A list whose items are another one's by an equation, and a value that may be given.
+pub same_some : {A : Type 0} (name : List ℕ) (json : A → Json) (xs ys : List A) (a b : Log) → xs ≡ ys
+    → SendsField (are_some name json xs) a b → SendsField (are_some name json ys) a b
+same_some {A} name json xs ys a b are sent = subst (λ (zs : List A). SendsField (are_some name json zs) a b) are sent
+
+pub same_given : {A : Type 0} (name : List ℕ) (json : A → Json) (x y : Option A) (a b : Log) → x ≡ y
+    → SendsField (is_given name json x) a b → SendsField (is_given name json y) a b
+same_given {A} name json x y a b is sent = subst (λ (o : Option A). SendsField (is_given name json o) a b) is sent
+
+pub some_same : {A : Type 0} (xs ys : List A) → xs ≡ ys → some xs ≡ some ys
+some_same xs ys are = ap some are
+
 -- The items of a list: whatever ends the rest of them from here ends all of them from the start.
 numbered_len : {A : Type 0} (json : ℕ → A → Json) (n : ℕ) (xs : List A) → items_len (items_of (numbered json n xs)) ≡ length xs
 numbered_len json n [] = refl

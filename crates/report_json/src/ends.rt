@@ -148,7 +148,7 @@ impl ToJson for Outcomes<'_> {
 
 /// Bytes, which are printed as digits of base 16.
 #[derive(Clone, Copy)]
-struct Hex<'a>(&'a [u8]);
+pub(crate) struct Hex<'a>(pub(crate) &'a [u8]);
 
 impl ToJson for Hex<'_> {
     ghost json = { λ h. text (encode_lower h.0.now) };

@@ -89,6 +89,16 @@ impl ToJson for &str {
     }
 }
 
+impl ToJson for String {
+    ghost use Rattle.report_json.specs.Json.{string_json};
+
+    ghost json = { string_json };
+
+    fn send<S: Serializer>(&self, _alloc: Global, out: &mut S) -> Result<(), S::Error> {
+        out.str(self.as_str())
+    }
+}
+
 /// Sends a field.
 pub(crate) fn put<S: Serializer, T: ToJson>(
     alloc: Global,
@@ -119,7 +129,7 @@ pub(crate) fn put_if<S: Serializer, T: ToJson>(
 }
 
 /// Sends values as a list.
-fn send_list<S: Serializer, T: ToJson>(
+pub(crate) fn send_list<S: Serializer, T: ToJson>(
     alloc: Global,
     out: &mut S,
     values: &[T],

@@ -17,6 +17,8 @@ use Rattle.selection.specs.declared.choice.Choice.{Choice}
 use Rattle.selection.specs.declared.choice.Look.{Look}
 use Rattle.selection.specs.declared.choice.NumberSpan.{NumberSpan}
 use Rattle.selection.specs.Choices.{span_of}
+use Rattle.report_command.specs.declared.form.Form.{Form}
+use Rattle.report_command.specs.declared.form.Form.TheVariants.{Lines, Json}
 use Rattle.report_command.specs.declared.places.Data.{Data}
 use Rattle.report_command.specs.declared.places.Data.TheVariants.{At, Named}
 use Rattle.report_command.specs.declared.places.When.{When}
@@ -49,6 +51,7 @@ use Rattle.report_looks.specs.PageMoments.{AreOfPage}
 use Rattle.report_looks.specs.RaceObjects.{WritesObject}
 use Rattle.report_looks.specs.RunMoments.{IsMomentIn, WritesHere}
 use Rattle.report_looks.specs.Raced.{IsSeen}
+use Rattle.report_looks.specs.Scenes.{WritesLastObject}
 
 abbrev pub is_trap : Outcome → Bool
 is_trap (outcomes.Trap trap) = true
@@ -92,10 +95,11 @@ pub record IsHere (r : RecordParts) (at : At.At) (here : Here) : Type 0 where
   pub addr : here.bytes.addr ≡ at.addr
   pub count : here.bytes.count ≡ at.count
   pub raw : here.is_raw ≡ at.is_raw
+  pub form_is : here.form ≡ at.form
 
 -- What is wanted of a view, with addresses and places of this record.
 abbrev pub IsWanted : RecordParts → DataMap → RecordView → Wanted → Type 0
-IsWanted r map (views.Write write) w = (addrs : NumberSpan) × (before : ℕ) × (w ≡ wanted.Write addrs before)
+IsWanted r map (views.Write write) w = (addrs : NumberSpan) × (before : ℕ) × (w ≡ wanted.Write addrs before write.form)
     × AreAddresses map write.bytes addrs × (place_in r write.before ≡ Some before)
 IsWanted r map (views.Moment at) w = (here : Here) × (w ≡ wanted.Moment here) × IsHere r at here
 IsWanted r map view w = w ≡ wanted.Entries view
@@ -119,6 +123,12 @@ pub record IsAsked (r : RecordParts) (map : DataMap) (how : ShowLook) (asked : L
 abbrev pub WritesLastOf : Shown → DataMap → ℕ → NumberSpan → Option (List ℕ) → Option (List ℕ) → Type 0
 WritesLastOf shown map before addrs old new = (story : Story) × IsStoryOf shown.record.now.log story
     × WritesLast shown map story before addrs old new
+
+-- In lines, or as an object.
+abbrev pub WritesLastIn : Form → Shown → DataMap → ℕ → NumberSpan → Option (List ℕ) → Option (List ℕ) → Type 0
+WritesLastIn Lines shown map before addrs old new = WritesLastOf shown map before addrs old new
+WritesLastIn Json shown map before addrs old new = (story : Story) × IsStoryOf shown.record.now.log story
+    × WritesLastObject shown map story before addrs old new
 
 -- Whether all entries are chosen, and whether a thread was stopped.
 abbrev pub chooses_all : Choice → Bool
@@ -155,13 +165,13 @@ abbrev pub WritesEntries : RecordView → Shown → DataMap → Look → Option 
 WritesEntries (views.Page path) shown map look old new = (races : List Race) × (moments : List MomentText)
     × AreOfPage shown map look races moments × WritesPage shown races moments look old new
 WritesEntries (views.Trace path) shown map look old new = (races : List Race) × WritesTrace shown races look old new
-WritesEntries views.Object shown map look old new = WritesObject shown look old new
+WritesEntries views.Object shown map look old new = WritesObject shown map look old new
 WritesEntries views.Unfolded shown map look old new = WritesRowsOf shown map look old new
 WritesEntries view shown map look old new = WritesFoldedOf shown map look old new
 
 -- What is wanted of a record is written.
 abbrev pub WritesWanted : Shown → DataMap → Look → Wanted → Option (List ℕ) → Option (List ℕ) → Type 0
-WritesWanted shown map look (wanted.Write addrs before) old new = WritesLastOf shown map before addrs old new
+WritesWanted shown map look (wanted.Write addrs before form) old new = WritesLastIn form shown map before addrs old new
 WritesWanted shown map look (wanted.Entries view) old new = WritesEntries view shown map look old new
 WritesWanted shown map look (wanted.Moment here) old new = (moment : Moment)
     × IsMomentIn shown.code.now.parts.now shown.record.now here.place here.bytes moment

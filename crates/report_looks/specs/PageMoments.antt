@@ -10,7 +10,7 @@ use Rattle.show_events.specs.declared.run.MomentText.{MomentText}
 use Rattle.show_moments.specs.declared.moment.Bytes.{Bytes}
 use Rattle.show_moments.specs.declared.moment.Moment.{Moment}
 use Rattle.show_moments.specs.declared.scene.MomentView.{MomentView}
-use Rattle.show_moments.specs.Scenes.{WritesMoment}
+use Rattle.show_moments.specs.Lines.{WritesMoment}
 use Rattle.show_named.specs.declared.data_map.DataMap.{DataMap}
 use Rattle.show_rows.specs.declared.listing.Shown.{Shown}
 use Rattle.show_rows.specs.Listing.{chosen}

@@ -1,5 +1,5 @@
 -- What an object has of an entry, that of a show of the entries that are chosen, and that of races of two that race.
-use Rattle.std.specs.Prelude.{ℕ, ◌≡◌, Bool, false, true, List, nat_lt, Option, Some, None}
+use Rattle.std.specs.Prelude.{ℕ, ◌≡◌, Bool, false, true, List, nat_lt, OnSome, Option, Some, None}
 use Rattle.std.specs.Borrow.{Bor}
 use Rattle.std.specs.List.{AllZip, slice_get}
 use Rattle.std.specs.Io.KnownBytes.{Appends}
@@ -15,6 +15,7 @@ use Rattle.report_json.specs.Rows.{races_json, row_text, rows_json, rows_text}
 use Rattle.report_json.specs.declared.places.Offset.{Offset}
 use Rattle.report_json.specs.declared.places.PlaceObject.{PlaceObject}
 use Rattle.report_json.specs.declared.places.SourceObject.{SourceObject}
+use Rattle.report_json.specs.declared.rows.NamedRow.{NamedRow}
 use Rattle.report_json.specs.declared.rows.RowObject.{RowObject}
 use Rattle.report_json.specs.declared.races.NextWrite.{NextWrite}
 use Rattle.report_json.specs.declared.races.RaceEntry.{RaceEntry}
@@ -22,6 +23,8 @@ use Rattle.report_json.specs.declared.races.RacePair.{RacePair}
 use Rattle.report_json.specs.declared.races.RacePairs.{RacePairs}
 use Rattle.show_races.specs.Written.{IsNextWrite, access_at}
 use Rattle.show_races.specs.declared.found.RecordRaces.{RecordRaces}
+use Rattle.show_named.specs.Names.{HasData}
+use Rattle.show_named.specs.declared.data_map.DataMap.{DataMap}
 use Rattle.show_rows.specs.Listing.{AreWordsOf, IsStoryOf, chosen, line_at, place_of}
 use Rattle.show_rows.specs.Spots.{IsSpotOf}
 use Rattle.show_rows.specs.declared.code.CodeMap.{CodeMap}
@@ -58,27 +61,28 @@ pub record IsRowOf (shown : Shown) (story : Story) (at : ℕ) (made : Entry) (ro
   pub words : AreWordsOf shown story at made row.words
   pub place : IsPlaceAt shown.code.now (place_of shown story at) row.place
 
--- The row of the entry that stands at a place of the log.
-pub record IsRowAt (shown : Shown) (story : Story) (at : ℕ) (row : RowObject) : Type 0 where
+-- That row, and the name of its data: only of an entry that is about static data.
+pub record IsNamedRowAt (shown : Shown) (map : DataMap) (story : Story) (at : ℕ) (named : NamedRow) : Type 0 where
   pub made : Entry
   pub stands : slice_get shown.record.now.log at ≡ Some made
-  pub row_of : IsRowOf shown story at made row
+  pub row_of : IsRowOf shown story at made named.row
+  pub named_as : OnSome named.name (HasData map made.event)
 
 -- What was written is the row of the entry at a place; and those of the entries at these places, in order.
-abbrev pub AddsRow : Shown → Story → ℕ → Bool → Option (List ℕ) → Option (List ℕ) → Type 0
-AddsRow shown story at is_first old new = (row : RowObject) × IsRowAt shown story at row
-    × Appends old new (row_text is_first row)
+abbrev pub AddsRow : Shown → DataMap → Story → ℕ → Bool → Option (List ℕ) → Option (List ℕ) → Type 0
+AddsRow shown map story at is_first old new =
+    (row : NamedRow) × IsNamedRowAt shown map story at row × Appends old new (row_text is_first row)
 
-abbrev pub AddsRows : Shown → Story → List ℕ → Option (List ℕ) → Option (List ℕ) → Type 0
-AddsRows shown story places old new = (rows : List RowObject) × AllZip (IsRowAt shown story) places rows
+abbrev pub AddsRows : Shown → DataMap → Story → List ℕ → Option (List ℕ) → Option (List ℕ) → Type 0
+AddsRows shown map story places old new = (rows : List NamedRow) × AllZip (IsNamedRowAt shown map story) places rows
     × Appends old new (rows_text rows)
 
 -- What was written is one object: of the entries that are chosen, in order.
-pub record WritesObject (shown : Shown) (look : Look) (old new : Option (List ℕ)) : Type 0 where
+pub record WritesObject (shown : Shown) (map : DataMap) (look : Look) (old new : Option (List ℕ)) : Type 0 where
   pub story : Story
   pub is_story : IsStoryOf shown.record.now.log story
-  pub rows : List RowObject
-  pub each : AllZip (IsRowAt shown story) (chosen shown look) rows
+  pub rows : List NamedRow
+  pub each : AllZip (IsNamedRowAt shown map story) (chosen shown look) rows
   pub object : Appends old new (json_line (rows_json rows))
 
 -- By an atomic instruction.

@@ -9,7 +9,7 @@ use crate::printing::{MOST_MARKS, moment_of, races_in};
 use crate::wanted::Here;
 use race_history::Race;
 use replay_text::Record;
-use report_command::RecordView;
+use report_command::{Form, RecordView};
 use selection::{Look, touched};
 use show_events::{MomentText, failure_of, part_around};
 use show_moments::{Bytes, MomentView, write_moment};
@@ -68,6 +68,7 @@ fn moment_text(
         is_end: false,
         bytes,
         is_raw: seen.is_raw,
+        form: Form::Lines,
     };
     let moment = moment_of(alloc, seen.valid, record, here)?;
     let mut written = Vec::new(alloc);

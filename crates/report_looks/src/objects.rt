@@ -1,12 +1,16 @@
 //! What is shown of a record as a JSON object.
-ghost use Rattle.std.specs.Prelude.{◌<◌, All, OnOk, length};
-ghost use Rattle.report_looks.specs.RaceObjects.{AddsRow, AddsRows, IsOffset, IsPlaceOf, IsRowOf, IsSource, WritesObject};
+ghost use Rattle.std.specs.Prelude.{◌<◌, All, IfOk, OnOk, length};
+ghost use Rattle.report_looks.specs.RaceObjects.{AddsRow, AddsRows, IsNamedRowAt, IsOffset, IsPlaceOf, IsRowOf};
+ghost use Rattle.report_looks.specs.RaceObjects.{IsSource, WritesObject};
 
-use report_json::{Offset, PlaceObject, RowObject, SourceObject, begin_rows, end_rows, write_row};
+use report_json::{
+    NamedRow, Offset, PlaceObject, RowObject, SourceObject, begin_rows, end_rows, write_row,
+};
 use selection::Look;
+use show_named::DataMap;
 use show_rows::{Shown, Spot, Story, chosen_entries};
 use show_text::Unwritten;
-use std::alloc::Global;
+use std::alloc::{AllocError, Global};
 use std::io::Write;
 use types::Entry;
 
@@ -61,10 +65,30 @@ pub(crate) fn row_of<'a>(
     }
 }
 
+/// The entry at a place in the log, with the name of its data.
+pub(crate) fn named_row<'a>(
+    alloc: Global,
+    shown: &'a Shown,
+    map: &DataMap,
+    story: &'a Story,
+    at: usize,
+) -> Result<NamedRow<'a>, AllocError>
+    requires { at < length shown.now.record.now.log }
+    ensures { IfOk result (IsNamedRowAt shown.now map.now story.now at) }
+{
+    let entry = &shown.record.log.as_slice()[at];
+    let name = map.data_of(alloc, entry.event)?;
+    Ok(NamedRow {
+        row: row_of(shown, story, at, entry),
+        name,
+    })
+}
+
 /// Writes the row of the entry at a place.
 fn write_place<W: Write>(
     alloc: Global,
     shown: &Shown,
+    map: &DataMap,
     story: &Story,
     at: usize,
     is_first: bool,
@@ -72,26 +96,27 @@ fn write_place<W: Write>(
 ) -> Result<(), Unwritten>
     requires { at < length shown.now.record.now.log }
     ensures { OnOk result
-        (AddsRow shown.now story.now at is_first (W.contents out.old) (W.contents out.new)) }
+        (AddsRow shown.now map.now story.now at is_first (W.contents out.old) (W.contents out.new)) }
 {
-    let entry = &shown.record.log.as_slice()[at];
-    write_row(alloc, out, is_first, &row_of(shown, story, at, entry))
+    let row = named_row(alloc, shown, map, story, at)?;
+    write_row(alloc, out, is_first, &row)
 }
 
 /// Writes the rows of the entries at these places.
 fn write_places<W: Write>(
     alloc: Global,
     shown: &Shown,
+    map: &DataMap,
     story: &Story,
     places: &[usize],
     out: &mut W,
 ) -> Result<(), Unwritten>
     requires { All (λ at. at < length shown.now.record.now.log) places.now }
-    ensures { OnOk result (AddsRows shown.now story.now places.now (W.contents out.old) (W.contents out.new)) }
+    ensures { OnOk result (AddsRows shown.now map.now story.now places.now (W.contents out.old) (W.contents out.new)) }
 {
     let mut is_first = true;
     for place in 0..places.len() {
-        write_place(alloc, shown, story, places[place], is_first, out)?;
+        write_place(alloc, shown, map, story, places[place], is_first, out)?;
         is_first = false;
     }
     Ok(())
@@ -101,15 +126,16 @@ fn write_places<W: Write>(
 pub(crate) fn write_entries<W: Write>(
     alloc: Global,
     shown: Shown,
+    map: &DataMap,
     look: &Look,
     out: &mut W,
 ) -> Result<(), Unwritten>
-    ensures { OnOk result (WritesObject shown.entry look.now (W.contents out.old) (W.contents out.new)) }
+    ensures { OnOk result (WritesObject shown.entry map.now look.now (W.contents out.old) (W.contents out.new)) }
 {
     let story = Story::new(alloc, shown.record.log.as_slice())?;
     let places = chosen_entries(alloc, shown, look)?;
     begin_rows(out)?;
-    write_places(alloc, &shown, &story, places.as_slice(), out)?;
+    write_places(alloc, &shown, map, &story, places.as_slice(), out)?;
     end_rows(out)?;
     Ok(())
 }

@@ -3,18 +3,19 @@ ghost use Rattle.std.specs.Prelude.{◌≡◌, false, All, IfOk, OnOk};
 ghost use Rattle.show_races.specs.Told.{IsWithin};
 ghost use Rattle.report_looks.specs.Looked as looked;
 ghost use Rattle.report_looks.specs.PageMoments.{AreMarks};
-ghost use Rattle.report_looks.specs.RunMoments.{IsMomentIn, WritesHere};
-ghost use Rattle.report_looks.specs.Looked.{PrintsAsked, WritesBelow, WritesEntries, WritesFoldedOf, WritesLastOf, WritesRowsOf};
+ghost use Rattle.report_looks.specs.RunMoments.{IsMomentIn, WritesHere, WritesIn};
+ghost use Rattle.report_looks.specs.Looked.{PrintsAsked, WritesBelow, WritesEntries, WritesFoldedOf, WritesLastIn, WritesRowsOf};
 
 use crate::ends::write_end;
 use crate::moments::{Marks, marks_of};
 use crate::objects::write_entries;
+use crate::scenes::{write_last_object, write_scene};
 use crate::showing::SeenRun;
 use crate::wanted::{Here, LookRequest, Wanted};
 use race_history::{Race, is_history};
 use replay::replay_watched;
 use replay_text::Record;
-use report_command::RecordView;
+use report_command::{Form, RecordView};
 use selection::{Choice, Look, NumberSpan};
 use show_events::{write_page, write_trace};
 use show_moments::{Moment, MomentView, write_moment};
@@ -61,7 +62,11 @@ pub(crate) fn print_asked<W: Write>(
         code,
     };
     match asked.wanted {
-        Wanted::Write { addrs, before } => print_last(alloc, shown, map, before, addrs, out),
+        Wanted::Write {
+            addrs,
+            before,
+            form,
+        } => print_last(alloc, shown, map, before, addrs, form, out),
         Wanted::Moment(here) => {
             let moment = moment_of(alloc, module, &seen.record, here)?;
             print_moment(alloc, module, shown, map, &moment, here, out)
@@ -80,12 +85,16 @@ fn print_last<W: Write>(
     map: &DataMap,
     before: usize,
     addrs: NumberSpan,
+    form: Form,
     out: &mut W,
 ) -> Result<(), Unwritten>
-    ensures { OnOk result (WritesLastOf shown.entry map.now before addrs (W.contents out.old) (W.contents out.new)) }
+    ensures { OnOk result (WritesLastIn form shown.entry map.now before addrs (W.contents out.old) (W.contents out.new)) }
 {
     let story = Story::new(alloc, shown.record.log.as_slice())?;
-    write_last(alloc, shown, map, &story, before, addrs, out)
+    match form {
+        Form::Lines => write_last(alloc, shown, map, &story, before, addrs, out),
+        Form::Json => write_last_object(alloc, shown, map, &story, before, addrs, out),
+    }
 }
 
 /// Writes the rows, or the object, the page or the trace that has them.
@@ -104,7 +113,7 @@ fn print_entries<W: Write>(
     match view {
         RecordView::Page(_) => write_page(alloc, shown, look, &marks.races, &marks.moments, out),
         RecordView::Trace(_) => write_trace(alloc, shown, look, &marks.races, out),
-        RecordView::Object => write_entries(alloc, shown, look, out),
+        RecordView::Object => write_entries(alloc, shown, map, look, out),
         RecordView::Unfolded => print_rows(alloc, shown, map, look, out),
         RecordView::Rows | RecordView::Moment(_) | RecordView::Write(_) => print_folded(
             alloc, shown, map, look, out,
@@ -223,8 +232,25 @@ fn print_moment<W: Write>(
         is_raw: here.is_raw,
     };
     if here.is_end {
-        return write_end(alloc, view, moment, out);
+        return write_end(alloc, view, moment, here.form, out);
     }
-    let races = races_in(alloc, shown, MOST_MARKS)?;
-    write_moment(alloc, view, moment, &races, out)
+    print_scene(alloc, view, moment, here.form, out)
+}
+
+/// Writes what threads and memory are like before an entry, in lines or as an object.
+fn print_scene<W: Write>(
+    alloc: Global,
+    view: MomentView,
+    moment: &Moment,
+    form: Form,
+    out: &mut W,
+) -> Result<(), Unwritten>
+    ensures says { OnOk result (WritesIn form view.entry moment.now (W.contents out.old) (W.contents out.new)) }
+    ensures whole { OnOk result (moment.now.is_short ≡ false) }
+{
+    let races = races_in(alloc, view.shown, MOST_MARKS)?;
+    match form {
+        Form::Lines => write_moment(alloc, view, moment, &races, out),
+        Form::Json => write_scene(alloc, view, moment, &races, out),
+    }
 }

@@ -12,7 +12,7 @@ ghost use Rattle.report_looks.specs.Silent.{IsUnrefused};
 
 use dwarf_data::{ByteRange, NamedBytes};
 use replay_text::RecordParts;
-use report_command::{At, Data, LastWrite, RecordView, ShowLook, When};
+use report_command::{At, Data, Form, LastWrite, RecordView, ShowLook, When};
 use report_jobs::{Absent, Unfit};
 use selection::{Choice, Look, NumberSpan};
 use show_moments::Bytes;
@@ -49,6 +49,8 @@ pub(crate) struct Here {
     pub bytes: Bytes,
     /// Whether all locals and operands are shown as they are.
     pub is_raw: bool,
+    /// In which form it is printed.
+    pub form: Form,
 }
 
 /// What is shown of a record, and how.
@@ -65,8 +67,12 @@ pub(crate) enum Wanted<'a> {
     Entries(RecordView<'a>),
     /// A moment of it.
     Moment(Here),
-    /// The last entry before the one of this place that writes a byte at these addresses.
-    Write { addrs: NumberSpan, before: usize },
+    /// The last entry before the one of this place that writes a byte at these addresses, in this form.
+    Write {
+        addrs: NumberSpan,
+        before: usize,
+        form: Form,
+    },
 }
 
 /// Whether a thread leaves that trapped.
@@ -147,7 +153,11 @@ fn write_of<'a>(
         Err(why) => return Err(why),
     };
     match place_in(parts, write.before) {
-        Some(before) => Ok(Wanted::Write { addrs, before }),
+        Some(before) => Ok(Wanted::Write {
+            addrs,
+            before,
+            form: write.form,
+        }),
         None => Err(Unshown::Absent(Absent::NoTrap)),
     }
 }
@@ -168,6 +178,7 @@ fn moment_of<'a>(parts: &RecordParts, at: At) -> Result<Wanted<'a>, Unshown>
             count: at.count,
         },
         is_raw: at.is_raw,
+        form: at.form,
     }))
 }
 

@@ -1,5 +1,5 @@
 -- What is told of the last entry that does something.
-use Rattle.std.specs.Prelude.{ℕ, ◌≡◌, ◌⊎◌, ◌==◌, ◌++◌, if◌then◌else◌, List, Option, codes}
+use Rattle.std.specs.Prelude.{ℕ, ◌≡◌, ◌<◌, ◌⊎◌, ◌==◌, ◌++◌, if◌then◌else◌, List, Option, Some, None, codes, length}
 use Rattle.std.specs.Fmt.{decimal}
 use Rattle.std.specs.Io.KnownBytes.{Appends}
 use Rattle.selection.specs.declared.choice.NumberSpan.{NumberSpan}
@@ -25,6 +25,11 @@ pub record SaysSome (shown : Shown) (map : DataMap) (story : Story) (before : �
 abbrev pub SaysLast : Shown → DataMap → Story → ℕ → Act → List ℕ → List ℕ → Type 0
 SaysLast shown map story before act none text = SaysSome shown map story before act text
     ⊎ (HasNone act shown.record.now.log before × (text ≡ none))
+
+-- The words of the entry at this place of the log, or these where there is none.
+abbrev pub SaysPlace : Shown → DataMap → Story → List ℕ → Option ℕ → List ℕ → Type 0
+SaysPlace shown map story none (Some at) text = at < length shown.record.now.log → IsEntryText shown map story at text
+SaysPlace shown map story none None text = text ≡ none
 
 -- What is said where none writes there.
 abbrev pub unwritten_text : NumberSpan → List ℕ

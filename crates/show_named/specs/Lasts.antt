@@ -1,5 +1,5 @@
 -- Which entry of a log was the last to write some bytes, or to notify an address.
-use Rattle.std.specs.Prelude.{ℕ, ◌≡◌, ◌≢◌, ◌<◌, ◌≤◌, true, false, List, Some}
+use Rattle.std.specs.Prelude.{ℕ, ◌≡◌, ◌≢◌, ◌<◌, ◌≤◌, true, false, List, Option, Some, None}
 use Rattle.std.specs.List.{slice_get}
 use Rattle.types.specs.declared.event.Entry.{Entry}
 use Rattle.types.specs.declared.event.Event.TheVariants.{Ask}
@@ -43,3 +43,8 @@ pub record IsLast (s : Act) (log : List Entry) (before k : ℕ) : Type 0 where
 -- None before that place does.
 abbrev pub HasNone : Act → List Entry → ℕ → Type 0
 HasNone s log before = (j : ℕ) (e : Entry) → j < before → slice_get log j ≡ Some e → Does s e → ⊥
+
+-- The place of the last one, or none.
+abbrev pub IsLastIfAny : Act → List Entry → ℕ → Option ℕ → Type 0
+IsLastIfAny s log before (Some k) = IsLast s log before k
+IsLastIfAny s log before None = HasNone s log before

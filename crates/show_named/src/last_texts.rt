@@ -1,7 +1,7 @@
 //! The last entry that did something, as text.
 ghost use Rattle.std.specs.Prelude.{◌≡◌, IfOk, OnOk, string_bytes};
 ghost use Rattle.show_named.specs.declared.lasts.Act.TheVariants as acts;
-ghost use Rattle.show_named.specs.LastTexts.{SaysLast, WritesLast, unwritten_text};
+ghost use Rattle.show_named.specs.LastTexts.{SaysLast, SaysPlace, WritesLast, unwritten_text};
 
 use crate::data_map::DataMap;
 use crate::lasts::{Act, last_of};
@@ -29,9 +29,27 @@ pub fn last_text(
 ) -> Result<String, AllocError>
     ensures { IfOk result (λ text. SaysLast shown.entry map.now story.now before act none.now (string_bytes text)) }
 {
-    match last_of(shown.record.log.as_slice(), before, act) {
-        Some(at) => named_text(alloc, shown, map, story, at),
-        None => none.to_string(alloc),
+    let place = last_of(shown.record.log.as_slice(), before, act);
+    told_text(alloc, shown, map, story, place, none)
+}
+
+/// The words of the entry at this place of the log, or these where there is none.
+///
+/// # Errors
+/// Where memory is refused.
+pub fn told_text(
+    alloc: Global,
+    shown: Shown,
+    map: &DataMap,
+    story: &Story,
+    place: Option<usize>,
+    none: &str,
+) -> Result<String, AllocError>
+    ensures { IfOk result (λ text. SaysPlace shown.entry map.now story.now none.now place (string_bytes text)) }
+{
+    match place {
+        Some(at) if at < shown.record.log.len() => named_text(alloc, shown, map, story, at),
+        _ => none.to_string(alloc),
     }
 }
 

@@ -27,6 +27,6 @@ mod rows;
 mod same;
 
 pub use data_map::DataMap;
-pub use last_texts::{last_text, write_last};
+pub use last_texts::{last_text, told_text, write_last};
 pub use lasts::{Act, last_of};
 pub use rows::{named_text, write_folded, write_rows};

@@ -1,5 +1,6 @@
 -- Which threads wait for one another.
-use Rattle.std.specs.Prelude.{ℕ, ◌≡◌, ◌≢◌, ◌<◌, List, [], ◌∷◌, Option, None, Some, All, length, option_and_then}
+use Rattle.std.specs.Prelude.{ℕ, ◌≡◌, ◌≢◌, ◌<◌, List, [], ◌∷◌, Option, None, Some, All, filter_map, length, option_and_then}
+use Rattle.std.specs.Global.{Vec}
 use Rattle.std.specs.List.{AllZip, range_with_len, slice_get}
 use Rattle.types.specs.declared.event.Entry.{Entry}
 use Rattle.types.specs.declared.outcome.Outcome.TheVariants as outcomes
@@ -58,3 +59,14 @@ pub record IsCycle (waits : List (Option ℕ)) (n : ℕ) (others : List ℕ) : T
   pub chain : IsChain waits n others n
   pub higher : All (λ m. n < m) others
   pub few : length others < length waits
+
+-- A cycle from its thread of the lowest number on; where a thread is that of none, there is none.
+abbrev pub IsToldCycle : List (Option ℕ) → ℕ → Option (Vec ℕ) → Type 0
+IsToldCycle waits n (Some cycle) = (others : List ℕ) × IsCycle waits n others × (cycle.items ≡ n ∷ others)
+IsToldCycle waits n None = (others : List ℕ) → IsCycle waits n others → ⊥
+
+-- Those of all threads, in order.
+abbrev pub AreToldCycles : List Entry → List ThreadReport → List (Vec ℕ) → Type 0
+AreToldCycles log ends told = (waits : List (Option ℕ)) × AreWaits log ends waits
+    × (all : List (Option (Vec ℕ))) × AllZip (IsToldCycle waits) (range_with_len 0 (length ends)) all
+    × (told ≡ filter_map (λ cycle. cycle) all)

@@ -1,5 +1,5 @@
 -- What is told of a thread that was stopped: where it stood, and who made the bytes there what they are.
-use Rattle.std.specs.Prelude.{ℕ, ◌≡◌, ◌⊎◌, ◌==◌, ◌++◌, [], if◌then◌else◌, List, Option, Some, codes, length}
+use Rattle.std.specs.Prelude.{ℕ, ◌≡◌, ◌⊎◌, ◌↔◌, true, ◌==◌, ◌++◌, [], if◌then◌else◌, List, Option, Some, codes, length}
 use Rattle.std.specs.Fmt.{decimal}
 use Rattle.std.specs.List.{AllZip, concat, range_with_len, slice_get}
 use Rattle.std.specs.Io.KnownBytes.{Appends}
@@ -16,7 +16,8 @@ use Rattle.show_named.specs.declared.data_map.DataMap.{DataMap}
 use Rattle.show_named.specs.Rows.{IsEntryText}
 use Rattle.show_named.specs.declared.lasts.Act.TheVariants as acts
 use Rattle.show_waits.specs.declared.stands.Stand.{Stand}
-use Rattle.show_named.specs.Lasts.{IsLast}
+use Rattle.show_waits.specs.declared.waits.ToldWait.{ToldWait}
+use Rattle.show_named.specs.Lasts.{IsLast, IsLastIfAny}
 use Rattle.show_waits.specs.Stands.{IsStand, TouchesNothing}
 use Rattle.show_waits.specs.CycleTexts.{AreCycles}
 use Rattle.show_named.specs.LastTexts.{SaysLast}
@@ -29,6 +30,15 @@ pub record IsOwn (log : List Entry) (n : ℕ) (addrs : NumberSpan) : Type 0 wher
   pub place : ℕ
   pub last : IsLast (acts.Write addrs) log (length log) place
   pub own : last.entry.thread ≡ n
+
+-- What a thread waits for that was stopped: where it stands, who wrote these bytes last, and of the others where that is
+-- the thread itself, and who notified their first address last.
+pub record IsToldWait (n : ℕ) (log : List Entry) (w : ToldWait) : Type 0 where
+  pub stand : IsStand n log w.stand
+  pub written : IsLastIfAny (acts.Write w.stand.addrs) log (length log) w.written
+  pub own : (w.is_own ≡ true) ↔ IsOwn log n w.stand.addrs
+  pub other : IsLastIfAny (acts.OtherWrite w.stand.addrs n) log (length log) w.other
+  pub notified : IsLastIfAny (acts.Notify w.stand.addrs.first) log (length log) w.notified
 
 -- There it is told who was the last one of the others.
 pub record SaysLastOther (shown : Shown) (map : DataMap) (story : Story) (n : ℕ) (addrs : NumberSpan)

@@ -8,7 +8,6 @@ use Rattle.report.specs.Told.{IsStatusOfTable, TellsDrawnRaces}
 use Rattle.report_searches.proofs.Counted.{cut_within}
 use Rattle.report_searches.proofs.DrawnRaces.{none_races, race_is_kept}
 use Rattle.report.proofs.AllTold.{if_both, none_told, racy_told}
-use Rattle.report_jobs.specs.declared.undone.Done.{Done}
 use Rattle.report.proofs.searching.search_for_races.Goals as goal
 
 pub tell_table-requires : goal.tell_table-requires
@@ -100,10 +99,9 @@ returns-in-AllMade-clause-tells g c =
     let save = changed g.S.Write.contents c.args.save.now c.args.save.now in
     let noted = c.in-Ok.ensures.noted in
     if_both c.end_raceless.result
-    (λ (done : Done). EndsNone s.form s.sought table false (Some said.Unknown) (raceless_text false s.sought table) done.status (change headed after))
-    (λ (done : Done). IsStatusOfTable s.sought table done.status)
-    (λ (done : Done). TellsDrawnRaces q.parts s (change before after) save done.status)
-    (λ done rest is. record {
+    (λ status. EndsNone s.form s.sought table false (Some said.Unknown) (raceless_text false s.sought table) status (change headed after))
+    (IsStatusOfTable s.sought table) (TellsDrawnRaces q.parts s (change before after) save)
+    (λ status rest is. record {
       request = q;
       parts_are = refl;
       asked = c.requires.asked;
@@ -113,7 +111,7 @@ returns-in-AllMade-clause-tells g c =
         is_told = false;
         all_made = λ _. c.in-Ok.ensures.all_made c.in-AllMade.is;
         none = none_races q s.sought table c.in-Ok.searched.halt (λ f is_found. absurd cc) noted;
-        tells = none_told s.form s.sought table false (Some said.Unknown) (raceless_text false s.sought table) done.status before headed after
+        tells = none_told s.form s.sought table false (Some said.Unknown) (raceless_text false s.sought table) status before headed after
             c.in_ok-tell_table.ensures.tells rest;
         status_is = is;
         kept = refl;
@@ -133,10 +131,9 @@ returns-clause-tells g c =
     let save = changed g.S.Write.contents c.args.save.now c.args.save.now in
     let noted = c.in-Ok.ensures.noted in
     if_both c.end_raceless-in-Told.result
-    (λ (done : Done). EndsNone s.form s.sought table true (Some said.Unknown) (raceless_text true s.sought table) done.status (change headed after))
-    (λ (done : Done). IsStatusOfTable s.sought table done.status)
-    (λ (done : Done). TellsDrawnRaces q.parts s (change before after) save done.status)
-    (λ done rest is. record {
+    (λ status. EndsNone s.form s.sought table true (Some said.Unknown) (raceless_text true s.sought table) status (change headed after))
+    (IsStatusOfTable s.sought table) (TellsDrawnRaces q.parts s (change before after) save)
+    (λ status rest is. record {
       request = q;
       parts_are = refl;
       asked = c.requires.asked;
@@ -146,7 +143,7 @@ returns-clause-tells g c =
         is_told = true;
         all_made = λ no. absurd (true≢false no);
         none = none_races q s.sought table c.in-Ok.searched.halt (λ f is_found. absurd cc) noted;
-        tells = none_told s.form s.sought table true (Some said.Unknown) (raceless_text true s.sought table) done.status before headed after
+        tells = none_told s.form s.sought table true (Some said.Unknown) (raceless_text true s.sought table) status before headed after
             c.in_ok-tell_table.ensures.tells rest;
         status_is = is;
         kept = refl;
