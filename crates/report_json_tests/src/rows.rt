@@ -10,7 +10,7 @@ use std::alloc::Global;
 use std::test::Fail;
 use types::{Entry, Event, Reply};
 
-/// A plain load of 4 bytes at 4096, on line 25.
+/// A plain load of 4 bytes at 4096, entry 25.
 const LOAD: RowObject<'static> = RowObject {
     line: 25,
     words: Words {

@@ -45,14 +45,14 @@ the_entry log whole at entry made same within is there =
 pub next_says : (s : Seen) (next : ToldNext) (log : List Entry) (entry : Entry) (said : Words) (line : ℕ) (front text : List ℕ)
     → log ≡ log_of s → next.at < length log → entry ≡ get_or log next.at entry → SaysStance s next.stance front
     → line ≡ line_at s.shown next.at → AreWordsOf s.shown s.story next.at entry said
-    → text ≡ front ++ (codes "on line " ++ (decimal line ++ (codes ": " ++ (words_text said ++ codes "\n")))) → SaysNext s next text
+    → text ≡ front ++ (codes "entry " ++ (decimal line ++ (codes ": " ++ (words_text said ++ codes "\n")))) → SaysNext s next text
 next_says s next log entry said line front text same within here front_is line_is of is = λ made stands. record {
   front = front;
   front_is = front_is;
   said = said;
   words_of = subst (λ (e : Entry). AreWordsOf s.shown s.story next.at e said)
       (the_entry log (log_of s) next.at entry made same within here stands) of;
-  is = is ∙ ap (λ (n : ℕ). front ++ (codes "on line " ++ (decimal n ++ (codes ": " ++ (words_text said ++ codes "\n"))))) line_is;
+  is = is ∙ ap (λ (n : ℕ). front ++ (codes "entry " ++ (decimal n ++ (codes ": " ++ (words_text said ++ codes "\n"))))) line_is;
 }
 
 pub asked_none : (s : Seen) (asked : ℕ) (o : Option Entry) (text : List ℕ) → o ≡ None → text ≡ codes "sleeps; "
@@ -61,14 +61,14 @@ asked_none s asked o text none is = subst (λ (x : Option Entry). SaysAsked s as
 
 pub asked_says : (s : Seen) (asked : ℕ) (log : List Entry) (made : Entry) (said : Words) (line : ℕ) (text : List ℕ)
     → log ≡ log_of s → asked < length log → made ≡ get_or log asked made → AreWordsOf s.shown s.story asked made said
-    → line ≡ line_at s.shown asked → text ≡ words_text said ++ (codes ", since line " ++ (decimal line ++ codes "; "))
+    → line ≡ line_at s.shown asked → text ≡ words_text said ++ (codes ", since entry " ++ (decimal line ++ codes "; "))
     → SaysAsked s asked (slice_get (log_of s) asked) text
 asked_says s asked log made said line text same within made_is of line_is is =
     let here : slice_get (log_of s) asked ≡ Some made =
     ap (λ (l : List Entry). slice_get l asked) (sym same)
     ∙ (slice_get-get_or log asked made within ∙ ap (λ (e : Entry). Some e) (sym made_is)) in
     subst (λ (x : Option Entry). SaysAsked s asked x text) (sym here)
-    (said, of, is ∙ ap (λ (n : ℕ). words_text said ++ (codes ", since line " ++ (decimal n ++ codes "; "))) line_is)
+    (said, of, is ∙ ap (λ (n : ℕ). words_text said ++ (codes ", since entry " ++ (decimal n ++ codes "; "))) line_is)
 
 pub moment_of : (view : MomentView) (moment : Moment) (races : List Race) (story : Story) (told : ToldMoment) (log : List Entry)
     (threads : List ToldThread) (others queue dump : List ℕ) (a b c d e : Option (List ℕ)) → log ≡ view.shown.record.now.log → IsStoryOf log story

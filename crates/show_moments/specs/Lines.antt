@@ -27,7 +27,7 @@ use Rattle.show_moments.specs.Texts.{queue_text, dump_text}
 abbrev pub SaysAsked : Seen → ℕ → Option Entry → List ℕ → Type 0
 SaysAsked s asked None text = text ≡ codes "sleeps; "
 SaysAsked s asked (Some made) text = (said : Words) × AreWordsOf s.shown s.story asked made said
-    × (text ≡ words_text said ++ (codes ", since line " ++ (decimal (line_at s.shown asked) ++ codes "; ")))
+    × (text ≡ words_text said ++ (codes ", since entry " ++ (decimal (line_at s.shown asked) ++ codes "; ")))
 
 -- How a thread stands to its first entry.
 abbrev pub SaysStance : Seen → Stance → List ℕ → Type 0
@@ -42,7 +42,7 @@ pub record SaysComes (s : Seen) (next : ToldNext) (made : Entry) (text : List �
   pub front_is : SaysStance s next.stance front
   pub said : Words
   pub words_of : AreWordsOf s.shown s.story next.at made said
-  pub is : text ≡ front ++ (codes "on line " ++ (decimal (line_at s.shown next.at)
+  pub is : text ≡ front ++ (codes "entry " ++ (decimal (line_at s.shown next.at)
       ++ (codes ": " ++ (words_text said ++ codes "\n"))))
 
 abbrev pub SaysNext : Seen → ToldNext → List ℕ → Type 0
@@ -74,7 +74,7 @@ WritesThreads s threads old new =
 -- That the entry of the moment races with another one.
 abbrev pub SaysOther : Seen → ℕ → List ℕ → Type 0
 SaysOther s other text = other < length (log_of s) → (entry : List ℕ) × IsEntryText s.shown s.story other entry
-    × (text ≡ codes "line " ++ (decimal (line_at s.shown s.moment.at) ++ (codes " races with " ++ (entry ++ codes "\n"))))
+    × (text ≡ codes "entry " ++ (decimal (line_at s.shown s.moment.at) ++ (codes " races with " ++ (entry ++ codes "\n"))))
 
 abbrev pub WritesOthers : Seen → List ℕ → Option (List ℕ) → Option (List ℕ) → Type 0
 WritesOthers s others old new =

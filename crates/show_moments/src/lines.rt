@@ -95,7 +95,7 @@ impl Scene<'_, '_, '_, '_, '_, '_, '_, '_, '_, '_, '_> {
         let front = self.stance_text(next.stance)?;
         let line = self.view.shown.line_of(at);
         let words = self.view.shown.words_at(self.story, at, entry);
-        let text = format!(in self.alloc; "{front}on line {line}: {words}\n")?;
+        let text = format!(in self.alloc; "{front}entry {line}: {words}\n")?;
         Ok(text)
     }
 
@@ -121,7 +121,7 @@ impl Scene<'_, '_, '_, '_, '_, '_, '_, '_, '_, '_, '_> {
         };
         let line = self.view.shown.line_of(asked);
         let words = self.view.shown.words_at(self.story, asked, entry);
-        let text = format!(in self.alloc; "{words}, since line {line}; ")?;
+        let text = format!(in self.alloc; "{words}, since entry {line}; ")?;
         Ok(text)
     }
 
@@ -164,7 +164,7 @@ impl Scene<'_, '_, '_, '_, '_, '_, '_, '_, '_, '_, '_> {
         }
         let line = self.view.shown.line_of(self.moment.at);
         let entry = entry_text(self.alloc, self.view.shown, self.story, other)?;
-        let text = format!(in self.alloc; "line {line} races with {entry}\n")?;
+        let text = format!(in self.alloc; "entry {line} races with {entry}\n")?;
         Ok(text)
     }
 }

@@ -242,6 +242,6 @@ pub fn named_text(
     let said = format!(in alloc; "{words}{name}")?;
     let place = shown.place_text(alloc, story, at)?;
     let behind = PlaceBehind(place.as_str());
-    let text = format!(in alloc; "t{thread} {said} on line {line}{behind}")?;
+    let text = format!(in alloc; "t{thread} {said}, entry {line}{behind}")?;
     Ok(text)
 }

@@ -37,13 +37,13 @@ pub some_order : (shown : Shown) (kinds : List AccessKind) (r : Race) (log : Lis
     → IsNextWrite log kinds (get_or log r.first d).thread r.first (Some at) → line ≡ line_at shown at
     → text ≡ codes "  nothing told t" ++ (decimal (get_or log r.second e).thread ++ (codes " that t"
     ++ (decimal (get_or log r.first d).thread ++ (codes " was done: t" ++ (decimal (get_or log r.first d).thread
-    ++ (codes "'s next atomic write is on line " ++ (decimal line ++ leads_text (nat_lt at r.second) (get_or log r.second e).thread)))))))
+    ++ (codes "'s next atomic write is entry " ++ (decimal line ++ leads_text (nat_lt at r.second) (get_or log r.second e).thread)))))))
     → IsOrderText shown kinds r text
 some_order shown kinds r log d e at line text same first second is_next line_is is =
     order_of shown kinds r log d e (Some at) text same first second is_next (is
     ∙ ap (λ (n : ℕ). codes "  nothing told t" ++ (decimal (get_or log r.second e).thread ++ (codes " that t"
     ++ (decimal (get_or log r.first d).thread ++ (codes " was done: t" ++ (decimal (get_or log r.first d).thread
-    ++ (codes "'s next atomic write is on line " ++ (decimal n ++ leads_text (nat_lt at r.second) (get_or log r.second e).thread)))))))) line_is)
+    ++ (codes "'s next atomic write is entry " ++ (decimal n ++ leads_text (nat_lt at r.second) (get_or log r.second e).thread)))))))) line_is)
 
 -- Of all races, by the slices that were gone through.
 pub told_all : (shown : Shown) (story : Story) (races : RecordRaces) (kinds : List AccessKind) (pairs : List Race) (a d : Option (List ℕ))

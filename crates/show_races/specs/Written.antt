@@ -41,7 +41,7 @@ leads_text is_between second = if is_between then codes ", and t" ++ (decimal se
 
 abbrev pub write_text : Shown → Race → ℕ → Option ℕ → List ℕ
 write_text shown r second None = codes " makes no atomic write behind it"
-write_text shown r second (Some at) = codes "'s next atomic write is on line " ++ (decimal (line_at shown at)
+write_text shown r second (Some at) = codes "'s next atomic write is entry " ++ (decimal (line_at shown at)
     ++ leads_text (nat_lt at r.second) second)
 
 -- What would have ordered the first entry before the second, by their threads.

@@ -71,7 +71,7 @@ fn order_text(
     };
     let line = shown.line_of(write);
     let some = format!(in alloc;
-        "  nothing told t{second} that t{first} was done: t{first}'s next atomic write is on line {line}{leads}"
+        "  nothing told t{second} that t{first} was done: t{first}'s next atomic write is entry {line}{leads}"
     )?;
     Ok(some)
 }

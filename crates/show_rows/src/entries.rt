@@ -44,6 +44,6 @@ pub fn entry_text(
     let words = shown.words_at(story, at, entry).to_string(alloc)?;
     let place = shown.place_text(alloc, story, at)?;
     let behind = PlaceBehind(place.as_str());
-    let text = format!(in alloc; "t{thread} {words} on line {line}{behind}")?;
+    let text = format!(in alloc; "t{thread} {words}, entry {line}{behind}")?;
     Ok(text)
 }

@@ -25,7 +25,7 @@ use Rattle.show_waits.specs.Waits.{SaysEnd, SaysNowhere, SaysOther, SaysStand, S
 
 -- the text, by the number of the line
 abbrev stand_words : ℕ → List ℕ → ℕ → List ℕ → List ℕ → List ℕ → List ℕ
-stand_words times last line written other notified = last ++ (codes "\n  touches nothing else since line " ++ (decimal line
+stand_words times last line written other notified = last ++ (codes "\n  touches nothing else since entry " ++ (decimal line
     ++ (codes " (" ++ (times_text times ++ (codes ")\n  last write there: " ++ (written
     ++ (codes "\n" ++ (other ++ (codes "  last notify there: " ++ (notified ++ codes "\n"))))))))))
 

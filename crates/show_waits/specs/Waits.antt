@@ -65,7 +65,7 @@ pub record SaysStand (shown : Shown) (map : DataMap) (story : Story) (n : ℕ) (
   pub other_is : SaysOther shown map story n stand.addrs other
   pub notified : List ℕ
   pub notified_is : SaysLast shown map story (length shown.record.now.log) (acts.Notify stand.addrs.first) (codes "nobody") notified
-  pub words : text ≡ last ++ (codes "\n  touches nothing else since line " ++ (decimal (line_at shown stand.since)
+  pub words : text ≡ last ++ (codes "\n  touches nothing else since entry " ++ (decimal (line_at shown stand.since)
       ++ (codes " (" ++ (times_text stand.times ++ (codes ")\n  last write there: " ++ (written
       ++ (codes "\n" ++ (other ++ (codes "  last notify there: " ++ (notified ++ codes "\n"))))))))))
 

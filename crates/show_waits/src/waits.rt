@@ -122,7 +122,7 @@ fn stand_text(
     let notified = told_text(alloc, shown, map, story, wait.notified, "nobody")?;
     let (times, line) = (Times(wait.stand.times), shown.line_of(wait.stand.since));
     let text = format!(in alloc;
-        "{last}\n  touches nothing else since line {line} ({times})\n  last write there: {written}\n{other}  last notify there: {notified}\n"
+        "{last}\n  touches nothing else since entry {line} ({times})\n  last write there: {written}\n{other}  last notify there: {notified}\n"
     )?;
     Ok(text)
 }

@@ -6,6 +6,6 @@ pub returns : goal.returns
 returns c = λ within. (
   string_bytes c.in_ok-entry.entry,
   c.in_ok-entry.ensures,
-  c.in_ok-text.ensures.ok ∙ ap (λ (n : ℕ). codes "line " ++ (decimal n ++ (codes " races with "
+  c.in_ok-text.ensures.ok ∙ ap (λ (n : ℕ). codes "entry " ++ (decimal n ++ (codes " races with "
       ++ (string_bytes c.in_ok-entry.entry ++ codes "\n")))) c.line_of-line.ensures,
 )
