@@ -3,12 +3,13 @@
 ghost use Rattle.std.specs.Prelude.{◌≡◌, IfOk, IfErr};
 ghost use Rattle.std.specs.String.{string_bytes};
 ghost use Rattle.report_reasons.specs.Added.{IsAddedTo};
+ghost use Rattle.report_reasons.specs.Lines.{BeginsWithLine};
+ghost use Rattle.report_reasons.specs.Reasons.{Explains, NamesLine};
 
 use crate::bytes::add_reading;
 use crate::calls::add_call;
-use crate::records::{UnfitThread, add_misfit, add_unread};
+use crate::records::{UnfitThread, add_header, add_misfit, add_unreadable};
 use crate::validity::{add_in_body, add_rule};
-use replay_text::RecordFault;
 use report_command::{CallWords, Job, RunJob, Search};
 use report_jobs::{Advised, Done, JobResult, Misfit, Refused, Undone};
 use show_rows::{CodeMap, Stood};
@@ -46,6 +47,7 @@ pub fn explain(
     given: JobInputs,
 ) -> Result<(), AllocError>
     ensures added { IfOk result (λ _. IsAddedTo (string_bytes out.old) (string_bytes out.new)) }
+    ensures line { IfOk result (λ _. Explains ended.now given.saved.now (string_bytes out.old) (string_bytes out.new)) }
     ensures kept { IfErr result (λ _. string_bytes out.new ≡ string_bytes out.old) }
 {
     let mut lines = String::new(alloc);
@@ -58,7 +60,9 @@ fn write_lines(
     out: &mut String,
     ended: &JobResult,
     given: JobInputs,
-) -> Result<(), AllocError> {
+) -> Result<(), AllocError>
+    ensures { IfOk result (λ _. Explains ended.now given.saved.now (string_bytes out.old) (string_bytes out.new)) }
+{
     match ended {
         Ok(done) => add_done(alloc, out, *done, given),
         Err(Undone::Refused(refused)) => add_refused(alloc, out, refused, given),
@@ -100,7 +104,9 @@ fn add_refused(
     out: &mut String,
     refused: &Refused,
     given: JobInputs,
-) -> Result<(), AllocError> {
+) -> Result<(), AllocError>
+    ensures { IfOk result (λ _. NamesLine refused.now given.saved.now (string_bytes out.old) (string_bytes out.new)) }
+{
     let JobInputs {
         module: bytes,
         saved,
@@ -118,9 +124,11 @@ fn add_refused(
             Some(call) => add_call(out, module.parts(), call.invoke, &call.args),
             None => Ok(()),
         },
-        Refused::Header(line) => add_unread(out, saved, RecordFault::Header(*line)),
-        Refused::Unreadable(line) => add_unread(out, saved, RecordFault::Unreadable(*line)),
-        Refused::EndMissing => add_unread(out, saved, RecordFault::EndMissing),
+        Refused::Header(line) => add_header(out, saved, *line),
+        Refused::Unreadable(line) => add_unreadable(out, saved, *line),
+        Refused::EndMissing => {
+            out.push_str("the text ends before the line finish: it may be cut\n")
+        }
         Refused::Line(line, misfit) | Refused::EndLine(line, misfit) => {
             add_line(alloc, out, given, *line, misfit)
         }
@@ -147,7 +155,9 @@ fn add_line(
     given: JobInputs,
     line: u32,
     misfit: &Misfit,
-) -> Result<(), AllocError> {
+) -> Result<(), AllocError>
+    ensures { IfOk result (λ _. BeginsWithLine given.saved.now line (string_bytes out.old) (string_bytes out.new)) }
+{
     let number = line as usize;
     let Some(stood) = misfit.stood else {
         return add_misfit(out, given.saved, number, None);

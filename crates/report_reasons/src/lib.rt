@@ -3,12 +3,14 @@
 //! as hints. Both are made of what came of the job, `report_jobs::JobResult`; nothing is read, validated or replayed again.
 //!
 //! Proved: `write_undone` writes exactly the object of what is refused, with its status, its numbers and the hints, or of
-//! what failed; `explain` adds to a text, or leaves it as it was. Which lines explain what, cases say.
+//! what failed; `explain` adds to a text, or leaves it as it was, and of a refused record first the line
+//! that is refused. Which other lines explain what, cases say.
 #![tactic(auto)]
 
 mod bytes;
 mod calls;
 mod explained;
+mod lines;
 mod object;
 mod opcodes;
 mod records;

@@ -1,30 +1,15 @@
 //! Records that are refused.
 
+ghost use Rattle.std.specs.Prelude.{IfOk};
+ghost use Rattle.std.specs.String.{string_bytes};
+ghost use Rattle.report_reasons.specs.Added.{IsAddedTo};
+ghost use Rattle.report_reasons.specs.Lines.{BeginsWithLine};
+
+use crate::lines::add_line;
 use interp_trait::Turn;
-use replay_text::{EventWords, RecordFault};
+use replay_text::EventWords;
 use show_text::Plain;
 use std::alloc::AllocError;
-
-/// Adds a line of a record, by its number, from 1 on.
-fn add_text(out: &mut String, saved: &[u8], number: usize) -> Result<(), AllocError> {
-    let at = number.saturating_sub(1);
-    let Some(line) = saved.split(|byte| *byte == b'\n').nth(at) else {
-        return Ok(());
-    };
-    write!(out, "line {number}: the record has ")?;
-    if line.first().is_some_and(|byte| byte.is_ascii_digit()) {
-        out.push('t')?;
-    }
-    for byte in line.iter().take(200) {
-        let c = char::from(*byte);
-        out.push(if c.is_ascii() && !c.is_control() {
-            c
-        } else {
-            '?'
-        })?;
-    }
-    out.push('\n')
-}
 
 /// What the lines of a header are that both versions have.
 const CALL: [&str; 4] = [
@@ -59,29 +44,27 @@ fn header_words(saved: &[u8], number: usize) -> &'static str {
     }
 }
 
-/// Adds why bytes are no record's text.
-pub(crate) fn add_unread(
+/// Adds why a line of a record's header, by its number from 1 on, can't be one.
+pub(crate) fn add_header(out: &mut String, saved: &[u8], number: usize) -> Result<(), AllocError>
+    ensures { IfOk result (λ _. BeginsWithLine saved.now number (string_bytes out.old) (string_bytes out.new)) }
+{
+    add_line(out, saved, number)?;
+    let words = header_words(saved, number);
+    write!(out, "{words}\n")
+}
+
+/// Adds why a line of a record behind its header, by its number from 1 on, can't be one.
+pub(crate) fn add_unreadable(
     out: &mut String,
     saved: &[u8],
-    fault: RecordFault,
-) -> Result<(), AllocError> {
-    match fault {
-        RecordFault::Header(number) => {
-            add_text(out, saved, number)?;
-            let words = header_words(saved, number);
-            write!(out, "{words}\n")
-        }
-        RecordFault::Unreadable(number) => {
-            add_text(out, saved, number)?;
-            out.push_str(
-                "it is no line that may stand there: an entry, an end, the pages or finish, with one spelling each\n",
-            )
-        }
-        RecordFault::EndMissing => {
-            out.push_str("the text ends before the line finish: it may be cut\n")
-        }
-        RecordFault::NoMemory => Ok(()),
-    }
+    number: usize,
+) -> Result<(), AllocError>
+    ensures { IfOk result (λ _. BeginsWithLine saved.now number (string_bytes out.old) (string_bytes out.new)) }
+{
+    add_line(out, saved, number)?;
+    out.push_str(
+        "it is no line that may stand there: an entry, an end, the pages or finish, with one spelling each\n",
+    )
 }
 
 /// The thread of a line that doesn't fit.
@@ -101,8 +84,10 @@ pub fn add_misfit(
     saved: &[u8],
     number: usize,
     thread: Option<UnfitThread>,
-) -> Result<(), AllocError> {
-    add_text(out, saved, number)?;
+) -> Result<(), AllocError>
+    ensures { IfOk result (λ _. BeginsWithLine saved.now number (string_bytes out.old) (string_bytes out.new)) }
+{
+    add_line(out, saved, number)?;
     if let Some(thread) = thread {
         add_instead(out, thread)?;
     }
@@ -112,7 +97,9 @@ pub fn add_misfit(
 }
 
 /// Adds what a thread does in place of the record's line, and where it stands.
-fn add_instead(out: &mut String, thread: UnfitThread) -> Result<(), AllocError> {
+fn add_instead(out: &mut String, thread: UnfitThread) -> Result<(), AllocError>
+    ensures { IfOk result (λ _. IsAddedTo (string_bytes out.old) (string_bytes out.new)) }
+{
     let UnfitThread { number, turn, spot } = thread;
     match turn {
         Some(Turn::Wants(event)) => {
