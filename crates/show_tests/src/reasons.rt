@@ -287,7 +287,7 @@ static ENDS: [(&[Outcome], &str); 3] = [
             Outcome::Trap(Trap::UnalignedAtomic),
             Outcome::Stop(Stop::AsleepForGood),
         ],
-        "a thread sleeps where nobody is left to wake it: `show` has the line on which it fell asleep\n\
+        "a thread sleeps where nobody is left to wake it: `show` has the entry at which it fell asleep\n\
             an atomic access wants an address that its width divides\n",
     ),
     (&[Outcome::Done(None)], ""),
