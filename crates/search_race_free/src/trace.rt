@@ -1,5 +1,7 @@
 //! The turns behind the choices of a search.
-ghost use Rattle.std.specs.Prelude.{IfOk, IfSome};
+ghost use Rattle.std.specs.Prelude.{◌≡◌, IfOk, IfSome};
+ghost use Rattle.search_race_free.specs.Choices as specified;
+ghost use Rattle.search_race_free.specs.Choices.{IsChoice};
 ghost use Rattle.search_race_free.specs.Search.{IsOwned};
 
 use crate::alone::{Arrival, PlainTurn, after_event, turn_alone, wanted};
@@ -11,28 +13,32 @@ use search_settled::{NextAccess, RestingState};
 use std::alloc::{AllocError, Global};
 
 /// Which of the threads that can go on thread n is.
-fn choice_of(wanted: &[Option<NextAccess>], n: usize) -> usize {
+fn choice_of(wanted: &[Option<NextAccess>], n: usize) -> usize
+    ensures { result ≡ specified.choice_of wanted.now n }
+{
     let mut choice: usize = 0;
-    for m in 0..wanted.len() {
-        if m < n && wanted[m].is_some() {
-            choice = choice.saturating_add(1);
+    for m in 0..usize::min(n, wanted.len()) {
+        if wanted[m].is_some() {
+            choice += 1;
         }
     }
     choice
 }
 
-/// The thread that is this one of those that can go on.
-fn thread_of(wanted: &[Option<NextAccess>], choice: usize) -> usize {
+/// The thread that is this one of those that can go on, if there are so many.
+fn thread_of(wanted: &[Option<NextAccess>], choice: usize) -> Option<usize>
+    ensures { IsChoice wanted.now choice result }
+{
     let mut left = choice;
     for m in 0..wanted.len() {
         if wanted[m].is_some() {
             if left == 0 {
-                return m;
+                return Some(m);
             }
             left -= 1;
         }
     }
-    wanted.len()
+    None
 }
 
 /// Thread n makes its turn, if it can: notes its choice.
@@ -119,13 +125,13 @@ fn note_onward<M: Accesses>(
     Ok(Some(at))
 }
 
-/// The thread that has this choice.
+/// The thread that has this choice, if one has it.
 fn chosen_in<M: Accesses>(
     alloc: Global,
     system: &M,
     at: &Owning<RestingState<M::Shared, M::Thread>>,
     choice: usize,
-) -> Result<usize, AllocError>
+) -> Result<Option<usize>, AllocError>
     requires { IsOwned (M.threads system.now) at.now }
 {
     let wanted = wanted(alloc, system, &at.flat)?;
@@ -149,7 +155,9 @@ pub fn all_choices<M: Accesses>(
     };
     let mut at = first;
     for choice in choices {
-        let n = chosen_in(alloc, system, &at, *choice)?;
+        let Some(n) = chosen_in(alloc, system, &at, *choice)? else {
+            return Ok(all);
+        };
         match note_onward(alloc, system, &at, n, most_plain, &mut all)? {
             Some(next) => at = next,
             None => return Ok(all),
