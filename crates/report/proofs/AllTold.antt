@@ -12,12 +12,12 @@ use Rattle.report_command.specs.declared.search.Search.{Search}
 use Rattle.report_jobs.specs.Prints.{change}
 use Rattle.report_json.specs.declared.raced.RunRaces.{RunRaces}
 use Rattle.report_lines.specs.Found.{found_run_line}
-use Rattle.report_searches.specs.Complete.{complete_lines}
-use Rattle.report_searches.specs.Found.{found_lines, kept_lines, kept_text}
-use Rattle.report_searches.specs.Racing.{SaysRaced}
-use Rattle.report_searches.specs.declared.found.FoundRun.{FoundRun}
-use Rattle.report_searches.specs.declared.found.KeptRun.{KeptRun}
-use Rattle.report_searches.specs.declared.raced.KeptRace.{KeptRace}
+use Rattle.report.specs.Complete.{complete_lines}
+use Rattle.report.specs.Found.{found_lines, kept_lines, kept_text}
+use Rattle.report.specs.Racing.{SaysRaced}
+use Rattle.report.specs.declared.found.FoundRun.{FoundRun}
+use Rattle.report.specs.declared.found.KeptRun.{KeptRun}
+use Rattle.report.specs.declared.raced.KeptRace.{KeptRace}
 use Rattle.report.specs.SearchObjects.{WritesAll, WritesKept, WritesRacy, WritesTable, coverage_of, none_of}
 use Rattle.report.specs.Telling.{EndsAll, EndsKept, EndsNone, EndsRacy, InLines, head_lines}
 use Rattle.report.specs.Told.{AllIn, LastIn, NoneIn, RacyIn}

@@ -28,14 +28,14 @@ use Rattle.report_json.specs.declared.raced.RacingThreads.{RacingThreads}
 use Rattle.report_json.specs.declared.raced.RunRaces.{RunRaces}
 use Rattle.report_json.specs.declared.raced.RunRaces.TheVariants as said
 use Rattle.report_looks.specs.Raced.{SaysObject}
-use Rattle.report_searches.specs.Drawn.{cut_in, late_in, singles_in}
-use Rattle.report_searches.specs.declared.found.KeptRun.{KeptRun}
-use Rattle.report_searches.specs.declared.raced.KeptRace.{KeptRace}
-use Rattle.report_searches.specs.declared.raced.Raced.{Raced}
-use Rattle.report_searches.specs.declared.raced.Raced.TheVariants as raced
-use Rattle.report_searches.specs.declared.whole.Racing.{Racing}
-use Rattle.report_searches.specs.declared.whole.Racing.TheVariants.{Unasked, Never, Unknown}
-use Rattle.report_searches.specs.declared.whole.Racing.TheVariants as racings
+use Rattle.report.specs.Drawn.{cut_in, late_in, singles_in}
+use Rattle.report.specs.declared.found.KeptRun.{KeptRun}
+use Rattle.report.specs.declared.raced.KeptRace.{KeptRace}
+use Rattle.report.specs.declared.raced.Raced.{Raced}
+use Rattle.report.specs.declared.raced.Raced.TheVariants as raced
+use Rattle.report.specs.declared.whole.Racing.{Racing}
+use Rattle.report.specs.declared.whole.Racing.TheVariants.{Unasked, Never, Unknown}
+use Rattle.report.specs.declared.whole.Racing.TheVariants as racings
 use Rattle.report.specs.declared.objects.ToldSearch.{ToldSearch}
 
 -- How a run ended that was made; and what is kept of what was found, in an object.

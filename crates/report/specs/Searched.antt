@@ -6,7 +6,7 @@ use Rattle.binary.specs.Grammar.{IsModuleText}
 use Rattle.report_command.specs.declared.search.Search.{Search}
 use Rattle.report_jobs.specs.Prints.{WriterChange}
 use Rattle.report.specs.Told.{TellsAll, TellsDrawn, TellsDrawnRaces}
-use Rattle.report_searches.specs.Searches.{Finds, IsWellAt}
+use Rattle.report.specs.Searches.{Finds, IsWellAt}
 
 -- What is told of a search of drawn runs that looks for one with a race.
 abbrev pub IsDrawnForRaces : Parts → Search → WriterChange → WriterChange → ℕ → Type 0

@@ -10,11 +10,11 @@ use Rattle.report_jobs.specs.Prints.{WriterChange}
 use Rattle.report_json.specs.declared.raced.RunRaces.{RunRaces}
 use Rattle.report_lines.specs.Drawn.{cut_line}
 use Rattle.report_looks.specs.Raced.{SaysPair}
-use Rattle.report_searches.specs.Drawn.{cut_in, table_lines}
-use Rattle.report_searches.specs.Found.{kept_lines, kept_text, run_lines, shrunk_text}
-use Rattle.report_searches.specs.Racing.{Tells}
-use Rattle.report_searches.specs.declared.found.KeptRun.{KeptRun}
-use Rattle.report_searches.specs.declared.raced.KeptRace.{KeptRace}
+use Rattle.report.specs.Drawn.{cut_in, table_lines}
+use Rattle.report.specs.Found.{kept_lines, kept_text, run_lines, shrunk_text}
+use Rattle.report.specs.Racing.{Tells}
+use Rattle.report.specs.declared.found.KeptRun.{KeptRun}
+use Rattle.report.specs.declared.raced.KeptRace.{KeptRace}
 use Rattle.report.specs.SearchObjects.{WritesAll, WritesKept, WritesRacy, WritesTable, coverage_of, none_of}
 use Rattle.report.specs.declared.objects.ToldSearch.{ToldSearch}
 

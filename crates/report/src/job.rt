@@ -10,18 +10,18 @@ ghost use Rattle.report_jobs.specs.Trapped.{Tells};
 ghost use Rattle.report_jobs.specs.Undone.{ended_status, undone_line, undone_status};
 ghost use Rattle.report_jobs.specs.Why.{RefusesModule, RefusesRecord};
 ghost use Rattle.report_jobs.specs.Troubles.{IsTroubleOf};
-ghost use Rattle.report_searches.specs.Searches.{Finds, IsWellAt};
+ghost use Rattle.report.specs.Searches.{Finds, IsWellAt};
 ghost use Rattle.report.specs.Searched.{HasSearched, IsDrawn, IsDrawnForRaces, IsPrintedOf};
 ghost use Rattle.report.specs.Jobs.{Performs};
 ghost use Rattle.report.specs.Silent.{IfRefusedCall, writes_file};
 
+use crate::asked::SearchRequest;
 use crate::searching::search_module;
 use report_command::{Job, Search};
 use report_jobs::{
     Done, Streams, Trouble, Undone, load, of_refusal, of_trouble, perform_plain, tell_ended,
 };
 use report_looks::{CodeBytes, races_saved, show_saved};
-use report_searches::SearchRequest;
 use search_finds::Hears;
 use spawn_host::own_function;
 use std::alloc::Global;

@@ -1,6 +1,5 @@
 //! What the program does, as a library: the command line as a job, and what a job prints. `job` does each job;
-//! `searching` searches through runs of a module (`report_searches` has what is found), `telling` tells it in lines or in
-//! one object, and `objects` has those.
+//! `searching` searches through runs of a module, `telling` tells it in lines or in one object, and `objects` has those.
 //!
 //! Proved: what each status of a job says, that nothing is written where one is refused, and what a search prints and
 //! keeps, of one value in either form: lines to the byte, of which that of a race alone is any that says so, and of the
@@ -9,15 +8,27 @@
 //! told, where one is looked for, and none before it has one; where none is told no run that was made has one.
 #![tactic(auto)]
 
+mod all;
+mod asked;
+mod complete;
+mod drawn;
+mod early;
+mod found;
 mod job;
+mod kept;
 mod objects;
+mod raced;
 mod searching;
+mod smaller;
+mod table;
 mod telling;
+mod told;
+mod whole;
 
+pub use asked::SearchRequest;
 pub use job::perform;
 pub use report_command::{Job, Usage, command};
 pub use report_jobs::{ModuleRefusal, Streams, check, load, replay_saved};
 pub use report_looks::{CodeBytes, races_saved, show_saved};
 pub use report_runs::{Call, EndState, RecordRunFault, record_run, run_on_words};
-pub use report_searches::SearchRequest;
 pub use searching::search_module;

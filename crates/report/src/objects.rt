@@ -3,22 +3,23 @@ ghost use Rattle.std.specs.Prelude.{◌≡◌, ◌≤◌, ℕ, Some, None, IfOk,
 ghost use Rattle.std.specs.List.{AllZip};
 ghost use Rattle.types.specs.declared.parts.Parts.{Parts};
 ghost use Rattle.report_jobs.specs.Prints.{IsObjectOf, changed};
-ghost use Rattle.report_searches.specs.Drawn.{cut_in};
-ghost use Rattle.report_searches.specs.Racing.{CanTell, IsRacedIn, IsRacyRun};
-ghost use Rattle.report_searches.specs.Searches.{IsOfSystem};
+ghost use Rattle.report.specs.Drawn.{cut_in};
+ghost use Rattle.report.specs.Racing.{CanTell, IsRacedIn, IsRacyRun};
+ghost use Rattle.report.specs.Searches.{IsOfSystem};
 ghost use Rattle.report_looks.specs.Sighted.{CanBeTold};
 ghost use Rattle.report.specs.SearchObjects as specified;
 ghost use Rattle.report.specs.SearchObjects.{AreKeptIn, AreRunsOf, IsEndIn, IsMetOf, WritesAll, WritesKept, WritesRacy};
 ghost use Rattle.report.specs.SearchObjects.{WritesRacyTable, WritesTable, WritesTold};
 
+use crate::found::KeptRun;
+use crate::raced::{KeptRace, Raced, trouble_of};
+use crate::table::{cut_in_all, late_of, singles_of};
+use crate::whole::{Racing, WholeSearch};
 use report_command::Sought;
 use report_jobs::Trouble;
 use report_json::{
     CompleteObject, Coverage, DrawnEnd, DrawnObject, DrawnRuns, FoundAs, FoundObject, MetEnding,
     RacePair, RacingThreads, RunEndObject, RunRaces, write_complete, write_drawn,
-};
-use report_searches::{
-    KeptRace, KeptRun, Raced, Racing, WholeSearch, cut_in_all, late_of, singles_of, trouble_of,
 };
 use search_finds::{EndingTable, Met};
 use search_modules::ThreadRace;

@@ -5,11 +5,11 @@ ghost use Rattle.report_command.specs.Searches.{IsSearchInRange};
 ghost use Rattle.report_jobs.specs.Asked.{IsAskedBy};
 ghost use Rattle.report_jobs.specs.Troubles.{IsTroubleOf};
 ghost use Rattle.report_json.specs.declared.raced.RunRaces.TheVariants as said;
-ghost use Rattle.report_searches.specs.Drawn.{behind_text, cut_in};
-ghost use Rattle.report_searches.specs.DrawnRaces.{raceless_text};
-ghost use Rattle.report_searches.specs.Found.{KeepsFound};
-ghost use Rattle.report_searches.specs.Racing.{CanTell, IsRacedIn, IsRacedOf, KeepsRaced, SaysRaced, keeps_race, racing_in};
-ghost use Rattle.report_searches.specs.Searches.{Finds, IsOfSystem, IsWellAt};
+ghost use Rattle.report.specs.Drawn.{behind_text, cut_in};
+ghost use Rattle.report.specs.DrawnRaces.{raceless_text};
+ghost use Rattle.report.specs.Found.{KeepsFound};
+ghost use Rattle.report.specs.Racing.{CanTell, IsRacedIn, IsRacedOf, KeepsRaced, SaysRaced, keeps_race, racing_in};
+ghost use Rattle.report.specs.Searches.{Finds, IsOfSystem, IsWellAt};
 ghost use Rattle.report.specs.Searched.{IsDrawn, IsDrawnForRaces, IsPrintedOf};
 ghost use Rattle.report.specs.Telling.{EndsAll, EndsNone, InLines};
 ghost use Rattle.report.specs.Told.{IsStatusOfTable, TellsAll, TellsDrawn, TellsDrawnRaces};
@@ -17,19 +17,20 @@ ghost use Rattle.report_jobs.specs.Prints.{changed};
 ghost use Rattle.report_jobs.specs.Silence.{Stays};
 ghost use Rattle.report.specs.Silent.{IfRefusedCall};
 
+use crate::asked::{SearchRequest, jobs_of, no_memory};
+use crate::found::{FoundRun, behind_of, kept_if_found, kept_of};
+use crate::kept::{keep_found, keep_made, keep_raced, keep_run};
 use crate::objects::ToldSearch;
+use crate::raced::{Raced, kept_race, raced_of};
+use crate::table::status_of_none;
 use crate::telling::{
     tell_all, tell_if_found, tell_kept, tell_none, tell_raced, tell_raceless, tell_racy, tell_run,
     tell_table, tell_whole,
 };
+use crate::whole::{FirstLook, first_look, whole_of};
 use report_command::Search;
 use report_jobs::{Trouble, args_of, request_of};
 use report_json::FoundAs;
-use report_searches::{
-    FirstLook, FoundRun, Raced, SearchRequest, behind_of, first_look, jobs_of, keep_found,
-    keep_made, keep_raced, keep_run, kept_if_found, kept_of, kept_race, no_memory, raced_of,
-    status_of_none, whole_of,
-};
 use search_finds::{EndingTable, Halt, Hears, SearchResult, first_found, first_judged};
 use search_modules::Hands;
 use search_races::RaceJudge;

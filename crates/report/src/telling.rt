@@ -7,23 +7,27 @@ ghost use Rattle.report_jobs.specs.Prints.{changed};
 ghost use Rattle.report_lines.specs.Found.{found_run_line};
 ghost use Rattle.report_json.specs.declared.raced.RunRaces.TheVariants as said;
 ghost use Rattle.report_looks.specs.Sighted.{CanBeTold};
-ghost use Rattle.report_searches.specs.Complete.{complete_lines};
-ghost use Rattle.report_searches.specs.Drawn.{behind_text, cut_in};
-ghost use Rattle.report_searches.specs.DrawnRaces.{raceless_text};
-ghost use Rattle.report_searches.specs.Found.{found_lines};
-ghost use Rattle.report_searches.specs.Racing.{CanTell, IsRacedIn, IsRacyRun, SaysRaced};
-ghost use Rattle.report_searches.specs.Searches.{IsOfSystem};
+ghost use Rattle.report.specs.Complete.{complete_lines};
+ghost use Rattle.report.specs.Drawn.{behind_text, cut_in};
+ghost use Rattle.report.specs.DrawnRaces.{raceless_text};
+ghost use Rattle.report.specs.Found.{found_lines};
+ghost use Rattle.report.specs.Racing.{CanTell, IsRacedIn, IsRacyRun, SaysRaced};
+ghost use Rattle.report.specs.Searches.{IsOfSystem};
 ghost use Rattle.report.specs.Telling.{EndsAll, EndsKept, EndsNone, EndsRacy, InLines, TellsRacy, head_lines};
 
+use crate::complete::write_complete;
+use crate::drawn::{write_behind, write_raceless};
+use crate::found::{FoundRun, KeptRun};
 use crate::objects::{ToldSearch, write_all, write_kept, write_none, write_racy};
+use crate::raced::{KeptRace, Raced, trouble_of, write_raced};
+use crate::table::{write_cut_of, write_table};
+use crate::told::{
+    write_found, write_if_found, write_if_kept, write_kept_lines, write_run, write_shrunk,
+};
+use crate::whole::WholeSearch;
 use report_command::{Form, Sought};
 use report_jobs::Trouble;
 use report_json::{FoundAs, RunRaces};
-use report_searches::{
-    FoundRun, KeptRace, KeptRun, Raced, WholeSearch, trouble_of, write_behind, write_complete,
-    write_cut_of, write_found, write_if_found, write_if_kept, write_kept_lines, write_raced,
-    write_raceless, write_run, write_shrunk, write_table,
-};
 use search_finds::EndingTable;
 use std::alloc::Global;
 use std::io::Write;

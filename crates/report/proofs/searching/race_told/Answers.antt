@@ -1,5 +1,5 @@
-use Rattle.report_searches.proofs.Wholly.{and_none}
-use Rattle.report_searches.proofs.Pairs.{can_tell, raced_in}
+use Rattle.report.proofs.Wholly.{and_none}
+use Rattle.report.proofs.Pairs.{can_tell, raced_in}
 use Rattle.report.proofs.searching.race_told.Goals as goal
 
 pub tell_raced-requires : goal.tell_raced-requires

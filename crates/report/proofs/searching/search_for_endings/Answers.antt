@@ -1,10 +1,10 @@
 use Rattle.std.proofs.Common.{rules, false, true, None, refl, inl, inr, true≢false}
 use Rattle.report_jobs.specs.Prints.{change, changed}
-use Rattle.report_searches.specs.Drawn.{behind_text}
+use Rattle.report.specs.Drawn.{behind_text}
 use Rattle.report.specs.Telling.{EndsNone}
 use Rattle.report.specs.Told.{IsStatusOfTable, TellsDrawn}
-use Rattle.report_searches.proofs.Counted.{cut_within}
-use Rattle.report_searches.proofs.Keeping.{run_is_kept}
+use Rattle.report.proofs.Counted.{cut_within}
+use Rattle.report.proofs.Keeping.{run_is_kept}
 use Rattle.report.proofs.AllTold.{if_both, last_told, none_told}
 use Rattle.report_jobs.specs.declared.undone.Done.{Done}
 use Rattle.report.proofs.searching.search_for_endings.Goals as goal

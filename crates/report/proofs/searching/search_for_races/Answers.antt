@@ -2,11 +2,11 @@ use Rattle.std.proofs.Common.{rules, false, true, Some, arith, refl, inl, inr, t
 use Rattle.search_finds.proofs.Noting.{plainly_noted}
 use Rattle.report_jobs.specs.Prints.{change, changed}
 use Rattle.report_json.specs.declared.raced.RunRaces.TheVariants as said
-use Rattle.report_searches.specs.DrawnRaces.{raceless_text}
+use Rattle.report.specs.DrawnRaces.{raceless_text}
 use Rattle.report.specs.Telling.{EndsNone}
 use Rattle.report.specs.Told.{IsStatusOfTable, TellsDrawnRaces}
-use Rattle.report_searches.proofs.Counted.{cut_within}
-use Rattle.report_searches.proofs.DrawnRaces.{none_races, race_is_kept}
+use Rattle.report.proofs.Counted.{cut_within}
+use Rattle.report.proofs.DrawnRaces.{none_races, race_is_kept}
 use Rattle.report.proofs.AllTold.{if_both, none_told, racy_told}
 use Rattle.report.proofs.searching.search_for_races.Goals as goal
 

@@ -9,7 +9,7 @@ use Rattle.report_jobs.specs.declared.running.Trouble.{Trouble}
 use Rattle.report_jobs.specs.declared.undone.Done.{Done}
 use Rattle.report.specs.Searched.{IsDrawn, IsDrawnForRaces, IsPrintedOf}
 use Rattle.report.specs.Told.{TellsAll, TellsDrawn, TellsDrawnRaces}
-use Rattle.report_searches.specs.Searches.{Finds, IsOfSystem, IsWellAt}
+use Rattle.report.specs.Searches.{Finds, IsOfSystem, IsWellAt}
 use Rattle.report.proofs.Asking.{of_system}
 use Rattle.report.proofs.searching.search_module.Goals as goal
 

@@ -2,11 +2,11 @@ use Rattle.std.proofs.Common.{rules, ◌≡◌, ◌∙◌, refl, sym, ap, subst}
 use Rattle.std.specs.Prelude.{is_some}
 use Rattle.std.proofs.lemmas.Result.{err_from_is_err_and}
 use Rattle.report_jobs.specs.Prints.{change}
-use Rattle.report_searches.specs.Racing.{IsRacedOf}
-use Rattle.report_searches.specs.declared.whole.Racing.{Racing}
-use Rattle.report_searches.proofs.Keeping.{found_can, found_kept, quiet_by}
-use Rattle.report_searches.proofs.Pairs.{can_tell, raced_in, raced_kept}
-use Rattle.report_searches.proofs.Wholly.{finds_all, well_by}
+use Rattle.report.specs.Racing.{IsRacedOf}
+use Rattle.report.specs.declared.whole.Racing.{Racing}
+use Rattle.report.proofs.Keeping.{found_can, found_kept, quiet_by}
+use Rattle.report.proofs.Pairs.{can_tell, raced_in, raced_kept}
+use Rattle.report.proofs.Wholly.{finds_all, well_by}
 use Rattle.report.proofs.AllTold.{all_told}
 use Rattle.report.proofs.searching.search_orders.Goals as goal
 

@@ -2,7 +2,7 @@ use Rattle.std.proofs.Common.{sym, subst}
 use Rattle.std.specs.Prelude.{IfOk}
 use Rattle.report_command.specs.declared.form.Form.{Form}
 use Rattle.report_jobs.specs.Prints.{changed}
-use Rattle.report_searches.proofs.Pairs.{if_on}
+use Rattle.report.proofs.Pairs.{if_on}
 use Rattle.report.specs.Telling.{EndsAll}
 use Rattle.report.proofs.telling.tell_all.Goals as goal
 

@@ -2,7 +2,7 @@ use Rattle.std.proofs.Common.{None, sym, subst}
 use Rattle.std.specs.Prelude.{IfOk}
 use Rattle.report_command.specs.declared.form.Form.{Form}
 use Rattle.report_jobs.specs.Prints.{changed}
-use Rattle.report_searches.specs.Drawn.{behind_text}
+use Rattle.report.specs.Drawn.{behind_text}
 use Rattle.report.specs.Telling.{EndsNone}
 use Rattle.report.proofs.telling.tell_none.Goals as goal
 

@@ -2,7 +2,7 @@ use Rattle.std.proofs.Common.{refl, sym, subst}
 use Rattle.std.specs.Prelude.{IfOk}
 use Rattle.report_command.specs.declared.form.Form.{Form}
 use Rattle.report_jobs.specs.Prints.{changed}
-use Rattle.report_searches.specs.Racing.{SaysRaced}
+use Rattle.report.specs.Racing.{SaysRaced}
 use Rattle.report.specs.Telling.{InLines}
 use Rattle.report.proofs.telling.tell_raced.Goals as goal
 

@@ -3,7 +3,7 @@ use Rattle.std.specs.Prelude.{IfOk}
 use Rattle.report_command.specs.declared.form.Form.{Form}
 use Rattle.report_jobs.specs.Prints.{changed}
 use Rattle.report_json.specs.declared.raced.RunRaces.TheVariants as said
-use Rattle.report_searches.specs.DrawnRaces.{raceless_text}
+use Rattle.report.specs.DrawnRaces.{raceless_text}
 use Rattle.report.specs.Telling.{EndsNone}
 use Rattle.report.proofs.telling.tell_raceless.Goals as goal
 

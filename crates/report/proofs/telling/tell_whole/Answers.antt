@@ -1,7 +1,7 @@
 use Rattle.std.proofs.Common.{◌≡◌, refl, sym, subst}
 use Rattle.report_command.specs.declared.form.Form.{Form}
 use Rattle.report_jobs.specs.Prints.{changed}
-use Rattle.report_searches.specs.Complete.{complete_lines}
+use Rattle.report.specs.Complete.{complete_lines}
 use Rattle.report.specs.Telling.{InLines}
 use Rattle.report.proofs.telling.tell_whole.Goals as goal
 

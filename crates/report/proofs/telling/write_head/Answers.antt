@@ -1,7 +1,7 @@
 use Rattle.std.proofs.Common.{refl}
 use Rattle.replay_forms.proofs.Written.{appends_then}
 use Rattle.report_lines.specs.Drawn.{cut_line}
-use Rattle.report_searches.specs.Drawn.{cut_in, table_lines}
+use Rattle.report.specs.Drawn.{cut_in, table_lines}
 use Rattle.report.specs.Telling.{head_lines}
 use Rattle.report.proofs.telling.write_head.Goals as goal
 

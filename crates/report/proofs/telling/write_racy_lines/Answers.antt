@@ -1,8 +1,8 @@
 use Rattle.std.proofs.Common.{◌++◌}
 use Rattle.replay_forms.proofs.Written.{appends_then}
 use Rattle.report_jobs.specs.Prints.{changed}
-use Rattle.report_searches.specs.Found.{run_lines, shrunk_text}
-use Rattle.report_searches.proofs.Pairs.{if_on}
+use Rattle.report.specs.Found.{run_lines, shrunk_text}
+use Rattle.report.proofs.Pairs.{if_on}
 use Rattle.report.proofs.telling.write_racy_lines.Goals as goal
 
 pub returns-in-Ok-clause-tells : goal.returns-in-Ok-clause-tells

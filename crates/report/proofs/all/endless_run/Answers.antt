@@ -1,0 +1,14 @@
+use Rattle.std.proofs.Common.{◌≡◌, Option, Some, None}
+use Rattle.std.specs.Prelude.{IfSome}
+use Rattle.selection.specs.declared.sought.SearchTarget.{SearchTarget}
+use Rattle.search_reach.specs.declared.liveness.Liveness.{Liveness}
+use Rattle.report.specs.declared.all.EndlessRun.{EndlessRun}
+use Rattle.report.specs.Endless.{IsKnown, IsKnownIn}
+use Rattle.report.proofs.all.endless_run.Goals as goal
+
+known : (t : SearchTarget) (o : Option Liveness) (l : Liveness) (r : Option EndlessRun) → o ≡ Some l → IfSome r (IsKnownIn t l) → IfSome r (IsKnown t o)
+known t o l None is h = tt
+known t o l (Some run) is h = (l, is, h)
+
+pub returns-in-Some-clause-some : goal.returns-in-Some-clause-some
+returns-in-Some-clause-some c = known c.args.target c.args.liveness.now c.in-Some.liveness c.endless_of.result c.in-Some.is c.endless_of.ensures.some
