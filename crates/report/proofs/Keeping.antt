@@ -12,17 +12,17 @@ use Rattle.report.specs.Found.{AreKeptOf, CanBeKept, HasFirst, HasFound, HasKnow
 use Rattle.report.specs.Found.{can_shrink, endless_as}
 use Rattle.report.specs.Prints.{stops_behind}
 use Rattle.report.specs.Searches.{Finds, IsFindKept}
-use Rattle.report.specs.declared.all.EndlessRun.{EndlessRun}
-use Rattle.report.specs.declared.all.EndlessRun.TheVariants.{ToNoEnd, Round}
+use Rattle.report.specs.declared.all.EndlessWay.{EndlessWay}
+use Rattle.report.specs.declared.all.EndlessWay.TheVariants.{ToNoEnd, Round}
 use Rattle.report.specs.declared.found.FoundRun.{FoundRun}
 use Rattle.report.specs.declared.found.KeptRun.{KeptRun}
 use Rattle.report.specs.declared.whole.WholeSearch.{WholeSearch}
 use Rattle.report.proofs.Sought.{known_is_sought}
 
 -- one that never ends isn't shrunk
-pub endless_stays : (run : EndlessRun) (entries : ℕ) → can_shrink (endless_as run entries) ≡ false
-endless_stays (ToNoEnd path) entries = refl
-endless_stays (Round path round) entries = refl
+pub endless_stays : (way : EndlessWay) (entries : ℕ) → can_shrink (endless_as way entries) ≡ false
+endless_stays ToNoEnd entries = refl
+endless_stays Round entries = refl
 
 -- by other names of what was found
 kept_as : (q : Requested) (s : Search) (a b : Bool) (x y : Option MadeRun) (k : KeptRun) → a ≡ b → x ≡ y → IsKeptAs q s a x k → IsKeptAs q s b y k
@@ -80,7 +80,7 @@ module _ (q : Requested) (s : Search) (asked : IsAskedBy s.call q) (save : Write
         → KeepsMade s k.made save → Finds q.parts s save status
     known_kept f k every one known is kept =
         let has = known.filled.2 in
-        let way : can_shrink f.found_as ≡ false = ap can_shrink has.as_is ∙ endless_stays known.filled.0 has.entries in
+        let way : can_shrink f.found_as ≡ false = ap can_shrink has.as_is ∙ endless_stays known.filled.0.way has.entries in
         let same = kept_as q s (can_shrink f.found_as) false f.made (Some has.made) k way has.made_is is.kept in
         inr (inl (
           one,

@@ -1,6 +1,6 @@
 -- What was found, by a run that was made or not.
 use Rattle.std.proofs.Common.{ℕ, ◌≡◌, Bool, true, List, Option, Some, None, inl, inr, refl, subst, sym}
-use Rattle.std.specs.Prelude.{IfNone, IfOk, IfSome, Result, Ok, Err}
+use Rattle.std.specs.Prelude.{IfNone, IfSome}
 use Rattle.spawn_host.specs.Requests.{Requested}
 use Rattle.search_endings.specs.Endings.{Ending}
 use Rattle.search_scheduled.specs.declared.running.MadeRun.{MadeRun}
@@ -24,10 +24,9 @@ one_by q s choices number ending (Some made) find along ends none =
 one_by q s choices number ending None find along ends none = inr (record { other = none; none = refl; as_is = refl })
 
 -- what is kept, where a smaller run was looked for
-pub kept_both : {E : Type 0} (q : Requested) (s : Search) (f : FoundRun) (was : MadeRun) (r : Result KeptRun E) → can_shrink f.found_as ≡ true
-    → f.made ≡ Some was → IfOk r (λ k. k.found_as ≡ f.found_as) → IfOk r (HasRun q s was) → IfOk r (IsKeptOf q s f)
-kept_both q s f was (Ok k) shrinks made as_is has = record {
+pub kept_by : (q : Requested) (s : Search) (f : FoundRun) (was : MadeRun) (k : KeptRun) → can_shrink f.found_as ≡ true → f.made ≡ Some was
+    → k.found_as ≡ f.found_as → HasRun q s was k → IsKeptOf q s f k
+kept_by q s f was k shrinks made as_is has = record {
   as_is = as_is;
   kept = subst (λ (is : Bool). IsKeptAs q s is f.made k) (sym shrinks) (subst (λ (o : Option MadeRun). IsKeptAs q s true o k) (sym made) has);
 }
-kept_both q s f was (Err e) shrinks made as_is has = tt

@@ -10,6 +10,7 @@ use Rattle.selection.specs.declared.sought.Sought.{Sought}
 use Rattle.selection.specs.Ways.{way_of}
 use Rattle.search_finds.specs.declared.met.Met.{Met}
 use Rattle.search_finds.specs.declared.met.EndingTable.{EndingTable}
+use Rattle.report_json.specs.declared.drawn.Coverage.{Coverage}
 use Rattle.report_lines.specs.Drawn.{met_line, stopped_line, unseen_line}
 
 -- The lines of the table: of each ending how often it was met in how many runs, in which first and how that was drawn.
@@ -43,6 +44,9 @@ singles_in table = count_by (λ m. m.times == 1) table.met.items
 
 abbrev pub late_in : Sought → EndingTable → ℕ
 late_in s table = count_by (λ m. leb (table.runs / 2) (m.first - s.from)) table.met.items
+
+abbrev pub coverage_of : Sought → EndingTable → Coverage
+coverage_of s table = record { late = late_in s table; singles = singles_in table }
 
 -- What is unseen, where some runs were made.
 abbrev pub unseen_text : Sought → EndingTable → List ℕ

@@ -7,7 +7,8 @@ use Rattle.selection.specs.declared.sought.Find.{Find}
 use Rattle.selection.specs.declared.sought.Find.TheVariants as finds
 use Rattle.selection.specs.declared.sought.SearchTarget.{SearchTarget}
 use Rattle.report.specs.declared.all.EndlessRun.{EndlessRun}
-use Rattle.report.specs.declared.all.EndlessRun.TheVariants.{ToNoEnd, Round}
+use Rattle.report.specs.declared.all.EndlessWay.{EndlessWay}
+use Rattle.report.specs.declared.all.EndlessWay.TheVariants.{ToNoEnd, Round}
 
 -- By this runs are found that come to where none ends; and by this those that go round for ever.
 abbrev pub finds_no_end : Find → Bool
@@ -47,25 +48,19 @@ HasNoEndless t o = (l : Liveness) → o ≡ Some l → (HasNoEnd t l → ⊥) ×
 
 -- It has this one, by the choices of its path, and of its round where it goes one. It goes round only where none comes
 -- to where none ends.
+abbrev pub IsKnownSo : EndlessWay → SearchTarget → Liveness → EndlessRun → Type 0
+IsKnownSo ToNoEnd t l run = HasNoEnd t l × (run.path.now ≡ l.path.items)
+IsKnownSo Round t l run =
+    (HasNoEnd t l → ⊥) × (c : FairCycle) × GoesRound t l c × (run.path.now ≡ c.path.items)
+    × (run.round.now ≡ c.walk.items)
+
 abbrev pub IsKnownIn : SearchTarget → Liveness → EndlessRun → Type 0
-IsKnownIn t l (ToNoEnd path) = HasNoEnd t l × (path.now ≡ l.path.items)
-IsKnownIn t l (Round path round) =
-    (HasNoEnd t l → ⊥) × (c : FairCycle) × GoesRound t l c × (path.now ≡ c.path.items) × (round.now ≡ c.walk.items)
+IsKnownIn t l run = IsKnownSo run.way t l run
 
 abbrev pub IsKnown : SearchTarget → Option Liveness → EndlessRun → Type 0
 IsKnown t o run = (l : Liveness) × (o ≡ Some l) × IsKnownIn t l run
 
--- The choices to where it is sure never to end.
-abbrev pub path_of : EndlessRun → List ℕ
-path_of (ToNoEnd path) = path.now
-path_of (Round path round) = path.now
-
--- Both come to where none ends, or both go round.
-abbrev pub IsAlike : EndlessRun → EndlessRun → Type 0
-IsAlike (ToNoEnd path) (ToNoEnd other) = Unit {0}
-IsAlike (Round path round) (Round other again) = Unit {0}
-IsAlike run other = ⊥
-
--- A run by the choices that were noted; or one like it, where those leave plain accesses out, with these filled in.
+-- A run by the choices that were noted; or one that never ends in the same way, where those leave plain accesses out, with
+-- these filled in.
 abbrev pub IsFilled : Bool → EndlessRun → EndlessRun → Type 0
-IsFilled is_free known run = IsAlike known run × (is_free ≡ false → run ≡ known)
+IsFilled is_free known run = (run.way ≡ known.way) × (is_free ≡ false → run ≡ known)

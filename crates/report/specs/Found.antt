@@ -22,10 +22,11 @@ use Rattle.report_json.specs.declared.found.RunSize.{RunSize}
 use Rattle.report_json.specs.declared.found.Shrunk.{Shrunk}
 use Rattle.report_lines.specs.Found.{found_run_line, found_ending_line, without_run_line, no_end_line, for_ever_line}
 use Rattle.report_lines.specs.Lines.{end_lines}
-use Rattle.report.specs.Endless.{HasNoEndless, IsFilled, IsKnown, path_of}
+use Rattle.report.specs.Endless.{HasNoEndless, IsFilled, IsKnown}
 use Rattle.report.specs.Prints.{IsFirstSought, choices_at, stops_behind}
 use Rattle.report.specs.declared.all.EndlessRun.{EndlessRun}
-use Rattle.report.specs.declared.all.EndlessRun.TheVariants.{ToNoEnd, Round}
+use Rattle.report.specs.declared.all.EndlessWay.{EndlessWay}
+use Rattle.report.specs.declared.all.EndlessWay.TheVariants.{ToNoEnd, Round}
 use Rattle.report.specs.declared.found.FoundRun.{FoundRun}
 use Rattle.report.specs.declared.found.KeptRun.{KeptRun}
 use Rattle.report.specs.declared.whole.WholeSearch.{WholeSearch}
@@ -102,9 +103,9 @@ pub record HasFirst (q : Requested) (s : Search) (w : WholeSearch) (f : FoundRun
   pub one : HasOne q s choices number ending f
 
 -- After how many entries it is sure not to end.
-abbrev pub endless_as : EndlessRun → ℕ → FoundAs
-endless_as (ToNoEnd path) entries = founds.NoEndAfter entries
-endless_as (Round path round) entries = founds.ForEverAfter entries
+abbrev pub endless_as : EndlessWay → ℕ → FoundAs
+endless_as ToNoEnd entries = founds.NoEndAfter entries
+endless_as Round entries = founds.ForEverAfter entries
 
 -- A run by the call that never ends.
 pub record HasEndless (q : Requested) (s : Search) (run : EndlessRun) (f : FoundRun) : Type 0 where
@@ -112,8 +113,8 @@ pub record HasEndless (q : Requested) (s : Search) (run : EndlessRun) (f : Found
   pub made_is : f.made ≡ Some made
   pub find : IsFind q s.sought.limit made
   pub entries : ℕ
-  pub leads : LeadsTo made.record.log (length (path_of run)) entries
-  pub as_is : f.found_as ≡ endless_as run entries
+  pub leads : LeadsTo made.record.log (length run.path.now) entries
+  pub as_is : f.found_as ≡ endless_as run.way entries
 
 abbrev pub HasFilled : Requested → Search → Bool → EndlessRun → FoundRun → Type 0
 HasFilled q s is_free known f = (run : EndlessRun) × IsFilled is_free known run × HasEndless q s run f

@@ -28,7 +28,7 @@ use Rattle.report_json.specs.declared.raced.RacingThreads.{RacingThreads}
 use Rattle.report_json.specs.declared.raced.RunRaces.{RunRaces}
 use Rattle.report_json.specs.declared.raced.RunRaces.TheVariants as said
 use Rattle.report_looks.specs.Raced.{SaysObject}
-use Rattle.report.specs.Drawn.{cut_in, late_in, singles_in}
+use Rattle.report.specs.Drawn.{cut_in}
 use Rattle.report.specs.declared.found.KeptRun.{KeptRun}
 use Rattle.report.specs.declared.raced.KeptRace.{KeptRace}
 use Rattle.report.specs.declared.raced.Raced.{Raced}
@@ -106,13 +106,15 @@ pub record WritesTable (s : Sought) (table : EndingTable) (status : ℕ) (races 
   pub halt_is : drawn.halt ≡ halt
   pub object : Appends out.old out.new (json_line (drawn_json drawn))
 
--- What is kept of the last run, and that was written; or that none was found, and what is unseen.
+-- What is kept of the last run, and that was written; or that none was found, and what is unseen. Of races nothing is known
+-- then, where one was looked for.
 abbrev pub WritesKept : Sought → EndingTable → KeptRun → WriterChange → Type 0
 WritesKept s table k out = (found : FoundObject) × IsKeptIn s.dump k found
     × WritesTable s table 1 None (ends.Found found) out
 
-abbrev pub coverage_of : Sought → EndingTable → Coverage
-coverage_of s table = record { late = late_in s table; singles = singles_in table }
+abbrev pub races_of_none : Bool → Option RunRaces
+races_of_none true = Some said.Unknown
+races_of_none false = None
 
 abbrev pub none_of : Bool → Coverage → DrawnEnd
 none_of true coverage = ends.Told coverage

@@ -1,42 +1,30 @@
 //! What is searched, and what all searches need.
-ghost use Rattle.std.specs.Prelude.{◌≡◌};
-ghost use Rattle.report_jobs.specs.declared.running.Trouble.TheVariants as troubles;
-
 use report_command::Search;
-use report_jobs::Trouble;
 use report_looks::CodeBytes;
-use search_scheduled::SearchFault;
+use spawn_host::Request;
 use std::thread::{self, Threads};
+use validate_module::ValidModule;
 
-/// What is searched: as is asked for, and the bytes of the module, which have the names of functions and the lines of
-/// source.
+/// A search that is asked for, through runs of a module; and the bytes of that, which name its functions and the lines of
+/// its source.
 #[derive(Clone, Copy)]
 pub struct SearchRequest<'a> {
+    pub module: &'a ValidModule,
+    pub code: CodeBytes<'a>,
     pub search: &'a Search<'a>,
-    pub bytes: &'a [u8],
 }
 
-impl<'a> SearchRequest<'a> {
-    /// The bytes, with the module's own names.
-    pub fn code(self) -> CodeBytes<'a> {
-        CodeBytes {
-            module: self.bytes,
-            names: self.bytes,
-            sources: &[],
-        }
-    }
-}
-
-/// What a fault of a run along a schedule is: a run of a call that fits, with numbers in their ranges, has no other
-/// one.
-pub fn no_memory(_fault: SearchFault) -> Trouble
-    ensures { result ≡ troubles.NoMemory }
-{
-    Trouble::NoMemory
+/// The same of a call that can be made. A run of it along a schedule has no fault but of memory: the call fits, and the
+/// numbers are in their ranges.
+#[derive(Clone, Copy)]
+pub(crate) struct SearchedCall<'a> {
+    pub request: &'a Request<'a, 'a>,
+    pub code: CodeBytes<'a>,
+    pub search: &'a Search<'a>,
 }
 
 /// How many threads make runs, or go on from states: as many as are asked for, or as there are processors.
-pub fn jobs_of<R: Threads>(rt: &R, search: &Search) -> usize {
+pub(crate) fn jobs_of<R: Threads>(rt: &R, search: &Search) -> usize {
     match search.jobs {
         Some(jobs) => jobs as usize,
         None => thread::available_parallelism(rt).map_or(1, |count| count.get()),

@@ -2,11 +2,10 @@
 ghost use Rattle.std.specs.Prelude.{◌≡◌, ◌↔◌, true, All, length};
 ghost use Rattle.replay_forms.specs.Texts.{Wrote};
 ghost use Rattle.search_finds.specs.Finds.{IsLookedFor};
-ghost use Rattle.report.specs.Complete.{all_line, fair_runs_line, liveness_lines, unknown_text, verdict_line, complete_lines};
-ghost use Rattle.report.specs.Complete.{entries_line, gone_through_line, gone_through_lines, gone_through_text, races_unknown, sought_line};
+ghost use Rattle.report.specs.Complete.{all_line, liveness_lines, unknown_text, verdict_line, complete_lines};
+ghost use Rattle.report.specs.Complete.{entries_line, gone_through_text, sought_line};
 ghost use Rattle.report_lines.specs.Complete.{counted};
-ghost use Rattle.report_lines.specs.Found.{entries_text};
-ghost use Rattle.report.specs.Complete.{threads_end_well, all_end_well, EndsForSure, IsSure, AreAllWell};
+ghost use Rattle.report.specs.Complete.{threads_end_well, EndsForSure, IsSure, AreAllWell};
 
 use crate::whole::Racing;
 use report_command::Sought;
@@ -19,20 +18,9 @@ use search_reach::{Ended, FairRuns, Liveness, Verdict};
 use std::io::{self, Write};
 
 /// The endings of a call, each with a path to it, whether they are all, and what never ends.
-pub type Complete = Ended<Ending>;
+pub(crate) type Complete = Ended<Ending>;
 
-/// The line that says whether every fair run ends.
-fn write_fair_runs<W: Write>(out: &mut W, fair_runs: &FairRuns) -> io::Result<()>
-    ensures { Wrote W.contents out.old out.new result (fair_runs_line fair_runs.now) }
-{
-    match fair_runs {
-        FairRuns::AllEnd => write_fair_runs_end(out),
-        FairRuns::GoOn(cycle) => write_cycle(out, &cycle.threads, cycle.states),
-        FairRuns::Unknown => write_unknown(out),
-    }
-}
-
-/// The lines that say what never ends, where that is said.
+/// The lines that say what never ends, where that is said, and whether every fair run ends.
 fn write_liveness<W: Write>(out: &mut W, liveness: &Option<Liveness>) -> io::Result<()>
     ensures { Wrote W.contents out.old out.new result (liveness_lines liveness.now) }
 {
@@ -40,7 +28,11 @@ fn write_liveness<W: Write>(out: &mut W, liveness: &Option<Liveness>) -> io::Res
         return Ok(());
     };
     write_cannot_end(out, liveness.endless.len())?;
-    write_fair_runs(out, &liveness.fair_runs)
+    match &liveness.fair_runs {
+        FairRuns::AllEnd => write_fair_runs_end(out),
+        FairRuns::GoOn(cycle) => write_cycle(out, &cycle.threads, cycle.states),
+        FairRuns::Unknown => write_unknown(out),
+    }
 }
 
 /// So many of a thing.
@@ -94,82 +86,46 @@ fn write_verdict<W: Write>(out: &mut W, all: &Complete, most: u32, racing: Racin
     }
 }
 
-/// So many entries.
-fn write_entry_count<W: Write>(out: &mut W, entries: u32) -> io::Result<()>
-    ensures { Wrote W.contents out.old out.new result (entries_text entries) }
-{
-    write_counted(out, entries as usize, "entry", "entries")
-}
-
 /// The line that says that runs with up to so many entries were all gone through.
 fn write_entries<W: Write>(out: &mut W, entries: u32) -> io::Result<()>
     ensures { Wrote W.contents out.old out.new result (entries_line entries) }
 {
     write!(out, "every run of up to ")?;
-    write_entry_count(out, entries)?;
+    write_counted(out, entries as usize, "entry", "entries")?;
     write!(out, " was gone through\n")
 }
 
-/// The same, if any run has so few.
-fn write_entries_if_any<W: Write>(out: &mut W, entries: u32) -> io::Result<()>
-    ensures { Wrote W.contents out.old out.new result (gone_through_line entries) }
-{
-    if entries == 0 {
-        return Ok(());
-    }
-    write_entries(out, entries)
-}
-
-/// The same, where that is said.
-fn write_levels<W: Write>(out: &mut W, levels: Option<u32>) -> io::Result<()>
-    ensures { Wrote W.contents out.old out.new result (gone_through_lines levels) }
-{
-    match levels {
-        Some(entries) => write_entries_if_any(out, entries),
-        None => Ok(()),
-    }
-}
-
-/// How long the runs are that were all gone through, where not all were.
+/// The same, if any run has so few, where that is said and not all were.
 fn write_gone_through<W: Write>(out: &mut W, all: &Complete) -> io::Result<()>
     ensures { Wrote W.contents out.old out.new result (gone_through_text all.now.verdict all.now.levels) }
 {
     match all.verdict {
         Verdict::All => Ok(()),
         Verdict::TooMany | Verdict::CannotTell | Verdict::Told | Verdict::Sought => {
-            write_levels(out, all.levels)
+            match all.levels {
+                None | Some(0) => Ok(()),
+                Some(entries) => write_entries(out, entries),
+            }
         }
     }
 }
 
-/// The line that says that whether threads race isn't known, where that is so.
-fn write_unknown_races<W: Write>(out: &mut W, racing: Racing) -> io::Result<()>
-    ensures { Wrote W.contents out.old out.new result (races_unknown racing) }
-{
-    match racing {
-        Racing::Unknown => write!(out, "whether it races is not known\n"),
-        Racing::Unasked | Racing::Never | Racing::Found(_) => Ok(()),
-    }
-}
-
-/// The same, unless the search ended at what is looked for.
-fn write_unknown_unless_sought<W: Write>(
-    out: &mut W,
-    verdict: Verdict,
-    racing: Racing,
-) -> io::Result<()>
+/// The line that says that whether threads race isn't known, where that is so, unless the search ended at what is looked
+/// for.
+fn write_unknown_races<W: Write>(out: &mut W, verdict: Verdict, racing: Racing) -> io::Result<()>
     ensures { Wrote W.contents out.old out.new result (unknown_text verdict racing) }
 {
     match verdict {
         Verdict::Sought => Ok(()),
-        Verdict::All | Verdict::TooMany | Verdict::CannotTell | Verdict::Told => {
-            write_unknown_races(out, racing)
-        }
+        Verdict::All | Verdict::TooMany | Verdict::CannotTell | Verdict::Told => match racing {
+            Racing::Unknown => write!(out, "whether it races is not known\n"),
+            Racing::Unasked | Racing::Never | Racing::Found(_) => Ok(()),
+        },
     }
 }
 
 /// A line for each ending, whether these are all, how far it came, what is known of races, and what never ends.
-pub fn write_complete<W: Write>(
+pub(crate) fn write_complete<W: Write>(
     out: &mut W,
     all: &Complete,
     most: u32,
@@ -180,7 +136,7 @@ pub fn write_complete<W: Write>(
     write_endings(out, all.endings.as_slice())?;
     write_verdict(out, all, most, racing)?;
     write_gone_through(out, all)?;
-    write_unknown_unless_sought(out, all.verdict, racing)?;
+    write_unknown_races(out, all.verdict, racing)?;
     write_liveness(out, &all.liveness)?;
     out.flush()
 }
@@ -190,13 +146,6 @@ pub(crate) fn has_ended_well(ending: &Ending) -> bool
     ensures { result ≡ threads_end_well ending.now }
 {
     ending.outcomes().iter().all(|outcome| is_done(*outcome))
-}
-
-/// Whether in each of the endings all threads ended well.
-fn all_ended_well(endings: &[Ending]) -> bool
-    ensures { result ≡ all_end_well endings.now }
-{
-    endings.iter().all(|ending| has_ended_well(ending))
 }
 
 /// Whether it is said that every state can end, and that every fair run does.
@@ -229,5 +178,5 @@ pub(crate) fn are_well(all: &Complete, sought: &Sought) -> bool
     if !is_sure(all) || endings.is_empty() {
         return false;
     }
-    all_ended_well(endings)
+    endings.iter().all(|ending| has_ended_well(ending))
 }

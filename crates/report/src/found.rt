@@ -1,38 +1,37 @@
 //! What a search found, before it is told, and what is kept of it: the run to an ending that is looked for, or one that
 //! never ends, and the status. Both forms tell this.
-ghost use Rattle.std.specs.Prelude.{◌≡◌, None, IfOk, IfErr, IfSome};
+ghost use Rattle.std.specs.Prelude.{◌≡◌, None, false, IfOk, IfErr, IfSome};
+ghost use Rattle.search_finds.specs.Endings.{HaveOneEnding};
 ghost use Rattle.search_finds.specs.Finds.{IsFind};
+ghost use Rattle.report.specs.Prints as specified_prints;
 ghost use Rattle.report.specs.Prints.{IsStatusOf};
 ghost use Rattle.report.specs.Searches.{IsOfSystem};
 ghost use Rattle.report.specs.Found as specified;
-ghost use Rattle.report.specs.Found.{AreKeptOf, CanBeKept, HasEndless, HasFilled, HasFound, HasOne, HasRun, IsKeptOf};
+ghost use Rattle.report.specs.Found.{AreKeptOf, CanBeKept, HasEndless, HasFilled, HasFound, HasOne, IsKeptOf};
 
 use crate::all::{
-    EndlessRun, SoughtEnding, choices_in, course_of, endless_run, filled, first_sought,
-    stops_behind,
+    EndlessRun, EndlessWay, SoughtEnding, choices_to, course_of, endless_run, first_sought,
 };
-use crate::asked::no_memory;
+use crate::asked::SearchedCall;
 use crate::complete::are_well;
-use crate::smaller::smaller_if_asked;
 use crate::whole::WholeSearch;
 use report_command::{Search, Sought};
 use report_jobs::Trouble;
 use report_json::{FoundAs, RunSize, Shrunk};
-use search_finds::{Hears, Size, entries_leading, run_round, run_to, size_of};
+use search_finds::{Hears, Size, entries_leading, run_round, run_to, shrunk, size_of};
 use search_scheduled::MadeRun;
-use spawn_host::Request;
 use std::alloc::Global;
 
 /// What was found: as what, and the run, if one was made.
 #[derive(Drop)]
-pub struct FoundRun {
+pub(crate) struct FoundRun {
     pub found_as: FoundAs,
     pub made: Option<MadeRun>,
 }
 
 /// What is kept of it: as what it was found, the sizes of a run that was shrunk, and the run, if one was made.
 #[derive(Drop)]
-pub struct KeptRun {
+pub(crate) struct KeptRun {
     pub found_as: FoundAs,
     pub shrunk: Option<Shrunk>,
     pub made: Option<MadeRun>,
@@ -72,40 +71,39 @@ fn can_shrink(found_as: FoundAs) -> bool
     }
 }
 
-/// The run that was found, or a smaller one that ends alike.
-fn run_kept<F: Hears>(
+/// The run that was found, or where that is asked for a smaller one that ends alike.
+fn smaller<F: Hears>(
     alloc: Global,
-    request: &Request,
-    search: &Search,
-    found_as: FoundAs,
+    call: SearchedCall,
     found: MadeRun,
     follower: &mut F,
-) -> Result<KeptRun, Trouble>
-    requires { IsFind request.now search.now.sought.limit found }
-    ensures has { IfOk result (HasRun request.now search.now found) }
-    ensures found_as { IfOk result (λ k. k.found_as ≡ found_as) }
+) -> Result<MadeRun, Trouble>
+    requires { IsFind call.request.now call.search.now.sought.limit found }
+    ensures run { IfOk result (IsFind call.entry.request.now call.entry.search.now.sought.limit) }
+    ensures ending { IfOk result (λ made. HaveOneEnding call.entry.search.now.sought.dump found.end made.end) }
+    ensures same { IfOk result (λ made. call.entry.search.now.shrink ≡ false → made ≡ found) }
     ensures trouble { IfErr result IsOfSystem }
 {
-    let was = size_of(&found.record);
-    let made = smaller_if_asked(alloc, request, search, found, follower)?;
-    let is = size_of(&made.record);
-    Ok(KeptRun {
-        found_as,
-        shrunk: shrunk_if(search.shrink, was, is),
-        made: Some(made),
-    })
+    if !call.search.shrink {
+        return Ok(found);
+    }
+    let Sought { limit, dump, .. } = call.search.sought;
+    let Ok(made) = shrunk(alloc, call.request, limit, dump, found, follower) else {
+        return Err(Trouble::NoMemory);
+    };
+    follower.end();
+    Ok(made)
 }
 
 /// What is kept of what was found: where that is asked for, a smaller run that ends alike.
-pub fn kept_of<F: Hears>(
+pub(crate) fn kept_of<F: Hears>(
     alloc: Global,
-    request: &Request,
-    search: &Search,
+    call: SearchedCall,
     found: FoundRun,
     follower: &mut F,
 ) -> Result<KeptRun, Trouble>
-    requires { CanBeKept request.now search.now found.made }
-    ensures kept { IfOk result (IsKeptOf request.now search.now found) }
+    requires { CanBeKept call.request.now call.search.now found.made }
+    ensures kept { IfOk result (IsKeptOf call.entry.request.now call.entry.search.now found) }
     ensures trouble { IfErr result IsOfSystem }
 {
     let FoundRun { found_as, made } = found;
@@ -116,31 +114,37 @@ pub fn kept_of<F: Hears>(
             made,
         });
     }
-    match made {
-        Some(made) => run_kept(alloc, request, search, found_as, made, follower),
-        None => Ok(KeptRun {
+    let Some(made) = made else {
+        return Ok(KeptRun {
             found_as,
             shrunk: None,
             made: None,
-        }),
-    }
+        });
+    };
+    let was = size_of(&made.record);
+    let made = smaller(alloc, call, made, follower)?;
+    let is = size_of(&made.record);
+    Ok(KeptRun {
+        found_as,
+        shrunk: shrunk_if(call.search.shrink, was, is),
+        made: Some(made),
+    })
 }
 
 /// The same, if something was found.
-pub fn kept_if_found<F: Hears>(
+pub(crate) fn kept_if_found<F: Hears>(
     alloc: Global,
-    request: &Request,
-    search: &Search,
+    call: SearchedCall,
     found: Option<FoundRun>,
     follower: &mut F,
 ) -> Result<Option<KeptRun>, Trouble>
-    requires { IfSome found (λ f. CanBeKept request.now search.now f.made) }
-    ensures kept { IfOk result (AreKeptOf request.now search.now found) }
+    requires { IfSome found (λ f. CanBeKept call.request.now call.search.now f.made) }
+    ensures kept { IfOk result (AreKeptOf call.entry.request.now call.entry.search.now found) }
     ensures trouble { IfErr result IsOfSystem }
 {
     match found {
         Some(found) => {
-            let kept = kept_of(alloc, request, search, found, follower)?;
+            let kept = kept_of(alloc, call, found, follower)?;
             Ok(Some(kept))
         }
         None => Ok(None),
@@ -148,14 +152,9 @@ pub fn kept_if_found<F: Hears>(
 }
 
 /// The run to an ending of the list, or that its choices lead to another one.
-fn ending_found(
-    alloc: Global,
-    request: &Request,
-    search: &Search,
-    first: SoughtEnding,
-) -> Result<FoundRun, Trouble>
-    ensures has { IfOk result
-        (HasOne request.now search.now first.entry.choices.now first.entry.number first.entry.ending.now) }
+fn ending_found(alloc: Global, call: SearchedCall, first: SoughtEnding) -> Result<FoundRun, Trouble>
+    ensures has { IfOk result (HasOne call.entry.request.now call.entry.search.now first.entry.choices.now
+        first.entry.number first.entry.ending.now) }
     ensures trouble { IfErr result IsOfSystem }
 {
     let SoughtEnding {
@@ -163,44 +162,40 @@ fn ending_found(
         ending,
         choices,
     } = first;
-    let Sought { limit, dump, .. } = search.sought;
-    match run_to(alloc, request, limit, dump, choices, ending) {
+    let Sought { limit, dump, .. } = call.search.sought;
+    match run_to(alloc, call.request, limit, dump, choices, ending) {
         Ok(made) => Ok(FoundRun {
             found_as: FoundAs::Ending(number),
             made,
         }),
-        Err(fault) => Err(no_memory(fault)),
+        Err(_) => Err(Trouble::NoMemory),
     }
 }
 
 /// As what a run that never ends is found, by how many entries lead to where it is sure not to.
-fn endless_as(run: &EndlessRun, entries: usize) -> FoundAs
-    ensures { result ≡ specified.endless_as run.now entries }
+fn endless_as(way: EndlessWay, entries: usize) -> FoundAs
+    ensures { result ≡ specified.endless_as way entries }
 {
-    match run {
-        EndlessRun::ToNoEnd(_) => FoundAs::NoEndAfter(entries),
-        EndlessRun::Round(_, _) => FoundAs::ForEverAfter(entries),
+    match way {
+        EndlessWay::ToNoEnd => FoundAs::NoEndAfter(entries),
+        EndlessWay::Round => FoundAs::ForEverAfter(entries),
     }
 }
 
 /// A run that never ends, as far as budgets and log reach.
-fn endless_found(
-    alloc: Global,
-    request: &Request,
-    search: &Search,
-    run: &EndlessRun,
-) -> Result<FoundRun, Trouble>
-    ensures has { IfOk result (HasEndless request.now search.now run.now) }
+fn endless_found(alloc: Global, call: SearchedCall, run: EndlessRun) -> Result<FoundRun, Trouble>
+    ensures has { IfOk result (HasEndless call.entry.request.now call.entry.search.now run.entry) }
     ensures trouble { IfErr result IsOfSystem }
 {
-    let Sought { limit, .. } = search.sought;
-    let made = match run_round(alloc, request, limit, run.path(), run.round()) {
+    let EndlessRun { way, path, round } = run;
+    let limit = call.search.sought.limit;
+    let made = match run_round(alloc, call.request, limit, path, round) {
         Ok(made) => made,
-        Err(fault) => return Err(no_memory(fault)),
+        Err(_) => return Err(Trouble::NoMemory),
     };
-    let entries = entries_leading(&made.record, run.path().len());
+    let entries = entries_leading(&made.record, path.len());
     Ok(FoundRun {
-        found_as: endless_as(run, entries),
+        found_as: endless_as(way, entries),
         made: Some(made),
     })
 }
@@ -208,25 +203,28 @@ fn endless_found(
 /// The same, by the choices of each event, where those that were noted leave plain accesses out.
 fn known_found(
     alloc: Global,
-    request: &Request,
-    search: &Search,
+    call: SearchedCall,
     is_free: bool,
-    run: &EndlessRun,
+    run: EndlessRun,
 ) -> Result<FoundRun, Trouble>
-    ensures has { IfOk result (HasFilled request.now search.now is_free run.now) }
+    ensures has { IfOk result (HasFilled call.entry.request.now call.entry.search.now is_free run.entry) }
     ensures trouble { IfErr result IsOfSystem }
 {
     if !is_free {
-        return endless_found(alloc, request, search, run);
+        return endless_found(alloc, call, run);
     }
-    let course = course_of(alloc, request, search.sought.dump, run)?;
-    let run = run.along(course.path.as_slice(), course.round.as_slice());
-    endless_found(alloc, request, search, &run)
+    let course = course_of(alloc, call, run)?;
+    let filled = EndlessRun {
+        way: run.way,
+        path: course.path.as_slice(),
+        round: course.round.as_slice(),
+    };
+    endless_found(alloc, call, filled)
 }
 
 /// What comes behind the endings of every order: the status, and what was found.
 #[derive(Drop)]
-pub struct StatusAndFound {
+pub(crate) struct StatusAndFound {
     pub status: u8,
     pub found: Option<FoundRun>,
 }
@@ -241,38 +239,39 @@ fn nothing(status: u8) -> StatusAndFound
     }
 }
 
+/// Whether a search stops at an ending that is looked for, or a run that never ends.
+fn stops_behind(search: &Search) -> bool
+    ensures { result ≡ specified_prints.stops_behind search.now }
+{
+    search.sought.stops && !search.races
+}
+
 /// The first ending that is looked for, by a run that ends so, or where none is a run that never ends; and the status: 1
 /// where such an ending was found, one has a trap or a stop, there is none, they are not all, something never ends, or
 /// there are races, which aren't allowed; and else 0.
-pub fn behind_of(
+pub(crate) fn behind_of(
     alloc: Global,
-    request: &Request,
-    search: &Search,
+    call: SearchedCall,
     whole: &WholeSearch,
 ) -> Result<StatusAndFound, Trouble>
-    ensures has { IfOk result (λ b. HasFound request.now search.now whole.now b.found) }
-    ensures status { IfOk result (λ b. IsStatusOf search.now whole.now b.status) }
+    ensures has { IfOk result (λ b. HasFound call.entry.request.now call.entry.search.now whole.now b.found) }
+    ensures status { IfOk result (λ b. IsStatusOf call.entry.search.now whole.now b.status) }
     ensures one { IfOk result (λ b. IfSome b.found (λ _. b.status ≡ 1)) }
     ensures trouble { IfErr result IsOfSystem }
 {
+    let search = call.search;
     let first = first_sought(alloc, &whole.all, &search.sought)?;
     let stops = stops_behind(search);
     if let Some(first) = first {
         if !stops {
             return Ok(nothing(1));
         }
-        let filled = filled(
-            alloc,
-            request,
-            search.sought.dump,
-            whole.is_free,
-            first.choices,
-        )?;
+        let choices = choices_to(alloc, call, first, whole.is_free)?;
         let sought = SoughtEnding {
-            choices: choices_in(&filled, first.choices),
+            choices: choices.as_slice(),
             ..first
         };
-        let found = ending_found(alloc, request, search, sought)?;
+        let found = ending_found(alloc, call, sought)?;
         return Ok(StatusAndFound {
             status: 1,
             found: Some(found),
@@ -289,7 +288,7 @@ pub fn behind_of(
     }
     match endless_run(&whole.all.liveness, search.sought.target) {
         Some(run) => {
-            let found = known_found(alloc, request, search, whole.is_free, &run)?;
+            let found = known_found(alloc, call, whole.is_free, run)?;
             Ok(StatusAndFound {
                 status: 1,
                 found: Some(found),

@@ -1,5 +1,5 @@
 //! The records that are kept of what a search found.
-ghost use Rattle.std.specs.Prelude.{◌≡◌, false, is_some, Some, IfOk, IfErr};
+ghost use Rattle.std.specs.Prelude.{◌≡◌, false, is_some, IfOk, IfErr};
 ghost use Rattle.report_jobs.specs.Prints.{changed};
 ghost use Rattle.report_jobs.specs.Silence.{Stays};
 ghost use Rattle.report.specs.Found.{KeepsFound, KeepsMade};
@@ -22,7 +22,11 @@ fn keeps_race(search: &Search) -> bool
 }
 
 /// Keeps the record of the run with the race, where it is looked for.
-pub fn keep_raced<S: Write>(search: &Search, raced: &Raced, save: &mut S) -> Result<(), Trouble>
+pub(crate) fn keep_raced<S: Write>(
+    search: &Search,
+    raced: &Raced,
+    save: &mut S,
+) -> Result<(), Trouble>
     ensures kept { IfOk result (λ _. KeepsRaced search.now raced.now (changed S.contents save.old save.new)) }
     ensures unwanted { specified.keeps_race search.now ≡ false → Stays save.old save.new }
     ensures trouble { IfErr result IsOfSystem }
@@ -33,17 +37,8 @@ pub fn keep_raced<S: Write>(search: &Search, raced: &Raced, save: &mut S) -> Res
     }
 }
 
-/// Keeps the record of a run that was made, where one is wanted.
-pub fn keep_run<S: Write>(search: &Search, made: &MadeRun, save: &mut S) -> Result<(), Trouble>
-    ensures kept { IfOk result (λ _. KeepsMade search.now (Some made.now) (changed S.contents save.old save.new)) }
-    ensures unwanted { is_some search.now.save ≡ false → Stays save.old save.new }
-    ensures trouble { IfErr result IsOfSystem }
-{
-    keep(&made.record, search.save.is_some(), save)
-}
-
-/// The same, if one was made.
-pub fn keep_made<S: Write>(
+/// Keeps the record of a run, if one was made and it is wanted.
+pub(crate) fn keep_made<S: Write>(
     search: &Search,
     made: &Option<MadeRun>,
     save: &mut S,
@@ -53,13 +48,13 @@ pub fn keep_made<S: Write>(
     ensures trouble { IfErr result IsOfSystem }
 {
     match made {
-        Some(made) => keep_run(search, made, save),
+        Some(made) => keep(&made.record, search.save.is_some(), save),
         None => Ok(()),
     }
 }
 
-/// Keeps that of what was found.
-pub fn keep_found<S: Write>(
+/// Keeps that of what was found, if something was.
+pub(crate) fn keep_found<S: Write>(
     search: &Search,
     kept: &Option<KeptRun>,
     save: &mut S,

@@ -11,7 +11,6 @@
 mod all;
 mod asked;
 mod complete;
-mod drawn;
 mod early;
 mod found;
 mod job;
@@ -19,14 +18,13 @@ mod kept;
 mod objects;
 mod raced;
 mod searching;
-mod smaller;
 mod table;
 mod telling;
 mod told;
 mod whole;
 
 pub use asked::SearchRequest;
-pub use job::perform;
+pub use job::{JobBytes, perform};
 pub use report_command::{Job, Usage, command};
 pub use report_jobs::{ModuleRefusal, Streams, check, load, replay_saved};
 pub use report_looks::{CodeBytes, races_saved, show_saved};

@@ -1,48 +1,71 @@
-//! The table of a search of drawn runs, and what it says of runs that weren't made.
+//! The table of a search of drawn runs: its lines, its status where nothing was found, and what it says of runs that
+//! weren't made.
 ghost use Rattle.std.specs.Prelude.{◌≡◌, ◌↔◌, ◌<◌, ◌≤◌, ◌^◌, true, IfOk};
 ghost use Rattle.replay_forms.specs.Texts.{Wrote};
-ghost use Rattle.report_lines.specs.Drawn.{cut_line};
 ghost use Rattle.report.specs.Drawn as specified;
-ghost use Rattle.report.specs.Drawn.{table_line, table_lines, cut_in, singles_in, late_in, unseen_text};
+ghost use Rattle.report.specs.Drawn.{cut_in, table_line, table_lines, unseen_text};
+ghost use Rattle.report.specs.DrawnRaces.{no_race_text, text_of_none};
 ghost use Rattle.report.specs.Prints.{IsAllWell};
+ghost use Rattle.report.specs.Told.{IsStatusOfTable};
 
 use crate::complete::has_ended_well;
 use report_command::Sought;
-use report_lines::{Often, write_cut, write_met, write_unseen};
+use report_json::Coverage;
+use report_lines::{Often, write_met, write_stopped, write_unseen};
 use search_endings::Ending;
 use search_finds::{EndingTable, Met, is_looked_for};
 use std::alloc::{AllocError, Global};
 use std::io::{self, Write};
 use types::{Outcome, Stop};
 
+/// Drawn runs: as they were asked for, and the table of their endings.
+#[derive(Clone, Copy)]
+pub(crate) struct DrawnTable<'a> {
+    pub sought: &'a Sought<'a>,
+    pub table: &'a EndingTable,
+}
+
+/// Why none of drawn runs was found, and the status.
+#[derive(Clone, Copy)]
+pub(crate) struct NoneFound {
+    /// One with a race was looked for.
+    pub of_races: bool,
+    /// The search was told to end; else all runs were made.
+    pub is_told: bool,
+    pub status: u8,
+}
+
 /// The line of an ending: how often it was met, when first and by which strategy, and what it is.
-fn write_row<W: Write>(out: &mut W, sought: &Sought, runs: u64, met: &Met) -> io::Result<()>
-    ensures { Wrote W.contents out.old out.new result (table_line sought.now runs met.now) }
+fn write_row<W: Write>(out: &mut W, drawn: DrawnTable, met: &Met) -> io::Result<()>
+    ensures { Wrote W.contents out.old out.new result
+        (table_line drawn.entry.sought.now drawn.entry.table.now.runs met.now) }
 {
     let often = Often {
         times: met.times,
-        runs,
+        runs: drawn.table.runs,
         first: met.first,
     };
-    let way = sought.way.of_run(met.first);
+    let way = drawn.sought.way.of_run(met.first);
     write_met(out, often, way, &met.ending)
 }
 
 /// The table of the endings, in the order of their first runs.
-pub fn write_table<W: Write>(out: &mut W, sought: &Sought, table: &EndingTable) -> io::Result<()>
-    ensures { Wrote W.contents out.old out.new result (table_lines sought.now table.now) }
+pub(crate) fn write_table<W: Write>(out: &mut W, drawn: DrawnTable) -> io::Result<()>
+    ensures { Wrote W.contents out.old out.new result
+        (table_lines drawn.entry.sought.now drawn.entry.table.now) }
 {
-    let rows = table.met.as_slice();
+    let rows = drawn.table.met.as_slice();
     for met in rows {
-        write_row(out, sought, table.runs, met)?;
+        write_row(out, drawn, met)?;
     }
     out.flush()
 }
 
 /// Whether a run was made, in each ending of the table all threads ended well, and none is looked for.
-fn is_all_well(alloc: Global, sought: &Sought, table: &EndingTable) -> Result<bool, AllocError>
-    ensures { IfOk result (λ is. (is ≡ true) ↔ IsAllWell sought.now table.now) }
+fn is_all_well(alloc: Global, drawn: DrawnTable) -> Result<bool, AllocError>
+    ensures { IfOk result (λ is. (is ≡ true) ↔ IsAllWell drawn.entry.sought.now drawn.entry.table.now) }
 {
+    let DrawnTable { sought, table } = drawn;
     if table.runs == 0 {
         return Ok(false);
     }
@@ -58,11 +81,10 @@ fn is_all_well(alloc: Global, sought: &Sought, table: &EndingTable) -> Result<bo
 ///
 /// # Errors
 /// Where memory is refused.
-pub fn status_of_none(alloc: Global, sought: &Sought, table: &EndingTable) -> Result<u8, AllocError>
-    ensures well { IfOk result (λ status. (status ≡ 0) ↔ IsAllWell sought.now table.now) }
-    ensures statuses { IfOk result (λ status. status ≤ 1) }
+pub(crate) fn status_of_none(alloc: Global, drawn: DrawnTable) -> Result<u8, AllocError>
+    ensures { IfOk result (IsStatusOfTable drawn.entry.sought.now drawn.entry.table.now) }
 {
-    if is_all_well(alloc, sought, table)? {
+    if is_all_well(alloc, drawn)? {
         return Ok(0);
     }
     Ok(1)
@@ -85,18 +107,12 @@ fn is_cut(ending: &Ending) -> bool
         .any(|outcome| found_it_full(*outcome))
 }
 
-/// The runs of a table are counted in 64 bits. It does nothing else.
-fn show_runs_fit(table: &EndingTable)
-    ensures { table.now.runs < 2 ^ 64 }
-{
-    let _runs = table.runs;
-}
-
-/// How many runs of a table were cut.
-fn cut_of(table: &EndingTable) -> u64
-    requires { cut_in table.now < 2 ^ 64 }
+/// How many runs of a table were cut, of those that were made.
+pub(crate) fn cut_of(table: &EndingTable) -> u64
+    requires { cut_in table.now ≤ table.now.runs }
     ensures { result ≡ cut_in table.now }
 {
+    let _runs = table.runs;
     let mut cut = 0u64;
     for met in table.met.iter() {
         if is_cut(&met.ending) {
@@ -106,59 +122,66 @@ fn cut_of(table: &EndingTable) -> u64
     cut
 }
 
-/// How many runs of a table were cut, of those that were made.
-pub fn cut_in_all(table: &EndingTable) -> u64
-    requires { cut_in table.now ≤ table.now.runs }
-    ensures { result ≡ cut_in table.now }
+/// How many endings of a table were met first in the last half of its runs, and how many in one run alone.
+pub(crate) fn coverage_of(drawn: DrawnTable) -> Coverage
+    ensures { result ≡ specified.coverage_of drawn.entry.sought.now drawn.entry.table.now }
 {
-    show_runs_fit(table);
-    cut_of(table)
-}
-
-/// The line of runs that were cut at the end of their log, where there are some.
-pub fn write_cut_of<W: Write>(out: &mut W, sought: &Sought, table: &EndingTable) -> io::Result<()>
-    requires { cut_in table.now ≤ table.now.runs }
-    ensures { Wrote W.contents out.old out.new result (cut_line (cut_in table.now) sought.now.limit) }
-{
-    show_runs_fit(table);
-    write_cut(out, cut_of(table), sought.limit)
-}
-
-/// How many endings of a table were met in one run alone.
-pub fn singles_of(table: &EndingTable) -> usize
-    ensures { result ≡ singles_in table.now }
-{
-    table.met.iter().filter(|met| met.times == 1).count()
-}
-
-/// How many endings of a table were met first in the last half of its runs.
-pub fn late_of(sought: &Sought, table: &EndingTable) -> usize
-    ensures { result ≡ late_in sought.now table.now }
-{
+    let DrawnTable { sought, table } = drawn;
     let half = table.runs / 2;
     let from = sought.from;
-    table
-        .met
-        .iter()
-        .filter(|met| half <= met.first.saturating_sub(from))
-        .count()
+    Coverage {
+        late: table
+            .met
+            .iter()
+            .filter(|met| half <= met.first.saturating_sub(from))
+            .count(),
+        singles: table.met.iter().filter(|met| met.times == 1).count(),
+    }
 }
 
 /// The line of what is unseen, where runs were made: how many endings there are, how many were new in the last half of
 /// the runs, and with which chance a further run ends as none did (the share of the runs whose ending no other run has;
 /// Good-Turing).
-pub(crate) fn write_unseen_of<W: Write>(
-    out: &mut W,
-    sought: &Sought,
-    table: &EndingTable,
-) -> io::Result<()>
-    ensures { Wrote W.contents out.old out.new result (unseen_text sought.now table.now) }
+fn write_unseen_of<W: Write>(out: &mut W, drawn: DrawnTable) -> io::Result<()>
+    ensures { Wrote W.contents out.old out.new result
+        (unseen_text drawn.entry.sought.now drawn.entry.table.now) }
 {
-    let runs = table.runs;
+    let runs = drawn.table.runs;
     if runs == 0 {
         return Ok(());
     }
-    let endings = table.met.len();
-    let late = late_of(sought, table);
-    write_unseen(out, endings, late, singles_of(table), runs)
+    let Coverage { late, singles } = coverage_of(drawn);
+    write_unseen(out, drawn.table.met.len(), late, singles, runs)
+}
+
+/// That none of so many runs has a race, where some were made.
+fn write_no_race<W: Write>(out: &mut W, runs: u64) -> io::Result<()>
+    ensures { Wrote W.contents out.old out.new result (no_race_text runs) }
+{
+    if runs == 0 {
+        return Ok(());
+    }
+    if runs == 1 {
+        return write!(out, "no race in 1 run; others may have one\n");
+    }
+    write!(out, "no race in {runs} runs; others may have one\n")
+}
+
+/// What is said behind the table where nothing was found: that the search was told to end, where it was, that no run has
+/// a race, where one was looked for, and what is unseen.
+pub(crate) fn write_none<W: Write>(
+    out: &mut W,
+    drawn: DrawnTable,
+    none: NoneFound,
+) -> io::Result<()>
+    ensures { Wrote W.contents out.old out.new result
+        (text_of_none none.of_races none.is_told drawn.entry.sought.now drawn.entry.table.now) }
+{
+    if none.is_told {
+        write_stopped(out, drawn.table.runs, drawn.sought.runs)?;
+    }
+    if none.of_races {
+        write_no_race(out, drawn.table.runs)?;
+    }
+    write_unseen_of(out, drawn)
 }

@@ -12,6 +12,7 @@ ghost use Rattle.report.specs.Searches.{IsCompleteOf, IsOfSystem};
 ghost use Rattle.report.specs.Racing as specified;
 ghost use Rattle.report.specs.Racing.{IsFreelyComplete, IsLooked, IsWhole};
 
+use crate::asked::SearchedCall;
 use crate::complete::Complete;
 use crate::early::early_of;
 use report_command::Search;
@@ -19,13 +20,12 @@ use report_jobs::Trouble;
 use search_endings::Ending;
 use search_modules::{Hands, RaceFree, ThreadRace, all_endings, race_free_endings};
 use search_reach::{Follows, SearchOrder, Verdict};
-use spawn_host::Request;
 use std::alloc::Global;
 use std::thread::Threads;
 
 /// What is known of the races of all runs.
 #[derive(Clone, Copy)]
-pub enum Racing {
+pub(crate) enum Racing {
     /// It isn't asked.
     Unasked,
     /// None has one.
@@ -49,7 +49,7 @@ impl Racing {
     }
 
     /// Whether all may be well with it, where races are allowed or not.
-    pub fn is_allowed(self, allow_races: bool) -> bool
+    pub(crate) fn is_allowed(self, allow_races: bool) -> bool
         ensures { result ≡ specified.allows allow_races self }
     {
         if allow_races {
@@ -64,7 +64,7 @@ impl Racing {
 
 /// What was found of all runs.
 #[derive(Drop)]
-pub struct WholeSearch {
+pub(crate) struct WholeSearch {
     pub all: Complete,
     pub racing: Racing,
     /// Whether threads made plain accesses at once: then those aren't among the choices of its paths.
@@ -73,7 +73,7 @@ pub struct WholeSearch {
 
 /// What a first look at all runs came to.
 #[derive(Drop)]
-pub enum FirstLook {
+pub(crate) enum FirstLook {
     /// Nothing more is to be looked for: this was found, by the orders that matter where no threads race.
     Done(Complete),
     /// Every order is to be gone through; what is known of races, and where one is, the way to it.
@@ -107,20 +107,25 @@ fn order_of(search: &Search) -> SearchOrder
 /// it says so.
 fn free_of<R: Threads + Sync, F: Follows>(
     alloc: Global,
-    request: &Request,
+    call: SearchedCall,
     hands: &Hands<'_, R>,
-    search: &Search,
     most: u32,
     follower: &mut F,
 ) -> Result<RaceFree<Ending>, Trouble>
-    ensures complete { IfOk result (λ r. IsFreelyComplete request.now search.now.sought.dump r.ended) }
-    ensures sought { IfOk result (λ r. SaysSought search.now r.ended.verdict r.ended.endings.keys) }
+    ensures complete { IfOk result
+        (λ r. IsFreelyComplete call.entry.request.now call.entry.search.now.sought.dump r.ended) }
+    ensures sought { IfOk result (λ r. SaysSought call.entry.search.now r.ended.verdict r.ended.endings.keys) }
     ensures none { IfOk result (λ r. r.ended.verdict ≡ verdicts.All
-        → NeverRaces request.now.parts request.now.name request.now.args) }
-    ensures race { IfOk result
-        (λ r. IfSome r.race (CanRaceSo request.now.parts request.now.name request.now.args)) }
+        → NeverRaces call.entry.request.now.parts call.entry.request.now.name call.entry.request.now.args) }
+    ensures race { IfOk result (λ r. IfSome r.race
+        (CanRaceSo call.entry.request.now.parts call.entry.request.now.name call.entry.request.now.args)) }
     ensures trouble { IfErr result IsOfSystem }
 {
+    let SearchedCall {
+        request,
+        search,
+        ..
+    } = call;
     let early = early_of(search);
     let dump = search.sought.dump as usize;
     let order = order_of(search);
@@ -154,40 +159,44 @@ fn look_of(free: RaceFree<Ending>) -> FirstLook
 }
 
 /// Looks at all runs of a call by the orders that matter where no threads race, unless every order is asked for.
-pub fn first_look<R: Threads + Sync, F: Follows>(
+pub(crate) fn first_look<R: Threads + Sync, F: Follows>(
     alloc: Global,
-    request: &Request,
+    call: SearchedCall,
     hands: &Hands<'_, R>,
-    search: &Search,
     most: u32,
     follower: &mut F,
 ) -> Result<FirstLook, Trouble>
-    ensures looked { IfOk result (IsLooked request.now search.now) }
+    ensures looked { IfOk result (IsLooked call.entry.request.now call.entry.search.now) }
     ensures trouble { IfErr result IsOfSystem }
 {
-    if search.every_order {
+    if call.search.every_order {
         return Ok(FirstLook::Open {
             racing: Racing::Unasked,
             way: Vec::new(alloc),
         });
     }
-    let free = free_of(alloc, request, hands, search, most, follower)?;
+    let free = free_of(alloc, call, hands, most, follower)?;
     Ok(look_of(free))
 }
 
 /// Goes through every order of the entries of a call, and ends at an ending that is looked for, where it says so.
 fn all_of<F: Follows>(
     alloc: Global,
-    request: &Request,
-    search: &Search,
+    call: SearchedCall,
     most: u32,
     follower: &mut F,
 ) -> Result<Complete, Trouble>
-    ensures complete { IfOk result (IsCompleteOf request.now search.now.sought.dump) }
-    ensures sought { IfOk result (λ r. SaysSought search.now r.verdict r.endings.keys) }
-    ensures leveled { IfOk result (λ r. IsLeveled (specified.order_by search.now.deep) r.levels (r.states ≡ 0)) }
+    ensures complete { IfOk result (IsCompleteOf call.entry.request.now call.entry.search.now.sought.dump) }
+    ensures sought { IfOk result (λ r. SaysSought call.entry.search.now r.verdict r.endings.keys) }
+    ensures leveled { IfOk result
+        (λ r. IsLeveled (specified.order_by call.entry.search.now.deep) r.levels (r.states ≡ 0)) }
     ensures trouble { IfErr result IsOfSystem }
 {
+    let SearchedCall {
+        request,
+        search,
+        ..
+    } = call;
     let early = early_of(search);
     let dump = search.sought.dump as usize;
     let order = order_of(search);
@@ -195,16 +204,15 @@ fn all_of<F: Follows>(
 }
 
 /// What is found of all runs of a call behind that first look.
-pub fn whole_of<F: Follows>(
+pub(crate) fn whole_of<F: Follows>(
     alloc: Global,
-    request: &Request,
-    search: &Search,
+    call: SearchedCall,
     most: u32,
     look: FirstLook,
     follower: &mut F,
 ) -> Result<WholeSearch, Trouble>
-    requires { IsLooked request.now search.now look }
-    ensures whole { IfOk result (IsWhole request.now search.now) }
+    requires { IsLooked call.request.now call.search.now look }
+    ensures whole { IfOk result (IsWhole call.entry.request.now call.entry.search.now) }
     ensures racing { IfOk result (λ w. w.racing ≡ specified.racing_in look) }
     ensures trouble { IfErr result IsOfSystem }
 {
@@ -218,7 +226,7 @@ pub fn whole_of<F: Follows>(
             })
         }
         FirstLook::Open { racing, .. } => {
-            let all = all_of(alloc, request, search, most, follower)?;
+            let all = all_of(alloc, call, most, follower)?;
             Ok(WholeSearch {
                 all,
                 racing,

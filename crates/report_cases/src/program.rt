@@ -2,7 +2,7 @@
 ghost use Rattle.report_command.specs.Jobs.{IsInRange};
 
 use dwarf_lines::SourceFile;
-use report::{CodeBytes, Job, Streams, perform, show_saved};
+use report::{CodeBytes, Job, JobBytes, Streams, perform, show_saved};
 use report_command::{Form, JobOrder, Usage, asked};
 use report_jobs::{JobResult, status_of, tell_ended};
 use report_reasons::{JobInputs, call_of, explain, write_undone};
@@ -124,15 +124,17 @@ where
             tell_ended(&mut gave.streams.err, &ended);
             ended
         }
-        _ => perform(
-            rt,
-            alloc,
-            job,
-            module,
-            saved,
-            &mut gave.streams,
-            &mut Wishes { wish },
-        ),
+        _ => {
+            let bytes = JobBytes { module, saved };
+            perform(
+                rt,
+                alloc,
+                job,
+                bytes,
+                &mut gave.streams,
+                &mut Wishes { wish },
+            )
+        }
     }
 }
 

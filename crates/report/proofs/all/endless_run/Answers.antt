@@ -1,14 +1,21 @@
-use Rattle.std.proofs.Common.{◌≡◌, Option, Some, None}
-use Rattle.std.specs.Prelude.{IfSome}
-use Rattle.selection.specs.declared.sought.SearchTarget.{SearchTarget}
-use Rattle.search_reach.specs.declared.liveness.Liveness.{Liveness}
-use Rattle.report.specs.declared.all.EndlessRun.{EndlessRun}
-use Rattle.report.specs.Endless.{IsKnown, IsKnownIn}
+use Rattle.std.proofs.Common.{sym, ◌∙◌, true≢false}
 use Rattle.report.proofs.all.endless_run.Goals as goal
 
-known : (t : SearchTarget) (o : Option Liveness) (l : Liveness) (r : Option EndlessRun) → o ≡ Some l → IfSome r (IsKnownIn t l) → IfSome r (IsKnown t o)
-known t o l None is h = tt
-known t o l (Some run) is h = (l, is, h)
+pub returns-then-has_no_end-clause-some : goal.returns-then-has_no_end-clause-some
+returns-then-has_no_end-clause-some c = (
+  c.in-Some.liveness,
+  c.in-Some.is,
+  c.has_no_end.ensures.0 c.if-has_no_end.true,
+  c.as_slice.ensures.value,
+)
 
-pub returns-in-Some-clause-some : goal.returns-in-Some-clause-some
-returns-in-Some-clause-some c = known c.args.target c.args.liveness.now c.in-Some.liveness c.endless_of.result c.in-Some.is c.endless_of.ensures.some
+pub returns-in-GoOn-clause-some : goal.returns-in-GoOn-clause-some
+returns-in-GoOn-clause-some c = (
+  c.in-Some.liveness,
+  c.in-Some.is,
+  λ stuck. absurd (true≢false (sym (c.has_no_end.ensures.1 stuck) ∙ c.if-has_no_end.false)),
+  c.in-GoOn.cycle,
+  (sym c.looks_for_ever.ensures ∙ c.if-not-looks_for_ever.false, c.in-GoOn.is),
+  c.as_slice-path.ensures.value,
+  c.as_slice-round.ensures.value,
+)

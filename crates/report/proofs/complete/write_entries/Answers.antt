@@ -12,5 +12,5 @@ returns g c =
     let behind = codes " was gone through\n" in
     on_ok_weaker c.write-2.result (λ last. appends_then (contents c.args.out.now) (contents c.write.new.self) (contents c.write-2.new.self)
     front (entries_text c.args.entries ++ behind) c.in_ok-write.ensures.bytes
-    (appends_then (contents c.write.new.self) (contents c.write_entry_count.new.out) (contents c.write-2.new.self)
-    (entries_text c.args.entries) behind c.in_ok-write_entry_count.ensures last)) c.write-2.ensures.bytes
+    (appends_then (contents c.write.new.self) (contents c.write_counted.new.out) (contents c.write-2.new.self)
+    (entries_text c.args.entries) behind c.in_ok-write_counted.ensures last)) c.write-2.ensures.bytes

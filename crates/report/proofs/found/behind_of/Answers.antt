@@ -22,7 +22,7 @@ at_status s w status b is said = subst (λ (n : ℕ). IsStatusOf s w n) (sym (ap
 
 pub returns-then-not-stops-clause-has : goal.returns-then-not-stops-clause-has
 returns-then-not-stops-clause-has c =
-    has_nothing c.args.request.now c.args.search.now c.args.whole.now 1 _ c.nothing.ensures
+    has_nothing c.args.call.request.now c.args.call.search.now c.args.whole.now 1 _ c.nothing.ensures
     (record {
       unsought = λ stops. absurd (true≢false (sym stops ∙ (sym c.stops_behind-stops.ensures ∙ c.if-not-stops.true)));
       endless = λ stops. absurd (true≢false (sym stops ∙ (sym c.stops_behind-stops.ensures ∙ c.if-not-stops.true)));
@@ -31,8 +31,8 @@ returns-then-not-stops-clause-has c =
 pub returns-then-not-stops-clause-status : goal.returns-then-not-stops-clause-status
 returns-then-not-stops-clause-status c =
     let is_first = rw c.in-Some.is at c.in_ok-first.ensures.first in
-    at_status c.args.search.now c.args.whole.now 1 _ c.nothing.ensures
-    (status_1 c.args.search.now c.args.whole.now (λ both. first_is_sought c.args.search.now.sought _ _ _ is_first both.0.unsought))
+    at_status c.args.call.search.now c.args.whole.now 1 _ c.nothing.ensures
+    (status_1 c.args.call.search.now c.args.whole.now (λ both. first_is_sought c.args.call.search.now.sought _ _ _ is_first both.0.unsought))
 
 pub returns-in-Some-clause-has : goal.returns-in-Some-clause-has
 returns-in-Some-clause-has c =
@@ -43,8 +43,8 @@ returns-in-Some-clause-has c =
         number = c.in-Some.first.number;
         ending = c.in-Some.first.ending.now;
         is_first = is_first;
-        choices = c.choices_in.result.now;
-        noted = λ every. c.choices_in.ensures (c.in_ok-filled.ensures every) ∙ choices;
+        choices = c.as_slice.result.now;
+        noted = λ every. c.as_slice.ensures.value ∙ (c.in_ok-choices.ensures every ∙ choices);
         one = c.in_ok-found.ensures.has;
       }),
     )
@@ -52,37 +52,37 @@ returns-in-Some-clause-has c =
 pub returns-in-Some-clause-status : goal.returns-in-Some-clause-status
 returns-in-Some-clause-status c =
     let is_first = rw c.in-Some.is at c.in_ok-first.ensures.first in
-    status_1 c.args.search.now c.args.whole.now (λ both. first_is_sought c.args.search.now.sought _ _ _ is_first both.0.unsought)
+    status_1 c.args.call.search.now c.args.whole.now (λ both. first_is_sought c.args.call.search.now.sought _ _ _ is_first both.0.unsought)
 
 pub returns-then-not-is_allowed-clause-has : goal.returns-then-not-is_allowed-clause-has
 returns-then-not-is_allowed-clause-has c =
-    let s = c.args.search.now.sought in
+    let s = c.args.call.search.now.sought in
     let well = c.are_well.ensures.0 c.if-are_well.true in
-    has_nothing c.args.request.now c.args.search.now c.args.whole.now 1 _ c.nothing-then-not-is_allowed.ensures
+    has_nothing c.args.call.request.now c.args.call.search.now c.args.whole.now 1 _ c.nothing-then-not-is_allowed.ensures
     (record { unsought = λ _. well.unsought; endless = λ _. well_has_none s s.target c.args.whole.now.all well })
 
 pub returns-then-not-is_allowed-clause-status : goal.returns-then-not-is_allowed-clause-status
 returns-then-not-is_allowed-clause-status c =
-    at_status c.args.search.now c.args.whole.now 1 _ c.nothing-then-not-is_allowed.ensures
-    (status_1 c.args.search.now c.args.whole.now
+    at_status c.args.call.search.now c.args.whole.now 1 _ c.nothing-then-not-is_allowed.ensures
+    (status_1 c.args.call.search.now c.args.whole.now
     (λ both. absurd (true≢false (sym both.1 ∙ (sym c.is_allowed.ensures ∙ c.if-not-is_allowed.true)))))
 
 pub returns-then-are_well-clause-has : goal.returns-then-are_well-clause-has
 returns-then-are_well-clause-has c =
-    let s = c.args.search.now.sought in
+    let s = c.args.call.search.now.sought in
     let well = c.are_well.ensures.0 c.if-are_well.true in
-    has_nothing c.args.request.now c.args.search.now c.args.whole.now 0 _ c.nothing-then-are_well.ensures
+    has_nothing c.args.call.request.now c.args.call.search.now c.args.whole.now 0 _ c.nothing-then-are_well.ensures
     (record { unsought = λ _. well.unsought; endless = λ _. well_has_none s s.target c.args.whole.now.all well })
 
 pub returns-then-are_well-clause-status : goal.returns-then-are_well-clause-status
 returns-then-are_well-clause-status c =
-    at_status c.args.search.now c.args.whole.now 0 _ c.nothing-then-are_well.ensures
-    (status_0 c.args.search.now c.args.whole.now (c.are_well.ensures.0 c.if-are_well.true)
+    at_status c.args.call.search.now c.args.whole.now 0 _ c.nothing-then-are_well.ensures
+    (status_0 c.args.call.search.now c.args.whole.now (c.are_well.ensures.0 c.if-are_well.true)
     (sym c.is_allowed.ensures ∙ c.if-not-is_allowed.false))
 
 pub returns-then-not-stops-2-clause-has : goal.returns-then-not-stops-2-clause-has
 returns-then-not-stops-2-clause-has c =
-    has_nothing c.args.request.now c.args.search.now c.args.whole.now 1 _ c.nothing-then-not-stops-2.ensures
+    has_nothing c.args.call.request.now c.args.call.search.now c.args.whole.now 1 _ c.nothing-then-not-stops-2.ensures
     (record {
       unsought = λ stops. absurd (true≢false (sym stops ∙ (sym c.stops_behind-stops.ensures ∙ c.if-not-stops-2.true)));
       endless = λ stops. absurd (true≢false (sym stops ∙ (sym c.stops_behind-stops.ensures ∙ c.if-not-stops-2.true)));
@@ -90,8 +90,8 @@ returns-then-not-stops-2-clause-has c =
 
 pub returns-then-not-stops-2-clause-status : goal.returns-then-not-stops-2-clause-status
 returns-then-not-stops-2-clause-status c =
-    at_status c.args.search.now c.args.whole.now 1 _ c.nothing-then-not-stops-2.ensures
-    (status_1 c.args.search.now c.args.whole.now
+    at_status c.args.call.search.now c.args.whole.now 1 _ c.nothing-then-not-stops-2.ensures
+    (status_1 c.args.call.search.now c.args.whole.now
     (λ both. absurd (true≢false (sym (c.are_well.ensures.1 both.0) ∙ c.if-are_well.false))))
 
 pub returns-in_ok-found-in-Some-endless_run-clause-has : goal.returns-in_ok-found-in-Some-endless_run-clause-has
@@ -107,12 +107,12 @@ returns-in_ok-found-in-Some-endless_run-clause-has c = (
 
 pub returns-in_ok-found-in-Some-endless_run-clause-status : goal.returns-in_ok-found-in-Some-endless_run-clause-status
 returns-in_ok-found-in-Some-endless_run-clause-status c =
-    status_1 c.args.search.now c.args.whole.now
+    status_1 c.args.call.search.now c.args.whole.now
     (λ both. absurd (true≢false (sym (c.are_well.ensures.1 both.0) ∙ c.if-are_well.false)))
 
 pub returns-in-None-clause-has : goal.returns-in-None-clause-has
 returns-in-None-clause-has c =
-    has_nothing c.args.request.now c.args.search.now c.args.whole.now 1 _ c.nothing-in-None.ensures
+    has_nothing c.args.call.request.now c.args.call.search.now c.args.whole.now 1 _ c.nothing-in-None.ensures
     (record {
       unsought = λ _. c.in_ok-first.ensures.none (none_of _ c.in_default.not-Some);
       endless = λ _. rw c.in-None.is at c.endless_run.ensures.none;
@@ -120,6 +120,6 @@ returns-in-None-clause-has c =
 
 pub returns-in-None-clause-status : goal.returns-in-None-clause-status
 returns-in-None-clause-status c =
-    at_status c.args.search.now c.args.whole.now 1 _ c.nothing-in-None.ensures
-    (status_1 c.args.search.now c.args.whole.now
+    at_status c.args.call.search.now c.args.whole.now 1 _ c.nothing-in-None.ensures
+    (status_1 c.args.call.search.now c.args.whole.now
     (λ both. absurd (true≢false (sym (c.are_well.ensures.1 both.0) ∙ c.if-are_well.false))))

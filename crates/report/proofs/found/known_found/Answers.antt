@@ -1,21 +1,19 @@
 use Rattle.std.proofs.Common.{◌∙◌, sym, refl, true≢false}
 use Rattle.std.proofs.lemmas.Result.{IfOk-weaker}
 use Rattle.report.specs.Found.{HasEndless, HasFilled}
-use Rattle.report.proofs.Sought.{alike_self}
 use Rattle.report.proofs.found.known_found.Goals as goal
 
 pub returns-then-not-is_free-clause-has : goal.returns-then-not-is_free-clause-has
 returns-then-not-is_free-clause-has c =
-    let q = c.args.request.now in
-    let s = c.args.search.now in
-    let run = c.args.run.now in
+    let q = c.args.call.request.now in
+    let s = c.args.call.search.now in
+    let run = c.args.run in
     IfOk-weaker c.endless_found.result (HasEndless q s run) (HasFilled q s c.args.is_free run)
-    (λ f has. (run, (alike_self run, λ _. refl), has)) c.endless_found.ensures.has
+    (λ f has. (run, (refl, λ _. refl), has)) c.endless_found.ensures.has
 
 pub returns-clause-has : goal.returns-clause-has
 returns-clause-has c =
-    let q = c.args.request.now in
-    let s = c.args.search.now in
-    let run = c.along-run.result in
-    IfOk-weaker c.endless_found-2.result (HasEndless q s run) (HasFilled q s c.args.is_free c.args.run.now)
-    (λ f has. (run, (c.along-run.ensures, λ every. absurd (true≢false (sym c.if-not-is_free.false ∙ every))), has)) c.endless_found-2.ensures.has
+    let q = c.args.call.request.now in
+    let s = c.args.call.search.now in
+    IfOk-weaker c.endless_found-2.result (HasEndless q s _) (HasFilled q s c.args.is_free c.args.run)
+    (λ f has. (_, (refl, λ every. absurd (true≢false (sym c.if-not-is_free.false ∙ every))), has)) c.endless_found-2.ensures.has

@@ -8,7 +8,7 @@ use Rattle.report.proofs.raced.kept_race.Goals as goal
 
 pub returns-in-Ok-Some-clause-has : goal.returns-in-Ok-Some-clause-has
 returns-in-Ok-Some-clause-has g c =
-    let shrink = c.args.asked.search.now.shrink in
+    let shrink = c.args.call.search.now.shrink in
     let made = c.in_ok-made.made in
     record {
       number = refl;

@@ -8,12 +8,12 @@ use Rattle.report.proofs.raced.raced_of.Goals as goal
 
 pub returns-in-Done-clause-raced : goal.returns-in-Done-clause-raced
 returns-in-Done-clause-raced c =
-    let q = c.args.request.now in
-    let s = c.args.asked.search.now in
+    let q = c.args.call.request.now in
+    let s = c.args.call.search.now in
     subst (λ (look : FirstLook). IsRacedOf q s (racing_in look) Untold) (sym c.in-Done.is) (λ r. unfound_by c.in-Done.field-0.verdict r)
 
 pub returns-in-Open-clause-raced : goal.returns-in-Open-clause-raced
 returns-in-Open-clause-raced c =
-    let q = c.args.request.now in
-    let s = c.args.asked.search.now in
+    let q = c.args.call.request.now in
+    let s = c.args.call.search.now in
     subst (λ (look : FirstLook). IfOk c.raced_by.result (IsRacedOf q s (racing_in look))) (sym c.in-Open.is) c.raced_by.ensures.raced

@@ -6,8 +6,8 @@ use Rattle.report.proofs.whole.whole_of.Goals as goal
 
 pub returns-in-Done-clause-whole : goal.returns-in-Done-clause-whole
 returns-in-Done-clause-whole g c =
-    let q = c.args.request.now in
-    let s = c.args.search.now in
+    let q = c.args.call.request.now in
+    let s = c.args.call.search.now in
     let all = c.in-Done.all in
     let looked = subst (IsLooked q s) c.in-Done.is c.requires in
     subst (λ (racing : Racing). IsWhole q s (record { all = all; racing = racing; is_free = true })) (sym c.racing_by-racing.ensures)
@@ -18,7 +18,7 @@ returns-in-Done-clause-racing g c = c.racing_by-racing.ensures ∙ sym (ap racin
 
 pub returns-clause-whole : goal.returns-clause-whole
 returns-clause-whole g c =
-    let looked = subst (IsLooked c.args.request.now c.args.search.now) c.in-Open.is c.requires in
+    let looked = subst (IsLooked c.args.call.request.now c.args.call.search.now) c.in-Open.is c.requires in
     record {
       complete = c.in_ok-all-in-Open.ensures.complete;
       known = looked.0;
