@@ -21,7 +21,7 @@ use Rattle.report.specs.declared.raced.KeptRace.{KeptRace}
 use Rattle.report.specs.SearchObjects.{WritesAll, WritesKept, WritesRacy, WritesTable, coverage_of, none_of}
 use Rattle.report.specs.Telling.{EndsAll, EndsKept, EndsNone, EndsRacy, InLines, head_lines}
 use Rattle.report.specs.Told.{AllIn, LastIn, NoneIn, RacyIn}
-use Rattle.report.specs.declared.objects.ToldSearch.{ToldSearch}
+use Rattle.report.specs.declared.telling.ToldSearch.{ToldSearch}
 
 -- both of an answer
 pub if_both : {T E : Type 0} (r : Result T E) (P Q R : T → Type 0) → ((x : T) → P x → Q x → R x) → IfOk r P → IfOk r Q → IfOk r R

@@ -1,5 +1,5 @@
 -- What is said of a search that looks for a drawn run with a race.
-use Rattle.std.specs.Prelude.{ℕ, ◌≡◌, ◌==◌, if◌then◌else◌, Bool, true, false, List, [], ◌++◌, codes}
+use Rattle.std.specs.Prelude.{ℕ, ◌≡◌, ◌==◌, if◌then◌else◌, Bool, false, List, [], ◌++◌, Option, Some, None, codes}
 use Rattle.std.specs.Fmt.{decimal}
 use Rattle.spawn_host.specs.Requests.{Requested}
 use Rattle.search_scheduled.specs.declared.running.MadeRun.{MadeRun}
@@ -9,6 +9,7 @@ use Rattle.search_finds.specs.declared.met.EndingTable.{EndingTable}
 use Rattle.search_races.specs.Races.{SaysOfRun}
 use Rattle.selection.specs.declared.sought.Sought.{Sought}
 use Rattle.report_command.specs.declared.search.Search.{Search}
+use Rattle.report_json.specs.declared.raced.RunRaces.{RunRaces}
 use Rattle.report_lines.specs.Drawn.{stopped_line}
 use Rattle.report.specs.Drawn.{behind_text, unseen_text}
 use Rattle.report.specs.Found.{shrunk_if}
@@ -38,10 +39,11 @@ stopped_text is_told s table = if is_told then stopped_line table.runs s.runs el
 abbrev pub raceless_text : Bool → Sought → EndingTable → List ℕ
 raceless_text is_told s table = stopped_text is_told s table ++ unraced_text s table
 
--- What stands behind a table where nothing was found: of a search for a race, or for an ending.
-abbrev pub text_of_none : Bool → Bool → Sought → EndingTable → List ℕ
-text_of_none true is_told s table = raceless_text is_told s table
-text_of_none false is_told s table = behind_text is_told s table
+-- What stands behind a table where nothing was found: of a search for a race, of which something is said then, or for an
+-- ending.
+abbrev pub text_of_none : Option RunRaces → Bool → Sought → EndingTable → List ℕ
+text_of_none None is_told s table = behind_text is_told s table
+text_of_none (Some races) is_told s table = raceless_text is_told s table
 
 -- The run with a race that was found, or where that is asked for one by the call that was shrunk and has one too; the sizes
 -- of both, where it was shrunk; and a race of it.

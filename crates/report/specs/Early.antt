@@ -7,7 +7,7 @@ use Rattle.search_endings.specs.Endings.{Ending}
 use Rattle.search_finds.specs.Finds.{IsLookedFor}
 use Rattle.search_modules.specs.Endings.{HasSought}
 use Rattle.search_reach.specs.declared.search.Verdict.{Verdict}
-use Rattle.report.specs.declared.early.Early.{Early}
+use Rattle.report.specs.declared.whole.Early.{Early}
 
 -- Where it is to end at one, those that are looked for.
 abbrev pub IsSoughtBy : Early → Ending → Type 0

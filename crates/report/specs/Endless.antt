@@ -60,7 +60,7 @@ IsKnownIn t l run = IsKnownSo run.way t l run
 abbrev pub IsKnown : SearchTarget → Option Liveness → EndlessRun → Type 0
 IsKnown t o run = (l : Liveness) × (o ≡ Some l) × IsKnownIn t l run
 
--- A run by the choices that were noted; or one that never ends in the same way, where those leave plain accesses out, with
--- these filled in.
+-- It never ends in the same way, by the choices that were noted, or where those leave plain accesses out, with these filled
+-- in.
 abbrev pub IsFilled : Bool → EndlessRun → EndlessRun → Type 0
-IsFilled is_free known run = (run.way ≡ known.way) × (is_free ≡ false → run ≡ known)
+IsFilled is_free known run = (run.way ≡ known.way) × (is_free ≡ false → run.path.now ≡ known.path.now)

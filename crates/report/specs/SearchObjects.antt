@@ -36,7 +36,7 @@ use Rattle.report.specs.declared.raced.Raced.TheVariants as raced
 use Rattle.report.specs.declared.whole.Racing.{Racing}
 use Rattle.report.specs.declared.whole.Racing.TheVariants.{Unasked, Never, Unknown}
 use Rattle.report.specs.declared.whole.Racing.TheVariants as racings
-use Rattle.report.specs.declared.objects.ToldSearch.{ToldSearch}
+use Rattle.report.specs.declared.telling.ToldSearch.{ToldSearch}
 
 -- How a run ended that was made; and what is kept of what was found, in an object.
 abbrev pub IsEndIn : ℕ → Option MadeRun → Option RunEndObject → Type 0
@@ -106,15 +106,10 @@ pub record WritesTable (s : Sought) (table : EndingTable) (status : ℕ) (races 
   pub halt_is : drawn.halt ≡ halt
   pub object : Appends out.old out.new (json_line (drawn_json drawn))
 
--- What is kept of the last run, and that was written; or that none was found, and what is unseen. Of races nothing is known
--- then, where one was looked for.
+-- What is kept of the last run, and that was written; or that none was found, and what is unseen.
 abbrev pub WritesKept : Sought → EndingTable → KeptRun → WriterChange → Type 0
 WritesKept s table k out = (found : FoundObject) × IsKeptIn s.dump k found
     × WritesTable s table 1 None (ends.Found found) out
-
-abbrev pub races_of_none : Bool → Option RunRaces
-races_of_none true = Some said.Unknown
-races_of_none false = None
 
 abbrev pub none_of : Bool → Coverage → DrawnEnd
 none_of true coverage = ends.Told coverage

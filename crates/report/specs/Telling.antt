@@ -1,5 +1,5 @@
 -- How what is found is told: each line as soon as it is known, or one object at the end.
-use Rattle.std.specs.Prelude.{ℕ, ◌≡◌, ◌≤◌, Bool, true, false, List, ◌++◌, Option, Some, None}
+use Rattle.std.specs.Prelude.{ℕ, ◌≡◌, ◌≤◌, Bool, true, false, List, ◌++◌, Option}
 use Rattle.std.specs.Io.KnownBytes.{Appends}
 use Rattle.types.specs.declared.parts.Parts.{Parts}
 use Rattle.search_finds.specs.declared.finding.Halt.{Halt}
@@ -21,8 +21,8 @@ use Rattle.report.specs.Found.{found_lines, kept_lines, kept_text, run_lines, sh
 use Rattle.report.specs.Racing.{CanTell, IsRacedIn, IsRacyRun, SaysRaced, Tells}
 use Rattle.report.specs.declared.found.KeptRun.{KeptRun}
 use Rattle.report.specs.declared.raced.KeptRace.{KeptRace}
-use Rattle.report.specs.SearchObjects.{WritesAll, WritesKept, WritesRacy, WritesTable, none_of, races_of_none}
-use Rattle.report.specs.declared.objects.ToldSearch.{ToldSearch}
+use Rattle.report.specs.SearchObjects.{WritesAll, WritesKept, WritesRacy, WritesTable, none_of}
+use Rattle.report.specs.declared.telling.ToldSearch.{ToldSearch}
 use Rattle.report.specs.declared.table.DrawnTable.{DrawnTable}
 use Rattle.report.specs.declared.telling.Conclusion.{Conclusion}
 use Rattle.report.specs.declared.telling.Conclusion.TheVariants as ends
@@ -102,17 +102,16 @@ IsSoAtEnd m (ends.Last drawn k) = Unit {0}
 IsSoAtEnd m (ends.Racy drawn k) = IsRacyRun m k.now.racy
 IsSoAtEnd m (ends.None drawn none) = Unit {0}
 
--- Of a search for a race, or for an ending.
-abbrev pub EndsNothing : Form → DrawnTable → Bool → Bool → ℕ → WriterChange → Type 0
-EndsNothing form drawn of_races is_told status out =
-    EndsNone form drawn.sought.now drawn.table.now is_told (races_of_none of_races)
-    (text_of_none of_races is_told drawn.sought.now drawn.table.now) status out
+abbrev pub EndsNothing : Form → DrawnTable → Option RunRaces → Bool → ℕ → WriterChange → Type 0
+EndsNothing form drawn races is_told status out =
+    EndsNone form drawn.sought.now drawn.table.now is_told races
+    (text_of_none races is_told drawn.sought.now drawn.table.now) status out
 
 abbrev pub Concludes : Form → Parts → Conclusion → WriterChange → Type 0
 Concludes form m (ends.Orders t) out = EndsAll form m t out
 Concludes form m (ends.Last drawn k) out = EndsKept form drawn.sought.now drawn.table.now k.now out
 Concludes form m (ends.Racy drawn k) out = EndsRacy form m drawn.sought.now drawn.table.now k.now out
-Concludes form m (ends.None drawn none) out = EndsNothing form drawn none.of_races none.is_told none.status out
+Concludes form m (ends.None drawn none) out = EndsNothing form drawn none.races none.is_told none.status out
 
 -- The search was told to end.
 abbrev pub was_told : Halt → Bool
@@ -120,5 +119,5 @@ was_told (halts.Found f) = false
 was_told halts.AllMade = false
 was_told halts.Told = true
 
-abbrev pub TellsNoneFound : Form → DrawnTable → Bool → Halt → ℕ → WriterChange → Type 0
-TellsNoneFound form drawn of_races halt status out = EndsNothing form drawn of_races (was_told halt) status out
+abbrev pub TellsNoneFound : Form → DrawnTable → Option RunRaces → Halt → ℕ → WriterChange → Type 0
+TellsNoneFound form drawn races halt status out = EndsNothing form drawn races (was_told halt) status out

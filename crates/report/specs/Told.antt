@@ -33,7 +33,7 @@ use Rattle.report.specs.declared.raced.Raced.{Raced}
 use Rattle.report.specs.declared.whole.WholeSearch.{WholeSearch}
 use Rattle.report.specs.SearchObjects.{WritesAll, WritesKept, WritesRacy}
 use Rattle.report.specs.Telling.{EndsNone, head_lines}
-use Rattle.report.specs.declared.objects.ToldSearch.{ToldSearch}
+use Rattle.report.specs.declared.telling.ToldSearch.{ToldSearch}
 
 -- The lines of a race, where one was found, those of what was found of all runs, and those of what is looked for and found
 -- there; or the object of all of it.

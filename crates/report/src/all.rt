@@ -131,22 +131,21 @@ pub(crate) fn endless_run<'a>(
     }
 }
 
-/// The choices of each event to an ending that is looked for: those that were noted, or where these leave plain accesses
-/// out, with these filled in.
+/// The choices of each event along those that were noted, where these leave plain accesses out; and else these.
 pub(crate) fn choices_to(
     alloc: Global,
     call: SearchedCall,
-    first: SoughtEnding,
+    noted: &[usize],
     is_free: bool,
 ) -> Result<Vec<usize>, AllocError>
-    ensures { IfOk result (λ choices. is_free ≡ false → choices.items ≡ first.entry.choices.now) }
+    ensures { IfOk result (λ choices. is_free ≡ false → choices.items ≡ noted.now) }
 {
     if is_free {
         let dump = call.search.sought.dump as usize;
-        return turn_choices(alloc, call.request, dump, first.choices);
+        return turn_choices(alloc, call.request, dump, noted);
     }
     let mut choices = Vec::new(alloc);
-    choices.extend_from_slice(first.choices)?;
+    choices.extend_from_slice(noted)?;
     Ok(choices)
 }
 
@@ -157,23 +156,20 @@ pub(crate) struct Lasso {
     pub round: Vec<usize>,
 }
 
-/// Those of a run of which choices were noted that leave plain accesses out.
+/// Those of a run that never ends, of which choices were noted.
 pub(crate) fn course_of(
     alloc: Global,
     call: SearchedCall,
     run: EndlessRun,
-) -> Result<Lasso, AllocError> {
-    let SearchedCall {
-        request,
-        search,
-        ..
-    } = call;
-    let dump = search.sought.dump as usize;
-    let path = turn_choices(alloc, request, dump, run.path)?;
+    is_free: bool,
+) -> Result<Lasso, AllocError>
+    ensures { IfOk result (λ lasso. is_free ≡ false → lasso.path.items ≡ run.entry.path.now) }
+{
+    let path = choices_to(alloc, call, run.path, is_free)?;
     let mut noted = Vec::new(alloc);
     noted.extend_from_slice(run.path)?;
     noted.extend_from_slice(run.round)?;
-    let all = turn_choices(alloc, request, dump, noted.as_slice())?;
+    let all = choices_to(alloc, call, noted.as_slice(), is_free)?;
     let mut round = Vec::new(alloc);
     for place in path.len()..all.len() {
         round.push(all[place])?;

@@ -1,26 +1,32 @@
-//! What a search found, before it is told, and what is kept of it: the run to an ending that is looked for, or one that
-//! never ends, and the status. Both forms tell this.
-ghost use Rattle.std.specs.Prelude.{◌≡◌, None, false, IfOk, IfErr, IfSome};
+//! What a search found, before it is told: the run to an ending that is looked for, or one that never ends, and the
+//! status; and what is kept of it, with the records.
+ghost use Rattle.std.specs.Prelude.{◌≡◌, None, false, is_some, IfOk, IfErr, IfSome};
 ghost use Rattle.search_finds.specs.Endings.{HaveOneEnding};
 ghost use Rattle.search_finds.specs.Finds.{IsFind};
 ghost use Rattle.report.specs.Prints as specified_prints;
 ghost use Rattle.report.specs.Prints.{IsStatusOf};
 ghost use Rattle.report.specs.Searches.{IsOfSystem};
 ghost use Rattle.report.specs.Found as specified;
-ghost use Rattle.report.specs.Found.{AreKeptOf, CanBeKept, HasEndless, HasFilled, HasFound, HasOne, IsKeptOf};
+ghost use Rattle.report_jobs.specs.Prints.{changed};
+ghost use Rattle.report_jobs.specs.Silence.{Stays};
+ghost use Rattle.report.specs.Found.{AreKeptOf, CanBeKept, HasFilled, HasFound, HasOne, IsKeptOf, KeepsFound, KeepsMade};
+ghost use Rattle.report.specs.Racing as racing;
+ghost use Rattle.report.specs.Racing.{KeepsRaced};
 
 use crate::all::{
     EndlessRun, EndlessWay, SoughtEnding, choices_to, course_of, endless_run, first_sought,
 };
 use crate::asked::SearchedCall;
 use crate::complete::are_well;
+use crate::raced::Raced;
 use crate::whole::WholeSearch;
 use report_command::{Search, Sought};
-use report_jobs::Trouble;
+use report_jobs::{Trouble, keep};
 use report_json::{FoundAs, RunSize, Shrunk};
 use search_finds::{Hears, Size, entries_leading, run_round, run_to, shrunk, size_of};
 use search_scheduled::MadeRun;
 use std::alloc::Global;
+use std::io::Write;
 
 /// What was found: as what, and the run, if one was made.
 #[derive(Drop)]
@@ -37,24 +43,20 @@ pub(crate) struct KeptRun {
     pub made: Option<MadeRun>,
 }
 
-/// A size as it is told.
-fn told_size(size: Size) -> RunSize
-    ensures { result ≡ specified.size_of size }
-{
-    RunSize {
-        entries: size.entries,
-        switches: size.switches,
-    }
-}
-
 /// How large a run was, and is, where it was shrunk.
 pub(crate) fn shrunk_if(is_asked: bool, was: Size, is: Size) -> Option<Shrunk>
     ensures { result ≡ specified.shrunk_if is_asked was is }
 {
     if is_asked {
         return Some(Shrunk {
-            before: told_size(was),
-            after: told_size(is),
+            before: RunSize {
+                entries: was.entries,
+                switches: was.switches,
+            },
+            after: RunSize {
+                entries: is.entries,
+                switches: is.switches,
+            },
         });
     }
     None
@@ -65,10 +67,7 @@ pub(crate) fn shrunk_if(is_asked: bool, was: Size, is: Size) -> Option<Shrunk>
 fn can_shrink(found_as: FoundAs) -> bool
     ensures { result ≡ specified.can_shrink found_as }
 {
-    match found_as {
-        FoundAs::Run(_) | FoundAs::Ending(_) => true,
-        FoundAs::NoEndAfter(_) | FoundAs::ForEverAfter(_) => false,
-    }
+    matches!(found_as, FoundAs::Run(_) | FoundAs::Ending(_))
 }
 
 /// The run that was found, or where that is asked for a smaller one that ends alike.
@@ -183,11 +182,17 @@ fn endless_as(way: EndlessWay, entries: usize) -> FoundAs
 }
 
 /// A run that never ends, as far as budgets and log reach.
-fn endless_found(alloc: Global, call: SearchedCall, run: EndlessRun) -> Result<FoundRun, Trouble>
-    ensures has { IfOk result (HasEndless call.entry.request.now call.entry.search.now run.entry) }
+fn endless_found(
+    alloc: Global,
+    call: SearchedCall,
+    run: EndlessRun,
+    is_free: bool,
+) -> Result<FoundRun, Trouble>
+    ensures has { IfOk result (HasFilled call.entry.request.now call.entry.search.now is_free run.entry) }
     ensures trouble { IfErr result IsOfSystem }
 {
-    let EndlessRun { way, path, round } = run;
+    let course = course_of(alloc, call, run, is_free)?;
+    let (path, round) = (course.path.as_slice(), course.round.as_slice());
     let limit = call.search.sought.limit;
     let made = match run_round(alloc, call.request, limit, path, round) {
         Ok(made) => made,
@@ -195,31 +200,9 @@ fn endless_found(alloc: Global, call: SearchedCall, run: EndlessRun) -> Result<F
     };
     let entries = entries_leading(&made.record, path.len());
     Ok(FoundRun {
-        found_as: endless_as(way, entries),
+        found_as: endless_as(run.way, entries),
         made: Some(made),
     })
-}
-
-/// The same, by the choices of each event, where those that were noted leave plain accesses out.
-fn known_found(
-    alloc: Global,
-    call: SearchedCall,
-    is_free: bool,
-    run: EndlessRun,
-) -> Result<FoundRun, Trouble>
-    ensures has { IfOk result (HasFilled call.entry.request.now call.entry.search.now is_free run.entry) }
-    ensures trouble { IfErr result IsOfSystem }
-{
-    if !is_free {
-        return endless_found(alloc, call, run);
-    }
-    let course = course_of(alloc, call, run)?;
-    let filled = EndlessRun {
-        way: run.way,
-        path: course.path.as_slice(),
-        round: course.round.as_slice(),
-    };
-    endless_found(alloc, call, filled)
 }
 
 /// What comes behind the endings of every order: the status, and what was found.
@@ -266,7 +249,7 @@ pub(crate) fn behind_of(
         if !stops {
             return Ok(nothing(1));
         }
-        let choices = choices_to(alloc, call, first, whole.is_free)?;
+        let choices = choices_to(alloc, call, first.choices, whole.is_free)?;
         let sought = SoughtEnding {
             choices: choices.as_slice(),
             ..first
@@ -288,12 +271,67 @@ pub(crate) fn behind_of(
     }
     match endless_run(&whole.all.liveness, search.sought.target) {
         Some(run) => {
-            let found = known_found(alloc, call, whole.is_free, run)?;
+            let found = endless_found(alloc, call, run, whole.is_free)?;
             Ok(StatusAndFound {
                 status: 1,
                 found: Some(found),
             })
         }
         None => Ok(nothing(1)),
+    }
+}
+
+/// Whether the record of a run with a race is kept.
+fn keeps_race(search: &Search) -> bool
+    ensures { result ≡ racing.keeps_race search.now }
+{
+    search.races && search.save.is_some()
+}
+
+/// Keeps the record of the run with the race, where it is looked for.
+pub(crate) fn keep_raced<S: Write>(
+    search: &Search,
+    raced: &Raced,
+    save: &mut S,
+) -> Result<(), Trouble>
+    ensures kept { IfOk result (λ _. KeepsRaced search.now raced.now (changed S.contents save.old save.new)) }
+    ensures unwanted { racing.keeps_race search.now ≡ false → Stays save.old save.new }
+    ensures trouble { IfErr result IsOfSystem }
+{
+    match raced {
+        Raced::Run(run) => keep(&run.made.record, keeps_race(search), save),
+        Raced::Threads(_) | Raced::Untold => Ok(()),
+    }
+}
+
+/// Keeps the record of a run, if one was made and it is wanted.
+pub(crate) fn keep_made<S: Write>(
+    search: &Search,
+    made: &Option<MadeRun>,
+    save: &mut S,
+) -> Result<(), Trouble>
+    ensures kept { IfOk result (λ _. KeepsMade search.now made.now (changed S.contents save.old save.new)) }
+    ensures unwanted { is_some search.now.save ≡ false → Stays save.old save.new }
+    ensures trouble { IfErr result IsOfSystem }
+{
+    match made {
+        Some(made) => keep(&made.record, search.save.is_some(), save),
+        None => Ok(()),
+    }
+}
+
+/// Keeps that of what was found, if something was.
+pub(crate) fn keep_found<S: Write>(
+    search: &Search,
+    kept: &Option<KeptRun>,
+    save: &mut S,
+) -> Result<(), Trouble>
+    ensures kept { IfOk result (λ _. KeepsFound search.now kept.now (changed S.contents save.old save.new)) }
+    ensures unwanted { is_some search.now.save ≡ false → Stays save.old save.new }
+    ensures trouble { IfErr result IsOfSystem }
+{
+    match kept {
+        Some(kept) => keep_made(search, &kept.made, save),
+        None => Ok(()),
     }
 }

@@ -11,16 +11,14 @@
 mod all;
 mod asked;
 mod complete;
-mod early;
 mod found;
 mod job;
-mod kept;
+mod lines;
 mod objects;
 mod raced;
 mod searching;
 mod table;
 mod telling;
-mod told;
 mod whole;
 
 pub use asked::SearchRequest;

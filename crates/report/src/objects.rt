@@ -1,4 +1,4 @@
-//! The JSON objects of searches: of every order, and of the table of drawn runs.
+//! A search in one JSON object: of every order, or of the table of drawn runs.
 ghost use Rattle.std.specs.Prelude.{◌≡◌, ◌≤◌, ℕ, Some, None, IfOk, IfErr};
 ghost use Rattle.std.specs.List.{AllZip};
 ghost use Rattle.types.specs.declared.parts.Parts.{Parts};
@@ -15,7 +15,8 @@ ghost use Rattle.report.specs.SearchObjects.{WritesTable, WritesTold};
 use crate::found::KeptRun;
 use crate::raced::{KeptRace, Raced, trouble_of};
 use crate::table::{DrawnTable, NoneFound, coverage_of, cut_of};
-use crate::whole::{Racing, WholeSearch};
+use crate::telling::{Conclusion, News, Teller, ToldSearch};
+use crate::whole::Racing;
 use report_command::Sought;
 use report_jobs::Trouble;
 use report_json::{
@@ -27,17 +28,6 @@ use search_modules::ThreadRace;
 use search_scheduled::MadeRun;
 use std::alloc::{AllocError, Global};
 use std::io::Write;
-
-/// What is told of every order.
-#[derive(Clone, Copy)]
-pub(crate) struct ToldSearch<'a> {
-    pub whole: &'a WholeSearch,
-    pub raced: &'a Raced<'a, 'a>,
-    pub kept: &'a Option<KeptRun>,
-    pub most: u32,
-    pub status: u8,
-    pub dump: u32,
-}
 
 /// How a run ended that was made.
 fn end_of(made: &MadeRun, dump: u32) -> RunEndObject<'_>
@@ -122,11 +112,7 @@ fn races_alone(racing: Racing) -> Option<RunRaces<'static>>
 }
 
 /// Writes the object of every order.
-pub(crate) fn write_all<W: Write>(
-    alloc: Global,
-    told: ToldSearch,
-    out: &mut W,
-) -> Result<(), Trouble>
+fn write_all<W: Write>(alloc: Global, told: ToldSearch, out: &mut W) -> Result<(), Trouble>
     requires { CanTell told.raced.now }
     ensures written { (m : Parts) → IsRacedIn m told.entry.raced.now
         → IfOk result (λ _. WritesAll m told.entry (changed W.contents out.old out.new)) }
@@ -143,18 +129,6 @@ pub(crate) fn write_all<W: Write>(
     }
 }
 
-/// An ending of a table.
-fn met_of<'a>(sought: &Sought, met: &'a Met) -> MetEnding<'a>
-    ensures { IsMetOf sought.now met.now result }
-{
-    MetEnding {
-        times: met.times,
-        first: met.first,
-        way: sought.way.of_run(met.first),
-        ending: &met.ending,
-    }
-}
-
 /// The endings of a table.
 fn all_met<'a>(
     alloc: Global,
@@ -165,8 +139,13 @@ fn all_met<'a>(
 {
     let mut all = Vec::new(alloc);
     for at in 0..met.len() {
-        let ending = met_of(sought, &met[at]);
-        all.push(ending)?;
+        let met = &met[at];
+        all.push(MetEnding {
+            times: met.times,
+            first: met.first,
+            way: sought.way.of_run(met.first),
+            ending: &met.ending,
+        })?;
     }
     Ok(all)
 }
@@ -174,10 +153,10 @@ fn all_met<'a>(
 /// What is said of drawn runs in their object, beside the table: the status, what is known of races, and how the search
 /// ended.
 #[derive(Clone, Copy)]
-pub(crate) struct DrawnSaid<'a> {
-    pub status: u8,
-    pub races: Option<RunRaces<'a>>,
-    pub halt: DrawnEnd<'a>,
+struct DrawnSaid<'a> {
+    status: u8,
+    races: Option<RunRaces<'a>>,
+    halt: DrawnEnd<'a>,
 }
 
 /// Writes the object of drawn runs.
@@ -213,7 +192,7 @@ fn write_drawn_runs<W: Write>(
 }
 
 /// Writes the object of drawn runs whose last one was found.
-pub(crate) fn write_kept<W: Write>(
+fn write_kept<W: Write>(
     alloc: Global,
     drawn: DrawnTable,
     kept: &KeptRun,
@@ -242,39 +221,29 @@ fn none_of(is_told: bool, coverage: Coverage) -> DrawnEnd<'static>
     DrawnEnd::AllMade(coverage)
 }
 
-/// What is known of races where none was found: nothing, where one was looked for, and else it isn't said.
-fn races_of_none(of_races: bool) -> Option<RunRaces<'static>>
-    ensures { result ≡ specified.races_of_none of_races }
-{
-    if of_races {
-        return Some(RunRaces::Unknown);
-    }
-    None
-}
-
 /// Writes the object of drawn runs of which none was found.
-pub(crate) fn write_none<W: Write>(
+fn write_none<W: Write>(
     alloc: Global,
     drawn: DrawnTable,
     none: NoneFound,
     out: &mut W,
 ) -> Result<(), Trouble>
     requires { cut_in drawn.table.now ≤ drawn.table.now.runs }
-    ensures written { IfOk result (λ _. WritesTable drawn.entry.sought.now drawn.entry.table.now none.status
-        (specified.races_of_none none.of_races) (specified.none_of none.is_told
+    ensures written { IfOk result (λ _. WritesTable drawn.entry.sought.now drawn.entry.table.now none.entry.status
+        none.entry.races (specified.none_of none.entry.is_told
         (specified_table.coverage_of drawn.entry.sought.now drawn.entry.table.now)) (changed W.contents out.old out.new)) }
     ensures trouble { IfErr result IsOfSystem }
 {
     let said = DrawnSaid {
         status: none.status,
-        races: races_of_none(none.of_races),
+        races: none.races,
         halt: none_of(none.is_told, coverage_of(drawn)),
     };
     write_drawn_runs(alloc, drawn, said, out)
 }
 
 /// Writes the object of drawn runs whose last one has a race.
-pub(crate) fn write_racy<W: Write>(
+fn write_racy<W: Write>(
     alloc: Global,
     drawn: DrawnTable,
     kept: &KeptRace,
@@ -301,4 +270,32 @@ pub(crate) fn write_racy<W: Write>(
         halt: DrawnEnd::Found(found),
     };
     write_drawn_runs(alloc, drawn, said, out)
+}
+
+/// Tells it in one object, at the end.
+#[derive(Clone, Copy)]
+pub(crate) struct ObjectTeller;
+
+impl Teller for ObjectTeller {
+    ghost use Rattle.report_command.specs.declared.form.Form.TheVariants.{Json};
+
+    ghost form = { Json };
+
+    fn tell<W: Write>(&self, _alloc: Global, _news: News, _out: &mut W) -> Result<(), Trouble> {
+        Ok(())
+    }
+
+    fn conclude<W: Write>(
+        &self,
+        alloc: Global,
+        conclusion: Conclusion,
+        out: &mut W,
+    ) -> Result<(), Trouble> {
+        match conclusion {
+            Conclusion::Orders(told) => write_all(alloc, told, out),
+            Conclusion::Last(drawn, kept) => write_kept(alloc, drawn, kept, out),
+            Conclusion::Racy(drawn, kept) => write_racy(alloc, drawn, kept, out),
+            Conclusion::None(drawn, none) => write_none(alloc, drawn, none, out),
+        }
+    }
 }

@@ -1,5 +1,5 @@
 //! Searches by the program: what comes of one is decided here, and told by `telling` in the form that is asked for.
-ghost use Rattle.std.specs.Prelude.{◌≡◌, ◌≤◌, IfOk, IfErr, Some, true, false, is_some, is_none};
+ghost use Rattle.std.specs.Prelude.{◌≡◌, ◌≤◌, IfOk, IfErr, Some, true, false, is_some};
 ghost use Rattle.report_command.specs.Searches.{IsSearchInRange};
 ghost use Rattle.report_jobs.specs.Asked.{IsAskedBy};
 ghost use Rattle.report_jobs.specs.Prints.{changed};
@@ -7,23 +7,25 @@ ghost use Rattle.report_jobs.specs.Silence.{Stays};
 ghost use Rattle.report_jobs.specs.Troubles.{IsTroubleOf};
 ghost use Rattle.report.specs.Drawn.{cut_in};
 ghost use Rattle.report.specs.Racing.{IsRacedOf, KeepsRaced, SaysRaced, keeps_race, racing_in};
-ghost use Rattle.report.specs.Searched.{IsDrawn, IsDrawnForRaces, IsPrintedOf};
+ghost use Rattle.report.specs.Searched.{IsSearched};
 ghost use Rattle.report.specs.Searches.{Finds, IsOfSystem, IsWellAt};
-ghost use Rattle.report.specs.Silent.{IfRefusedCall};
+ghost use Rattle.report.specs.Silent.{IfRefusedCall, LeavesOthers};
 ghost use Rattle.report.specs.Telling.{InLines, TellsNoneFound};
 ghost use Rattle.report.specs.Told.{IsStatusOfTable, TellsAll, TellsDrawn, TellsDrawnRaces};
 
 use crate::asked::{SearchRequest, SearchedCall, jobs_of};
-use crate::found::{FoundRun, behind_of, kept_if_found, kept_of};
-use crate::kept::{keep_found, keep_made, keep_raced};
-use crate::objects::ToldSearch;
+use crate::found::{
+    FoundRun, behind_of, keep_found, keep_made, keep_raced, kept_if_found, kept_of,
+};
+use crate::lines::LinesTeller;
+use crate::objects::ObjectTeller;
 use crate::raced::{Raced, kept_race, raced_of};
 use crate::table::{DrawnTable, NoneFound, status_of_none};
-use crate::telling::{Conclusion, LinesTeller, News, ObjectTeller, Teller};
+use crate::telling::{Conclusion, News, Teller, ToldSearch};
 use crate::whole::{FirstLook, first_look, whole_of};
-use report_command::{Form, Search};
+use report_command::Form;
 use report_jobs::{Streams, Trouble, args_of, keep, request_of};
-use report_json::FoundAs;
+use report_json::{FoundAs, RunRaces};
 use search_finds::{Halt, Hears, SearchResult, first_found, first_judged};
 use search_modules::Hands;
 use search_races::RaceJudge;
@@ -31,22 +33,12 @@ use std::alloc::Global;
 use std::io::Write;
 use std::thread::Threads;
 
-/// What goes through every order of entries: so many threads, as is asked for, with so many states at most.
+/// What goes through every order of entries: so many threads as are asked for, and depth first one alone, with so many states
+/// at most.
 #[derive(Drop)]
 struct Orders<'a, R> {
     hands: Hands<'a, R>,
     most: u32,
-}
-
-/// So many threads as a search asks for; depth first goes one alone.
-fn hands_of<'r, R: Threads>(rt: &'r R, search: &Search) -> Hands<'r, R> {
-    if search.deep {
-        return Hands { rt, jobs: 1 };
-    }
-    Hands {
-        rt,
-        jobs: jobs_of(rt, search),
-    }
 }
 
 /// The race that a first look at all runs found, if it found one, once it is told, and the record of it kept, where one is
@@ -78,7 +70,7 @@ fn race_told<'a, T: Teller, W: Write, S: Write>(
 /// Goes through all runs of a call: where no threads race by the orders that matter then, and else through every order
 /// of their entries. Tells a race that it found, the endings, whether these are all, what is known of races, what never
 /// ends, and what was found; and keeps the record of that, where one is wanted. Answers the status.
-fn search_orders<T, R, W, E, S, F>(
+fn search_orders<T: Teller, R: Threads + Sync, W: Write, E, S: Write, F: Hears>(
     alloc: Global,
     teller: &T,
     call: SearchedCall,
@@ -86,13 +78,6 @@ fn search_orders<T, R, W, E, S, F>(
     streams: &mut Streams<W, E, S>,
     follower: &mut F,
 ) -> Result<u8, Trouble>
-where
-    T: Teller,
-    R: Threads + Sync,
-    W: Write,
-    E: Write,
-    S: Write,
-    F: Hears,
     requires form { T.form ≡ call.search.now.form }
     requires asked { IsAskedBy call.search.now.call call.request.now }
     requires every_order { call.search.now.all ≡ Some orders.now.most }
@@ -101,9 +86,7 @@ where
     ensures tells { IfOk result (TellsAll call.entry.request.now.parts call.entry.search.now orders.now.most
         (changed W.contents streams.old.out streams.new.out) (changed S.contents streams.old.save streams.new.save)) }
     ensures well { IfOk result (IsWellAt call.entry.request.now.parts call.entry.search.now) }
-    ensures unwanted { is_some call.entry.search.now.save ≡ false → Stays streams.old.save streams.new.save }
-    ensures no_memory { Stays streams.old.memory streams.new.memory }
-    ensures unsaid { Stays streams.old.err streams.new.err }
+    ensures others { LeavesOthers call.entry.search.now streams.old streams.new }
     ensures trouble { IfErr result IsOfSystem }
 {
     let Streams { out, save, .. } = streams;
@@ -136,19 +119,19 @@ fn end_without<T: Teller, W: Write>(
     alloc: Global,
     teller: &T,
     drawn: DrawnTable,
-    of_races: bool,
+    races: Option<RunRaces<'static>>,
     halt: &Halt,
     out: &mut W,
 ) -> Result<u8, Trouble>
     requires { cut_in drawn.table.now ≤ drawn.table.now.runs }
-    ensures tells { IfOk result (λ status. TellsNoneFound T.form drawn.entry of_races halt.now status
+    ensures tells { IfOk result (λ status. TellsNoneFound T.form drawn.entry races.entry halt.now status
         (changed W.contents out.old out.new)) }
     ensures status { IfOk result (IsStatusOfTable drawn.entry.sought.now drawn.entry.table.now) }
     ensures trouble { IfErr result IsOfSystem }
 {
     let status = status_of_none(alloc, drawn)?;
     let none = NoneFound {
-        of_races,
+        races,
         is_told: matches!(halt, Halt::Told),
         status,
     };
@@ -159,7 +142,7 @@ fn end_without<T: Teller, W: Write>(
 /// Makes the runs that a search asks for, tells the table of their endings, and the run that was found, or that none was;
 /// and keeps the record of what was found, where one is wanted. Answers the status: 1 where a run was found or an ending
 /// has a trap or a stop, and else 0.
-fn search_for_endings<T, R, W, E, S, F>(
+fn search_for_endings<T: Teller, R: Threads + Sync, W: Write, E, S: Write, F: Hears>(
     rt: &R,
     alloc: Global,
     teller: &T,
@@ -167,13 +150,6 @@ fn search_for_endings<T, R, W, E, S, F>(
     streams: &mut Streams<W, E, S>,
     follower: &mut F,
 ) -> Result<u8, Trouble>
-where
-    T: Teller,
-    R: Threads + Sync,
-    W: Write,
-    E: Write,
-    S: Write,
-    F: Hears,
     requires form { T.form ≡ call.search.now.form }
     requires range { IsSearchInRange call.search.now }
     requires asked { IsAskedBy call.search.now.call call.request.now }
@@ -181,9 +157,7 @@ where
         (changed S.contents streams.old.save streams.new.save)) }
     ensures tells { IfOk result (TellsDrawn call.entry.request.now.parts call.entry.search.now
         (changed W.contents streams.old.out streams.new.out) (changed S.contents streams.old.save streams.new.save)) }
-    ensures unwanted { is_some call.entry.search.now.save ≡ false → Stays streams.old.save streams.new.save }
-    ensures no_memory { Stays streams.old.memory streams.new.memory }
-    ensures unsaid { Stays streams.old.err streams.new.err }
+    ensures others { LeavesOthers call.entry.search.now streams.old streams.new }
     ensures trouble { IfErr result IsOfSystem }
 {
     let Streams { out, save, .. } = streams;
@@ -217,12 +191,12 @@ where
             keep_made(search, &kept.made, save)?;
             Ok(1)
         }
-        halt => end_without(alloc, teller, drawn, false, &halt, out),
+        halt => end_without(alloc, teller, drawn, None, &halt, out),
     }
 }
 
 /// The same up to the first run with a race: tells that and its race, or that none has one.
-fn search_for_races<T, R, W, E, S, F>(
+fn search_for_races<T: Teller, R: Threads + Sync, W: Write, E, S: Write, F: Hears>(
     rt: &R,
     alloc: Global,
     teller: &T,
@@ -230,13 +204,6 @@ fn search_for_races<T, R, W, E, S, F>(
     streams: &mut Streams<W, E, S>,
     follower: &mut F,
 ) -> Result<u8, Trouble>
-where
-    T: Teller,
-    R: Threads + Sync,
-    W: Write,
-    E: Write,
-    S: Write,
-    F: Hears,
     requires form { T.form ≡ call.search.now.form }
     requires range { IsSearchInRange call.search.now }
     requires asked { IsAskedBy call.search.now.call call.request.now }
@@ -245,9 +212,7 @@ where
         (changed S.contents streams.old.save streams.new.save)) }
     ensures tells { IfOk result (TellsDrawnRaces call.entry.request.now.parts call.entry.search.now
         (changed W.contents streams.old.out streams.new.out) (changed S.contents streams.old.save streams.new.save)) }
-    ensures unwanted { is_some call.entry.search.now.save ≡ false → Stays streams.old.save streams.new.save }
-    ensures no_memory { Stays streams.old.memory streams.new.memory }
-    ensures unsaid { Stays streams.old.err streams.new.err }
+    ensures others { LeavesOthers call.entry.search.now streams.old streams.new }
     ensures trouble { IfErr result IsOfSystem }
 {
     let Streams { out, save, .. } = streams;
@@ -277,13 +242,16 @@ where
             keep(&kept.racy.made.record, search.save.is_some(), save)?;
             Ok(1)
         }
-        halt => end_without(alloc, teller, drawn, true, &halt, out),
+        halt => {
+            let races = Some(RunRaces::Unknown);
+            end_without(alloc, teller, drawn, races, &halt, out)
+        }
     }
 }
 
 /// Searches through runs of a call that can be made: through every order of entries, or through drawn runs for one with a
 /// race, where that is asked for, or for one that ends so.
-fn search_call<T, R, W, E, S, F>(
+fn search_call<T: Teller, R: Threads + Sync, W: Write, E, S: Write, F: Hears>(
     rt: &R,
     alloc: Global,
     teller: &T,
@@ -291,35 +259,20 @@ fn search_call<T, R, W, E, S, F>(
     streams: &mut Streams<W, E, S>,
     follower: &mut F,
 ) -> Result<u8, Trouble>
-where
-    T: Teller,
-    R: Threads + Sync,
-    W: Write,
-    E: Write,
-    S: Write,
-    F: Hears,
     requires form { T.form ≡ call.search.now.form }
     requires range { IsSearchInRange call.search.now }
     requires asked { IsAskedBy call.search.now.call call.request.now }
-    ensures finds { IfOk result (Finds call.entry.request.now.parts call.entry.search.now
-        (changed S.contents streams.old.save streams.new.save)) }
-    ensures well { IfOk result (IsWellAt call.entry.request.now.parts call.entry.search.now) }
-    ensures drawn { IfOk result (IsDrawn call.entry.request.now.parts call.entry.search.now
+    ensures searched { IfOk result (IsSearched call.entry.request.now.parts call.entry.search.now
         (changed W.contents streams.old.out streams.new.out) (changed S.contents streams.old.save streams.new.save)) }
-    ensures drawn_races { IfOk result (IsDrawnForRaces call.entry.request.now.parts call.entry.search.now
-        (changed W.contents streams.old.out streams.new.out) (changed S.contents streams.old.save streams.new.save)) }
-    ensures prints { IfOk result (IsPrintedOf call.entry.request.now.parts call.entry.search.now
-        (changed W.contents streams.old.out streams.new.out) (changed S.contents streams.old.save streams.new.save)) }
-    ensures unwanted { is_some call.entry.search.now.save ≡ false → Stays streams.old.save streams.new.save }
-    ensures no_memory { Stays streams.old.memory streams.new.memory }
-    ensures unsaid { Stays streams.old.err streams.new.err }
+    ensures others { LeavesOthers call.entry.search.now streams.old streams.new }
     ensures trouble { IfErr result IsOfSystem }
 {
     let search = call.search;
     match search.all {
         Some(most) => {
+            let jobs = if search.deep { 1 } else { jobs_of(rt, search) };
             let orders = Orders {
-                hands: hands_of(rt, search),
+                hands: Hands { rt, jobs },
                 most,
             };
             search_orders(alloc, teller, call, &orders, streams, follower)
@@ -335,35 +288,20 @@ where
 
 /// Searches as is asked for: through drawn runs, or through every order of entries; and prints lines or an object.
 /// Answers the status.
-pub fn search_module<R, W, E, S, F>(
+pub fn search_module<R: Threads + Sync, W: Write, E, S: Write, F: Hears>(
     rt: &R,
     alloc: Global,
     asked: SearchRequest,
     streams: &mut Streams<W, E, S>,
     follower: &mut F,
 ) -> Result<u8, Trouble>
-where
-    R: Threads + Sync,
-    W: Write,
-    E: Write,
-    S: Write,
-    F: Hears,
     requires { IsSearchInRange asked.search.now }
-    ensures finds { IfOk result (Finds asked.entry.«module».now.parts asked.entry.search.now
-        (changed S.contents streams.old.save streams.new.save)) }
-    ensures well { IfOk result (IsWellAt asked.entry.«module».now.parts asked.entry.search.now) }
-    ensures drawn { IfOk result (IsDrawn asked.entry.«module».now.parts asked.entry.search.now
-        (changed W.contents streams.old.out streams.new.out) (changed S.contents streams.old.save streams.new.save)) }
-    ensures drawn_races { IfOk result (IsDrawnForRaces asked.entry.«module».now.parts asked.entry.search.now
-        (changed W.contents streams.old.out streams.new.out) (changed S.contents streams.old.save streams.new.save)) }
-    ensures prints { IfOk result (IsPrintedOf asked.entry.«module».now.parts asked.entry.search.now
+    ensures searched { IfOk result (IsSearched asked.entry.«module».now.parts asked.entry.search.now
         (changed W.contents streams.old.out streams.new.out) (changed S.contents streams.old.save streams.new.save)) }
     ensures trouble { IfErr result (IsTroubleOf asked.entry.«module».now.parts asked.entry.search.now.call) }
     ensures silent { IfErr result (λ e. IfRefusedCall e
         (Stays streams.old.out streams.new.out × Stays streams.old.save streams.new.save)) }
-    ensures unwanted { is_some asked.entry.search.now.save ≡ false → Stays streams.old.save streams.new.save }
-    ensures no_memory { Stays streams.old.memory streams.new.memory }
-    ensures unsaid { Stays streams.old.err streams.new.err }
+    ensures others { LeavesOthers asked.entry.search.now streams.old streams.new }
 {
     let SearchRequest {
         module,

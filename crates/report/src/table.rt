@@ -10,7 +10,7 @@ ghost use Rattle.report.specs.Told.{IsStatusOfTable};
 
 use crate::complete::has_ended_well;
 use report_command::Sought;
-use report_json::Coverage;
+use report_json::{Coverage, RunRaces};
 use report_lines::{Often, write_met, write_stopped, write_unseen};
 use search_endings::Ending;
 use search_finds::{EndingTable, Met, is_looked_for};
@@ -27,9 +27,9 @@ pub(crate) struct DrawnTable<'a> {
 
 /// Why none of drawn runs was found, and the status.
 #[derive(Clone, Copy)]
-pub(crate) struct NoneFound {
-    /// One with a race was looked for.
-    pub of_races: bool,
+pub(crate) struct NoneFound<'a> {
+    /// What is known of races then, where one was looked for.
+    pub races: Option<RunRaces<'a>>,
     /// The search was told to end; else all runs were made.
     pub is_told: bool,
     pub status: u8,
@@ -175,12 +175,12 @@ pub(crate) fn write_none<W: Write>(
     none: NoneFound,
 ) -> io::Result<()>
     ensures { Wrote W.contents out.old out.new result
-        (text_of_none none.of_races none.is_told drawn.entry.sought.now drawn.entry.table.now) }
+        (text_of_none none.entry.races none.entry.is_told drawn.entry.sought.now drawn.entry.table.now) }
 {
     if none.is_told {
         write_stopped(out, drawn.table.runs, drawn.sought.runs)?;
     }
-    if none.of_races {
+    if none.races.is_some() {
         write_no_race(out, drawn.table.runs)?;
     }
     write_unseen_of(out, drawn)

@@ -7,20 +7,21 @@ ghost use Rattle.search_reach.specs.declared.search.Verdict.TheVariants as verdi
 ghost use Rattle.search_modules.specs.Races.{CanRaceSo, NeverRaces};
 ghost use Rattle.report_command.specs.declared.search.Search.{Search as SearchWords};
 ghost use Rattle.report.specs.Complete.{race_words};
-ghost use Rattle.report.specs.Early.{SaysSought};
+ghost use Rattle.report.specs.Early.{SaysSought, ends_early};
 ghost use Rattle.report.specs.Searches.{IsCompleteOf, IsOfSystem};
 ghost use Rattle.report.specs.Racing as specified;
 ghost use Rattle.report.specs.Racing.{IsFreelyComplete, IsLooked, IsWhole};
 
 use crate::asked::SearchedCall;
 use crate::complete::Complete;
-use crate::early::early_of;
 use report_command::Search;
 use report_jobs::Trouble;
 use search_endings::Ending;
+use search_finds::is_looked_for;
 use search_modules::{Hands, RaceFree, ThreadRace, all_endings, race_free_endings};
-use search_reach::{Follows, SearchOrder, Verdict};
-use std::alloc::Global;
+use search_reach::{Follows, SearchOrder, Seeks, Verdict};
+use selection::{Find, Sought};
+use std::alloc::{AllocError, Global};
 use std::thread::Threads;
 
 /// What is known of the races of all runs.
@@ -103,62 +104,47 @@ fn order_of(search: &Search) -> SearchOrder
     }
 }
 
-/// The endings of a call by the orders that matter where no threads race. It ends at an ending that is looked for, where
-/// it says so.
-fn free_of<R: Threads + Sync, F: Follows>(
-    alloc: Global,
-    call: SearchedCall,
-    hands: &Hands<'_, R>,
-    most: u32,
-    follower: &mut F,
-) -> Result<RaceFree<Ending>, Trouble>
-    ensures complete { IfOk result
-        (λ r. IsFreelyComplete call.entry.request.now call.entry.search.now.sought.dump r.ended) }
-    ensures sought { IfOk result (λ r. SaysSought call.entry.search.now r.ended.verdict r.ended.endings.keys) }
-    ensures none { IfOk result (λ r. r.ended.verdict ≡ verdicts.All
-        → NeverRaces call.entry.request.now.parts call.entry.request.now.name call.entry.request.now.args) }
-    ensures race { IfOk result (λ r. IfSome r.race
-        (CanRaceSo call.entry.request.now.parts call.entry.request.now.name call.entry.request.now.args)) }
-    ensures trouble { IfErr result IsOfSystem }
-{
-    let SearchedCall {
-        request,
-        search,
-        ..
-    } = call;
-    let early = early_of(search);
-    let dump = search.sought.dump as usize;
-    let order = order_of(search);
-    let mut free = race_free_endings(alloc, request, hands, order, most, dump, &early, follower)?;
-    free.ended.levels = None;
-    Ok(free)
+/// Looks for the endings that are looked for, where a search is to end at one.
+#[derive(Clone, Copy)]
+struct Early<'a> {
+    sought: &'a Sought<'a>,
+    is_wanted: bool,
 }
 
-/// What they leave open. Where more states were met than may be, or the search was told to end, nothing: every order has
-/// as many; nor where it ended at what is looked for.
-fn look_of(free: RaceFree<Ending>) -> FirstLook
-    ensures { (q : Requested) (s : SearchWords) → s.every_order ≡ false → IsFreelyComplete q s.sought.dump free.ended
-        → SaysSought s free.ended.verdict free.ended.endings.keys
-        → (free.ended.verdict ≡ verdicts.All → NeverRaces q.parts q.name q.args)
-        → IfSome free.race (CanRaceSo q.parts q.name q.args) → IsLooked q s result }
-{
-    let RaceFree { ended, race, way } = free;
-    if let Some(race) = race {
-        return FirstLook::Open {
-            racing: Racing::Found(race),
-            way,
-        };
+impl Seeks<Ending> for Early<'_> {
+    ghost use Rattle.report.specs.Early.{IsSoughtBy};
+
+    ghost sought = { IsSoughtBy };
+
+    fn seeks_any(&self) -> bool {
+        self.is_wanted
     }
-    if let Verdict::CannotTell = ended.verdict {
-        return FirstLook::Open {
-            racing: Racing::Unknown,
-            way,
-        };
+
+    fn is_sought(&self, alloc: Global, ending: &Ending) -> Result<bool, AllocError> {
+        if !self.is_wanted {
+            return Ok(false);
+        }
+        is_looked_for(alloc, self.sought, ending)
     }
-    FirstLook::Done(ended)
 }
 
-/// Looks at all runs of a call by the orders that matter where no threads race, unless every order is asked for.
+/// Which endings a search through all runs ends at: the first that is looked for, where it is said by words or by a result
+/// which that is. Where races are looked for, at none.
+fn early_of<'a>(search: &'a Search) -> Early<'a>
+    ensures sought { result.sought.now ≡ search.now.sought }
+    ensures wanted { result.is_wanted ≡ ends_early search.now }
+{
+    let target = search.sought.target;
+    let says = target.expect.is_some() || matches!(target.find, Find::Words(_));
+    Early {
+        sought: &search.sought,
+        is_wanted: !search.races && says,
+    }
+}
+
+/// Looks at all runs of a call by the orders that matter where no threads race, unless every order is asked for. It ends at
+/// an ending that is looked for, where it says so. Where more states were met than may be, or the search was told to end,
+/// nothing is left open: every order has as many; nor where it ended at what is looked for.
 pub(crate) fn first_look<R: Threads + Sync, F: Follows>(
     alloc: Global,
     call: SearchedCall,
@@ -169,14 +155,40 @@ pub(crate) fn first_look<R: Threads + Sync, F: Follows>(
     ensures looked { IfOk result (IsLooked call.entry.request.now call.entry.search.now) }
     ensures trouble { IfErr result IsOfSystem }
 {
-    if call.search.every_order {
+    let SearchedCall {
+        request,
+        search,
+        ..
+    } = call;
+    if search.every_order {
         return Ok(FirstLook::Open {
             racing: Racing::Unasked,
             way: Vec::new(alloc),
         });
     }
-    let free = free_of(alloc, call, hands, most, follower)?;
-    Ok(look_of(free))
+    let early = early_of(search);
+    let dump = search.sought.dump as usize;
+    let order = order_of(search);
+    let free = race_free_endings(alloc, request, hands, order, most, dump, &early, follower)?;
+    let RaceFree {
+        mut ended,
+        race,
+        way,
+    } = free;
+    if let Some(race) = race {
+        return Ok(FirstLook::Open {
+            racing: Racing::Found(race),
+            way,
+        });
+    }
+    if let Verdict::CannotTell = ended.verdict {
+        return Ok(FirstLook::Open {
+            racing: Racing::Unknown,
+            way,
+        });
+    }
+    ended.levels = None;
+    Ok(FirstLook::Done(ended))
 }
 
 /// Goes through every order of the entries of a call, and ends at an ending that is looked for, where it says so.

@@ -3,7 +3,7 @@ use Rattle.report_jobs.specs.Prints.{changed}
 use Rattle.report.specs.Racing.{KeepsRaced}
 use Rattle.report.specs.declared.raced.Raced.{Raced}
 use Rattle.report.proofs.Pairs.{if_on}
-use Rattle.report.proofs.kept.keep_raced.Goals as goal
+use Rattle.report.proofs.found.keep_raced.Goals as goal
 
 pub returns-in-Run-clause-kept : goal.returns-in-Run-clause-kept
 returns-in-Run-clause-kept g c =

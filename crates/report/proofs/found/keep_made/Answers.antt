@@ -3,7 +3,7 @@ use Rattle.search_scheduled.specs.declared.running.MadeRun.{MadeRun}
 use Rattle.report_jobs.specs.Prints.{changed}
 use Rattle.report.specs.Found.{KeepsMade}
 use Rattle.report.proofs.Pairs.{if_on}
-use Rattle.report.proofs.kept.keep_made.Goals as goal
+use Rattle.report.proofs.found.keep_made.Goals as goal
 
 pub returns-in-Some-clause-kept : goal.returns-in-Some-clause-kept
 returns-in-Some-clause-kept g c =

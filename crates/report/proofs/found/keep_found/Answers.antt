@@ -3,7 +3,7 @@ use Rattle.std.proofs.lemmas.Result.{IfOk-weaker}
 use Rattle.report_jobs.specs.Prints.{changed}
 use Rattle.report.specs.Found.{KeepsFound, KeepsMade}
 use Rattle.report.specs.declared.found.KeptRun.{KeptRun}
-use Rattle.report.proofs.kept.keep_found.Goals as goal
+use Rattle.report.proofs.found.keep_found.Goals as goal
 
 pub returns-in-Some-clause-kept : goal.returns-in-Some-clause-kept
 returns-in-Some-clause-kept g c =

@@ -3,7 +3,7 @@ use Rattle.replay_forms.proofs.Written.{appends_then}
 use Rattle.report_jobs.specs.Prints.{changed}
 use Rattle.report.specs.Found.{run_lines, shrunk_text}
 use Rattle.report.proofs.Pairs.{if_on}
-use Rattle.report.proofs.told.write_racy.Goals as goal
+use Rattle.report.proofs.lines.write_racy.Goals as goal
 
 pub returns-in-Ok-clause-tells : goal.returns-in-Ok-clause-tells
 returns-in-Ok-clause-tells g c m racy =

@@ -3,7 +3,7 @@ use Rattle.std.proofs.KnownBytes.{Appends-nil}
 use Rattle.report_jobs.specs.Prints.{changed}
 use Rattle.report.specs.Racing.{CanTell, IsRacedIn, SaysRaced, Tells}
 use Rattle.report.specs.declared.raced.Raced.{Raced}
-use Rattle.report.proofs.told.write_raced.Goals as goal
+use Rattle.report.proofs.lines.write_raced.Goals as goal
 
 pub write-requires : goal.write-requires
 write-requires g c = subst CanTell c.in-Run.is c.requires

@@ -2,7 +2,7 @@ use Rattle.std.proofs.Common.{◌≡◌, ◌↔◌, Bool, true}
 use Rattle.std.proofs.lemmas.Result.{IfOk-weaker}
 use Rattle.search_finds.specs.Finds.{IsLookedFor}
 use Rattle.report.specs.Early.{IsSoughtBy}
-use Rattle.report.proofs.early.EarlySeeksEnding.is_sought.Goals as goal
+use Rattle.report.proofs.whole.EarlySeeksEnding.is_sought.Goals as goal
 
 pub returns : goal.returns
 returns c =
