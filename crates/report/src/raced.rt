@@ -95,12 +95,12 @@ pub(crate) fn raced_of<'a>(
         (IsRacedOf call.entry.request.now call.entry.search.now (specified.racing_in look.now)) }
     ensures trouble { IfErr result IsOfSystem }
 {
-    let FirstLook::Open { racing, way } = look else {
-        return Ok(Raced::Untold);
-    };
-    match racing {
-        Racing::Found(race) => run_of_race(alloc, call, *race, way.as_slice()),
-        Racing::Unasked | Racing::Never | Racing::Unknown => Ok(Raced::Untold),
+    match look {
+        FirstLook::Done(_) => Ok(Raced::Untold),
+        FirstLook::Open { racing, way } => match racing {
+            Racing::Found(race) => run_of_race(alloc, call, *race, way.as_slice()),
+            Racing::Unasked | Racing::Never | Racing::Unknown => Ok(Raced::Untold),
+        },
     }
 }
 

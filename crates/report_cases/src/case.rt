@@ -5,7 +5,7 @@ use crate::program::Input;
 use crate::rows::{try_cuts, try_edits, try_forged};
 use crate::telling::CaseName;
 use crate::trial::{Trial, try_line};
-use crate::wanted::{Texts, Wanted};
+use crate::wanted::Texts;
 use search_reach::Wish;
 use std::sync::Wait;
 use std::thread::Threads;
@@ -27,23 +27,17 @@ fn try_rows<R: Threads + Wait + Sync>(
     try_cuts(rt, threads, trial, tally)
 }
 
-/// Does each command line of a case on this input.
-fn try_words<'a, R: Threads + Wait + Sync>(
+/// Does each command line of a case as this one.
+fn try_words<R: Threads + Wait + Sync>(
     rt: &HostRuntime,
     threads: &R,
-    place: CaseName<'a>,
-    case: &'a Case<'a>,
-    input: Input<'a>,
-    wanted: Wanted<'a>,
+    trial: Trial,
     tally: &mut Tally,
 ) -> Result<(), Stop> {
-    for words in case.all(rt.alloc(), "words")?.iter() {
+    for words in trial.case.all(rt.alloc(), "words")?.iter() {
         let trial = Trial {
-            place,
-            case,
             words: *words,
-            input,
-            wanted,
+            ..trial
         };
         try_rows(rt, threads, trial, tally)?;
     }
@@ -82,5 +76,12 @@ pub fn try_case<'a, R: Threads + Wait + Sync>(
         sources: &sources,
         wish: wish_of(case),
     };
-    try_words(rt, threads, place, case, input, texts.wanted(), tally)
+    let trial = Trial {
+        place,
+        case,
+        words: "",
+        input,
+        wanted: texts.wanted(),
+    };
+    try_words(rt, threads, trial, tally)
 }
