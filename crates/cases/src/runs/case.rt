@@ -1,11 +1,11 @@
 //! One case: each of its command lines, on the record as it is or as its rows change it.
 
-use crate::input::{module_of, names_of, saved_of, sources_of};
-use crate::program::Input;
-use crate::rows::{try_cuts, try_edits, try_forged};
-use crate::telling::CaseName;
-use crate::trial::{Trial, try_line};
-use crate::wanted::Texts;
+use crate::runs::input::{module_of, names_of, saved_of, sources_of};
+use crate::runs::program::Input;
+use crate::runs::rows::{try_cuts, try_edits, try_forged};
+use crate::runs::telling::CaseName;
+use crate::runs::trial::{Trial, try_line};
+use crate::runs::wanted::Texts;
 use search_reach::Wish;
 use std::sync::Wait;
 use std::thread::Threads;

@@ -1,7 +1,7 @@
 //! What a command line is to write, and whether it did.
 
-use crate::program::Gave;
-use crate::telling::{CaseName, tell};
+use crate::runs::program::Gave;
+use crate::runs::telling::{CaseName, tell};
 use std::alloc::{AllocError, Global};
 use test_cases::Case;
 

@@ -24,4 +24,4 @@
 mod reading;
 mod texts;
 
-pub(crate) use texts::try_case;
+pub use texts::try_record;

@@ -1,9 +1,9 @@
 //! Rows of a case that change its record.
 
-use crate::program::Input;
-use crate::telling::CaseName;
-use crate::trial::{Trial, try_line};
-use crate::wanted::Wanted;
+use crate::runs::program::Input;
+use crate::runs::telling::CaseName;
+use crate::runs::trial::{Trial, try_line};
+use crate::runs::wanted::Wanted;
 use std::sync::Wait;
 use std::thread::Threads;
 use test_cases::{Edit, Stop, Tally, edited};

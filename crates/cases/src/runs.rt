@@ -48,7 +48,6 @@
 //! A case without one of the lines from `record` on writes nothing to a record, and one without `memory-out` nothing of a
 //! memory. A run over the recorder needs none of them: its record ends as `record-end` says, and is replayed to the same
 //! lines, on both streams, with the same status. A record is also written as it is read.
-#![tactic(auto)]
 
 mod case;
 mod input;
@@ -61,5 +60,5 @@ mod telling;
 mod trial;
 mod wanted;
 
-pub use case::try_case;
-pub use keys::unknown_key;
+pub(crate) use case::try_case;
+pub(crate) use keys::unknown_key;

@@ -1,7 +1,7 @@
 //! What a command line is to write to its record, and whether it did.
 
-use crate::program::Gave;
-use crate::telling::{CaseName, tell};
+use crate::runs::program::Gave;
+use crate::runs::telling::{CaseName, tell};
 use replay_text::{read_record, write_record};
 use std::alloc::{AllocError, Global};
 use test_cases::Case;

@@ -1,10 +1,10 @@
 //! One command line of a case, as often and over such memories as the case says.
 
-use crate::memory::is_memory_kept;
-use crate::program::{Gave, Input, program};
-use crate::record::{Kept, is_kept};
-use crate::telling::CaseName;
-use crate::wanted::{Wanted, number_of, wrote};
+use crate::runs::memory::is_memory_kept;
+use crate::runs::program::{Gave, Input, program};
+use crate::runs::record::{Kept, is_kept};
+use crate::runs::telling::CaseName;
+use crate::runs::wanted::{Wanted, number_of, wrote};
 use std::alloc::{AllocError, Global};
 use std::sync::Wait;
 use std::thread::Threads;

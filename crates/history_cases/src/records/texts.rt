@@ -93,7 +93,7 @@ fn has_rows(case: &Case) -> bool {
 }
 
 /// Reads each text of a case, counts them, and says of each that comes to something else than wanted.
-pub(crate) fn try_case(rt: &HostRuntime, case: &Case, tally: &mut Tally) -> Result<(), Stop> {
+pub fn try_record(rt: &HostRuntime, case: &Case, tally: &mut Tally) -> Result<(), Stop> {
     let text = text_of(rt, case)?;
     if !has_rows(case) {
         let wanted = case.get("fault").unwrap_or(KEPT);

@@ -1,7 +1,7 @@
 //! What a command line writes of a run's memory.
 
-use crate::program::Gave;
-use crate::telling::{CaseName, tell};
+use crate::runs::program::Gave;
+use crate::runs::telling::{CaseName, tell};
 use std::alloc::AllocError;
 use test_cases::{Case, from_hex};
 

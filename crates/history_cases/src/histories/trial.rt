@@ -44,7 +44,7 @@ fn try_row(rt: &HostRuntime, title: &str, row: &str, tally: &mut Tally) -> Resul
 ///
 /// # Errors
 /// Where memory is refused.
-pub(crate) fn try_case(rt: &HostRuntime, case: &Case, tally: &mut Tally) -> Result<(), AllocError> {
+pub fn try_history(rt: &HostRuntime, case: &Case, tally: &mut Tally) -> Result<(), AllocError> {
     let rows = case.all(rt.alloc(), "races")?;
     for row in rows.iter() {
         try_row(rt, case.title, row, tally)?;

@@ -13,4 +13,4 @@
 mod spelled;
 mod trial;
 
-pub(crate) use trial::try_case;
+pub use trial::try_history;
