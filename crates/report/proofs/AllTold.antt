@@ -1,32 +1,78 @@
 -- What is told of a search, put together of what was told before its end and there.
-use Rattle.std.proofs.Common.{ℕ, ◌≡◌, ◌∙◌, ◌++◌, Bool, List, Option, subst}
+use Rattle.std.proofs.Common.{ℕ, ◌≡◌, ◌∙◌, ◌++◌, Bool, true, false, List, Option, Some, None, refl, sym, subst, true≢false}
 use Rattle.std.specs.Prelude.{IfOk, Result, Ok, Err}
 use Rattle.std.specs.Io.KnownBytes.{Appends}
 use Rattle.types.specs.declared.parts.Parts.{Parts}
 use Rattle.replay_forms.proofs.Written.{appends_then}
+use Rattle.search_finds.specs.declared.finding.Halt.{Halt}
+use Rattle.search_finds.specs.declared.finding.Halt.TheVariants as halts
 use Rattle.search_finds.specs.declared.met.EndingTable.{EndingTable}
 use Rattle.selection.specs.declared.sought.Sought.{Sought}
 use Rattle.report_command.specs.declared.form.Form.{Form}
 use Rattle.report_command.specs.declared.form.Form.TheVariants.{Lines, Json}
 use Rattle.report_command.specs.declared.search.Search.{Search}
-use Rattle.report_jobs.specs.Prints.{change}
+use Rattle.report_jobs.specs.Prints.{WriterChange, change}
 use Rattle.report_json.specs.declared.raced.RunRaces.{RunRaces}
 use Rattle.report_lines.specs.Found.{found_run_line}
-use Rattle.report_searches.specs.Complete.{complete_lines}
-use Rattle.report_searches.specs.Found.{found_lines, kept_lines, kept_text}
-use Rattle.report_searches.specs.Racing.{SaysRaced}
-use Rattle.report_searches.specs.declared.found.FoundRun.{FoundRun}
-use Rattle.report_searches.specs.declared.found.KeptRun.{KeptRun}
-use Rattle.report_searches.specs.declared.raced.KeptRace.{KeptRace}
-use Rattle.report.specs.SearchObjects.{WritesAll, WritesKept, WritesRacy, WritesTable, coverage_of, none_of}
-use Rattle.report.specs.Telling.{EndsAll, EndsKept, EndsNone, EndsRacy, InLines, head_lines}
-use Rattle.report.specs.Told.{AllIn, LastIn, NoneIn, RacyIn}
-use Rattle.report.specs.declared.objects.ToldSearch.{ToldSearch}
+use Rattle.report.specs.Complete.{complete_lines}
+use Rattle.report.specs.Found.{found_lines, kept_lines, kept_text}
+use Rattle.report.specs.Racing.{SaysRaced}
+use Rattle.report.specs.declared.found.FoundRun.{FoundRun}
+use Rattle.report.specs.declared.found.KeptRun.{KeptRun}
+use Rattle.report.specs.declared.raced.KeptRace.{KeptRace}
+use Rattle.report.specs.Drawn.{coverage_of}
+use Rattle.report.specs.SearchObjects.{WritesAll, WritesKept, WritesRacy, WritesTable, none_of}
+use Rattle.report.specs.Telling.{EndsAll, EndsKept, EndsNone, EndsRacy, InLines, head_lines, was_told}
+use Rattle.report.specs.Searched.{IsSearched}
+use Rattle.report.specs.Searches.{Finds, IsWellAt}
+use Rattle.report.specs.Told.{AllIn, LastIn, NoneIn, RacyIn, TellsAll, TellsDrawn, TellsDrawnRaces}
+use Rattle.report.specs.declared.telling.ToldSearch.{ToldSearch}
 
 -- both of an answer
 pub if_both : {T E : Type 0} (r : Result T E) (P Q R : T → Type 0) → ((x : T) → P x → Q x → R x) → IfOk r P → IfOk r Q → IfOk r R
 if_both (Ok x) P Q R f p q = f x p q
 if_both (Err e) P Q R f p q = tt
+
+-- where nothing was found and nobody told it to end, all runs were made
+pub all_made_by : (h : Halt) → ((f : _) → h ≡ halts.Found f → ⊥) → was_told h ≡ false → h ≡ halts.AllMade
+all_made_by (halts.Found f) unfound untold = absurd (unfound f refl)
+all_made_by halts.AllMade unfound untold = refl
+all_made_by halts.Told unfound untold = absurd (true≢false untold)
+
+-- what comes of a search, of every order or of drawn runs
+module _ {E : Type 0} (m : Parts) (s : Search) (out save : WriterChange) where
+  pub orders_searched : (r : Result ℕ E) (most : ℕ) → s.all ≡ Some most → IfOk r (Finds m s save) → IfOk r (TellsAll m s most out save)
+      → IfOk r (IsWellAt m s) → IfOk r (IsSearched m s out save)
+  orders_searched (Err e) most all finds tells well = tt
+  orders_searched (Ok status) most all finds tells well = record {
+    finds = finds;
+    well = well;
+    drawn = λ none. absurd cc;
+    drawn_races = λ none. absurd cc;
+    prints = λ n is. subst (λ (k : ℕ). TellsAll m s k out save status) (cc (sym all ∙ is)) tells;
+  }
+
+  pub endings_searched : (r : Result ℕ E) → s.all ≡ None → s.races ≡ false → IfOk r (Finds m s save) → IfOk r (TellsDrawn m s out save)
+      → IfOk r (IsSearched m s out save)
+  endings_searched (Err e) none races finds tells = tt
+  endings_searched (Ok status) none races finds tells = record {
+    finds = finds;
+    well = λ all. absurd cc;
+    drawn = λ _ _. tells;
+    drawn_races = λ _ is. absurd (true≢false (sym is ∙ races));
+    prints = λ n is. absurd (cc (sym none ∙ is));
+  }
+
+  pub races_searched : (r : Result ℕ E) → s.all ≡ None → s.races ≡ true → IfOk r (Finds m s save) → IfOk r (TellsDrawnRaces m s out save)
+      → IfOk r (IsSearched m s out save)
+  races_searched (Err e) none races finds tells = tt
+  races_searched (Ok status) none races finds tells = record {
+    finds = finds;
+    well = λ all. absurd cc;
+    drawn = λ _ is. absurd (true≢false (sym races ∙ is));
+    drawn_races = λ _ _. tells;
+    prints = λ n is. absurd (cc (sym none ∙ is));
+  }
 
 pub all_told : (form : Form) (m : Parts) (t : ToldSearch) (found : Option FoundRun) (a b c d e : Option (List ℕ))
     → InLines form (change a b) (SaysRaced m t.raced.now)

@@ -1,6 +1,15 @@
+pub mod Complete
+pub mod Drawn
+pub mod DrawnRaces
+pub mod Early
+pub mod Endless
+pub mod Found
 pub mod Jobs
+pub mod Prints
+pub mod Racing
 pub mod Searched
-pub mod Silent
+pub mod Searches
 pub mod SearchObjects
+pub mod Silent
 pub mod Telling
 pub mod Told

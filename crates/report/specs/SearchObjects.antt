@@ -28,15 +28,15 @@ use Rattle.report_json.specs.declared.raced.RacingThreads.{RacingThreads}
 use Rattle.report_json.specs.declared.raced.RunRaces.{RunRaces}
 use Rattle.report_json.specs.declared.raced.RunRaces.TheVariants as said
 use Rattle.report_looks.specs.Raced.{SaysObject}
-use Rattle.report_searches.specs.Drawn.{cut_in, late_in, singles_in}
-use Rattle.report_searches.specs.declared.found.KeptRun.{KeptRun}
-use Rattle.report_searches.specs.declared.raced.KeptRace.{KeptRace}
-use Rattle.report_searches.specs.declared.raced.Raced.{Raced}
-use Rattle.report_searches.specs.declared.raced.Raced.TheVariants as raced
-use Rattle.report_searches.specs.declared.whole.Racing.{Racing}
-use Rattle.report_searches.specs.declared.whole.Racing.TheVariants.{Unasked, Never, Unknown}
-use Rattle.report_searches.specs.declared.whole.Racing.TheVariants as racings
-use Rattle.report.specs.declared.objects.ToldSearch.{ToldSearch}
+use Rattle.report.specs.Drawn.{cut_in}
+use Rattle.report.specs.declared.found.KeptRun.{KeptRun}
+use Rattle.report.specs.declared.raced.KeptRace.{KeptRace}
+use Rattle.report.specs.declared.raced.Raced.{Raced}
+use Rattle.report.specs.declared.raced.Raced.TheVariants as raced
+use Rattle.report.specs.declared.whole.Racing.{Racing}
+use Rattle.report.specs.declared.whole.Racing.TheVariants.{Unasked, Never, Unknown}
+use Rattle.report.specs.declared.whole.Racing.TheVariants as racings
+use Rattle.report.specs.declared.telling.ToldSearch.{ToldSearch}
 
 -- How a run ended that was made; and what is kept of what was found, in an object.
 abbrev pub IsEndIn : ℕ → Option MadeRun → Option RunEndObject → Type 0
@@ -110,9 +110,6 @@ pub record WritesTable (s : Sought) (table : EndingTable) (status : ℕ) (races 
 abbrev pub WritesKept : Sought → EndingTable → KeptRun → WriterChange → Type 0
 WritesKept s table k out = (found : FoundObject) × IsKeptIn s.dump k found
     × WritesTable s table 1 None (ends.Found found) out
-
-abbrev pub coverage_of : Sought → EndingTable → Coverage
-coverage_of s table = record { late = late_in s table; singles = singles_in table }
 
 abbrev pub none_of : Bool → Coverage → DrawnEnd
 none_of true coverage = ends.Told coverage

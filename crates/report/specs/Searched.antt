@@ -6,7 +6,7 @@ use Rattle.binary.specs.Grammar.{IsModuleText}
 use Rattle.report_command.specs.declared.search.Search.{Search}
 use Rattle.report_jobs.specs.Prints.{WriterChange}
 use Rattle.report.specs.Told.{TellsAll, TellsDrawn, TellsDrawnRaces}
-use Rattle.report_searches.specs.Searches.{Finds, IsWellAt}
+use Rattle.report.specs.Searches.{Finds, IsWellAt}
 
 -- What is told of a search of drawn runs that looks for one with a race.
 abbrev pub IsDrawnForRaces : Parts → Search → WriterChange → WriterChange → ℕ → Type 0
@@ -20,13 +20,17 @@ IsDrawn m s out save status = is_none s.all ≡ true → s.races ≡ false → T
 abbrev pub IsPrintedOf : Parts → Search → WriterChange → WriterChange → ℕ → Type 0
 IsPrintedOf m s out save status = (most : ℕ) → s.all ≡ Some most → TellsAll m s most out save status
 
+-- What comes of a search through runs of a module: what is kept, what status 0 says, and what is told.
+pub record IsSearched (m : Parts) (s : Search) (out save : WriterChange) (status : ℕ) : Type 0 where
+  pub finds : Finds m s save status
+  pub well : IsWellAt m s status
+  pub drawn : IsDrawn m s out save status
+  pub drawn_races : IsDrawnForRaces m s out save status
+  pub prints : IsPrintedOf m s out save status
+
 -- The bytes are a valid module's text, and its runs were searched.
 pub record HasSearched (bytes : List ℕ) (s : Search) (out save : WriterChange) (status : ℕ) : Type 0 where
   pub parts : Parts
   pub text : IsModuleText bytes parts
   pub valid : IsValid parts
-  pub finds : Finds parts s save status
-  pub well : IsWellAt parts s status
-  pub drawn : IsDrawn parts s out save status
-  pub drawn_races : IsDrawnForRaces parts s out save status
-  pub prints : IsPrintedOf parts s out save status
+  pub searched : IsSearched parts s out save status

@@ -19,21 +19,21 @@ use Rattle.report_json.specs.declared.raced.RunRaces.{RunRaces}
 use Rattle.report_json.specs.declared.raced.RunRaces.TheVariants as said
 use Rattle.report_lines.specs.Found.{found_run_line}
 use Rattle.report_looks.specs.Raced.{SaysPair}
-use Rattle.report_searches.specs.Complete.{complete_lines}
-use Rattle.report_searches.specs.Drawn.{behind_text}
-use Rattle.report_searches.specs.DrawnRaces.{HasRacy, SaysRaceOf, raceless_text}
-use Rattle.report_searches.specs.Found.{AreKeptOf, HasFound, IsKeptOf, KeepsFound, KeepsMade, found_lines, kept_lines, kept_text, run_lines}
-use Rattle.report_searches.specs.Found.{shrunk_text}
-use Rattle.report_searches.specs.Prints.{IsAllWell, IsStatusOf}
-use Rattle.report_searches.specs.Racing.{IsRacedOf, IsWhole, KeepsRaced, SaysRaced}
-use Rattle.report_searches.specs.declared.found.FoundRun.{FoundRun}
-use Rattle.report_searches.specs.declared.found.KeptRun.{KeptRun}
-use Rattle.report_searches.specs.declared.raced.KeptRace.{KeptRace}
-use Rattle.report_searches.specs.declared.raced.Raced.{Raced}
-use Rattle.report_searches.specs.declared.whole.WholeSearch.{WholeSearch}
+use Rattle.report.specs.Complete.{complete_lines}
+use Rattle.report.specs.Drawn.{behind_text}
+use Rattle.report.specs.DrawnRaces.{HasRacy, SaysRaceOf, raceless_text}
+use Rattle.report.specs.Found.{AreKeptOf, HasFound, IsKeptOf, KeepsFound, KeepsMade, found_lines, kept_lines, kept_text, run_lines}
+use Rattle.report.specs.Found.{shrunk_text}
+use Rattle.report.specs.Prints.{IsAllWell, IsStatusOf}
+use Rattle.report.specs.Racing.{IsRacedOf, IsWhole, KeepsRaced, SaysRaced}
+use Rattle.report.specs.declared.found.FoundRun.{FoundRun}
+use Rattle.report.specs.declared.found.KeptRun.{KeptRun}
+use Rattle.report.specs.declared.raced.KeptRace.{KeptRace}
+use Rattle.report.specs.declared.raced.Raced.{Raced}
+use Rattle.report.specs.declared.whole.WholeSearch.{WholeSearch}
 use Rattle.report.specs.SearchObjects.{WritesAll, WritesKept, WritesRacy}
 use Rattle.report.specs.Telling.{EndsNone, head_lines}
-use Rattle.report.specs.declared.objects.ToldSearch.{ToldSearch}
+use Rattle.report.specs.declared.telling.ToldSearch.{ToldSearch}
 
 -- The lines of a race, where one was found, those of what was found of all runs, and those of what is looked for and found
 -- there; or the object of all of it.

@@ -9,19 +9,15 @@ ghost use Rattle.report_jobs.specs.Told.{TellsRefusal, TellsWhatIsWrong};
 ghost use Rattle.report_jobs.specs.Trapped.{Tells};
 ghost use Rattle.report_jobs.specs.Undone.{ended_status, undone_line, undone_status};
 ghost use Rattle.report_jobs.specs.Why.{RefusesModule, RefusesRecord};
-ghost use Rattle.report_jobs.specs.Troubles.{IsTroubleOf};
-ghost use Rattle.report_searches.specs.Searches.{Finds, IsWellAt};
-ghost use Rattle.report.specs.Searched.{HasSearched, IsDrawn, IsDrawnForRaces, IsPrintedOf};
+ghost use Rattle.report.specs.Searched.{HasSearched};
 ghost use Rattle.report.specs.Jobs.{Performs};
-ghost use Rattle.report.specs.Silent.{IfRefusedCall, writes_file};
+ghost use Rattle.report.specs.Silent.{writes_file};
 
+use crate::asked::SearchRequest;
 use crate::searching::search_module;
 use report_command::{Job, Search};
-use report_jobs::{
-    Done, Streams, Trouble, Undone, load, of_refusal, of_trouble, perform_plain, tell_ended,
-};
+use report_jobs::{Done, Streams, Undone, load, of_refusal, of_trouble, perform_plain, tell_ended};
 use report_looks::{CodeBytes, races_saved, show_saved};
-use report_searches::SearchRequest;
 use search_finds::Hears;
 use spawn_host::own_function;
 use std::alloc::Global;
@@ -30,15 +26,22 @@ use std::sync::Wait;
 use std::thread::Threads;
 use validate_module::ValidModule;
 
+/// The bytes that a job is done on.
+#[derive(Clone, Copy)]
+pub struct JobBytes<'a> {
+    pub module: &'a [u8],
+    /// Those of the record that a replay or a show reads, or those that are laid over the memory of a run; and else none.
+    pub saved: &'a [u8],
+}
+
 /// Does a job on a module's bytes: writes its lines, and a line about what went wrong, or about what a search doesn't
 /// compare, or lines about threads of a run that trapped; and the record that a run makes and the bytes of its memory,
 /// or the record of what a search found, after the lines, or the file that a show makes.
 ///
 /// The job's numbers are in their ranges, as those of a job are that `command` gives.
 ///
-/// `saved` has the bytes of the record that a replay or a show reads, or those that are laid over the memory of a run,
-/// and else nothing. A show takes names from the
-/// module itself (`show_saved` takes them from another file's bytes, and lines of source too). `follower` hears how far a search came.
+/// A show takes names from the module itself (`show_saved` takes them from another file's bytes, and lines of source too).
+/// `follower` hears how far a search came.
 ///
 /// Answers what came of it, of which the program's status is 0 where the module was accepted or all threads ended well, 1
 /// for a trap or stop, or where a search found a run, has not all endings or none, 2 for a refused module, 3 for a refused
@@ -51,8 +54,7 @@ pub fn perform<'j, R, W, E, S, F>(
     rt: &R,
     alloc: Global,
     job: &Job<'j>,
-    module: &[u8],
-    saved: &[u8],
+    bytes: JobBytes,
     streams: &mut Streams<W, E, S>,
     follower: &mut F,
 ) -> Result<Done, Undone<'j>>
@@ -63,12 +65,12 @@ where
     S: Write,
     F: Hears,
     requires { IsInRange job.now }
-    ensures performs { Performs job.now «module».now saved.now
+    ensures performs { Performs job.now bytes.entry.«module».now bytes.entry.saved.now
         (written W.contents E.contents S.contents streams.old streams.new) (ended_status result) }
     ensures refusal { ended_status result ≡ 2
-        → TellsRefusal «module».now (changed E.contents streams.old.err streams.new.err) }
-    ensures told { ended_status result ≡ 4
-        → TellsWhatIsWrong «module».now saved.now (changed E.contents streams.old.err streams.new.err) }
+        → TellsRefusal bytes.entry.«module».now (changed E.contents streams.old.err streams.new.err) }
+    ensures told { ended_status result ≡ 4 → TellsWhatIsWrong bytes.entry.«module».now bytes.entry.saved.now
+        (changed E.contents streams.old.err streams.new.err) }
     ensures why { IfErr result (λ why. IsRefusal (undone_status why)
         → Tells (E.contents streams.old.err) (E.contents streams.new.err) (undone_line why)) }
     ensures silent { IsRefusal (ended_status result) → Stays streams.old.out streams.new.out
@@ -76,7 +78,7 @@ where
     ensures no_memory { makes_memory job.now ≡ false → Stays streams.old.memory streams.new.memory }
     ensures unwanted { writes_file job.now ≡ false → Stays streams.old.save streams.new.save }
 {
-    let ended = perform_silent(rt, alloc, job, module, saved, streams, follower);
+    let ended = perform_silent(rt, alloc, job, bytes, streams, follower);
     tell_ended(&mut streams.err, &ended);
     ended
 }
@@ -86,8 +88,7 @@ fn perform_silent<'j, R, W, E, S, F>(
     rt: &R,
     alloc: Global,
     job: &Job<'j>,
-    module: &[u8],
-    saved: &[u8],
+    bytes: JobBytes,
     streams: &mut Streams<W, E, S>,
     follower: &mut F,
 ) -> Result<Done, Undone<'j>>
@@ -98,32 +99,32 @@ where
     S: Write,
     F: Hears,
     requires { IsInRange job.now }
-    ensures performs { Performs job.now «module».now saved.now
+    ensures performs { Performs job.now bytes.entry.«module».now bytes.entry.saved.now
         (written W.contents E.contents S.contents streams.old streams.new) (ended_status result) }
     ensures done { IfOk result (λ done. done.status ≤ 1) }
-    ensures why { IfErr result (λ why. undone_status why ≡ 2 → RefusesModule «module».now why) }
-    ensures wrong { IfErr result (λ why. undone_status why ≡ 4 → RefusesRecord «module».now saved.now why) }
+    ensures why { IfErr result (λ why. undone_status why ≡ 2 → RefusesModule bytes.entry.«module».now why) }
+    ensures wrong { IfErr result (λ why. undone_status why ≡ 4
+        → RefusesRecord bytes.entry.«module».now bytes.entry.saved.now why) }
     ensures silent { IsRefusal (ended_status result)
         → (Stays streams.old.out streams.new.out × Stays streams.old.err streams.new.err)
         × Stays streams.old.save streams.new.save × Stays streams.old.memory streams.new.memory }
     ensures no_memory { makes_memory job.now ≡ false → Stays streams.old.memory streams.new.memory }
     ensures unwanted { writes_file job.now ≡ false → Stays streams.old.save streams.new.save }
 {
+    let JobBytes { module, saved } = bytes;
+    let code = CodeBytes {
+        module,
+        names: module,
+        sources: &[],
+    };
     match job {
-        Job::Show { how, .. } => {
-            let code = CodeBytes {
-                module,
-                names: module,
-                sources: &[],
-            };
-            show_saved(alloc, code, saved, how, streams)
-        },
+        Job::Show { how, .. } => show_saved(alloc, code, saved, how, streams),
         Job::Races(asked) => {
             races_saved(
                 alloc, module, module, saved, asked.most, asked.form, streams,
             )
         },
-        Job::Search(asked) => search(rt, alloc, asked, module, streams, follower),
+        Job::Search(asked) => search(rt, alloc, asked, code, streams, follower),
         _ => perform_plain(rt, alloc, job, module, saved, streams),
     }
 }
@@ -133,7 +134,7 @@ fn search<'j, R, W, E, S, F>(
     rt: &R,
     alloc: Global,
     asked: &Search<'j>,
-    module: &[u8],
+    code: CodeBytes,
     streams: &mut Streams<W, E, S>,
     follower: &mut F,
 ) -> Result<Done, Undone<'j>>
@@ -144,76 +145,36 @@ where
     S: Write,
     F: Hears,
     requires { IsSearchInRange asked.now }
-    ensures made { ended_status result ≤ 1 → HasSearched «module».now asked.now
+    ensures made { ended_status result ≤ 1 → HasSearched code.entry.«module».now asked.now
         (changed W.contents streams.old.out streams.new.out) (changed S.contents streams.old.save streams.new.save)
         (ended_status result) }
     ensures done { IfOk result (λ done. done.status ≤ 1) }
-    ensures refused { ended_status result ≡ 2 → IsNoValidModule «module».now }
-    ensures why { IfErr result (λ why. undone_status why ≡ 2 → RefusesModule «module».now why) }
+    ensures refused { ended_status result ≡ 2 → IsNoValidModule code.entry.«module».now }
+    ensures why { IfErr result (λ why. undone_status why ≡ 2 → RefusesModule code.entry.«module».now why) }
     ensures silent { IsRefusal (ended_status result)
         → Stays streams.old.out streams.new.out × Stays streams.old.save streams.new.save }
     ensures unwanted { is_some asked.now.save ≡ false → Stays streams.old.save streams.new.save }
     ensures no_memory { Stays streams.old.memory streams.new.memory }
     ensures unsaid { Stays streams.old.err streams.new.err }
-    ensures cannot { ended_status result ≡ 3 → HasNoSuchCall «module».now asked.now.call }
+    ensures cannot { ended_status result ≡ 3 → HasNoSuchCall code.entry.«module».now asked.now.call }
     ensures status { (ended_status result ≤ 3) ⊎ (ended_status result ≡ 5) }
 {
-    let valid = match load(alloc, module) {
+    let valid = match load(alloc, code.module) {
         Ok(valid) => valid,
         Err(refusal) => return Err(of_refusal(refusal)),
     };
-    match searched(rt, alloc, &valid, asked, module, streams, follower) {
-        Ok(done) => Ok(done),
+    let request = SearchRequest {
+        module: &valid,
+        code,
+        search: asked,
+    };
+    match search_module(rt, alloc, request, streams, follower) {
+        Ok(status) => Ok(Done {
+            is_bare: is_bare(&valid, asked),
+            ..Done::with(status)
+        }),
         Err(trouble) => Err(of_trouble(trouble, valid, asked.save, None)),
     }
-}
-
-/// The same of a valid module, whose text the bytes are.
-fn searched<R, W, E, S, F>(
-    rt: &R,
-    alloc: Global,
-    valid: &ValidModule,
-    asked: &Search,
-    module: &[u8],
-    streams: &mut Streams<W, E, S>,
-    follower: &mut F,
-) -> Result<Done, Trouble>
-where
-    R: Threads + Sync,
-    W: Write,
-    E: Write,
-    S: Write,
-    F: Hears,
-    requires { IsSearchInRange asked.now }
-    ensures finds { IfOk result
-        (λ done. Finds valid.now.parts asked.now (changed S.contents streams.old.save streams.new.save) done.status) }
-    ensures well { IfOk result (λ done. IsWellAt valid.now.parts asked.now done.status) }
-    ensures drawn { IfOk result
-        (λ done. IsDrawn valid.now.parts asked.now (changed W.contents streams.old.out streams.new.out)
-        (changed S.contents streams.old.save streams.new.save) done.status) }
-    ensures drawn_races { IfOk result
-        (λ done. IsDrawnForRaces valid.now.parts asked.now (changed W.contents streams.old.out streams.new.out)
-        (changed S.contents streams.old.save streams.new.save) done.status) }
-    ensures prints { IfOk result
-        (λ done. IsPrintedOf valid.now.parts asked.now (changed W.contents streams.old.out streams.new.out)
-        (changed S.contents streams.old.save streams.new.save) done.status) }
-    ensures trouble { IfErr result (IsTroubleOf valid.now.parts asked.now.call) }
-    ensures silent { IfErr result (λ e. IfRefusedCall e
-        (Stays streams.old.out streams.new.out × Stays streams.old.save streams.new.save)) }
-    ensures unwanted { is_some asked.now.save ≡ false → Stays streams.old.save streams.new.save }
-    ensures no_memory { Stays streams.old.memory streams.new.memory }
-    ensures unsaid { Stays streams.old.err streams.new.err }
-{
-    let Streams { out, save, .. } = streams;
-    let whole = SearchRequest {
-        search: asked,
-        bytes: module,
-    };
-    let status = search_module(rt, alloc, valid, whole, follower, out, save)?;
-    Ok(Done {
-        is_bare: is_bare(valid, asked),
-        ..Done::with(status)
-    })
 }
 
 /// Whether only how threads ended is compared: the function returns nothing, and no bytes are named.

@@ -1,41 +1,33 @@
-//! The JSON objects of searches: of every order, and of the table of drawn runs.
+//! A search in one JSON object: of every order, or of the table of drawn runs.
 ghost use Rattle.std.specs.Prelude.{◌≡◌, ◌≤◌, ℕ, Some, None, IfOk, IfErr};
 ghost use Rattle.std.specs.List.{AllZip};
 ghost use Rattle.types.specs.declared.parts.Parts.{Parts};
 ghost use Rattle.report_jobs.specs.Prints.{IsObjectOf, changed};
-ghost use Rattle.report_searches.specs.Drawn.{cut_in};
-ghost use Rattle.report_searches.specs.Racing.{CanTell, IsRacedIn, IsRacyRun};
-ghost use Rattle.report_searches.specs.Searches.{IsOfSystem};
+ghost use Rattle.report.specs.Drawn as specified_table;
+ghost use Rattle.report.specs.Drawn.{cut_in};
+ghost use Rattle.report.specs.Racing.{CanTell, IsRacedIn, IsRacyRun};
+ghost use Rattle.report.specs.Searches.{IsOfSystem};
 ghost use Rattle.report_looks.specs.Sighted.{CanBeTold};
 ghost use Rattle.report.specs.SearchObjects as specified;
-ghost use Rattle.report.specs.SearchObjects.{AreKeptIn, AreRunsOf, IsEndIn, IsMetOf, WritesAll, WritesKept, WritesRacy};
-ghost use Rattle.report.specs.SearchObjects.{WritesRacyTable, WritesTable, WritesTold};
+ghost use Rattle.report.specs.SearchObjects.{AreKeptIn, IsEndIn, IsMetOf, WritesAll, WritesKept, WritesRacy};
+ghost use Rattle.report.specs.SearchObjects.{WritesTable, WritesTold};
 
+use crate::found::KeptRun;
+use crate::raced::{KeptRace, Raced, trouble_of};
+use crate::table::{DrawnTable, NoneFound, coverage_of, cut_of};
+use crate::telling::{Conclusion, News, Teller, ToldSearch};
+use crate::whole::Racing;
 use report_command::Sought;
 use report_jobs::Trouble;
 use report_json::{
     CompleteObject, Coverage, DrawnEnd, DrawnObject, DrawnRuns, FoundAs, FoundObject, MetEnding,
-    RacePair, RacingThreads, RunEndObject, RunRaces, write_complete, write_drawn,
+    RacingThreads, RunEndObject, RunRaces, write_complete, write_drawn,
 };
-use report_searches::{
-    KeptRace, KeptRun, Raced, Racing, WholeSearch, cut_in_all, late_of, singles_of, trouble_of,
-};
-use search_finds::{EndingTable, Met};
+use search_finds::Met;
 use search_modules::ThreadRace;
 use search_scheduled::MadeRun;
 use std::alloc::{AllocError, Global};
 use std::io::Write;
-
-/// What is told of every order.
-#[derive(Clone, Copy)]
-pub(crate) struct ToldSearch<'a> {
-    pub whole: &'a WholeSearch,
-    pub raced: &'a Raced<'a, 'a>,
-    pub kept: &'a Option<KeptRun>,
-    pub most: u32,
-    pub status: u8,
-    pub dump: u32,
-}
 
 /// How a run ended that was made.
 fn end_of(made: &MadeRun, dump: u32) -> RunEndObject<'_>
@@ -105,14 +97,6 @@ fn write_told<W: Write>(
     }
 }
 
-/// Two threads that race, in a run that wasn't made.
-fn threads_of(race: ThreadRace) -> RacingThreads
-    ensures { result ≡ specified.threads_of race }
-{
-    let ThreadRace { one, other } = race;
-    RacingThreads { one, other }
-}
-
 /// What is known of races, where no run with one was made.
 fn races_alone(racing: Racing) -> Option<RunRaces<'static>>
     ensures { result ≡ specified.races_alone racing }
@@ -120,17 +104,15 @@ fn races_alone(racing: Racing) -> Option<RunRaces<'static>>
     match racing {
         Racing::Unasked => None,
         Racing::Never => Some(RunRaces::Never),
-        Racing::Found(race) => Some(RunRaces::Between(threads_of(race))),
+        Racing::Found(ThreadRace { one, other }) => {
+            Some(RunRaces::Between(RacingThreads { one, other }))
+        }
         Racing::Unknown => Some(RunRaces::Unknown),
     }
 }
 
 /// Writes the object of every order.
-pub(crate) fn write_all<W: Write>(
-    alloc: Global,
-    told: ToldSearch,
-    out: &mut W,
-) -> Result<(), Trouble>
+fn write_all<W: Write>(alloc: Global, told: ToldSearch, out: &mut W) -> Result<(), Trouble>
     requires { CanTell told.raced.now }
     ensures written { (m : Parts) → IsRacedIn m told.entry.raced.now
         → IfOk result (λ _. WritesAll m told.entry (changed W.contents out.old out.new)) }
@@ -142,23 +124,8 @@ pub(crate) fn write_all<W: Write>(
             let pair = run.race.pair(&shown);
             write_told(alloc, told, Some(RunRaces::Found(pair)), out)
         }
-        Raced::Threads(race) => {
-            let races = Some(RunRaces::Between(threads_of(*race)));
-            write_told(alloc, told, races, out)
-        }
+        Raced::Threads(race) => write_told(alloc, told, races_alone(Racing::Found(*race)), out),
         Raced::Untold => write_told(alloc, told, races_alone(told.whole.racing), out),
-    }
-}
-
-/// An ending of a table.
-fn met_of<'a>(sought: &Sought, met: &'a Met) -> MetEnding<'a>
-    ensures { IsMetOf sought.now met.now result }
-{
-    MetEnding {
-        times: met.times,
-        first: met.first,
-        way: sought.way.of_run(met.first),
-        ending: &met.ending,
     }
 }
 
@@ -172,33 +139,76 @@ fn all_met<'a>(
 {
     let mut all = Vec::new(alloc);
     for at in 0..met.len() {
-        let ending = met_of(sought, &met[at]);
-        all.push(ending)?;
+        let met = &met[at];
+        all.push(MetEnding {
+            times: met.times,
+            first: met.first,
+            way: sought.way.of_run(met.first),
+            ending: &met.ending,
+        })?;
     }
     Ok(all)
 }
 
-/// How many runs were made, and cut.
-fn runs_of(sought: &Sought, table: &EndingTable) -> DrawnRuns
-    requires { cut_in table.now ≤ table.now.runs }
-    ensures { AreRunsOf sought.now table.now result }
+/// What is said of drawn runs in their object, beside the table: the status, what is known of races, and how the search
+/// ended.
+#[derive(Clone, Copy)]
+struct DrawnSaid<'a> {
+    status: u8,
+    races: Option<RunRaces<'a>>,
+    halt: DrawnEnd<'a>,
+}
+
+/// Writes the object of drawn runs.
+fn write_drawn_runs<W: Write>(
+    alloc: Global,
+    drawn: DrawnTable,
+    said: DrawnSaid,
+    out: &mut W,
+) -> Result<(), Trouble>
+    requires { cut_in drawn.table.now ≤ drawn.table.now.runs }
+    ensures written { IfOk result (λ _. WritesTable drawn.entry.sought.now drawn.entry.table.now
+        said.entry.status said.entry.races said.entry.halt (changed W.contents out.old out.new)) }
+    ensures trouble { IfErr result IsOfSystem }
 {
-    DrawnRuns {
-        made: table.runs,
-        asked: sought.runs,
-        cut: cut_in_all(table),
-        limit: sought.limit,
+    let DrawnTable { sought, table } = drawn;
+    let met = all_met(alloc, sought, table.met.as_slice())?;
+    let object = DrawnObject {
+        status: said.status,
+        runs: DrawnRuns {
+            made: table.runs,
+            asked: sought.runs,
+            cut: cut_of(table),
+            limit: sought.limit,
+        },
+        met: met.as_slice(),
+        races: said.races,
+        halt: said.halt,
+    };
+    match write_drawn(alloc, out, &object) {
+        Ok(()) => Ok(()),
+        Err(unwritten) => Err(trouble_of(unwritten)),
     }
 }
 
-/// What is unseen.
-fn coverage_of(sought: &Sought, table: &EndingTable) -> Coverage
-    ensures { result ≡ specified.coverage_of sought.now table.now }
+/// Writes the object of drawn runs whose last one was found.
+fn write_kept<W: Write>(
+    alloc: Global,
+    drawn: DrawnTable,
+    kept: &KeptRun,
+    out: &mut W,
+) -> Result<(), Trouble>
+    requires { cut_in drawn.table.now ≤ drawn.table.now.runs }
+    ensures written { IfOk result (λ _. WritesKept drawn.entry.sought.now drawn.entry.table.now kept.now
+        (changed W.contents out.old out.new)) }
+    ensures trouble { IfErr result IsOfSystem }
 {
-    Coverage {
-        late: late_of(sought, table),
-        singles: singles_of(table),
-    }
+    let said = DrawnSaid {
+        status: 1,
+        races: None,
+        halt: DrawnEnd::Found(found_of(kept, drawn.sought.dump)),
+    };
+    write_drawn_runs(alloc, drawn, said, out)
 }
 
 /// That nothing was found: the search was told to end, or all runs were made.
@@ -211,110 +221,81 @@ fn none_of(is_told: bool, coverage: Coverage) -> DrawnEnd<'static>
     DrawnEnd::AllMade(coverage)
 }
 
-/// Writes the object of a table.
-pub(crate) fn write_table<W: Write>(
+/// Writes the object of drawn runs of which none was found.
+fn write_none<W: Write>(
     alloc: Global,
-    sought: &Sought,
-    table: &EndingTable,
-    status: u8,
-    races: Option<RunRaces>,
-    halt: DrawnEnd,
+    drawn: DrawnTable,
+    none: NoneFound,
     out: &mut W,
 ) -> Result<(), Trouble>
-    requires { cut_in table.now ≤ table.now.runs }
-    ensures written { IfOk result
-        (λ _. WritesTable sought.now table.now status races.entry halt.entry (changed W.contents out.old out.new)) }
+    requires { cut_in drawn.table.now ≤ drawn.table.now.runs }
+    ensures written { IfOk result (λ _. WritesTable drawn.entry.sought.now drawn.entry.table.now none.entry.status
+        none.entry.races (specified.none_of none.entry.is_told
+        (specified_table.coverage_of drawn.entry.sought.now drawn.entry.table.now)) (changed W.contents out.old out.new)) }
     ensures trouble { IfErr result IsOfSystem }
 {
-    let met = all_met(alloc, sought, table.met.as_slice())?;
-    let drawn = DrawnObject {
-        status,
-        runs: runs_of(sought, table),
-        met: met.as_slice(),
-        races,
-        halt,
+    let said = DrawnSaid {
+        status: none.status,
+        races: none.races,
+        halt: none_of(none.is_told, coverage_of(drawn)),
     };
-    match write_drawn(alloc, out, &drawn) {
-        Ok(()) => Ok(()),
-        Err(unwritten) => Err(trouble_of(unwritten)),
-    }
+    write_drawn_runs(alloc, drawn, said, out)
 }
 
-/// Writes the object of a table whose last run was found.
-pub(crate) fn write_kept<W: Write>(
+/// Writes the object of drawn runs whose last one has a race.
+fn write_racy<W: Write>(
     alloc: Global,
-    sought: &Sought,
-    table: &EndingTable,
-    kept: &KeptRun,
-    out: &mut W,
-) -> Result<(), Trouble>
-    requires { cut_in table.now ≤ table.now.runs }
-    ensures written { IfOk result
-        (λ _. WritesKept sought.now table.now kept.now (changed W.contents out.old out.new)) }
-    ensures trouble { IfErr result IsOfSystem }
-{
-    let halt = DrawnEnd::Found(found_of(kept, sought.dump));
-    write_table(alloc, sought, table, 1, None, halt, out)
-}
-
-/// Writes the object of a table of which none was found, with what is known of races.
-pub(crate) fn write_none<W: Write>(
-    alloc: Global,
-    sought: &Sought,
-    table: &EndingTable,
-    is_told: bool,
-    races: Option<RunRaces>,
-    status: u8,
-    out: &mut W,
-) -> Result<(), Trouble>
-    requires { cut_in table.now ≤ table.now.runs }
-    ensures written { IfOk result (λ _. WritesTable sought.now table.now status races.entry
-        (specified.none_of is_told (specified.coverage_of sought.now table.now)) (changed W.contents out.old out.new)) }
-    ensures trouble { IfErr result IsOfSystem }
-{
-    let halt = none_of(is_told, coverage_of(sought, table));
-    write_table(alloc, sought, table, status, races, halt, out)
-}
-
-/// Writes the object of a table whose last run has a race.
-fn write_racy_table<W: Write>(
-    alloc: Global,
-    sought: &Sought,
-    table: &EndingTable,
+    drawn: DrawnTable,
     kept: &KeptRace,
-    pair: RacePair,
     out: &mut W,
 ) -> Result<(), Trouble>
-    requires { cut_in table.now ≤ table.now.runs }
-    ensures written { IfOk result (λ _. WritesRacyTable sought.now table.now kept.now pair.entry
+    requires cut { cut_in drawn.table.now ≤ drawn.table.now.runs }
+    requires told { CanBeTold kept.now.racy.made.«record» kept.now.racy.race }
+    ensures written { (m : Parts) → IsRacyRun m kept.now.racy
+        → IfOk result (λ _. WritesRacy m drawn.entry.sought.now drawn.entry.table.now kept.now
         (changed W.contents out.old out.new)) }
     ensures trouble { IfErr result IsOfSystem }
 {
-    let object = FoundObject {
+    let racy = &kept.racy;
+    let shown = racy.race.shown(&racy.made.record);
+    let pair = racy.race.pair(&shown);
+    let found = FoundObject {
         found_as: FoundAs::Run(kept.run),
         shrunk: kept.shrunk,
-        run: Some(end_of(&kept.racy.made, sought.dump)),
+        run: Some(end_of(&racy.made, drawn.sought.dump)),
     };
-    let races = Some(RunRaces::Found(pair));
-    write_table(alloc, sought, table, 1, races, DrawnEnd::Found(object), out)
+    let said = DrawnSaid {
+        status: 1,
+        races: Some(RunRaces::Found(pair)),
+        halt: DrawnEnd::Found(found),
+    };
+    write_drawn_runs(alloc, drawn, said, out)
 }
 
-/// Writes that object, with the first race of the run.
-pub(crate) fn write_racy<W: Write>(
-    alloc: Global,
-    sought: &Sought,
-    table: &EndingTable,
-    kept: &KeptRace,
-    out: &mut W,
-) -> Result<(), Trouble>
-    requires cut { cut_in table.now ≤ table.now.runs }
-    requires told { CanBeTold kept.now.racy.made.«record» kept.now.racy.race }
-    ensures written { (m : Parts) → IsRacyRun m kept.now.racy
-        → IfOk result (λ _. WritesRacy m sought.now table.now kept.now (changed W.contents out.old out.new)) }
-    ensures trouble { IfErr result IsOfSystem }
-{
-    let race = &kept.racy.race;
-    let shown = race.shown(&kept.racy.made.record);
-    let pair = race.pair(&shown);
-    write_racy_table(alloc, sought, table, kept, pair, out)
+/// Tells it in one object, at the end.
+#[derive(Clone, Copy)]
+pub(crate) struct ObjectTeller;
+
+impl Teller for ObjectTeller {
+    ghost use Rattle.report_command.specs.declared.form.Form.TheVariants.{Json};
+
+    ghost form = { Json };
+
+    fn tell<W: Write>(&self, _alloc: Global, _news: News, _out: &mut W) -> Result<(), Trouble> {
+        Ok(())
+    }
+
+    fn conclude<W: Write>(
+        &self,
+        alloc: Global,
+        conclusion: Conclusion,
+        out: &mut W,
+    ) -> Result<(), Trouble> {
+        match conclusion {
+            Conclusion::Orders(told) => write_all(alloc, told, out),
+            Conclusion::Last(drawn, kept) => write_kept(alloc, drawn, kept, out),
+            Conclusion::Racy(drawn, kept) => write_racy(alloc, drawn, kept, out),
+            Conclusion::None(drawn, none) => write_none(alloc, drawn, none, out),
+        }
+    }
 }

@@ -1,143 +1,106 @@
 //! Searches by the program: what comes of one is decided here, and told by `telling` in the form that is asked for.
-ghost use Rattle.std.specs.Prelude.{◌≡◌, ◌≤◌, IfOk, IfErr, Some, None, true, false, is_some};
-ghost use Rattle.types.specs.declared.parts.Parts.{Parts};
+ghost use Rattle.std.specs.Prelude.{◌≡◌, ◌≤◌, IfOk, IfErr, Some, true, false, is_some};
 ghost use Rattle.report_command.specs.Searches.{IsSearchInRange};
 ghost use Rattle.report_jobs.specs.Asked.{IsAskedBy};
-ghost use Rattle.report_jobs.specs.Troubles.{IsTroubleOf};
-ghost use Rattle.report_json.specs.declared.raced.RunRaces.TheVariants as said;
-ghost use Rattle.report_searches.specs.Drawn.{behind_text, cut_in};
-ghost use Rattle.report_searches.specs.DrawnRaces.{raceless_text};
-ghost use Rattle.report_searches.specs.Found.{KeepsFound};
-ghost use Rattle.report_searches.specs.Racing.{CanTell, IsRacedIn, IsRacedOf, KeepsRaced, SaysRaced, keeps_race, racing_in};
-ghost use Rattle.report_searches.specs.Searches.{Finds, IsOfSystem, IsWellAt};
-ghost use Rattle.report.specs.Searched.{IsDrawn, IsDrawnForRaces, IsPrintedOf};
-ghost use Rattle.report.specs.Telling.{EndsAll, EndsNone, InLines};
-ghost use Rattle.report.specs.Told.{IsStatusOfTable, TellsAll, TellsDrawn, TellsDrawnRaces};
 ghost use Rattle.report_jobs.specs.Prints.{changed};
 ghost use Rattle.report_jobs.specs.Silence.{Stays};
-ghost use Rattle.report.specs.Silent.{IfRefusedCall};
+ghost use Rattle.report_jobs.specs.Troubles.{IsTroubleOf};
+ghost use Rattle.report.specs.Drawn.{cut_in};
+ghost use Rattle.report.specs.Racing.{IsRacedOf, KeepsRaced, SaysRaced, keeps_race, racing_in};
+ghost use Rattle.report.specs.Searched.{IsSearched};
+ghost use Rattle.report.specs.Searches.{Finds, IsOfSystem, IsWellAt};
+ghost use Rattle.report.specs.Silent.{IfRefusedCall, LeavesOthers};
+ghost use Rattle.report.specs.Telling.{InLines, TellsNoneFound};
+ghost use Rattle.report.specs.Told.{IsStatusOfTable, TellsAll, TellsDrawn, TellsDrawnRaces};
 
-use crate::objects::ToldSearch;
-use crate::telling::{
-    tell_all, tell_if_found, tell_kept, tell_none, tell_raced, tell_raceless, tell_racy, tell_run,
-    tell_table, tell_whole,
+use crate::asked::{SearchRequest, SearchedCall, jobs_of};
+use crate::found::{
+    FoundRun, behind_of, keep_found, keep_made, keep_raced, kept_if_found, kept_of,
 };
-use report_command::Search;
-use report_jobs::{Trouble, args_of, request_of};
-use report_json::FoundAs;
-use report_searches::{
-    FirstLook, FoundRun, Raced, SearchRequest, behind_of, first_look, jobs_of, keep_found,
-    keep_made, keep_raced, keep_run, kept_if_found, kept_of, kept_race, no_memory, raced_of,
-    status_of_none, whole_of,
-};
-use search_finds::{EndingTable, Halt, Hears, SearchResult, first_found, first_judged};
+use crate::lines::LinesTeller;
+use crate::objects::ObjectTeller;
+use crate::raced::{Raced, kept_race, raced_of};
+use crate::table::{DrawnTable, NoneFound, status_of_none};
+use crate::telling::{Conclusion, News, Teller, ToldSearch};
+use crate::whole::{FirstLook, first_look, whole_of};
+use report_command::Form;
+use report_jobs::{Streams, Trouble, args_of, keep, request_of};
+use report_json::{FoundAs, RunRaces};
+use search_finds::{Halt, Hears, SearchResult, first_found, first_judged};
 use search_modules::Hands;
 use search_races::RaceJudge;
-use spawn_host::Request;
 use std::alloc::Global;
 use std::io::Write;
 use std::thread::Threads;
-use validate_module::ValidModule;
 
-/// What goes through every order of entries: so many threads, as is asked for, with so many states at most.
+/// What goes through every order of entries: so many threads as are asked for, and depth first one alone, with so many states
+/// at most.
 #[derive(Drop)]
 struct Orders<'a, R> {
     hands: Hands<'a, R>,
-    asked: SearchRequest<'a>,
     most: u32,
-}
-
-/// So many threads as a search asks for; depth first goes one alone.
-fn hands_of<'r, R: Threads>(rt: &'r R, search: &Search) -> Hands<'r, R> {
-    if search.deep {
-        return Hands { rt, jobs: 1 };
-    }
-    Hands {
-        rt,
-        jobs: jobs_of(rt, search),
-    }
 }
 
 /// The race that a first look at all runs found, if it found one, once it is told, and the record of it kept, where one is
 /// wanted.
-fn race_told<'a, W: Write, S: Write>(
+fn race_told<'a, T: Teller, W: Write, S: Write>(
     alloc: Global,
-    request: &'a Request,
-    asked: SearchRequest<'a>,
+    teller: &T,
+    call: SearchedCall<'a>,
     look: &FirstLook,
     out: &mut W,
     save: &mut S,
 ) -> Result<Raced<'a, 'a>, Trouble>
     ensures raced { IfOk result
-        (IsRacedOf request.now asked.entry.search.now (racing_in look.now)) }
-    ensures tells { IfOk result (λ raced. InLines asked.entry.search.now.form (changed W.contents out.old out.new)
-        (SaysRaced request.now.parts raced)) }
+        (IsRacedOf call.entry.request.now call.entry.search.now (racing_in look.now)) }
+    ensures tells { IfOk result (λ raced. InLines T.form (changed W.contents out.old out.new)
+        (SaysRaced call.entry.request.now.parts raced)) }
     ensures kept { IfOk result
-        (λ raced. KeepsRaced asked.entry.search.now raced (changed S.contents save.old save.new)) }
-    ensures unkept { keeps_race asked.entry.search.now ≡ false → Stays save.old save.new }
-    ensures unwanted { is_some asked.entry.search.now.save ≡ false → Stays save.old save.new }
+        (λ raced. KeepsRaced call.entry.search.now raced (changed S.contents save.old save.new)) }
+    ensures unkept { keeps_race call.entry.search.now ≡ false → Stays save.old save.new }
+    ensures unwanted { is_some call.entry.search.now.save ≡ false → Stays save.old save.new }
     ensures trouble { IfErr result IsOfSystem }
 {
-    let raced = raced_of(alloc, request, asked, look)?;
-    tell_raced(alloc, asked.search.form, &raced, out)?;
-    keep_raced(asked.search, &raced, save)?;
+    let raced = raced_of(alloc, call, look)?;
+    teller.tell(alloc, News::Race(&raced), out)?;
+    keep_raced(call.search, &raced, save)?;
     Ok(raced)
-}
-
-/// Tells the rest of what was found in every order, and keeps the record of it, where one is wanted.
-fn end_orders<W: Write, S: Write>(
-    alloc: Global,
-    search: &Search,
-    told: ToldSearch,
-    out: &mut W,
-    save: &mut S,
-) -> Result<(), Trouble>
-    requires { CanTell told.raced.now }
-    ensures tells { (m : Parts) → IsRacedIn m told.entry.raced.now
-        → IfOk result (λ _. EndsAll search.now.form m told.entry (changed W.contents out.old out.new)) }
-    ensures kept { IfOk result
-        (λ _. KeepsFound search.now told.entry.kept.now (changed S.contents save.old save.new)) }
-    ensures unwanted { is_some search.now.save ≡ false → Stays save.old save.new }
-    ensures trouble { IfErr result IsOfSystem }
-{
-    tell_all(alloc, search.form, told, out)?;
-    keep_found(search, told.kept, save)?;
-    Ok(())
 }
 
 /// Goes through all runs of a call: where no threads race by the orders that matter then, and else through every order
 /// of their entries. Tells a race that it found, the endings, whether these are all, what is known of races, what never
 /// ends, and what was found; and keeps the record of that, where one is wanted. Answers the status.
-fn search_orders<R: Threads + Sync, F: Hears, W: Write, S: Write>(
+fn search_orders<T: Teller, R: Threads + Sync, W: Write, E, S: Write, F: Hears>(
     alloc: Global,
-    request: &Request,
+    teller: &T,
+    call: SearchedCall,
     orders: &Orders<R>,
+    streams: &mut Streams<W, E, S>,
     follower: &mut F,
-    out: &mut W,
-    save: &mut S,
 ) -> Result<u8, Trouble>
-    requires asked { IsAskedBy orders.now.asked.search.now.call request.now }
-    requires every_order { orders.now.asked.search.now.all ≡ Some orders.now.most }
-    ensures finds { IfOk result
-        (Finds request.now.parts orders.now.asked.search.now (changed S.contents save.old save.new)) }
-    ensures tells { IfOk result
-        (TellsAll request.now.parts orders.now.asked.search.now orders.now.most (changed W.contents out.old out.new)
-        (changed S.contents save.old save.new)) }
-    ensures well { IfOk result (IsWellAt request.now.parts orders.now.asked.search.now) }
-    ensures unwanted { is_some orders.now.asked.search.now.save ≡ false → Stays save.old save.new }
+    requires form { T.form ≡ call.search.now.form }
+    requires asked { IsAskedBy call.search.now.call call.request.now }
+    requires every_order { call.search.now.all ≡ Some orders.now.most }
+    ensures finds { IfOk result (Finds call.entry.request.now.parts call.entry.search.now
+        (changed S.contents streams.old.save streams.new.save)) }
+    ensures tells { IfOk result (TellsAll call.entry.request.now.parts call.entry.search.now orders.now.most
+        (changed W.contents streams.old.out streams.new.out) (changed S.contents streams.old.save streams.new.save)) }
+    ensures well { IfOk result (IsWellAt call.entry.request.now.parts call.entry.search.now) }
+    ensures others { LeavesOthers call.entry.search.now streams.old streams.new }
     ensures trouble { IfErr result IsOfSystem }
 {
-    let Orders { hands, asked, most } = orders;
-    let search = asked.search;
-    let look = first_look(alloc, request, hands, search, *most, follower)?;
+    let Streams { out, save, .. } = streams;
+    let Orders { hands, most } = orders;
+    let search = call.search;
+    let look = first_look(alloc, call, hands, *most, follower)?;
     follower.end();
-    let raced = race_told(alloc, request, *asked, &look, out, save)?;
-    let whole = whole_of(alloc, request, search, *most, look, follower)?;
+    let raced = race_told(alloc, teller, call, &look, out, save)?;
+    let whole = whole_of(alloc, call, *most, look, follower)?;
     follower.end();
-    tell_whole(search.form, &whole, *most, out)?;
-    let behind = behind_of(alloc, request, search, &whole)?;
-    tell_if_found(search.form, &behind.found, out)?;
-    let kept = kept_if_found(alloc, request, search, behind.found, follower)?;
+    teller.tell(alloc, News::Orders(&whole, *most), out)?;
+    let behind = behind_of(alloc, call, &whole)?;
+    teller.tell(alloc, News::Behind(&behind.found), out)?;
+    let kept = kept_if_found(alloc, call, behind.found, follower)?;
     let told = ToldSearch {
         whole: &whole,
         raced: &raced,
@@ -146,204 +109,214 @@ fn search_orders<R: Threads + Sync, F: Hears, W: Write, S: Write>(
         status: behind.status,
         dump: search.sought.dump,
     };
-    end_orders(alloc, search, told, out, save)?;
+    teller.conclude(alloc, Conclusion::Orders(told), out)?;
+    keep_found(search, &kept, save)?;
     Ok(behind.status)
 }
 
 /// Tells that none of drawn runs was found, and answers the status: 0 where all is well, and else 1.
-fn end_without<W: Write>(
+fn end_without<T: Teller, W: Write>(
     alloc: Global,
-    search: &Search,
-    table: &EndingTable,
-    is_told: bool,
+    teller: &T,
+    drawn: DrawnTable,
+    races: Option<RunRaces<'static>>,
+    halt: &Halt,
     out: &mut W,
 ) -> Result<u8, Trouble>
-    requires { cut_in table.now ≤ table.now.runs }
-    ensures tells { IfOk result (λ status. EndsNone search.now.form search.now.sought table.now is_told None
-        (behind_text is_told search.now.sought table.now) status (changed W.contents out.old out.new)) }
-    ensures status { IfOk result (IsStatusOfTable search.now.sought table.now) }
+    requires { cut_in drawn.table.now ≤ drawn.table.now.runs }
+    ensures tells { IfOk result (λ status. TellsNoneFound T.form drawn.entry races.entry halt.now status
+        (changed W.contents out.old out.new)) }
+    ensures status { IfOk result (IsStatusOfTable drawn.entry.sought.now drawn.entry.table.now) }
     ensures trouble { IfErr result IsOfSystem }
 {
-    let sought = &search.sought;
-    let status = status_of_none(alloc, sought, table)?;
-    tell_none(alloc, search.form, sought, table, is_told, status, out)?;
+    let status = status_of_none(alloc, drawn)?;
+    let none = NoneFound {
+        races,
+        is_told: matches!(halt, Halt::Told),
+        status,
+    };
+    teller.conclude(alloc, Conclusion::None(drawn, none), out)?;
     Ok(status)
 }
 
 /// Makes the runs that a search asks for, tells the table of their endings, and the run that was found, or that none was;
 /// and keeps the record of what was found, where one is wanted. Answers the status: 1 where a run was found or an ending
 /// has a trap or a stop, and else 0.
-fn search_for_endings<R: Threads + Sync, F: Hears, W: Write, S: Write>(
+fn search_for_endings<T: Teller, R: Threads + Sync, W: Write, E, S: Write, F: Hears>(
     rt: &R,
     alloc: Global,
-    request: &Request,
-    search: &Search,
+    teller: &T,
+    call: SearchedCall,
+    streams: &mut Streams<W, E, S>,
     follower: &mut F,
-    out: &mut W,
-    save: &mut S,
 ) -> Result<u8, Trouble>
-    requires range { IsSearchInRange search.now }
-    requires asked { IsAskedBy search.now.call request.now }
-    ensures finds { IfOk result (Finds request.now.parts search.now (changed S.contents save.old save.new)) }
-    ensures tells { IfOk result (TellsDrawn request.now.parts search.now
-        (changed W.contents out.old out.new) (changed S.contents save.old save.new)) }
-    ensures unwanted { is_some search.now.save ≡ false → Stays save.old save.new }
+    requires form { T.form ≡ call.search.now.form }
+    requires range { IsSearchInRange call.search.now }
+    requires asked { IsAskedBy call.search.now.call call.request.now }
+    ensures finds { IfOk result (Finds call.entry.request.now.parts call.entry.search.now
+        (changed S.contents streams.old.save streams.new.save)) }
+    ensures tells { IfOk result (TellsDrawn call.entry.request.now.parts call.entry.search.now
+        (changed W.contents streams.old.out streams.new.out) (changed S.contents streams.old.save streams.new.save)) }
+    ensures others { LeavesOthers call.entry.search.now streams.old streams.new }
     ensures trouble { IfErr result IsOfSystem }
 {
+    let Streams { out, save, .. } = streams;
+    let SearchedCall {
+        request,
+        search,
+        ..
+    } = call;
     let sought = &search.sought;
     let jobs = jobs_of(rt, search);
     let searched = match first_found(rt, alloc, request, sought, jobs, follower) {
         Ok(searched) => searched,
-        Err(fault) => return Err(no_memory(fault)),
+        Err(_) => return Err(Trouble::NoMemory),
     };
     let SearchResult { table, halt } = searched;
     follower.end();
-    tell_table(search.form, sought, &table, out)?;
+    let drawn = DrawnTable {
+        sought,
+        table: &table,
+    };
+    teller.tell(alloc, News::Table(drawn), out)?;
     match halt {
         Halt::Found(found) => {
-            tell_run(search.form, found.run, out)?;
+            teller.tell(alloc, News::Run(found.run), out)?;
             let run = FoundRun {
                 found_as: FoundAs::Run(found.run),
                 made: Some(found.made),
             };
-            let kept = kept_of(alloc, request, search, run, follower)?;
-            tell_kept(alloc, search.form, sought, &table, &kept, out)?;
+            let kept = kept_of(alloc, call, run, follower)?;
+            teller.conclude(alloc, Conclusion::Last(drawn, &kept), out)?;
             keep_made(search, &kept.made, save)?;
             Ok(1)
         }
-        Halt::AllMade => end_without(alloc, search, &table, false, out),
-        Halt::Told => end_without(alloc, search, &table, true, out),
+        halt => end_without(alloc, teller, drawn, None, &halt, out),
     }
 }
 
-/// Tells that none of drawn runs has a race, and answers the status, as `end_without`.
-fn end_raceless<W: Write>(
-    alloc: Global,
-    search: &Search,
-    table: &EndingTable,
-    is_told: bool,
-    out: &mut W,
-) -> Result<u8, Trouble>
-    requires { cut_in table.now ≤ table.now.runs }
-    ensures tells { IfOk result (λ status. EndsNone search.now.form search.now.sought table.now is_told (Some said.Unknown)
-        (raceless_text is_told search.now.sought table.now) status (changed W.contents out.old out.new)) }
-    ensures status { IfOk result (IsStatusOfTable search.now.sought table.now) }
-    ensures trouble { IfErr result IsOfSystem }
-{
-    let sought = &search.sought;
-    let status = status_of_none(alloc, sought, table)?;
-    tell_raceless(alloc, search.form, sought, table, is_told, status, out)?;
-    Ok(status)
-}
-
 /// The same up to the first run with a race: tells that and its race, or that none has one.
-fn search_for_races<R: Threads + Sync, F: Hears, W: Write, S: Write>(
+fn search_for_races<T: Teller, R: Threads + Sync, W: Write, E, S: Write, F: Hears>(
     rt: &R,
     alloc: Global,
-    request: &Request,
-    asked: SearchRequest,
+    teller: &T,
+    call: SearchedCall,
+    streams: &mut Streams<W, E, S>,
     follower: &mut F,
-    out: &mut W,
-    save: &mut S,
 ) -> Result<u8, Trouble>
-    requires range { IsSearchInRange asked.search.now }
-    requires asked { IsAskedBy asked.search.now.call request.now }
-    requires races { asked.search.now.races ≡ true }
-    ensures finds { IfOk result
-        (Finds request.now.parts asked.entry.search.now (changed S.contents save.old save.new)) }
-    ensures tells { IfOk result (TellsDrawnRaces request.now.parts asked.entry.search.now
-        (changed W.contents out.old out.new) (changed S.contents save.old save.new)) }
-    ensures unwanted { is_some asked.entry.search.now.save ≡ false → Stays save.old save.new }
+    requires form { T.form ≡ call.search.now.form }
+    requires range { IsSearchInRange call.search.now }
+    requires asked { IsAskedBy call.search.now.call call.request.now }
+    requires races { call.search.now.races ≡ true }
+    ensures finds { IfOk result (Finds call.entry.request.now.parts call.entry.search.now
+        (changed S.contents streams.old.save streams.new.save)) }
+    ensures tells { IfOk result (TellsDrawnRaces call.entry.request.now.parts call.entry.search.now
+        (changed W.contents streams.old.out streams.new.out) (changed S.contents streams.old.save streams.new.save)) }
+    ensures others { LeavesOthers call.entry.search.now streams.old streams.new }
     ensures trouble { IfErr result IsOfSystem }
 {
-    let search = asked.search;
+    let Streams { out, save, .. } = streams;
+    let SearchedCall {
+        request,
+        search,
+        ..
+    } = call;
     let sought = &search.sought;
     let jobs = jobs_of(rt, search);
     let searched = match first_judged(rt, alloc, request, sought, &RaceJudge, jobs, follower) {
         Ok(searched) => searched,
-        Err(fault) => return Err(no_memory(fault)),
+        Err(_) => return Err(Trouble::NoMemory),
     };
     let SearchResult { table, halt } = searched;
     follower.end();
-    tell_table(search.form, sought, &table, out)?;
+    let drawn = DrawnTable {
+        sought,
+        table: &table,
+    };
+    teller.tell(alloc, News::Table(drawn), out)?;
     match halt {
         Halt::Found(found) => {
-            tell_run(search.form, found.run, out)?;
-            let kept = kept_race(alloc, request, asked, found, follower)?;
-            tell_racy(alloc, search.form, sought, &table, &kept, out)?;
-            keep_run(search, &kept.racy.made, save)?;
+            teller.tell(alloc, News::Run(found.run), out)?;
+            let kept = kept_race(alloc, call, found, follower)?;
+            teller.conclude(alloc, Conclusion::Racy(drawn, &kept), out)?;
+            keep(&kept.racy.made.record, search.save.is_some(), save)?;
             Ok(1)
         }
-        Halt::AllMade => end_raceless(alloc, search, &table, false, out),
-        Halt::Told => end_raceless(alloc, search, &table, true, out),
+        halt => {
+            let races = Some(RunRaces::Unknown);
+            end_without(alloc, teller, drawn, races, &halt, out)
+        }
     }
 }
 
-/// Searches through drawn runs: for one with a race, where that is asked for, or for one that ends so.
-fn search_runs<R: Threads + Sync, F: Hears, W: Write, S: Write>(
+/// Searches through runs of a call that can be made: through every order of entries, or through drawn runs for one with a
+/// race, where that is asked for, or for one that ends so.
+fn search_call<T: Teller, R: Threads + Sync, W: Write, E, S: Write, F: Hears>(
     rt: &R,
     alloc: Global,
-    request: &Request,
-    asked: SearchRequest,
+    teller: &T,
+    call: SearchedCall,
+    streams: &mut Streams<W, E, S>,
     follower: &mut F,
-    out: &mut W,
-    save: &mut S,
 ) -> Result<u8, Trouble>
-    requires range { IsSearchInRange asked.search.now }
-    requires asked { IsAskedBy asked.search.now.call request.now }
-    ensures finds { IfOk result
-        (Finds request.now.parts asked.entry.search.now (changed S.contents save.old save.new)) }
-    ensures prints { asked.entry.search.now.races ≡ false
-        → IfOk result (TellsDrawn request.now.parts asked.entry.search.now
-        (changed W.contents out.old out.new) (changed S.contents save.old save.new)) }
-    ensures races { asked.entry.search.now.races ≡ true
-        → IfOk result (TellsDrawnRaces request.now.parts asked.entry.search.now
-        (changed W.contents out.old out.new) (changed S.contents save.old save.new)) }
-    ensures unwanted { is_some asked.entry.search.now.save ≡ false → Stays save.old save.new }
+    requires form { T.form ≡ call.search.now.form }
+    requires range { IsSearchInRange call.search.now }
+    requires asked { IsAskedBy call.search.now.call call.request.now }
+    ensures searched { IfOk result (IsSearched call.entry.request.now.parts call.entry.search.now
+        (changed W.contents streams.old.out streams.new.out) (changed S.contents streams.old.save streams.new.save)) }
+    ensures others { LeavesOthers call.entry.search.now streams.old streams.new }
     ensures trouble { IfErr result IsOfSystem }
 {
-    if asked.search.races {
-        return search_for_races(rt, alloc, request, asked, follower, out, save);
+    let search = call.search;
+    match search.all {
+        Some(most) => {
+            let jobs = if search.deep { 1 } else { jobs_of(rt, search) };
+            let orders = Orders {
+                hands: Hands { rt, jobs },
+                most,
+            };
+            search_orders(alloc, teller, call, &orders, streams, follower)
+        }
+        None => {
+            if search.races {
+                return search_for_races(rt, alloc, teller, call, streams, follower);
+            }
+            search_for_endings(rt, alloc, teller, call, streams, follower)
+        }
     }
-    search_for_endings(rt, alloc, request, asked.search, follower, out, save)
 }
 
 /// Searches as is asked for: through drawn runs, or through every order of entries; and prints lines or an object.
 /// Answers the status.
-pub fn search_module<R: Threads + Sync, F: Hears, W: Write, S: Write>(
+pub fn search_module<R: Threads + Sync, W: Write, E, S: Write, F: Hears>(
     rt: &R,
     alloc: Global,
-    module: &ValidModule,
     asked: SearchRequest,
+    streams: &mut Streams<W, E, S>,
     follower: &mut F,
-    out: &mut W,
-    save: &mut S,
 ) -> Result<u8, Trouble>
     requires { IsSearchInRange asked.search.now }
-    ensures finds { IfOk result (Finds «module».now.parts asked.entry.search.now (changed S.contents save.old save.new)) }
-    ensures well { IfOk result (IsWellAt «module».now.parts asked.entry.search.now) }
-    ensures drawn { IfOk result (IsDrawn «module».now.parts asked.entry.search.now (changed W.contents out.old out.new)
-        (changed S.contents save.old save.new)) }
-    ensures drawn_races { IfOk result (IsDrawnForRaces «module».now.parts asked.entry.search.now
-        (changed W.contents out.old out.new) (changed S.contents save.old save.new)) }
-    ensures prints { IfOk result (IsPrintedOf «module».now.parts asked.entry.search.now (changed W.contents out.old out.new)
-        (changed S.contents save.old save.new)) }
-    ensures trouble { IfErr result (IsTroubleOf «module».now.parts asked.entry.search.now.call) }
-    ensures silent { IfErr result (λ e. IfRefusedCall e (Stays out.old out.new × Stays save.old save.new)) }
-    ensures unwanted { is_some asked.entry.search.now.save ≡ false → Stays save.old save.new }
+    ensures searched { IfOk result (IsSearched asked.entry.«module».now.parts asked.entry.search.now
+        (changed W.contents streams.old.out streams.new.out) (changed S.contents streams.old.save streams.new.save)) }
+    ensures trouble { IfErr result (IsTroubleOf asked.entry.«module».now.parts asked.entry.search.now.call) }
+    ensures silent { IfErr result (λ e. IfRefusedCall e
+        (Stays streams.old.out streams.new.out × Stays streams.old.save streams.new.save)) }
+    ensures others { LeavesOthers asked.entry.search.now streams.old streams.new }
 {
-    let search = asked.search;
+    let SearchRequest {
+        module,
+        code,
+        search,
+    } = asked;
     let args = args_of(alloc, module, &search.call)?;
     let request = request_of(module, &search.call, &args);
-    match search.all {
-        Some(most) => {
-            let orders = Orders {
-                hands: hands_of(rt, search),
-                asked,
-                most,
-            };
-            search_orders(alloc, &request, &orders, follower, out, save)
-        }
-        None => search_runs(rt, alloc, &request, asked, follower, out, save),
+    let call = SearchedCall {
+        request: &request,
+        code,
+        search,
+    };
+    match search.form {
+        Form::Lines => search_call(rt, alloc, &LinesTeller, call, streams, follower),
+        Form::Json => search_call(rt, alloc, &ObjectTeller, call, streams, follower),
     }
 }

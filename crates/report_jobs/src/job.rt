@@ -11,7 +11,7 @@ ghost use Rattle.report_jobs.specs.Undone.{ended_status, undone_status};
 ghost use Rattle.report_jobs.specs.Why.{RefusesModule, RefusesRecord};
 
 use crate::loading::{ModuleRefusal, load, load_checked, load_over};
-use crate::replaying::{Unreplayed, replay_record};
+use crate::replaying::{LoadedModule, Unreplayed, replay_record};
 use crate::running::print_run;
 use crate::streams::Streams;
 use crate::undone::{Done, Failed, Undone, of_refusal, of_trouble, of_unfit, of_unready};
@@ -198,7 +198,11 @@ pub fn replay_saved<W: Write, E: Write>(
         Ok(valid) => valid,
         Err(refusal) => return Err(of_refusal(refusal)),
     };
-    match replay_record(alloc, &valid, module, saved, look, out, err) {
+    let loaded = LoadedModule {
+        valid: &valid,
+        bytes: module,
+    };
+    match replay_record(alloc, loaded, saved, look, out, err) {
         Ok(done) => Ok(done),
         Err(Unreplayed { unfit, stood }) => Err(of_unfit(unfit, valid, stood)),
     }

@@ -82,26 +82,32 @@ impl Unreplayed {
     }
 }
 
-/// Replays the record whose text `saved` is, of the module whose text `bytes` are, and prints how its run ended. The
-/// status is 0 where all threads ended well, 1 for a trap or stop.
+/// A valid module, and the bytes of which it was read: they name its functions and the lines of its source.
+#[derive(Clone, Copy)]
+pub(crate) struct LoadedModule<'a> {
+    pub valid: &'a ValidModule,
+    pub bytes: &'a [u8],
+}
+
+/// Replays the record of a run of the module whose text `saved` is, and prints how that run ended. The status is 0 where
+/// all threads ended well, 1 for a trap or stop.
 pub(crate) fn replay_record<W: Write, E: Write>(
     alloc: Global,
-    module: &ValidModule,
-    bytes: &[u8],
+    loaded: LoadedModule,
     saved: &[u8],
     look: EndLook,
     out: &mut W,
     err: &mut E,
 ) -> Result<Done, Unreplayed>
-    ensures prints { IfOk result (λ done. PrintsReplay «module».now.parts saved.now look
+    ensures prints { IfOk result (λ done. PrintsReplay loaded.entry.valid.now.parts saved.now look
         (changed W.contents out.old out.new) (changed E.contents err.old err.new) done.status) }
-    ensures unfit { IfErr result (λ e. IsUnfit «module».now.parts saved.now e.unfit) }
+    ensures unfit { IfErr result (λ e. IsUnfit loaded.entry.valid.now.parts saved.now e.unfit) }
     ensures silent { IfErr result (λ e. LeavesOut e.unfit (Stays out.old out.new)) }
     ensures unsaid { OnErr result (Stays err.old err.new) }
 {
     match read_record(alloc, saved) {
         Ok(record) => {
-            let done = print_replay(alloc, module, bytes, &record, look, out, err);
+            let done = print_replay(alloc, loaded, &record, look, out, err);
             drop(record);
             done
         }
@@ -113,8 +119,7 @@ pub(crate) fn replay_record<W: Write, E: Write>(
 /// The same of a record that was read.
 fn print_replay<W: Write, E: Write>(
     alloc: Global,
-    module: &ValidModule,
-    bytes: &[u8],
+    loaded: LoadedModule,
     recorded: &Record,
     look: EndLook,
     out: &mut W,
@@ -122,15 +127,16 @@ fn print_replay<W: Write, E: Write>(
 ) -> Result<Done, Unreplayed>
     requires { IsRecord recorded.now }
     ensures prints { IfOk result
-        (λ done. PrintsReplayOf «module».now.parts recorded.now look (changed W.contents out.old out.new)
+        (λ done. PrintsReplayOf loaded.entry.valid.now.parts recorded.now look (changed W.contents out.old out.new)
         (changed E.contents err.old err.new) done.status) }
-    ensures unfit { IfErr result (λ e. IsUnfitTextOf «module».now.parts recorded.now e.unfit) }
+    ensures unfit { IfErr result (λ e. IsUnfitTextOf loaded.entry.valid.now.parts recorded.now e.unfit) }
     ensures silent { IfErr result (λ e. LeavesOut e.unfit (Stays out.old out.new)) }
     ensures unsaid { OnErr result (Stays err.old err.new) }
 {
     let frames = Frames::new(alloc);
+    let LoadedModule { valid, bytes } = loaded;
     let whence = Whence {
-        parts: module.parts(),
+        parts: valid.parts(),
         bytes,
         frames: &frames,
     };
@@ -141,7 +147,7 @@ fn print_replay<W: Write, E: Write>(
     };
     let next = NextStood::new(log);
     let mut seen = TrapsAndNext { traps, next };
-    match replay_watched(alloc, module, recorded, &mut seen) {
+    match replay_watched(alloc, valid, recorded, &mut seen) {
         Ok(end) => match print_end(alloc, out, err, &end, look, whence) {
             Ok(done) => Ok(done),
             Err(unwritten) => Err(Unreplayed::alone(unprinted(unwritten))),

@@ -221,13 +221,7 @@ where
 {
     let mut gate = whence.frames;
     let end = run_request_on_words(rt, alloc, request, &mut gate)?;
-    let Streams {
-        out,
-        err,
-        memory,
-        ..
-    } = streams;
-    let done = print_and_write(alloc, &end, job, whence, out, err, memory);
+    let done = print_and_write(alloc, &end, job, whence, streams);
     drop(end);
     done
 }
@@ -284,14 +278,8 @@ fn print_and_keep<W: Write, E: Write, S: Write>(
     ensures unwanted { is_some job.now.save ≡ false → Stays streams.old.save streams.new.save }
     ensures no_memory { is_some job.now.memory_out ≡ false → Stays streams.old.memory streams.new.memory }
 {
-    let Streams {
-        out,
-        err,
-        save,
-        memory,
-    } = streams;
-    let done = print_and_write(alloc, end, job, whence, out, err, memory)?;
-    keep(recorded, job.save.is_some(), save)?;
+    let done = print_and_write(alloc, end, job, whence, streams)?;
+    keep(recorded, job.save.is_some(), &mut streams.save)?;
     Ok(done)
 }
 
@@ -301,17 +289,24 @@ fn print_and_write<W: Write, E: Write, S: Write>(
     end: &EndState,
     job: &RunJob,
     whence: Whence,
-    out: &mut W,
-    err: &mut E,
-    memory: &mut S,
+    streams: &mut Streams<W, E, S>,
 ) -> Result<Done, Trouble>
-    ensures made { IfOk result (λ done. PrintsAll job.now end.now (changed W.contents out.old out.new)
-        (changed E.contents err.old err.new) (changed S.contents memory.old memory.new) done.status) }
+    ensures made { IfOk result (λ done. PrintsAll job.now end.now
+        (changed W.contents streams.old.out streams.new.out) (changed E.contents streams.old.err streams.new.err)
+        (changed S.contents streams.old.memory streams.new.memory) done.status) }
     ensures trouble { IfErr result IsUnwritten }
-    ensures silent { IfErr result
-        (λ e. Leaves e (Stays out.old out.new × Stays err.old err.new) (Stays memory.old memory.new)) }
-    ensures no_memory { is_some job.now.memory_out ≡ false → Stays memory.old memory.new }
+    ensures silent { IfErr result (λ e. Leaves e
+        (Stays streams.old.out streams.new.out × Stays streams.old.err streams.new.err)
+        (Stays streams.old.memory streams.new.memory)) }
+    ensures unrecorded { Stays streams.old.save streams.new.save }
+    ensures no_memory { is_some job.now.memory_out ≡ false → Stays streams.old.memory streams.new.memory }
 {
+    let Streams {
+        out,
+        err,
+        memory,
+        ..
+    } = streams;
     let done = match print_end(alloc, out, err, end, job.look, whence) {
         Ok(done) => done,
         Err(unwritten) => return Err(unprinted(unwritten)),

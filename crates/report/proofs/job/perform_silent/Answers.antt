@@ -10,7 +10,7 @@ perform_plain-requires-clause-plain g c κs within =
 pub returns-in_default-clause-performs : goal.returns-in_default-clause-performs
 returns-in_default-clause-performs g c =
     let job = c.args.job.now in
-    performs job c.args.module.now c.args.saved.now
+    performs job c.args.bytes.«module».now c.args.bytes.saved.now
     (written g.W.Write.contents g.E.Write.contents g.S.Write.contents c.args.streams.now c.perform_plain.new.streams)
     (ended_status c.perform_plain.result)
     (is_plain job c.in_default.not-Show c.in_default.not-Races c.in_default.not-Search) c.perform_plain.ensures.performs

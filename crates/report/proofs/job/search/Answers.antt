@@ -8,17 +8,17 @@ use Rattle.report.proofs.job.search.Goals as goal
 
 pub returns-in-Err-clause-refused : goal.returns-in-Err-clause-refused
 returns-in-Err-clause-refused g c =
-    subst (λ (why : Undone). undone_status why ≡ 2 → IsNoValidModule c.args.module.now) (sym c.of_refusal.ensures)
-    (no_module c.args.module.now c.in-Err.refusal c.in-Err.ensures.err)
+    subst (λ (why : Undone). undone_status why ≡ 2 → IsNoValidModule c.args.code.«module».now) (sym c.of_refusal.ensures)
+    (no_module c.args.code.«module».now c.in-Err.refusal c.in-Err.ensures.err)
 
 pub returns-clause-cannot : goal.returns-clause-cannot
 returns-clause-cannot g c =
     let call = c.args.asked.now.call in
     let v = c.in-Ok.valid in
-    let t = c.in-Err-searched.trouble in
-    subst (λ (why : Undone). undone_status why ≡ 3 → HasNoSuchCall c.args.module.now call) (sym c.of_trouble.ensures) λ three. record {
+    let t = c.in-Err-search_module.trouble in
+    subst (λ (why : Undone). undone_status why ≡ 3 → HasNoSuchCall c.args.code.«module».now call) (sym c.of_trouble.ensures) λ three. record {
       parts = v.parts;
       text = c.in-Ok.ensures.ok.0;
       valid = c.in-Ok.ensures.ok.1.valid;
-      cannot = trouble_cannot v _ _ v.parts call.invoke.now (texts_in call.args.items) t c.in-Err-searched.ensures.trouble three;
+      cannot = trouble_cannot v _ _ v.parts call.invoke.now (texts_in call.args.items) t c.in-Err-search_module.ensures.trouble three;
     }

@@ -2,9 +2,9 @@ use Rattle.std.proofs.Common.{sym, subst}
 use Rattle.std.proofs.lemmas.Result.{IfOk-weaker}
 use Rattle.report_json.specs.declared.raced.RunRaces.TheVariants as said
 use Rattle.report_jobs.specs.Prints.{changed}
-use Rattle.report_searches.specs.Racing.{IsRacedIn}
-use Rattle.report_searches.specs.declared.raced.Raced.{Raced}
-use Rattle.report_searches.specs.declared.raced.Raced.TheVariants as raceds
+use Rattle.report.specs.Racing.{IsRacedIn}
+use Rattle.report.specs.declared.raced.Raced.{Raced}
+use Rattle.report.specs.declared.raced.Raced.TheVariants as raceds
 use Rattle.report.specs.SearchObjects.{WritesTold, WritesWith}
 use Rattle.std.specs.Prelude.{Some, IfOk}
 use Rattle.report.proofs.objects.write_all.Goals as goal

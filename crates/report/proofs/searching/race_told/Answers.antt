@@ -1,15 +1,15 @@
-use Rattle.report_searches.proofs.Wholly.{and_none}
-use Rattle.report_searches.proofs.Pairs.{can_tell, raced_in}
+use Rattle.report.proofs.Wholly.{and_none}
+use Rattle.report.proofs.Pairs.{can_tell, raced_in}
 use Rattle.report.proofs.searching.race_told.Goals as goal
 
-pub tell_raced-requires : goal.tell_raced-requires
-tell_raced-requires g c =
-    can_tell c.args.request.now c.args.asked.search.now _ c.in_ok-raced.raced c.in_ok-raced.ensures.raced
+pub tell-requires : goal.tell-requires
+tell-requires g c =
+    can_tell c.args.call.request.now c.args.call.search.now _ c.in_ok-raced.raced c.in_ok-raced.ensures.raced
 
 pub returns-clause-tells : goal.returns-clause-tells
 returns-clause-tells g c =
-    c.in_ok-tell_raced.ensures.tells c.args.request.now.parts
-    (raced_in c.args.request.now c.args.asked.search.now _ c.in_ok-raced.raced c.in_ok-raced.ensures.raced)
+    c.in_ok-tell.ensures.tells c.args.call.request.now.parts
+    (raced_in c.args.call.request.now c.args.call.search.now _ c.in_ok-raced.raced c.in_ok-raced.ensures.raced)
 
 pub returns-clause-unwanted : goal.returns-clause-unwanted
-returns-clause-unwanted g c none = c.keep_raced.ensures.unwanted (and_none c.args.asked.search.now.races none)
+returns-clause-unwanted g c none = c.keep_raced.ensures.unwanted (and_none c.args.call.search.now.races none)

@@ -1,25 +1,22 @@
-use Rattle.std.proofs.Common.{rules, false, true, None, refl, inl, inr, true≢false}
+use Rattle.std.proofs.Common.{rules, None, refl, inl, inr, subst}
+use Rattle.report_command.specs.declared.form.Form.{Form}
 use Rattle.report_jobs.specs.Prints.{change, changed}
-use Rattle.report_searches.specs.Drawn.{behind_text}
-use Rattle.report.specs.Telling.{EndsNone}
-use Rattle.report.specs.Told.{IsStatusOfTable, TellsDrawn}
-use Rattle.report_searches.proofs.Counted.{cut_within}
-use Rattle.report_searches.proofs.Keeping.{run_is_kept}
-use Rattle.report.proofs.AllTold.{if_both, last_told, none_told}
-use Rattle.report_jobs.specs.declared.undone.Done.{Done}
+use Rattle.report.specs.Drawn.{behind_text}
+use Rattle.report.specs.Telling.{EndsNone, was_told}
+use Rattle.report.specs.Told.{IsStatusOfTable, LastIn, NoneIn, TellsDrawn}
+use Rattle.report.proofs.Counted.{cut_within}
+use Rattle.report.proofs.Keeping.{run_is_kept}
+use Rattle.report.proofs.AllTold.{all_made_by, if_both, last_told, none_told}
 use Rattle.report.proofs.searching.search_for_endings.Goals as goal
 
-pub tell_table-requires : goal.tell_table-requires
-tell_table-requires g c = cut_within c.args.request.now c.args.search.now.sought c.in-Ok.searched.table c.in-Ok.ensures.noted
+pub tell-requires : goal.tell-requires
+tell-requires g c = cut_within c.args.call.request.now c.args.call.search.now.sought c.in-Ok.searched.table c.in-Ok.ensures.noted
 
-pub tell_kept-requires : goal.tell_kept-requires
-tell_kept-requires g c = cut_within c.args.request.now c.args.search.now.sought c.in-Ok.searched.table c.in-Ok.ensures.noted
+pub conclude-requires : goal.conclude-requires
+conclude-requires g c = cut_within c.args.call.request.now c.args.call.search.now.sought c.in-Ok.searched.table c.in-Ok.ensures.noted
 
 pub end_without-requires : goal.end_without-requires
-end_without-requires g c = cut_within c.args.request.now c.args.search.now.sought c.in-Ok.searched.table c.in-Ok.ensures.noted
-
-pub end_without-requires-in-Told : goal.end_without-requires-in-Told
-end_without-requires-in-Told g c = cut_within c.args.request.now c.args.search.now.sought c.in-Ok.searched.table c.in-Ok.ensures.noted
+end_without-requires g c = cut_within c.args.call.request.now c.args.call.search.now.sought c.in-Ok.searched.table c.in-Ok.ensures.noted
 
 pub kept_of-requires : goal.kept_of-requires
 kept_of-requires g c = let found = rw c.in-Found.is at c.in-Ok.ensures.found in (search rules, found.0)
@@ -27,18 +24,18 @@ kept_of-requires g c = let found = rw c.in-Found.is at c.in-Ok.ensures.found in 
 pub returns-in-Found-clause-finds : goal.returns-in-Found-clause-finds
 returns-in-Found-clause-finds g c =
     let found = rw c.in-Found.is at c.in-Ok.ensures.found in
-    let save = changed g.S.Write.contents c.args.save.now c.keep_made.new.save in
+    let save = changed g.S.Write.contents c.args.streams.now.save c.keep_made.new.save in
     inr (inl (
       refl,
-      inl (run_is_kept c.args.request.now c.args.search.now c.requires.asked save c.in-Found.found.made c.in_ok-kept-in-Found.kept found.1
+      inl (run_is_kept c.args.call.request.now c.args.call.search.now c.requires.asked save c.in-Found.found.made c.in_ok-kept-in-Found.kept found.1
           c.in_ok-kept-in-Found.ensures.kept.kept c.in_ok-keep_made-in-Found.ensures.kept),
     ))
 
 pub returns-in-Found-clause-tells : goal.returns-in-Found-clause-tells
 returns-in-Found-clause-tells g c =
     let contents = g.W.Write.contents in
-    let q = c.args.request.now in
-    let s = c.args.search.now in
+    let q = c.args.call.request.now in
+    let s = c.args.call.search.now in
     let table = c.in-Ok.searched.table in
     let found = rw c.in-Found.is at c.in-Ok.ensures.found in
     let run = c.in-Found.found.run in
@@ -59,74 +56,45 @@ returns-in-Found-clause-tells g c =
           sought = found.1;
           k = k;
           is_kept = c.in_ok-kept-in-Found.ensures.kept;
-          tells = last_told s.form s table run k (contents c.args.out.now) (contents c.tell_table.new.out) (contents c.tell_run.new.out)
-              (contents c.tell_kept.new.out) c.in_ok-tell_table.ensures.tells c.in_ok-tell_run-in-Found.ensures.tells
-              c.in_ok-tell_kept-in-Found.ensures.tells;
+          tells = subst (λ (form : Form). LastIn form s table run k _) c.requires.form (last_told g.T.Teller.form s table run k
+              (contents c.args.streams.now.out) (contents c.tell.new.out) (contents c.tell-2.new.out) (contents c.conclude.new.out)
+              (c.in_ok-tell.ensures.tells q.parts tt) (c.in_ok-tell-2-in-Found.ensures.tells q.parts tt)
+              (c.in_ok-conclude-in-Found.ensures.tells q.parts tt));
           kept = c.in_ok-keep_made-in-Found.ensures.kept;
         },
       );
     }
 
-pub returns-in-AllMade-clause-tells : goal.returns-in-AllMade-clause-tells
-returns-in-AllMade-clause-tells g c =
+pub returns-in_default-clause-tells : goal.returns-in_default-clause-tells
+returns-in_default-clause-tells g c =
     let contents = g.W.Write.contents in
-    let q = c.args.request.now in
-    let s = c.args.search.now in
+    let form = g.T.Teller.form in
+    let q = c.args.call.request.now in
+    let s = c.args.call.search.now in
     let table = c.in-Ok.searched.table in
-    let before = contents c.args.out.now in
-    let headed = contents c.tell_table.new.out in
+    let halt = c.in-Ok.searched.halt in
+    let is_told = was_told halt in
+    let text = behind_text is_told s.sought table in
+    let before = contents c.args.streams.now.out in
+    let headed = contents c.tell.new.out in
     let after = contents c.end_without.new.out in
-    let save = changed g.S.Write.contents c.args.save.now c.args.save.now in
-    if_both c.end_without.result (λ (done : Done). EndsNone s.form s.sought table false None (behind_text false s.sought table) done.status
-    (change headed after))
-    (λ (done : Done). IsStatusOfTable s.sought table done.status)
-    (λ (done : Done). TellsDrawn q.parts s (change before after) save done.status)
-    (λ done rest is. record {
+    let save = changed g.S.Write.contents c.args.streams.now.save c.args.streams.now.save in
+    if_both c.end_without.result (λ status. EndsNone form s.sought table is_told None text status (change headed after))
+    (IsStatusOfTable s.sought table) (TellsDrawn q.parts s (change before after) save)
+    (λ status rest is. record {
       request = q;
       parts_are = refl;
       asked = c.requires.asked;
       table = table;
       noted = c.in-Ok.ensures.noted;
       says = inr (record {
-        is_told = false;
-        all_made = λ _. c.in-Ok.ensures.all_made c.in-AllMade.is;
-        none = λ _ stops. c.in-Ok.ensures.none c.in-AllMade.is stops;
-        tells = none_told s.form s.sought table false None (behind_text false s.sought table) done.status before headed after
-            c.in_ok-tell_table.ensures.tells rest;
+        is_told = is_told;
+        all_made = λ untold. c.in-Ok.ensures.all_made (all_made_by halt c.in_default.not-Found untold);
+        none = λ untold stops. c.in-Ok.ensures.none (all_made_by halt c.in_default.not-Found untold) stops;
+        tells = subst (λ (f : Form). NoneIn f s.sought table is_told None text status (change before after)) c.requires.form
+            (none_told form s.sought table is_told None text status before headed after (c.in_ok-tell.ensures.tells q.parts tt) rest);
         status_is = is;
         kept = refl;
       });
     })
     c.end_without.ensures.tells c.end_without.ensures.status
-
-pub returns-clause-tells : goal.returns-clause-tells
-returns-clause-tells g c =
-    let contents = g.W.Write.contents in
-    let q = c.args.request.now in
-    let s = c.args.search.now in
-    let table = c.in-Ok.searched.table in
-    let before = contents c.args.out.now in
-    let headed = contents c.tell_table.new.out in
-    let after = contents c.end_without-in-Told.new.out in
-    let save = changed g.S.Write.contents c.args.save.now c.args.save.now in
-    if_both c.end_without-in-Told.result (λ (done : Done). EndsNone s.form s.sought table true None (behind_text true s.sought table) done.status
-    (change headed after))
-    (λ (done : Done). IsStatusOfTable s.sought table done.status)
-    (λ (done : Done). TellsDrawn q.parts s (change before after) save done.status)
-    (λ done rest is. record {
-      request = q;
-      parts_are = refl;
-      asked = c.requires.asked;
-      table = table;
-      noted = c.in-Ok.ensures.noted;
-      says = inr (record {
-        is_told = true;
-        all_made = λ no. absurd (true≢false no);
-        none = λ no _. absurd (true≢false no);
-        tells = none_told s.form s.sought table true None (behind_text true s.sought table) done.status before headed after
-            c.in_ok-tell_table.ensures.tells rest;
-        status_is = is;
-        kept = refl;
-      });
-    })
-    c.end_without-in-Told.ensures.tells c.end_without-in-Told.ensures.status

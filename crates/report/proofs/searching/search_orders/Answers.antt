@@ -1,38 +1,40 @@
 use Rattle.std.proofs.Common.{rules, ◌≡◌, ◌∙◌, refl, sym, ap, subst}
 use Rattle.std.specs.Prelude.{is_some}
 use Rattle.std.proofs.lemmas.Result.{err_from_is_err_and}
+use Rattle.report_command.specs.declared.form.Form.{Form}
 use Rattle.report_jobs.specs.Prints.{change}
-use Rattle.report_searches.specs.Racing.{IsRacedOf}
-use Rattle.report_searches.specs.declared.whole.Racing.{Racing}
-use Rattle.report_searches.proofs.Keeping.{found_can, found_kept, quiet_by}
-use Rattle.report_searches.proofs.Pairs.{can_tell, raced_in, raced_kept}
-use Rattle.report_searches.proofs.Wholly.{finds_all, well_by}
+use Rattle.report.specs.Racing.{IsRacedOf}
+use Rattle.report.specs.declared.whole.Racing.{Racing}
+use Rattle.report.proofs.Keeping.{found_can, found_kept, quiet_by}
+use Rattle.report.proofs.Pairs.{can_tell, raced_in, raced_kept}
+use Rattle.report.proofs.Wholly.{finds_all, well_by}
+use Rattle.report.specs.Told.{AllIn}
 use Rattle.report.proofs.AllTold.{all_told}
 use Rattle.report.proofs.searching.search_orders.Goals as goal
 
-pub end_orders-requires : goal.end_orders-requires
-end_orders-requires g c =
-    can_tell c.args.request.now c.args.orders.now.asked.search.now _ c.in_ok-raced.raced c.in_ok-raced.ensures.raced
+pub conclude-requires : goal.conclude-requires
+conclude-requires g c =
+    can_tell c.args.call.request.now c.args.call.search.now _ c.in_ok-raced.raced c.in_ok-raced.ensures.raced
 
 pub kept_if_found-requires : goal.kept_if_found-requires
 kept_if_found-requires g c = (
   search rules,
-  found_can c.args.request.now c.args.orders.now.asked.search.now c.in_ok-whole.whole c.in_ok-behind.behind.found c.in_ok-behind.ensures.has,
+  found_can c.args.call.request.now c.args.call.search.now c.in_ok-whole.whole c.in_ok-behind.behind.found c.in_ok-behind.ensures.has,
 )
 
 pub returns-clause-finds : goal.returns-clause-finds
 returns-clause-finds g c =
-    let q = c.args.request.now in
-    let s = c.args.orders.now.asked.search.now in
+    let q = c.args.call.request.now in
+    let s = c.args.call.search.now in
     let saved = g.S.Write.contents in
-    let a = saved c.args.save.now in
+    let a = saved c.args.streams.now.save in
     let b = saved c.race_told.new.save in
-    let last = saved c.end_orders.new.save in
+    let last = saved c.keep_found.new.save in
     let w = c.in_ok-whole.whole in
     let behind = c.in_ok-behind.behind in
     let has = c.in_ok-behind.ensures.has in
     let is_kept = c.in_ok-kept.ensures.kept in
-    let kept = c.in_ok-end_orders.ensures.kept in
+    let kept = c.in_ok-keep_found.ensures.kept in
     let few = c.in_ok-behind.ensures.status.statuses in
     let unkept = c.race_told.ensures.unkept in
     finds_all q.parts s a b last behind.status s.races refl (λ no. ap saved (unkept no))
@@ -44,8 +46,8 @@ returns-clause-finds g c =
 
 pub returns-clause-tells : goal.returns-clause-tells
 returns-clause-tells g c =
-    let q = c.args.request.now in
-    let s = c.args.orders.now.asked.search.now in
+    let q = c.args.call.request.now in
+    let s = c.args.call.search.now in
     let saved = g.S.Write.contents in
     let contents = g.W.Write.contents in
     let w = c.in_ok-whole.whole in
@@ -68,38 +70,37 @@ returns-clause-tells g c =
       is_kept = c.in_ok-kept.ensures.kept;
       between = saved c.race_told.new.save;
       keeps_race = c.in_ok-raced.ensures.kept;
-      keeps_found = c.in_ok-end_orders.ensures.kept;
-      tells = all_told s.form q.parts _ found (contents c.args.out.now) (contents c.race_told.new.out) (contents c.tell_whole.new.out)
-          (contents c.tell_if_found.new.out) (contents c.end_orders.new.out) c.in_ok-raced.ensures.tells
-          c.in_ok-tell_whole.ensures.tells c.in_ok-tell_if_found.ensures.tells (c.in_ok-end_orders.ensures.tells q.parts race);
+      keeps_found = c.in_ok-keep_found.ensures.kept;
+      tells = subst (λ (form : Form). AllIn form q.parts _ found _) c.requires.form (all_told g.T.Teller.form q.parts _ found (contents c.args.streams.now.out) (contents c.race_told.new.out) (contents c.tell.new.out)
+          (contents c.tell-2.new.out) (contents c.conclude.new.out) c.in_ok-raced.ensures.tells
+          (c.in_ok-tell.ensures.tells q.parts tt) (c.in_ok-tell-2.ensures.tells q.parts tt) (c.in_ok-conclude.ensures.tells q.parts race));
       status_is = c.in_ok-behind.ensures.status;
     }
 
 pub returns-clause-well : goal.returns-clause-well
 returns-clause-well g c =
-    well_by c.args.request.now c.args.orders.now.asked.search.now c.requires.asked c.in_ok-whole.whole c.in_ok-whole.ensures.whole
+    well_by c.args.call.request.now c.args.call.search.now c.requires.asked c.in_ok-whole.whole c.in_ok-whole.ensures.whole
     c.in_ok-behind.behind.status c.in_ok-behind.ensures.status
 
-pub returns-clause-unwanted : goal.returns-clause-unwanted
-returns-clause-unwanted g c none =
-    c.end_orders.ensures.unwanted none ∙ c.race_told.ensures.unwanted none
+pub returns-clause-others : goal.returns-clause-others
+returns-clause-others g c = ((λ none. c.keep_found.ensures.unwanted none ∙ c.race_told.ensures.unwanted none), refl, refl)
 
 pub returns-in_err-behind-clause-trouble : goal.returns-in_err-behind-clause-trouble
 returns-in_err-behind-clause-trouble g c =
     let p = err_from_is_err_and c.from_residual-in_err-behind.result c.from_residual-in_err-behind.ensures.1 in
     rw (p.1, p.2) c.in_err-behind.ensures.trouble
 
-pub returns-in_err-tell_if_found-clause-trouble : goal.returns-in_err-tell_if_found-clause-trouble
-returns-in_err-tell_if_found-clause-trouble g c =
-    let p = err_from_is_err_and c.from_residual-in_err-tell_if_found.result c.from_residual-in_err-tell_if_found.ensures.1 in
-    rw (p.1, p.2) c.in_err-tell_if_found.ensures.trouble
+pub returns-in_err-tell-2-clause-trouble : goal.returns-in_err-tell-2-clause-trouble
+returns-in_err-tell-2-clause-trouble g c =
+    let p = err_from_is_err_and c.from_residual-in_err-tell-2.result c.from_residual-in_err-tell-2.ensures.1 in
+    rw (p.1, p.2) c.in_err-tell-2.ensures.trouble
 
 pub returns-in_err-kept-clause-trouble : goal.returns-in_err-kept-clause-trouble
 returns-in_err-kept-clause-trouble g c =
     let p = err_from_is_err_and c.from_residual-in_err-kept.result c.from_residual-in_err-kept.ensures.1 in
     rw (p.1, p.2) c.in_err-kept.ensures.trouble
 
-pub returns-in_err-end_orders-clause-trouble : goal.returns-in_err-end_orders-clause-trouble
-returns-in_err-end_orders-clause-trouble g c =
-    let p = err_from_is_err_and c.from_residual-in_err-end_orders.result c.from_residual-in_err-end_orders.ensures.1 in
-    rw (p.1, p.2) c.in_err-end_orders.ensures.trouble
+pub returns-in_err-conclude-clause-trouble : goal.returns-in_err-conclude-clause-trouble
+returns-in_err-conclude-clause-trouble g c =
+    let p = err_from_is_err_and c.from_residual-in_err-conclude.result c.from_residual-in_err-conclude.ensures.1 in
+    rw (p.1, p.2) c.in_err-conclude.ensures.trouble

@@ -17,11 +17,11 @@ returns-in-Ok-print_end-clause-prints g c = λ saved text. record {
 
 pub returns-clause-unfit : goal.returns-clause-unfit
 returns-clause-unfit g c = λ saved text.
-    c.misfit.ensures.unfit c.args.module.now.parts c.args.recorded.now saved c.requires text c.in-Err.ensures.fault c.in-Err.ensures.none
+    c.misfit.ensures.unfit c.args.loaded.valid.now.parts c.args.recorded.now saved c.requires text c.in-Err.ensures.fault c.in-Err.ensures.none
 
 pub returns-in-Ok-clause-unfit : goal.returns-in-Ok-clause-unfit
 returns-in-Ok-clause-unfit g c = λ saved text.
-    let m = c.args.module.now.parts in
+    let m = c.args.loaded.valid.now.parts in
     subst (IsUnfit m saved) (sym (c.alone.ensures ∙ c.unprinted.ensures)) (unwritten_unfit m saved c.in-Err-print_end.unwritten)
 
 pub returns-in-Ok-clause-silent : goal.returns-in-Ok-clause-silent
