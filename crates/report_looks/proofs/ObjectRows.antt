@@ -14,7 +14,7 @@ use Rattle.show_rows.specs.declared.listing.Shown.{Shown}
 use Rattle.show_rows.specs.declared.listing.Story.{Story}
 use Rattle.show_named.specs.Names.{HasData}
 use Rattle.show_named.specs.declared.data_map.DataMap.{DataMap}
-use Rattle.report_looks.specs.RaceObjects.{AddsRow, AddsRows, IsNamedRowAt, IsRowOf}
+use Rattle.report_looks.specs.RaceObjects.{AddsRows, IsNamedRowAt, IsRowOf}
 use Rattle.report_looks.proofs.RacePairs.{stands}
 use Rattle.report_looks.proofs.Zipped.{zipped_more}
 
@@ -57,9 +57,10 @@ no_rows shown map story None = ([], refl, tt, tt)
 no_rows shown map story (Some xs) = ([], refl, tt, sym (append-nil xs))
 
 pub row_more : (shown : Shown) (map : DataMap) (story : Story) (places : List ℕ) (k z : ℕ) (is_first : Bool) (a b c : Option (List ℕ)) → k < length places
-    → HasRows shown map story (take k places) is_first a b → AddsRow shown map story (get_or places k z) is_first b c
+    → HasRows shown map story (take k places) is_first a b
+    → (row : NamedRow) → IsNamedRowAt shown map story (get_or places k z) row → Appends b c (row_text is_first row)
     → HasRows shown map story (take (k + 1) places) false a c
-row_more shown map story places k z is_first a b c within (rows, first, each, before) (row, is, one) =
+row_more shown map story places k z is_first a b c within (rows, first, each, before) row is one =
     let more = row_behind rows row is_first a b c first before one in
     (rows ++ row ∷ [], more.0, zipped_more (IsNamedRowAt shown map story) places rows k z row within each is, more.1)
 

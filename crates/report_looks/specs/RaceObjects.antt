@@ -11,7 +11,7 @@ use Rattle.race_history.specs.declared.race.Race.{Race}
 use Rattle.interp.specs.declared.place.CodePlace.{CodePlace}
 use Rattle.selection.specs.declared.choice.Look.{Look}
 use Rattle.report_json.specs.Json.{json_line}
-use Rattle.report_json.specs.Rows.{races_json, row_text, rows_json, rows_text}
+use Rattle.report_json.specs.Rows.{races_json, rows_json, rows_text}
 use Rattle.report_json.specs.declared.places.Offset.{Offset}
 use Rattle.report_json.specs.declared.places.PlaceObject.{PlaceObject}
 use Rattle.report_json.specs.declared.places.SourceObject.{SourceObject}
@@ -30,7 +30,7 @@ use Rattle.show_rows.specs.Spots.{IsSpotOf}
 use Rattle.show_rows.specs.declared.code.CodeMap.{CodeMap}
 use Rattle.show_rows.specs.declared.listing.Shown.{Shown}
 use Rattle.show_rows.specs.declared.listing.Story.{Story}
-use Rattle.show_rows.specs.declared.spot.Spot.{Spot}
+use Rattle.show_told.specs.declared.spot.Spot.{Spot}
 
 -- An offset, and a line of source, as they are known.
 abbrev pub IsOffset : Option ℕ → Option Offset → Type 0
@@ -68,11 +68,7 @@ pub record IsNamedRowAt (shown : Shown) (map : DataMap) (story : Story) (at : �
   pub row_of : IsRowOf shown story at made named.row
   pub named_as : OnSome named.name (HasData map made.event)
 
--- What was written is the row of the entry at a place; and those of the entries at these places, in order.
-abbrev pub AddsRow : Shown → DataMap → Story → ℕ → Bool → Option (List ℕ) → Option (List ℕ) → Type 0
-AddsRow shown map story at is_first old new =
-    (row : NamedRow) × IsNamedRowAt shown map story at row × Appends old new (row_text is_first row)
-
+-- What was written are the rows of the entries at these places, in order.
 abbrev pub AddsRows : Shown → DataMap → Story → List ℕ → Option (List ℕ) → Option (List ℕ) → Type 0
 AddsRows shown map story places old new = (rows : List NamedRow) × AllZip (IsNamedRowAt shown map story) places rows
     × Appends old new (rows_text rows)

@@ -15,7 +15,7 @@ use Rattle.show_rows.specs.declared.rows.Row.{Row}
 use Rattle.show_rows.specs.Listing.{IsStoryOf}
 use Rattle.show_rows.specs.declared.listing.Shown.{Shown}
 use Rattle.show_rows.specs.declared.listing.Story.{Story}
-use Rattle.search_races.specs.Rows.{AreRowsOf, kinds_of}
+use Rattle.show_races.specs.Rows.{AreRowsOf, kinds_of}
 use Rattle.show_races.specs.Told.{AreApart, AreMany, HasNoRace, IsMore, TellsEach}
 use Rattle.show_races.specs.Written.{SaysRace, TellsRaces}
 use Rattle.show_races.specs.declared.found.RecordRaces.{RecordRaces}

@@ -26,6 +26,7 @@ use Rattle.show_moments.specs.declared.told.ToldThread.{ToldThread}
 use Rattle.show_named.specs.Lasts.{IsLastIfAny}
 use Rattle.show_named.specs.declared.data_map.DataMap.{DataMap}
 use Rattle.show_named.specs.declared.lasts.Act.TheVariants as acts
+use Rattle.show_named.specs.declared.lasts.SoughtWrite.{SoughtWrite}
 use Rattle.show_rows.specs.Listing.{IsStoryOf, line_at}
 use Rattle.show_rows.specs.declared.listing.Shown.{Shown}
 use Rattle.show_rows.specs.declared.listing.Story.{Story}
@@ -120,10 +121,10 @@ pub record WritesScene (view : MomentView) (moment : Moment) (races : List Race)
   pub writes : Appends old new (json_line (moment_json moment_is))
 
 -- What was written is the object of the last entry before a place that writes a byte at these addresses, or that none does.
-pub record WritesLastObject (shown : Shown) (map : DataMap) (story : Story) (before : ℕ) (addrs : NumberSpan)
+pub record WritesLastObject (shown : Shown) (map : DataMap) (story : Story) (sought : SoughtWrite)
     (old new : Option (List ℕ)) : Type 0 where
   pub place : Option ℕ
-  pub is_last : IsLastIfAny (acts.Write addrs) shown.record.now.log before place
+  pub is_last : IsLastIfAny (acts.Write sought.addrs) shown.record.now.log sought.before place
   pub last : LastRow
   pub row : IsLastRow shown map story place last
   pub writes : Appends old new (json_line (wrote_json last))

@@ -1,18 +1,17 @@
 //! How the threads of a run ended, and where those stand that trapped or were stopped, as lines or as an object.
 
-ghost use Rattle.std.specs.Prelude.{◌≡◌, false, IfOk, OnOk, string_bytes};
-ghost use Rattle.std.specs.List.{AllZip, enumerate_from};
+ghost use Rattle.std.specs.Prelude.{◌≡◌, false, IfOk, OnOk, flat_map, option_map, string_bytes};
 ghost use Rattle.show_moments.specs.Scenes.{IsStanding, seen};
 ghost use Rattle.show_waits.specs.Waits.{IsToldWait};
 ghost use Rattle.report_looks.specs.Ends as specified;
-ghost use Rattle.report_looks.specs.Ends.{AreEnds, AreEndedThreads, IsEndedThread, IsWaitObject, IsWaitsFor, WritesEnd};
-ghost use Rattle.report_looks.specs.Ends.{WritesEndIn, WritesEndLines, WritesEndObject, WritesEnds};
+ghost use Rattle.report_looks.specs.Ends.{AreEnds, AreEndedThreads, IsEnd, IsEndedThread, IsWaitObject, IsWaitsFor, WritesEnd};
+ghost use Rattle.report_looks.specs.Ends.{WritesEndIn, WritesEndLines, WritesEndObject};
 
 use crate::objects::named_row;
 use crate::scenes::{last_row, memory_of};
 use report_command::Form;
 use report_json::{EndShown, EndedThread, LastRow, WaitsFor};
-use show_moments::{Moment, MomentView, Scene, dump_text};
+use show_moments::{Moment, MomentView, Scene, ThreadSnapshot, dump_text};
 use show_rows::Story;
 use show_text::Unwritten;
 use show_told::{ToldFunction, functions_text};
@@ -80,15 +79,25 @@ fn ends_told<'c>(scene: &'c Scene, reports: &[ThreadReport]) -> Result<Vec<ToldE
 {
     let mut ends = Vec::with_capacity(scene.alloc, reports.len())?;
     for thread in 0..reports.len() {
-        let outcome = reports[thread].outcome;
-        let functions = functions_of(scene, thread, outcome)?;
-        ends.push(ToldEnd {
-            thread,
-            outcome,
-            functions,
-        })?;
+        let end = end_of(scene, thread, reports[thread])?;
+        ends.push(end)?;
     }
     Ok(ends)
+}
+
+/// How a thread ended.
+fn end_of<'c>(
+    scene: &'c Scene,
+    thread: usize,
+    report: ThreadReport,
+) -> Result<ToldEnd<'c>, AllocError>
+    ensures { IfOk result (IsEnd (seen scene.now) (thread, report)) }
+{
+    Ok(ToldEnd {
+        thread,
+        outcome: report.outcome,
+        functions: functions_of(scene, thread, report.outcome)?,
+    })
 }
 
 /// The open functions of a thread that didn't come to its end.
@@ -100,10 +109,30 @@ fn functions_of<'c>(
     ensures { IfOk result (λ told. IsStanding (seen scene.now)
         (specified.standing_by outcome (specified.standing_in scene.now.moment.now thread)) told.items) }
 {
-    match (outcome, scene.moment.here.get(thread)) {
-        (Outcome::Trap(_) | Outcome::Stop(_), Some(Some(standing))) => scene.functions(standing),
-        _ => Ok(Vec::new(scene.alloc)),
+    scene.functions_if_any(standing_of(scene.moment, thread, outcome))
+}
+
+/// Where a thread stands that didn't come to its end.
+fn standing_of<'e>(
+    moment: &'e Moment,
+    thread: usize,
+    outcome: Outcome,
+) -> Option<&'e ThreadSnapshot>
+    ensures { option_map (λ s. s.now) result
+        ≡ specified.standing_by outcome (specified.standing_in moment.now thread) }
+{
+    match outcome {
+        Outcome::Done(_) => None,
+        Outcome::Trap(_) => standing_in(moment, thread),
+        Outcome::Stop(_) => standing_in(moment, thread),
     }
+}
+
+/// Where a thread stands at a moment.
+fn standing_in<'e>(moment: &'e Moment, thread: usize) -> Option<&'e ThreadSnapshot>
+    ensures { option_map (λ s. s.now) result ≡ specified.standing_in moment.now thread }
+{
+    moment.here.get(thread)?.as_ref()
 }
 
 /// Writes this in lines.
@@ -111,7 +140,8 @@ fn write_lines<W: Write>(scene: &Scene, ends: &[ToldEnd], out: &mut W) -> Result
     ensures { OnOk result (WritesEndLines (seen scene.now) ends.now (W.contents out.old) (W.contents out.new)) }
 {
     let (view, moment) = (scene.view, scene.moment);
-    write_threads(scene.alloc, ends, out)?;
+    let text = ends_text(scene.alloc, ends)?;
+    write!(out, "{text}")?;
     write_waits(scene.alloc, view.shown, view.map, scene.story, out)?;
     let dump = dump_text(scene.alloc, moment.wanted.addr, &moment.bytes)?;
     write!(out, "{dump}")?;
@@ -119,15 +149,16 @@ fn write_lines<W: Write>(scene: &Scene, ends: &[ToldEnd], out: &mut W) -> Result
     Ok(())
 }
 
-/// Writes of each thread how it ended, and its open functions.
-fn write_threads<W: Write>(alloc: Global, ends: &[ToldEnd], out: &mut W) -> Result<(), Unwritten>
-    ensures { OnOk result (WritesEnds ends.now (W.contents out.old) (W.contents out.new)) }
+/// How threads ended, and their open functions, one behind the other.
+fn ends_text(alloc: Global, ends: &[ToldEnd]) -> Result<String, AllocError>
+    ensures { IfOk result (λ text. string_bytes text ≡ flat_map specified.end_text ends.now) }
 {
+    let mut text = String::new(alloc);
     for k in 0..ends.len() {
-        let text = end_text(alloc, &ends[k])?;
-        write!(out, "{text}")?;
+        let end = end_text(alloc, &ends[k])?;
+        text.push_str(end.as_str())?;
     }
-    Ok(())
+    Ok(text)
 }
 
 /// How a thread ended, and its open functions.
@@ -156,6 +187,7 @@ fn write_object<W: Write>(scene: &Scene, ends: &[ToldEnd], out: &mut W) -> Resul
 }
 
 /// The threads, as the object has them.
+#[tactic(auto, using(show_rows::proofs::Zipped::zip_next))]
 fn ended_threads<'a>(
     scene: &'a Scene,
     ends: &'a [ToldEnd],
@@ -164,7 +196,8 @@ fn ended_threads<'a>(
 {
     let mut threads = Vec::with_capacity(scene.alloc, ends.len())?;
     for k in 0..ends.len() {
-        threads.push(ended_thread(scene, &ends[k])?)?;
+        let thread = ended_thread(scene, &ends[k])?;
+        threads.push(thread)?;
     }
     Ok(threads)
 }

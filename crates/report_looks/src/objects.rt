@@ -1,6 +1,6 @@
 //! What is shown of a record as a JSON object.
 ghost use Rattle.std.specs.Prelude.{◌<◌, All, IfOk, OnOk, length};
-ghost use Rattle.report_looks.specs.RaceObjects.{AddsRow, AddsRows, IsNamedRowAt, IsOffset, IsPlaceOf, IsRowOf};
+ghost use Rattle.report_looks.specs.RaceObjects.{AddsRows, IsNamedRowAt, IsOffset, IsPlaceOf, IsRowOf};
 ghost use Rattle.report_looks.specs.RaceObjects.{IsSource, WritesObject};
 
 use report_json::{
@@ -8,8 +8,9 @@ use report_json::{
 };
 use selection::Look;
 use show_named::DataMap;
-use show_rows::{Shown, Spot, Story, chosen_entries};
+use show_rows::{Shown, Story, chosen_entries};
 use show_text::Unwritten;
+use show_told::Spot;
 use std::alloc::{AllocError, Global};
 use std::io::Write;
 use types::Entry;
@@ -84,24 +85,6 @@ pub(crate) fn named_row<'a>(
     })
 }
 
-/// Writes the row of the entry at a place.
-fn write_place<W: Write>(
-    alloc: Global,
-    shown: &Shown,
-    map: &DataMap,
-    story: &Story,
-    at: usize,
-    is_first: bool,
-    out: &mut W,
-) -> Result<(), Unwritten>
-    requires { at < length shown.now.record.now.log }
-    ensures { OnOk result
-        (AddsRow shown.now map.now story.now at is_first (W.contents out.old) (W.contents out.new)) }
-{
-    let row = named_row(alloc, shown, map, story, at)?;
-    write_row(alloc, out, is_first, &row)
-}
-
 /// Writes the rows of the entries at these places.
 fn write_places<W: Write>(
     alloc: Global,
@@ -116,7 +99,8 @@ fn write_places<W: Write>(
 {
     let mut is_first = true;
     for place in 0..places.len() {
-        write_place(alloc, shown, map, story, places[place], is_first, out)?;
+        let row = named_row(alloc, shown, map, story, places[place])?;
+        write_row(alloc, out, is_first, &row)?;
         is_first = false;
     }
     Ok(())

@@ -1,6 +1,7 @@
 //! Moments and a last write as JSON objects.
-ghost use Rattle.std.specs.Prelude.{◌≡◌, false, IfOk, OnOk};
+ghost use Rattle.std.specs.Prelude.{◌≡◌, ◌<◌, false, All, IfOk, OnOk, length};
 ghost use Rattle.std.specs.List.{AllZip};
+ghost use Rattle.show_races.specs.Told.{IsWithin};
 ghost use Rattle.show_moments.specs.Scenes.{seen};
 ghost use Rattle.report_looks.specs.Scenes as specified;
 ghost use Rattle.report_looks.specs.Scenes.{AreRows, IsAskedRow, IsLastRow, IsRowIfAny, IsThreadObject, IsTouchedRow};
@@ -15,7 +16,7 @@ use report_json::{
 use selection::NumberSpan;
 use shared_memory::Sleeper;
 use show_moments::{Moment, MomentView, Scene, Stance, ToldNext, ToldThread};
-use show_named::{Act, DataMap, last_of};
+use show_named::{DataMap, SoughtWrite};
 use show_rows::{Shown, Story};
 use show_text::Unwritten;
 use std::alloc::{AllocError, Global};
@@ -133,6 +134,7 @@ fn thread_object<'a>(scene: &'a Scene, told: &'a ToldThread) -> Result<MomentThr
 }
 
 /// The threads at a moment.
+#[tactic(auto, using(show_rows::proofs::Zipped::zip_next))]
 fn thread_objects<'a>(
     scene: &'a Scene,
     told: &'a [ToldThread],
@@ -141,20 +143,23 @@ fn thread_objects<'a>(
 {
     let mut threads = Vec::with_capacity(scene.alloc, told.len())?;
     for k in 0..told.len() {
-        threads.push(thread_object(scene, &told[k])?)?;
+        let thread = thread_object(scene, &told[k])?;
+        threads.push(thread)?;
     }
     Ok(threads)
 }
 
 /// The entries at these places.
+#[tactic(auto, using(show_rows::proofs::Zipped::zip_next))]
 fn rows_in<'a>(scene: &'a Scene, places: &[usize]) -> Result<Vec<NamedRow<'a>>, AllocError>
+    requires { All (λ at. at < length scene.now.view.shown.record.now.log) places.now }
     ensures { IfOk result (λ rows. AreRows (seen scene.now) places.now rows.items) }
 {
-    let mut rows = Vec::new(scene.alloc);
+    let view = &scene.view;
+    let mut rows = Vec::with_capacity(scene.alloc, places.len())?;
     for k in 0..places.len() {
-        if let Some(row) = row_in(scene, Some(places[k]))? {
-            rows.push(row)?;
-        }
+        let row = named_row(scene.alloc, &view.shown, view.map, scene.story, places[k])?;
+        rows.push(row)?;
     }
     Ok(rows)
 }
@@ -190,6 +195,7 @@ pub(crate) fn write_scene<W: Write>(
     races: &[Race],
     out: &mut W,
 ) -> Result<(), Unwritten>
+    requires { All (IsWithin view.shown.record.now.log) races.now }
     ensures says { OnOk result (WritesScene view.entry moment.now races.now (W.contents out.old) (W.contents out.new)) }
     ensures whole { OnOk result (moment.now.is_short ≡ false) }
 {
@@ -216,20 +222,19 @@ pub(crate) fn write_scene<W: Write>(
     write_moment(alloc, out, &object)
 }
 
-/// Writes the last entry before a place that writes a byte at these addresses as an object.
+/// Writes the last write that is sought as an object.
 pub(crate) fn write_last_object<W: Write>(
     alloc: Global,
     shown: Shown,
     map: &DataMap,
     story: &Story,
-    before: usize,
-    addrs: NumberSpan,
+    sought: SoughtWrite,
     out: &mut W,
 ) -> Result<(), Unwritten>
     ensures { OnOk result
-        (WritesLastObject shown.entry map.now story.now before addrs (W.contents out.old) (W.contents out.new)) }
+        (WritesLastObject shown.entry map.now story.now sought (W.contents out.old) (W.contents out.new)) }
 {
-    let place = last_of(shown.record.log.as_slice(), before, Act::Write(addrs));
+    let place = sought.place_in(shown.record.log.as_slice());
     let last = last_row(alloc, &shown, map, story, place)?;
     write_last(alloc, out, &last)
 }

@@ -7,11 +7,11 @@ ghost use Rattle.show_rows.specs.Listing.{IsStoryOf, AreWordsOf, AddsEntry, Adds
 
 use crate::Row;
 use crate::code::CodeMap;
-use crate::spot::CallSpot;
 use interp::CodePlace;
 use replay_text::RecordParts;
 use selection::{Color, Look};
 use show_text::{Context, Sheet, Unwritten, Wakes, Words, contexts};
+use show_told::CallSpot;
 use std::alloc::{AllocError, Global};
 use std::io::Write;
 use types::{Entry, Event, MOST_THREADS, Outcome, Question};

@@ -1,2 +1,4 @@
+pub mod Around
 pub mod Functions
+pub mod Spots
 pub mod Values

@@ -7,7 +7,7 @@ loop-place-init g c = no_rows c.args.shown.now c.args.map.now c.args.story.now (
 pub loop-place-preserved : goal.loop-place-preserved
 loop-place-preserved g c =
     row_more c.args.shown.now c.args.map.now c.args.story.now c.args.places.now c.loop-place.place 0 c.loop-place.is_first _ _ _
-    c.loop-place-test.true c.loop-place.invariant c.in_ok-write_place.ensures
+    c.loop-place-test.true c.loop-place.invariant c.in_ok-row.row c.in_ok-row.ensures c.in_ok-write_row.ensures
 
 pub returns : goal.returns
 returns g c =

@@ -3,7 +3,7 @@ ghost use Rattle.std.specs.Prelude.{◌≡◌, IfOk, IfErr};
 ghost use Rattle.spawn_host.specs.declared.end.EndState.{EndState};
 ghost use Rattle.replay.specs.Runs.{IsRunOf, IsReplayFault, ShowsNoRun};
 ghost use Rattle.show_rows.specs.Rows.{SeesRound, SeesWanted};
-ghost use Rattle.search_races.specs.Rows.{AreRowsOf};
+ghost use Rattle.show_races.specs.Rows.{AreRowsOf};
 
 use interp::Thread;
 use interp_trait::Turn;

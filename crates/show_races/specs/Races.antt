@@ -10,7 +10,7 @@ use Rattle.race_history.specs.declared.race.Race.{Race}
 use Rattle.race_history.specs.Races.{IsLastRace}
 use Rattle.show_rows.specs.declared.rows.Row.{Row}
 use Rattle.show_races.specs.Told.{HasNoRace}
-use Rattle.search_races.specs.Rows.{AreRowsOf, kinds_of}
+use Rattle.show_races.specs.Rows.{AreRowsOf, kinds_of}
 
 -- Whether there are races, as an answer says.
 abbrev pub Says : List Entry → List AccessKind → Bool → Type 0

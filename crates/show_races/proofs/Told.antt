@@ -9,7 +9,7 @@ use Rattle.race_history.specs.Races.{AreRaces}
 use Rattle.show_rows.specs.declared.rows.Row.{Row}
 use Rattle.show_races.specs.Kinds.{kinds_in}
 use Rattle.show_races.specs.Told.{HasNoRace}
-use Rattle.search_races.specs.Races.{Says}
+use Rattle.show_races.specs.Races.{Says}
 
 -- what is so of a log and its kinds is so of the same log, the same module and the same rows
 pub told_of : (Is : List Entry → List AccessKind → Type 0) (l k : List Entry) (m n : Parts) (rows others : List (Option Row))

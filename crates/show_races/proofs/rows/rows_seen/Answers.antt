@@ -3,9 +3,9 @@ use Rattle.types.specs.declared.event.Entry.{Entry}
 use Rattle.replay_text.specs.declared.parts.RecordParts.{RecordParts}
 use Rattle.show_rows.specs.declared.rows.Row.{Row}
 use Rattle.show_rows.specs.Rows.{RowsSee}
-use Rattle.search_races.specs.declared.rows.RowsAndNext.{RowsAndNext}
-use Rattle.search_races.proofs.Pulled.{replayed}
-use Rattle.search_races.proofs.rows.rows_seen.Goals as goal
+use Rattle.show_races.specs.declared.rows.RowsAndNext.{RowsAndNext}
+use Rattle.show_races.proofs.Pulled.{replayed}
+use Rattle.show_races.proofs.rows.rows_seen.Goals as goal
 
 pub returns-in-Ok-replay_watched-clause-run : goal.returns-in-Ok-replay_watched-clause-run
 returns-in-Ok-replay_watched-clause-run c =

@@ -1,7 +1,7 @@
 //! Lines of source around a place.
 
 ghost use Rattle.std.specs.Fmt.{WritesOnOk};
-ghost use Rattle.show_rows.specs.Around.{marked_text};
+ghost use Rattle.show_told.specs.Around.{marked_text};
 
 use show_text::Plain;
 use std::fmt::{self, Formatter, Write};
@@ -33,7 +33,7 @@ fn write_marked<W: Write>(
 
 impl fmt::Display for Around<'_> {
     ghost use Rattle.std.specs.Prelude.{Some};
-    ghost use Rattle.show_rows.specs.Around.{around_text};
+    ghost use Rattle.show_told.specs.Around.{around_text};
 
     ghost output = { λ a. Some (around_text a) };
 

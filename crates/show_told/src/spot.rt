@@ -2,7 +2,7 @@
 
 ghost use Rattle.std.specs.Fmt.{WritesOnOk};
 ghost use Rattle.std.specs.Prelude.{◌≡◌, ◌++◌};
-ghost use Rattle.show_rows.specs.Spots.{behind_text, is_reserved, name_text, source_text};
+ghost use Rattle.show_told.specs.Spots.{behind_text, is_reserved, name_text, source_text};
 
 use show_places::FunctionName;
 use show_text::Plain;
@@ -21,7 +21,7 @@ pub struct Spot<'a> {
 
 impl fmt::Display for Spot<'_> {
     ghost use Rattle.std.specs.Prelude.{Some};
-    ghost use Rattle.show_rows.specs.Spots.{spot_text};
+    ghost use Rattle.show_told.specs.Spots.{spot_text};
 
     ghost output = { λ s. Some (spot_text s) };
 
@@ -37,11 +37,11 @@ impl fmt::Display for Spot<'_> {
 
 /// The place of a call, as it is printed behind the place that it led to.
 #[derive(Clone, Copy, PartialEq, Eq)]
-pub(crate) struct CallSpot<'a>(pub(crate) Spot<'a>);
+pub struct CallSpot<'a>(pub Spot<'a>);
 
 impl fmt::Display for CallSpot<'_> {
     ghost use Rattle.std.specs.Prelude.{Some};
-    ghost use Rattle.show_rows.specs.Spots.{call_text};
+    ghost use Rattle.show_told.specs.Spots.{call_text};
 
     ghost output = { λ c. Some (call_text c.0) };
 
