@@ -21,7 +21,7 @@ use Rattle.show_rows.specs.Listing.{IsStoryOf}
 use Rattle.show_rows.specs.declared.code.CodeMap.{CodeMap}
 use Rattle.show_rows.specs.declared.listing.Shown.{Shown}
 use Rattle.show_rows.specs.declared.rows.Row.{Row}
-use Rattle.report_looks.specs.RaceObjects.{IsPairOf}
+use Rattle.report_objects.specs.RaceObjects.{IsPairOf}
 use Rattle.report_looks.specs.Raced.{IsShownOf, SaysObject, WritesPair}
 use Rattle.report_looks.specs.Sighted.{AreTold, IsFirstRace, IsShownBy}
 use Rattle.report_looks.specs.declared.sighting.FirstRace.{FirstRace}

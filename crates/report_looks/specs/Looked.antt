@@ -49,10 +49,10 @@ use Rattle.report_looks.specs.declared.wanted.Here.{Here}
 use Rattle.report_looks.specs.declared.wanted.Wanted.{Wanted}
 use Rattle.report_looks.specs.declared.wanted.Wanted.TheVariants as wanted
 use Rattle.report_looks.specs.PageMoments.{AreOfPage}
-use Rattle.report_looks.specs.RaceObjects.{WritesObject}
+use Rattle.report_objects.specs.RaceObjects.{WritesObject}
 use Rattle.report_looks.specs.RunMoments.{IsMomentIn, WritesHere}
 use Rattle.report_looks.specs.Raced.{IsSeen}
-use Rattle.report_looks.specs.Scenes.{WritesLastObject}
+use Rattle.report_objects.specs.Scenes.{WritesLastObject}
 
 abbrev pub is_trap : Outcome → Bool
 is_trap (outcomes.Trap trap) = true

@@ -23,7 +23,7 @@ use Rattle.report_command.specs.declared.form.Form.{Form}
 use Rattle.report_command.specs.declared.form.Form.TheVariants.{Lines, Json}
 use Rattle.report_jobs.specs.Prints.{WriterChange}
 use Rattle.report_json.specs.declared.races.RacePair.{RacePair}
-use Rattle.report_looks.specs.RaceObjects.{IsPairOf, WritesPairs}
+use Rattle.report_objects.specs.RaceObjects.{IsPairOf, WritesPairs}
 
 -- The text is that of this record, of a run of the module, and these are its rows.
 pub record IsSeen (m : Parts) (saved : List ℕ) (r : RecordParts) (rows : List (Option Row)) : Type 0 where

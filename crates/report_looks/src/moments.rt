@@ -136,7 +136,7 @@ pub(crate) fn print_page<W: Write>(
 ) -> Result<(), Unwritten>
     requires of_module { seen.shown.code.now.parts.now ≡ seen.valid.now.parts }
     requires of_record { «record».now ≡ seen.shown.record.now }
-    ensures { OnOk result (WritesPageOf seen.shown seen.map.now look.now (W.contents out.old) (W.contents out.new)) }
+    ensures { OnOk result (WritesPageOf seen.entry.shown seen.entry.map.now look.now (W.contents out.old) (W.contents out.new)) }
 {
     let view = MomentView {
         is_raw: false,

@@ -6,15 +6,13 @@ ghost use Rattle.report_looks.specs.RunMoments.{IsMomentIn, WritesHere, WritesIn
 ghost use Rattle.report_looks.specs.Looked.{WritesBelow, WritesEntries, WritesFoldedOf, WritesLastIn, WritesRowsOf};
 ghost use Rattle.report_looks.specs.Looked.{WritesTraceOf, WritesWanted};
 
-use crate::ends::write_end;
 use crate::moments::print_page;
-use crate::objects::write_entries;
-use crate::scenes::{write_last_object, write_scene};
 use crate::wanted::{Here, LookRequest, Wanted};
 use race_history::{Race, is_history};
 use replay::replay_watched;
 use replay_text::Record;
 use report_command::{Form, RecordView};
+use report_objects::{write_end, write_entries, write_last_object, write_scene};
 use selection::{Choice, Look};
 use show_events::write_trace;
 use show_moments::{Moment, MomentView, write_moment};
@@ -51,7 +49,7 @@ pub(crate) fn print_asked<W: Write>(
 ) -> Result<(), Unwritten>
     requires of_module { seen.shown.code.now.parts.now ≡ seen.valid.now.parts }
     requires of_record { «record».now ≡ seen.shown.record.now }
-    ensures { OnOk result (WritesWanted seen.shown seen.map.now asked.now.look asked.now.wanted
+    ensures { OnOk result (WritesWanted seen.entry.shown seen.entry.map.now asked.now.look asked.now.wanted
         (W.contents out.old) (W.contents out.new)) }
 {
     match asked.wanted {
@@ -96,7 +94,7 @@ fn print_entries<W: Write>(
     requires of_module { seen.shown.code.now.parts.now ≡ seen.valid.now.parts }
     requires of_record { «record».now ≡ seen.shown.record.now }
     ensures { OnOk result
-        (WritesEntries view.entry seen.shown seen.map.now look.now (W.contents out.old) (W.contents out.new)) }
+        (WritesEntries view.entry seen.entry.shown seen.entry.map.now look.now (W.contents out.old) (W.contents out.new)) }
 {
     let (shown, map) = (seen.shown, seen.map);
     match view {
@@ -222,7 +220,7 @@ fn print_moment<W: Write>(
     here: Here,
     out: &mut W,
 ) -> Result<(), Unwritten>
-    ensures { OnOk result (WritesHere seen.valid.now.parts seen.shown seen.map.now here moment.now
+    ensures { OnOk result (WritesHere seen.entry.valid.now.parts seen.entry.shown seen.entry.map.now here moment.now
         (W.contents out.old) (W.contents out.new)) }
 {
     let view = MomentView {

@@ -12,11 +12,11 @@ ghost use Rattle.show_races.specs.Races.{Says};
 ghost use Rattle.show_races.specs.Rows.{kinds_of};
 ghost use Rattle.report_looks.specs.Raced.{IsRaceFree, IsRacy, OfModule, PrintsRaces, SaysOf, TellsIn, WritesRaces};
 
-use crate::pairing::write_pairs;
 use crate::showing::{CodeBytes, SeenRun, UnseenRecord, seen_of, unfit_of};
 use crate::sighting::races_in;
 use report_command::{Form, RacesJob};
 use report_jobs::{Done, Streams, Undone, load, of_refusal, of_unfit};
+use report_objects::write_pairs;
 use show_races::{RecordRaces, write_races};
 use show_rows::{CodeMap, Shown, Story};
 use show_text::Unwritten;

@@ -7,11 +7,11 @@ ghost use Rattle.report_looks.specs.Raced.{SaysObject, WritesPair};
 ghost use Rattle.report_looks.specs.Sighted.{AreTold, CanBeTold, IsFirstRace, IsShownBy};
 ghost use Rattle.report_jobs.specs.Prints.{changed};
 
-use crate::pairing::pair_of;
 use crate::showing::CodeBytes;
 use race_history::is_history;
 use replay_text::Record;
 use report_json::RacePair;
+use report_objects::pair_of;
 use show_races::{RecordRaces, races_shown, watched, write_first};
 use show_rows::{CodeMap, Row, Shown, Story};
 use show_text::Unwritten;

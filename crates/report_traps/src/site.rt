@@ -1,7 +1,7 @@
 //! A place in a module, as it is printed of a trap.
 
+use show_spots::Spot;
 use show_text::Plain;
-use show_told::Spot;
 use std::fmt::{self, Formatter, Write};
 
 /// A place, as it is printed of a trap: the function, how far the instruction is behind the start of its body, and in

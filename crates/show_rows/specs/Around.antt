@@ -3,8 +3,8 @@ use Rattle.std.specs.Prelude.{◌-◌, List, Option, Some, None}
 use Rattle.dwarf_lines.specs.declared.table.Range.{Range}
 use Rattle.dwarf_lines.specs.declared.sources.SourceLines.{SourceLines}
 use Rattle.dwarf_lines.specs.Sources.{line_in}
-use Rattle.show_told.specs.Around.{above}
-use Rattle.show_told.specs.declared.around.Around.{Around}
+use Rattle.show_spots.specs.Around.{above}
+use Rattle.show_spots.specs.declared.around.Around.{Around}
 
 -- The lines around this one of the file of a range of code.
 abbrev pub lines_around : List SourceLines → Option Range → Around

@@ -20,7 +20,7 @@ use Rattle.dwarf_lines.specs.declared.table.Range.{Range}
 use Rattle.dwarf_lines.specs.contracts.header.SourcePartialEq.TheImpl as equal
 use Rattle.dwarf_lines.specs.Lines.{holds, source_of}
 use Rattle.dwarf_lines.specs.Sources.{IsTextOf, line_in}
-use Rattle.show_told.specs.declared.spot.Spot.{Spot}
+use Rattle.show_spots.specs.declared.spot.Spot.{Spot}
 use Rattle.show_rows.specs.declared.code.CodeMap.{CodeMap}
 
 -- The index of a function of the module itself, behind those that are imported.

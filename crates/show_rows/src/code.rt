@@ -12,7 +12,7 @@ use binary_wire::ReadFault;
 use dwarf_lines::{DebugSections, LineTable, Range, Sources, read_lines};
 use interp::CodePlace;
 use show_places::{BodyPlaces, Named, code_places, function_name, read_names, section_of};
-use show_told::{Around, Spot};
+use show_spots::{Around, Spot};
 use std::alloc::{AllocError, Global};
 use types::{Import, ImportDesc, Instr, Parts, PlainInstr, Sequence};
 

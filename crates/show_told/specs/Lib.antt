@@ -1,4 +1,2 @@
-pub mod Around
 pub mod Functions
-pub mod Spots
 pub mod Values

@@ -4,10 +4,9 @@ ghost use Rattle.std.specs.Prelude.{◌≡◌, IfOk, flat_map, string_bytes};
 ghost use Rattle.show_told.specs.Values as values;
 ghost use Rattle.show_told.specs.Functions as specified;
 
-use crate::around::Around;
-use crate::spot::Spot;
 use crate::values::{ToldValue, TypedWord};
 use dwarf_frames::Chain;
+use show_spots::{Around, Spot};
 use show_text::Plain;
 use std::alloc::{AllocError, Global};
 use std::fmt::{self, Formatter};
