@@ -1,14 +1,21 @@
 -- What objects of a moment and of an end are made of.
 use Rattle.std.proofs.Common.{◌≡◌, ℕ, zero, suc, ◌<◌, Bool, true, false, List, [], ◌∷◌, length, All, flat_map, option_to_list, slice_index_or}
-use Rattle.std.proofs.Common.{Some, None, if◌then◌else◌, sym, subst, arith}
-use Rattle.std.specs.List.{AllZip}
-use Rattle.std.specs.Io.KnownBytes.{Appends}
+use Rattle.std.proofs.Common.{Option, Some, None, not, if◌then◌else◌, refl, sym, subst, arith}
+use Rattle.std.specs.Io.KnownBytes.{Appends, Keeps}
+use Rattle.std.proofs.lemmas.Bool.{false≢true}
 use Rattle.std.proofs.lemmas.List.Concat.{flat_map-cons}
 use Rattle.std.proofs.lemmas.List.Elements.{All-append}
 use Rattle.types.specs.declared.event.Entry.{Entry}
 use Rattle.race_history.specs.declared.race.Race.{Race}
-use Rattle.show_moments.specs.Scenes.{others_of}
+use Rattle.report_json.specs.declared.moments.LastRow.{LastRow}
+use Rattle.show_moments.specs.Scenes.{Seen, others_of}
+use Rattle.show_moments.specs.Texts.{dump_text}
 use Rattle.show_races.specs.Told.{IsWithin}
+use Rattle.show_rows.proofs.Chosen.{appends_keeps}
+use Rattle.show_waits.specs.Waits.{WritesWaits}
+use Rattle.report_objects.specs.Ends.{IsOtherBy, WritesEndLines, end_text}
+use Rattle.report_objects.specs.Scenes.{IsLastRow}
+use Rattle.report_objects.specs.declared.ends.ToldEnd.{ToldEnd}
 
 none_within : (n : ℕ) → All (λ k. k < n) []
 none_within n = λ k d within. absurd (omega arith)
@@ -36,3 +43,25 @@ others_within log at (r ∷ races) within =
     (All-append (λ k. k < length log) (others_of at r) (flat_map (others_of at) races)
     (by_tests _ _ (length log) r.second r.first first.1 first.0)
     (others_within log at races (λ k d low. within (suc k) d (omega arith))))
+
+-- The last write of another thread, where the last one is the thread's own.
+pub no_other : (s : Seen) (own : Bool) (other : Option ℕ) → not own ≡ true → IsOtherBy s own other None
+no_other s true other is = absurd (false≢true is)
+no_other s false other is = refl
+
+pub some_other : (s : Seen) (own : Bool) (other : Option ℕ) (row : LastRow) → not own ≡ false
+    → IsLastRow s.shown s.map s.story other row → IsOtherBy s own other (Some row)
+some_other s true other row is last = last
+some_other s false other row is last = absurd (false≢true (sym is))
+
+-- What is written of an end, one behind the other.
+pub lines_of : (s : Seen) (ends : List ToldEnd) (text dump : List ℕ) (a b c d e : Option (List ℕ)) → text ≡ flat_map end_text ends
+    → Appends a b text → WritesWaits s.shown s.map s.story b c → dump ≡ dump_text s.moment.wanted.addr s.moment.bytes.items
+    → Appends c d dump → Keeps d e → WritesEndLines s ends a e
+lines_of s ends text dump a b c d e is wrote waits dump_is dumped last = record {
+  said = b;
+  says = subst (Appends a b) is wrote;
+  waited = c;
+  waits = waits;
+  bytes = subst (Appends c e) dump_is (appends_keeps c d e dump dumped last);
+}

@@ -4,7 +4,7 @@ use Rattle.report_looks.specs.Looked.{IsAsked}
 use Rattle.report_looks.proofs.showing.show_record.Goals as goal
 
 pub print_asked-requires-clause-of_record : goal.print_asked-requires-clause-of_record
-print_asked-requires-clause-of_record g c = sym c.parts-view.ensures.parts
+print_asked-requires-clause-of_record g c = sym c.parts-2.ensures.parts
 
 pub returns-in-Ok-print_asked-clause-prints : goal.returns-in-Ok-print_asked-clause-prints
 returns-in-Ok-print_asked-clause-prints g c =
@@ -21,7 +21,7 @@ returns-in-Ok-print_asked-clause-prints g c =
           c.in-Ok-asked_of.ensures.asked;
       prints = (
         _,
-        record { of_record = c.parts-view.ensures.parts; of_rows = c.as_slice.ensures.value; of_module = c.in-Ok-code_of.ensures },
+        record { of_record = c.parts-2.ensures.parts; of_rows = c.as_slice.ensures.value; of_module = c.in-Ok-code_of.ensures },
         c.in-Ok-print_asked.ensures,
       );
     }

@@ -15,7 +15,7 @@ returns g c =
     let r = s.shown.record.now in
     let cycles = c.in_ok-cycles.cycles.items in
     on_ok_weaker c.write_end.result (λ wrote. record {
-      end = _;
+      end = record { threads = c.as_slice-3.result; cycles = c.as_slice-4.result; memory = c.memory_of.result };
       threads = subst (λ (ts : List EndedThread). AreEndedThreads s c.args.ends.now ts) (sym c.as_slice-3.ensures.value)
           c.in_ok-threads.ensures;
       cycles = subst (λ (cs : List (Vec ℕ)). AreToldCycles r.log r.ends cs) (sym c.as_slice-4.ensures.value)

@@ -27,7 +27,13 @@ returns-clause-says g c =
       of_log = subst (λ (l : List Entry). IsStoryOf l story) c.as_slice.ensures c.in_ok-story.ensures;
       told = told;
       is_told = c.in_ok-told.ensures;
-      moment_is = _;
+      moment_is = record {
+        line = c.line_of.result;
+        threads = c.as_slice-4.result;
+        races = c.as_slice-5.result;
+        asleep = c.asleep_in.result;
+        memory = c.memory_of.result;
+      };
       object = record {
         line = c.line_of.ensures;
         threads = subst (λ (ts : List ToldThread). AllZip (IsThreadObject s) ts c.as_slice-4.result.now) c.as_slice-2.ensures.value
