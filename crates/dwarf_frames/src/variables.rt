@@ -111,39 +111,48 @@ struct SeenName<'a> {
     depth: usize,
 }
 
-/// Adds what an entry of a scope says of a variable, if no variable of its own function that was seen has its name, and
-/// not more were seen than are looked at.
-fn add_variable<'a>(
-    alloc: Global,
-    units: &Units<'a>,
-    scope: VariableScope,
-    entry: usize,
-    offset: u64,
-    seen: &mut Vec<SeenName<'a>>,
-    variables: &mut Vec<Variable<'a>>,
-) -> Result<(), AllocError> {
-    if !matches!(units.tag(entry), Tag::FormalParameter | Tag::Variable)
-        || seen.len() >= MOST_VARIABLES
-    {
-        return Ok(());
+/// The variables that are found at an offset of the code, and the names that were seen on the way.
+#[derive(Drop)]
+struct FoundVariables<'a> {
+    seen: Vec<SeenName<'a>>,
+    variables: Vec<Variable<'a>>,
+}
+
+impl<'a> FoundVariables<'a> {
+    /// Adds what an entry of a scope says of a variable, if no variable of its own function that was seen has its name,
+    /// and not more were seen than are looked at.
+    fn add(
+        &mut self,
+        alloc: Global,
+        units: &Units<'a>,
+        scope: VariableScope,
+        entry: usize,
+        offset: u64,
+    ) -> Result<(), AllocError> {
+        if !matches!(units.tag(entry), Tag::FormalParameter | Tag::Variable)
+            || self.seen.len() >= MOST_VARIABLES
+        {
+            return Ok(());
+        }
+        let (Some(name), depth) = (units.name(entry), scope.depth) else {
+            return Ok(());
+        };
+        if name.len() > MOST_NAME {
+            return Ok(());
+        }
+        let is_hidden = self
+            .seen
+            .iter()
+            .any(|other| other.depth == depth && other.name == name);
+        self.seen.push(SeenName { name, depth })?;
+        if is_hidden {
+            return Ok(());
+        }
+        if let Some(variable) = variable_of(alloc, units, scope, entry, offset)? {
+            self.variables.push(variable)?;
+        }
+        Ok(())
     }
-    let (Some(name), depth) = (units.name(entry), scope.depth) else {
-        return Ok(());
-    };
-    if name.len() > MOST_NAME {
-        return Ok(());
-    }
-    let is_hidden = seen
-        .iter()
-        .any(|other| other.depth == depth && other.name == name);
-    seen.push(SeenName { name, depth })?;
-    if is_hidden {
-        return Ok(());
-    }
-    if let Some(variable) = variable_of(alloc, units, scope, entry, offset)? {
-        variables.push(variable)?;
-    }
-    Ok(())
 }
 
 /// The parameters and locals in scope at an offset of the code that have a place while it runs, those of the innermost
@@ -155,20 +164,14 @@ pub fn variables_at<'a>(
     functions: &Spans,
     offset: u64,
 ) -> Result<Vec<Variable<'a>>, AllocError> {
-    let mut variables = Vec::new(alloc);
-    let mut seen = Vec::new(alloc);
+    let mut found = FoundVariables {
+        seen: Vec::new(alloc),
+        variables: Vec::new(alloc),
+    };
     for scope in scopes(alloc, units, functions, offset)?.iter().rev() {
         for entry in &units.children(alloc, scope.entry, units.len())? {
-            add_variable(
-                alloc,
-                units,
-                *scope,
-                *entry,
-                offset,
-                &mut seen,
-                &mut variables,
-            )?;
+            found.add(alloc, units, *scope, *entry, offset)?;
         }
     }
-    Ok(variables)
+    Ok(found.variables)
 }

@@ -10,7 +10,7 @@ use Rattle.search_finds.specs.declared.finding.Halt.{Halt}
 use Rattle.search_finds.specs.declared.finding.Halt.TheVariants as halts
 use Rattle.search_finds.specs.declared.met.EndingTable.{EndingTable}
 use Rattle.search_finds.proofs.Noting.{noted_weaker}
-use Rattle.search_races.specs.Races.{SaysOfRun}
+use Rattle.show_races.specs.Races.{SaysOfRun}
 use Rattle.selection.specs.declared.sought.Sought.{Sought}
 use Rattle.report_command.specs.declared.search.Search.{Search}
 use Rattle.report_jobs.specs.Asked.{IsAskedBy}

@@ -6,7 +6,7 @@ use Rattle.search_scheduled.specs.declared.running.MadeRun.{MadeRun}
 use Rattle.search_finds.specs.Judged.{IsFindBy}
 use Rattle.search_finds.specs.Sizes.{size_in}
 use Rattle.search_finds.specs.declared.met.EndingTable.{EndingTable}
-use Rattle.search_races.specs.Races.{SaysOfRun}
+use Rattle.show_races.specs.Races.{SaysOfRun}
 use Rattle.selection.specs.declared.sought.Sought.{Sought}
 use Rattle.report_command.specs.declared.search.Search.{Search}
 use Rattle.report_json.specs.declared.raced.RunRaces.{RunRaces}

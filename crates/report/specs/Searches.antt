@@ -26,7 +26,7 @@ use Rattle.report_jobs.specs.Arguments.{AreSpelled, texts_in}
 use Rattle.report_jobs.specs.Prints.{WriterChange, KeepsRecord}
 use Rattle.report.specs.Complete.{all_end_well}
 use Rattle.report.specs.Endless.{FindsEndless}
-use Rattle.search_races.specs.Races.{SaysOfRun}
+use Rattle.show_races.specs.Races.{SaysOfRun}
 use Rattle.report_jobs.specs.declared.running.Trouble.{Trouble}
 use Rattle.report_jobs.specs.declared.running.Trouble.TheVariants as troubles
 

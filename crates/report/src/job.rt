@@ -119,11 +119,7 @@ where
     };
     match job {
         Job::Show { how, .. } => show_saved(alloc, code, saved, how, streams),
-        Job::Races(asked) => {
-            races_saved(
-                alloc, module, module, saved, asked.most, asked.form, streams,
-            )
-        },
+        Job::Races(asked) => races_saved(alloc, module, module, saved, asked, streams),
         Job::Search(asked) => search(rt, alloc, asked, code, streams, follower),
         _ => perform_plain(rt, alloc, job, module, saved, streams),
     }

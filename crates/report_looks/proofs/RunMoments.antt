@@ -15,7 +15,7 @@ use Rattle.show_moments.specs.declared.scene.MomentView.{MomentView}
 use Rattle.show_named.specs.declared.data_map.DataMap.{DataMap}
 use Rattle.show_rows.specs.declared.listing.Shown.{Shown}
 use Rattle.report_looks.specs.declared.wanted.Here.{Here}
-use Rattle.report_looks.specs.Ends.{WritesEnd}
+use Rattle.report_objects.specs.Ends.{WritesEnd}
 use Rattle.report_looks.specs.RunMoments.{IsMomentIn, IsViewOf, WritesAt, WritesHere, WritesIn}
 
 pub seen_moment : (m : Parts) (r : RecordParts) (at : ℕ) (bytes : Bytes) (old new : Moment) (end : EndState) → old.at ≡ at

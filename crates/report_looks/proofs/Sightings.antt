@@ -12,16 +12,16 @@ use Rattle.race_history.specs.declared.race.Race.{Race}
 use Rattle.race_history.specs.Races.{AreRaces, IsLastRace}
 use Rattle.report_json.specs.declared.races.RacePair.{RacePair}
 use Rattle.report_jobs.specs.Prints.{change}
-use Rattle.search_races.specs.Races.{SaysOfRun}
-use Rattle.search_races.specs.Rows.{AreRowsOf, kinds_of}
-use Rattle.search_races.proofs.Told.{kinds_alike, told_of}
+use Rattle.show_races.specs.Races.{SaysOfRun}
+use Rattle.show_races.specs.Rows.{AreRowsOf, kinds_of}
+use Rattle.show_races.proofs.Told.{kinds_alike, told_of}
 use Rattle.show_races.specs.Told.{HasNoRace, IsWithin}
 use Rattle.show_races.specs.Written.{SaysRace, WritesFirst}
 use Rattle.show_rows.specs.Listing.{IsStoryOf}
 use Rattle.show_rows.specs.declared.code.CodeMap.{CodeMap}
 use Rattle.show_rows.specs.declared.listing.Shown.{Shown}
 use Rattle.show_rows.specs.declared.rows.Row.{Row}
-use Rattle.report_looks.specs.RaceObjects.{IsPairOf}
+use Rattle.report_objects.specs.RaceObjects.{IsPairOf}
 use Rattle.report_looks.specs.Raced.{IsShownOf, SaysObject, WritesPair}
 use Rattle.report_looks.specs.Sighted.{AreTold, IsFirstRace, IsShownBy}
 use Rattle.report_looks.specs.declared.sighting.FirstRace.{FirstRace}

@@ -1,9 +1,6 @@
-pub mod Ends
 pub mod PageMoments
 pub mod RunMoments
-pub mod RaceObjects
 pub mod Raced
 pub mod Sighted
-pub mod Scenes
 pub mod Silent
 pub mod Looked

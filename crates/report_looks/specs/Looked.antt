@@ -35,6 +35,7 @@ use Rattle.show_events.specs.Written.{WritesPage, WritesTrace}
 use Rattle.show_events.specs.declared.run.MomentText.{MomentText}
 use Rattle.show_moments.specs.declared.moment.Moment.{Moment}
 use Rattle.show_named.specs.declared.data_map.DataMap.{DataMap}
+use Rattle.show_named.specs.declared.lasts.SoughtWrite.{SoughtWrite}
 use Rattle.show_named.specs.Folds.{WritesFolded}
 use Rattle.show_named.specs.Rows.{WritesRows}
 use Rattle.show_rows.specs.declared.rows.Row.{Row}
@@ -48,10 +49,10 @@ use Rattle.report_looks.specs.declared.wanted.Here.{Here}
 use Rattle.report_looks.specs.declared.wanted.Wanted.{Wanted}
 use Rattle.report_looks.specs.declared.wanted.Wanted.TheVariants as wanted
 use Rattle.report_looks.specs.PageMoments.{AreOfPage}
-use Rattle.report_looks.specs.RaceObjects.{WritesObject}
+use Rattle.report_objects.specs.RaceObjects.{WritesObject}
 use Rattle.report_looks.specs.RunMoments.{IsMomentIn, WritesHere}
 use Rattle.report_looks.specs.Raced.{IsSeen}
-use Rattle.report_looks.specs.Scenes.{WritesLastObject}
+use Rattle.report_objects.specs.Scenes.{WritesLastObject}
 
 abbrev pub is_trap : Outcome → Bool
 is_trap (outcomes.Trap trap) = true
@@ -99,8 +100,8 @@ pub record IsHere (r : RecordParts) (at : At.At) (here : Here) : Type 0 where
 
 -- What is wanted of a view, with addresses and places of this record.
 abbrev pub IsWanted : RecordParts → DataMap → RecordView → Wanted → Type 0
-IsWanted r map (views.Write write) w = (addrs : NumberSpan) × (before : ℕ) × (w ≡ wanted.Write addrs before write.form)
-    × AreAddresses map write.bytes addrs × (place_in r write.before ≡ Some before)
+IsWanted r map (views.Write write) w = (sought : SoughtWrite) × (w ≡ wanted.Write sought write.form)
+    × AreAddresses map write.bytes sought.addrs × (place_in r write.before ≡ Some sought.before)
 IsWanted r map (views.Moment at) w = (here : Here) × (w ≡ wanted.Moment here) × IsHere r at here
 IsWanted r map view w = w ≡ wanted.Entries view
 
@@ -119,16 +120,12 @@ pub record IsAsked (r : RecordParts) (map : DataMap) (how : ShowLook) (asked : L
   pub addrs_are : AllZip (AreAddresses map) how.bytes.items addrs
   pub look_is : IsLookAt how addrs asked.look
 
--- The words of the last entry before a place that writes there are written, or that none does.
-abbrev pub WritesLastOf : Shown → DataMap → ℕ → NumberSpan → Option (List ℕ) → Option (List ℕ) → Type 0
-WritesLastOf shown map before addrs old new = (story : Story) × IsStoryOf shown.record.now.log story
-    × WritesLast shown map story before addrs old new
-
--- In lines, or as an object.
-abbrev pub WritesLastIn : Form → Shown → DataMap → ℕ → NumberSpan → Option (List ℕ) → Option (List ℕ) → Type 0
-WritesLastIn Lines shown map before addrs old new = WritesLastOf shown map before addrs old new
-WritesLastIn Json shown map before addrs old new = (story : Story) × IsStoryOf shown.record.now.log story
-    × WritesLastObject shown map story before addrs old new
+-- The words of the last entry before a place that writes there are written, or that none does: in lines, or as an object.
+abbrev pub WritesLastIn : Form → Shown → DataMap → SoughtWrite → Option (List ℕ) → Option (List ℕ) → Type 0
+WritesLastIn Lines shown map sought old new = (story : Story) × IsStoryOf shown.record.now.log story
+    × WritesLast shown map story sought old new
+WritesLastIn Json shown map sought old new = (story : Story) × IsStoryOf shown.record.now.log story
+    × WritesLastObject shown map story sought old new
 
 -- Whether all entries are chosen, and whether a thread was stopped.
 abbrev pub chooses_all : Choice → Bool
@@ -160,18 +157,25 @@ abbrev pub WritesFoldedOf : Shown → DataMap → Look → Option (List ℕ) →
 WritesFoldedOf shown map look old new = (between : Option (List ℕ)) × WritesFolded shown map look old between
     × WritesBelow (has_waits shown look) shown map between new
 
--- Entries as rows, as an object, as a page with these moments, or as a trace.
-abbrev pub WritesEntries : RecordView → Shown → DataMap → Look → Option (List ℕ) → Option (List ℕ) → Type 0
-WritesEntries (views.Page path) shown map look old new = (races : List Race) × (moments : List MomentText)
+-- A page with its moments, and a trace, with the races that they mark.
+abbrev pub WritesPageOf : Shown → DataMap → Look → Option (List ℕ) → Option (List ℕ) → Type 0
+WritesPageOf shown map look old new = (races : List Race) × (moments : List MomentText)
     × AreOfPage shown map look races moments × WritesPage shown races moments look old new
-WritesEntries (views.Trace path) shown map look old new = (races : List Race) × WritesTrace shown races look old new
+
+abbrev pub WritesTraceOf : Shown → Look → Option (List ℕ) → Option (List ℕ) → Type 0
+WritesTraceOf shown look old new = (races : List Race) × WritesTrace shown races look old new
+
+-- Entries as rows, as an object, as a page, or as a trace.
+abbrev pub WritesEntries : RecordView → Shown → DataMap → Look → Option (List ℕ) → Option (List ℕ) → Type 0
+WritesEntries (views.Page path) shown map look old new = WritesPageOf shown map look old new
+WritesEntries (views.Trace path) shown map look old new = WritesTraceOf shown look old new
 WritesEntries views.Object shown map look old new = WritesObject shown map look old new
 WritesEntries views.Unfolded shown map look old new = WritesRowsOf shown map look old new
 WritesEntries view shown map look old new = WritesFoldedOf shown map look old new
 
 -- What is wanted of a record is written.
 abbrev pub WritesWanted : Shown → DataMap → Look → Wanted → Option (List ℕ) → Option (List ℕ) → Type 0
-WritesWanted shown map look (wanted.Write addrs before form) old new = WritesLastIn form shown map before addrs old new
+WritesWanted shown map look (wanted.Write sought form) old new = WritesLastIn form shown map sought old new
 WritesWanted shown map look (wanted.Entries view) old new = WritesEntries view shown map look old new
 WritesWanted shown map look (wanted.Moment here) old new = (moment : Moment)
     × IsMomentIn shown.code.now.parts.now shown.record.now here.place here.bytes moment

@@ -15,7 +15,7 @@ use Rattle.show_rows.specs.declared.rows.Row.{Row}
 use Rattle.show_rows.specs.Listing.{IsStoryOf}
 use Rattle.show_rows.specs.declared.listing.Shown.{Shown}
 use Rattle.show_rows.specs.declared.listing.Story.{Story}
-use Rattle.search_races.specs.Rows.{AreRowsOf, kinds_of}
+use Rattle.show_races.specs.Rows.{AreRowsOf, kinds_of}
 use Rattle.show_races.specs.Told.{AreApart, AreMany, HasNoRace, IsMore, TellsEach}
 use Rattle.show_races.specs.Written.{SaysRace, TellsRaces}
 use Rattle.show_races.specs.declared.found.RecordRaces.{RecordRaces}
@@ -23,7 +23,7 @@ use Rattle.report_command.specs.declared.form.Form.{Form}
 use Rattle.report_command.specs.declared.form.Form.TheVariants.{Lines, Json}
 use Rattle.report_jobs.specs.Prints.{WriterChange}
 use Rattle.report_json.specs.declared.races.RacePair.{RacePair}
-use Rattle.report_looks.specs.RaceObjects.{IsPairOf, WritesPairs}
+use Rattle.report_objects.specs.RaceObjects.{IsPairOf, WritesPairs}
 
 -- The text is that of this record, of a run of the module, and these are its rows.
 pub record IsSeen (m : Parts) (saved : List ℕ) (r : RecordParts) (rows : List (Option Row)) : Type 0 where

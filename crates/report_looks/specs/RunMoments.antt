@@ -17,8 +17,8 @@ use Rattle.report_command.specs.declared.form.Form.{Form}
 use Rattle.report_command.specs.declared.form.Form.TheVariants.{Lines, Json}
 use Rattle.show_named.specs.declared.data_map.DataMap.{DataMap}
 use Rattle.show_rows.specs.declared.listing.Shown.{Shown}
-use Rattle.report_looks.specs.Ends.{WritesEnd}
-use Rattle.report_looks.specs.Scenes.{WritesScene}
+use Rattle.report_objects.specs.Ends.{WritesEnd}
+use Rattle.report_objects.specs.Scenes.{WritesScene}
 use Rattle.report_looks.specs.declared.wanted.Here.{Here}
 
 -- The moment is of the module's run by a record, with these bytes wanted: its queue, its memory and where its threads stand

@@ -9,7 +9,7 @@ use Rattle.show_rows.specs.Listing.{IsStoryOf}
 use Rattle.show_rows.specs.declared.listing.Shown.{Shown}
 use Rattle.show_races.specs.Kinds.{kinds_shown}
 use Rattle.show_races.specs.Told.{AreApart, AreMany, HasNoRace, IsMore, IsWithin, TellsEach}
-use Rattle.search_races.specs.Rows.{AreRowsOf, kinds_of}
+use Rattle.show_races.specs.Rows.{AreRowsOf, kinds_of}
 use Rattle.report_looks.specs.declared.sighting.FirstRace.{FirstRace}
 use Rattle.report_looks.specs.declared.sighting.ToldRaces.{ToldRaces}
 

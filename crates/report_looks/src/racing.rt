@@ -8,15 +8,15 @@ ghost use Rattle.report_jobs.specs.Undone.{ended_status, undone_status};
 ghost use Rattle.report_jobs.specs.Why.{RefusesModule, RefusesRecord};
 ghost use Rattle.report_looks.specs.Silent.{IfRefusedRecord};
 ghost use Rattle.report_jobs.specs.Prints.{changed};
-ghost use Rattle.search_races.specs.Races.{Says};
-ghost use Rattle.search_races.specs.Rows.{kinds_of};
+ghost use Rattle.show_races.specs.Races.{Says};
+ghost use Rattle.show_races.specs.Rows.{kinds_of};
 ghost use Rattle.report_looks.specs.Raced.{IsRaceFree, IsRacy, OfModule, PrintsRaces, SaysOf, TellsIn, WritesRaces};
 
-use crate::pairing::write_pairs;
 use crate::showing::{CodeBytes, SeenRun, UnseenRecord, seen_of, unfit_of};
 use crate::sighting::races_in;
-use report_command::Form;
+use report_command::{Form, RacesJob};
 use report_jobs::{Done, Streams, Undone, load, of_refusal, of_unfit};
+use report_objects::write_pairs;
 use show_races::{RecordRaces, write_races};
 use show_rows::{CodeMap, Shown, Story};
 use show_text::Unwritten;
@@ -24,8 +24,9 @@ use std::alloc::Global;
 use std::io::Write;
 use validate_module::ValidModule;
 
-/// Tells the races of the run whose record's text `saved` is, `most` at most, in lines or as an object. `names` are the
-/// bytes that have the names of functions and the lines of source, as for `show_saved`.
+/// Tells the races of the run whose record's text `saved` is, as many at most as are asked for, in lines or as an object.
+/// `names` are the bytes that have the names of functions and the lines of source, as for `show_saved`. No path of what is
+/// asked for is read.
 ///
 /// It is done with status 0 only where the record is of a run of the module in which no two accesses race, with 1 only of
 /// one in which some do. A refusal is of the module (status 2), or of bytes that are the text of no record of a run of it
@@ -38,15 +39,15 @@ pub fn races_saved<W: Write, E: Write, S: Write>(
     module: &[u8],
     names: &[u8],
     saved: &[u8],
-    most: u32,
-    form: Form,
+    asked: &RacesJob,
     streams: &mut Streams<W, E, S>,
 ) -> Result<Done, Undone<'static>>
-    requires { 1 ≤ most }
+    requires { 1 ≤ asked.now.most }
     ensures free { ended_status result ≡ 0 → OfModule IsRaceFree «module».now saved.now }
     ensures racy { ended_status result ≡ 1 → OfModule IsRacy «module».now saved.now }
     ensures prints { ended_status result ≤ 1 → OfModule
-        (PrintsRaces most form (changed W.contents streams.old.out streams.new.out)) «module».now saved.now }
+        (PrintsRaces asked.now.most asked.now.form (changed W.contents streams.old.out streams.new.out))
+        «module».now saved.now }
     ensures done { IfOk result (λ done. done.status ≤ 1) }
     ensures refused { ended_status result ≡ 2 → IsNoValidModule «module».now }
     ensures why { IfErr result (λ why. undone_status why ≡ 2 → RefusesModule «module».now why) }
@@ -68,7 +69,7 @@ pub fn races_saved<W: Write, E: Write, S: Write>(
         names,
         sources: &[],
     };
-    match tell_races(alloc, &valid, code, saved, most, form, out) {
+    match tell_races(alloc, &valid, code, saved, asked, out) {
         Ok(true) => Ok(Done::with(1)),
         Ok(false) => Ok(Done::with(0)),
         Err(UnseenRecord { unfit, stood }) => Err(of_unfit(unfit, valid, stood)),
@@ -81,14 +82,13 @@ fn tell_races<W: Write>(
     module: &ValidModule,
     code: CodeBytes,
     saved: &[u8],
-    most: u32,
-    form: Form,
+    asked: &RacesJob,
     out: &mut W,
 ) -> Result<bool, UnseenRecord>
-    requires { 1 ≤ most }
+    requires { 1 ≤ asked.now.most }
     ensures races { IfOk result (SaysOf «module».now.parts saved.now) }
     ensures prints { IfOk result
-        (λ _. PrintsRaces most form (changed W.contents out.old out.new) «module».now.parts saved.now) }
+        (λ _. PrintsRaces asked.now.most asked.now.form (changed W.contents out.old out.new) «module».now.parts saved.now) }
     ensures unfit { IfErr result (λ e. IsUnfit «module».now.parts saved.now e.unfit) }
     ensures silent { IfErr result (λ e. IfRefusedRecord e.unfit (Stays out.old out.new)) }
 {
@@ -96,7 +96,7 @@ fn tell_races<W: Write>(
         Ok(seen) => seen,
         Err(unseen) => return Err(unseen),
     };
-    match write_seen(alloc, module, &seen, code, most, form, out) {
+    match write_seen(alloc, module, &seen, code, asked, out) {
         Ok(is_racy) => Ok(is_racy),
         Err(unwritten) => Err(UnseenRecord {
             unfit: unfit_of(unwritten),
@@ -138,15 +138,14 @@ fn write_seen<W: Write>(
     module: &ValidModule,
     seen: &SeenRun,
     code: CodeBytes,
-    most: u32,
-    form: Form,
+    asked: &RacesJob,
     out: &mut W,
 ) -> Result<bool, Unwritten>
-    requires { 1 ≤ most }
+    requires { 1 ≤ asked.now.most }
     ensures says { IfOk result
         (Says seen.now.«record».log (kinds_of «module».now.parts seen.now.«record» seen.now.rows.items)) }
-    ensures writes { IfOk result (λ _. WritesRaces «module».now.parts seen.now.«record» seen.now.rows.items most form
-        (changed W.contents out.old out.new)) }
+    ensures writes { IfOk result (λ _. WritesRaces «module».now.parts seen.now.«record» seen.now.rows.items asked.now.most
+        asked.now.form (changed W.contents out.old out.new)) }
 {
     let code = CodeMap::read(alloc, module.parts(), code.module, code.names)?;
     let shown = Shown {
@@ -154,7 +153,7 @@ fn write_seen<W: Write>(
         rows: seen.rows.as_slice(),
         code: &code,
     };
-    let told = races_in(alloc, shown, most as usize)?;
-    write_told(alloc, shown, &told.story, &told.races, form, out)?;
+    let told = races_in(alloc, shown, asked.most as usize)?;
+    write_told(alloc, shown, &told.story, &told.races, asked.form, out)?;
     Ok(is_racy(&told.races))
 }

@@ -17,16 +17,18 @@ use dwarf_lines::{SourceFile, Sources};
 use replay_text::{Record, RecordFault, read_record};
 use report_command::ShowLook;
 use report_jobs::{Done, Refused, Streams, Undone, Unfit, load, misfit, of_refusal, of_unfit};
-use search_races::rows_seen;
+use show_moments::MomentView;
 use show_named::DataMap;
-use show_rows::{CodeMap, Row, Stood};
+use show_races::rows_seen;
+use show_rows::{CodeMap, Row, Shown, Stood};
 use show_text::Unwritten;
 use std::alloc::{AllocError, Global};
 use std::io::Write;
 use validate_module::ValidModule;
 
-/// Shows the entries of the record whose text `saved` is: each in words, with its place in the module. `how` may ask for what threads and memory are like at a moment, for the last write of some bytes, for a page
-/// or for a trace, in place of rows. A page and a trace are the file that it makes.
+/// Shows the entries of the record whose text `saved` is: each in words, with its place in the module. `how` may ask for
+/// what threads and memory are like at a moment, for the last write of some bytes, for a page or for a trace, in place of
+/// rows. A page and a trace are the file that it makes.
 ///
 /// It is done only where the record is of a run of the module. A refusal is of the module (status 2), of bytes that are
 /// the text of no record of a run of it (4), or says that the record is one and has not what is asked for (3). Then nothing
@@ -152,7 +154,17 @@ fn show_record<W: Write>(
         Ok(asked) => asked,
         Err(why) => return Err(why),
     };
-    match print_asked(alloc, module, &seen, &places, &map, &asked, out) {
+    let view = MomentView {
+        valid: module,
+        shown: Shown {
+            record: seen.record.parts(),
+            rows: seen.rows.as_slice(),
+            code: &places,
+        },
+        map: &map,
+        is_raw: false,
+    };
+    match print_asked(alloc, view, &seen.record, &asked, out) {
         Ok(()) => Ok(()),
         Err(unwritten) => Err(Unshown::Unfit {
             unfit: unfit_of(unwritten),

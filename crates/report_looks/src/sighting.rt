@@ -2,18 +2,17 @@
 ghost use Rattle.std.specs.Prelude.{◌≤◌, false, IfOk, IfNone, IfSome};
 ghost use Rattle.types.specs.declared.parts.Parts.{Parts};
 ghost use Rattle.replay_text.specs.declared.parts.RecordParts.{RecordParts};
-ghost use Rattle.search_races.specs.Races.{SaysOfRun};
+ghost use Rattle.show_races.specs.Races.{SaysOfRun};
 ghost use Rattle.report_looks.specs.Raced.{SaysObject, WritesPair};
 ghost use Rattle.report_looks.specs.Sighted.{AreTold, CanBeTold, IsFirstRace, IsShownBy};
 ghost use Rattle.report_jobs.specs.Prints.{changed};
 
-use crate::pairing::pair_of;
 use crate::showing::CodeBytes;
 use race_history::is_history;
 use replay_text::Record;
 use report_json::RacePair;
-use search_races::watched;
-use show_races::{RecordRaces, races_shown, write_first};
+use report_objects::pair_of;
+use show_races::{RecordRaces, races_shown, watched, write_first};
 use show_rows::{CodeMap, Row, Shown, Story};
 use show_text::Unwritten;
 use std::alloc::Global;

@@ -16,7 +16,7 @@ use report_command::{At, Data, Form, LastWrite, RecordView, ShowLook, When};
 use report_jobs::{Absent, Unfit};
 use selection::{Choice, Look, NumberSpan};
 use show_moments::Bytes;
-use show_named::DataMap;
+use show_named::{DataMap, SoughtWrite};
 use show_rows::Stood;
 use std::alloc::{AllocError, Global};
 use types::{Entry, Event, Outcome, Question, ThreadReport};
@@ -67,12 +67,8 @@ pub(crate) enum Wanted<'a> {
     Entries(RecordView<'a>),
     /// A moment of it.
     Moment(Here),
-    /// The last entry before the one of this place that writes a byte at these addresses, in this form.
-    Write {
-        addrs: NumberSpan,
-        before: usize,
-        form: Form,
-    },
+    /// The last write of some bytes, in this form.
+    Write { sought: SoughtWrite, form: Form },
 }
 
 /// Whether a thread leaves that trapped.
@@ -154,8 +150,7 @@ fn write_of<'a>(
     };
     match place_in(parts, write.before) {
         Some(before) => Ok(Wanted::Write {
-            addrs,
-            before,
+            sought: SoughtWrite { addrs, before },
             form: write.form,
         }),
         None => Err(Unshown::Absent(Absent::NoTrap)),

@@ -1,6 +1,6 @@
 //! A place in a module, as it is printed of a trap.
 
-use show_rows::Spot;
+use show_spots::Spot;
 use show_text::Plain;
 use std::fmt::{self, Formatter, Write};
 

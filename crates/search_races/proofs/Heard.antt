@@ -38,8 +38,8 @@ use Rattle.show_rows.specs.Rows.{RowsSee, number_before}
 use Rattle.search_scheduled.specs.declared.running.MadeRun.{MadeRun}
 use Rattle.search_finds.specs.Finds.{IsFind}
 use Rattle.search_races.specs.Heard.{row_heard}
-use Rattle.search_races.specs.Races.{Says, SaysOfRun}
-use Rattle.search_races.specs.Rows.{AreRowsOf, kinds_of}
+use Rattle.show_races.specs.Races.{Says, SaysOfRun}
+use Rattle.show_races.specs.Rows.{AreRowsOf, kinds_of}
 use Rattle.search_races.proofs.Alike.{kinds_same}
 use Rattle.search_races.proofs.Stood.{Filled, RowHas, row_of, stands_there, has_set, keeps_set, see_in, see_length}
 use Rattle.search_races.proofs.Stood.{see_keeps, see_has, left_in, behind_keeps, behind_is, last_keeps, round_in}

@@ -5,16 +5,15 @@ ghost use Rattle.shared_memory.specs.Legal.{IsQueueLegal};
 ghost use Rattle.show_races.specs.Kinds.{kinds_shown};
 ghost use Rattle.search_finds.specs.Finds.{IsFind};
 ghost use Rattle.search_races.specs.Heard.{row_heard};
-ghost use Rattle.search_races.specs.Races.{Says, SaysOfRun};
-ghost use Rattle.search_races.specs.Rows.{kinds_of as kinds_by};
+ghost use Rattle.show_races.specs.Races.{Says, SaysOfRun};
+ghost use Rattle.show_races.specs.Rows.{kinds_of as kinds_by};
 
-use crate::rows::watched;
 use interp::CodePlace;
 use race_history::{Race, is_history, races_of};
 use replay_text::Record;
 use search_finds::Judges;
 use search_scheduled::MadeRun;
-use show_races::kinds_of;
+use show_races::{kinds_of, watched};
 use show_rows::{CodeMap, Row, Shown};
 use spawn_host::Request;
 use std::alloc::{AllocError, Global};
@@ -106,7 +105,7 @@ fn has_heard_race(alloc: Global, request: &Request, made: &MadeRun) -> Result<bo
 pub struct RaceJudge;
 
 impl Judges for RaceJudge {
-    ghost use Rattle.search_races.specs.Races.{SaysOfRun};
+    ghost use Rattle.show_races.specs.Races.{SaysOfRun};
 
     ghost judges = { λ j q made is. SaysOfRun q.parts made.record is };
 

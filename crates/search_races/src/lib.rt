@@ -2,14 +2,10 @@
 //!
 //! Proved: `has_race` answers of a recorded run whether two of its accesses race, by where its threads stand in a replay
 //! of it. `RaceJudge` answers the same of a run that was made, and replays nothing: where threads were heard to stand
-//! while the run was made, a replay of its record sees them stand (proofs/Heard.antt).
-//!
-//! - `rows_seen` has the rows of a record's entries, or why it has none; `watched` has the fault alone.
-//! - `RaceJudge` looks for a run with a race (`search_finds::Judges`).
+//! while the run was made, a replay of its record sees them stand (proofs/Heard.antt). It looks for a run with a race
+//! (`search_finds::Judges`).
 #![tactic(auto)]
 
 mod judge;
-mod rows;
 
 pub use judge::{RaceJudge, has_race};
-pub use rows::{Unseen, rows_seen, watched};

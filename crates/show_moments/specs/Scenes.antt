@@ -25,7 +25,7 @@ use Rattle.show_rows.specs.declared.listing.Story.{Story}
 use Rattle.show_rows.specs.Listing.{context_at, made_at}
 use Rattle.show_rows.specs.Spots.{IsSpotOf, named_offset, range_at}
 use Rattle.show_rows.specs.Around.{lines_around}
-use Rattle.show_rows.specs.declared.around.Around.{Around}
+use Rattle.show_spots.specs.declared.around.Around.{Around}
 use Rattle.show_rows.specs.declared.code.CodeMap.{CodeMap}
 use Rattle.interp.specs.declared.place.CodePlace.{CodePlace}
 use Rattle.dwarf_units.specs.Spans.{holds}

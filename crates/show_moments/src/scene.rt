@@ -271,8 +271,11 @@ impl<'c> Scene<'_, '_, '_, '_, '_, '_, '_, 'c, '_, '_, '_> {
         last_of(log, self.moment.at, Act::Write(addrs))
     }
 
-    /// The open functions of a thread that stands somewhere.
-    fn functions_if_any(
+    /// The open functions of a thread that stands somewhere, the one that runs first.
+    ///
+    /// # Errors
+    /// Where memory is refused.
+    pub fn functions_if_any(
         &self,
         standing: Option<&ThreadSnapshot>,
     ) -> Result<Vec<ToldFunction<'c>>, AllocError>
@@ -285,10 +288,7 @@ impl<'c> Scene<'_, '_, '_, '_, '_, '_, '_, 'c, '_, '_, '_> {
     }
 
     /// The open functions of a thread, the one that runs first.
-    ///
-    /// # Errors
-    /// Where memory is refused.
-    pub fn functions(&self, standing: &ThreadSnapshot) -> Result<Vec<ToldFunction<'c>>, AllocError>
+    fn functions(&self, standing: &ThreadSnapshot) -> Result<Vec<ToldFunction<'c>>, AllocError>
         ensures { IfOk result (λ told. AreFunctions (specified.seen self.now) standing.now
             (specified.depth standing.now) told.items) }
     {

@@ -28,9 +28,7 @@ says_last shown map story before act none (Some k) text last says =
 
 -- The same of what is found in the log.
 pub says_found : (shown : Shown) (map : DataMap) (story : Story) (log : List Entry) (before : ℕ) (act : Act) (none : List ℕ)
-    (place : Option ℕ) (text : List ℕ) → log ≡ shown.record.now.log → IfSome place (IsLast act log before)
-    → (place ≡ None → HasNone act log before) → SaysPlace shown map story none place text
-    → SaysLast shown map story before act none text
-says_found shown map story log before act none place text same found nothing says =
-    says_last shown map story before act none place text
-    (subst (λ (l : List Entry). IsLastIfAny act l before place) same (last_if_any act log before place found nothing)) says
+    (place : Option ℕ) (text : List ℕ) → log ≡ shown.record.now.log → IsLastIfAny act log before place
+    → SaysPlace shown map story none place text → SaysLast shown map story before act none text
+says_found shown map story log before act none place text same last =
+    says_last shown map story before act none place text (subst (λ (l : List Entry). IsLastIfAny act l before place) same last)

@@ -8,6 +8,7 @@ use Rattle.show_rows.specs.declared.listing.Story.{Story}
 use Rattle.show_named.specs.declared.data_map.DataMap.{DataMap}
 use Rattle.show_named.specs.Rows.{IsEntryText}
 use Rattle.show_named.specs.declared.lasts.Act.{Act}
+use Rattle.show_named.specs.declared.lasts.SoughtWrite.{SoughtWrite}
 use Rattle.show_named.specs.declared.lasts.Act.TheVariants as acts
 use Rattle.show_named.specs.Lasts.{HasNone, IsLast}
 
@@ -37,6 +38,7 @@ unwritten_text addrs = codes "nobody writes to " ++ (addresses_text addrs
     ++ codes " before that: the module has these bytes, or they are zeros")
 
 -- It is written, and a line feed.
-abbrev pub WritesLast : Shown → DataMap → Story → ℕ → NumberSpan → Option (List ℕ) → Option (List ℕ) → Type 0
-WritesLast shown map story before addrs old new = (text : List ℕ)
-    × SaysLast shown map story before (acts.Write addrs) (unwritten_text addrs) text × Appends old new (text ++ codes "\n")
+abbrev pub WritesLast : Shown → DataMap → Story → SoughtWrite → Option (List ℕ) → Option (List ℕ) → Type 0
+WritesLast shown map story sought old new = (text : List ℕ)
+    × SaysLast shown map story sought.before (acts.Write sought.addrs) (unwritten_text sought.addrs) text
+    × Appends old new (text ++ codes "\n")

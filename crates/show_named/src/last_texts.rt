@@ -4,7 +4,7 @@ ghost use Rattle.show_named.specs.declared.lasts.Act.TheVariants as acts;
 ghost use Rattle.show_named.specs.LastTexts.{SaysLast, SaysPlace, WritesLast, unwritten_text};
 
 use crate::data_map::DataMap;
-use crate::lasts::{Act, last_of};
+use crate::lasts::SoughtWrite;
 use crate::rows::named_text;
 use selection::NumberSpan;
 use show_rows::{Shown, Story};
@@ -13,23 +13,19 @@ use std::alloc::{AllocError, Global};
 use std::fmt::{self, Formatter};
 use std::io::Write;
 
-/// The words of the last entry before the one of this place, counted from 0, that does something, or these where none
-/// does.
-///
-/// # Errors
-/// Where memory is refused.
-pub fn last_text(
+/// The words of the last entry that is sought, or these where none writes there.
+fn last_text(
     alloc: Global,
     shown: Shown,
     map: &DataMap,
     story: &Story,
-    before: usize,
-    act: Act,
+    sought: SoughtWrite,
     none: &str,
 ) -> Result<String, AllocError>
-    ensures { IfOk result (λ text. SaysLast shown.entry map.now story.now before act none.now (string_bytes text)) }
+    ensures { IfOk result (λ text. SaysLast shown.entry map.now story.now sought.before (acts.Write sought.addrs) none.now
+        (string_bytes text)) }
 {
-    let place = last_of(shown.record.log.as_slice(), before, act);
+    let place = sought.place_in(shown.record.log.as_slice());
     told_text(alloc, shown, map, story, place, none)
 }
 
@@ -84,8 +80,7 @@ fn unwritten(alloc: Global, addrs: NumberSpan) -> Result<String, AllocError>
     Ok(text)
 }
 
-/// Writes the words of the last entry before the one of this place, counted from 0, that writes one of the bytes at
-/// these addresses, or that none does.
+/// Writes the words of the last entry that is sought, or that no entry writes there.
 ///
 /// # Errors
 /// Where memory is refused, or the stream fails.
@@ -94,22 +89,13 @@ pub fn write_last<W: Write>(
     shown: Shown,
     map: &DataMap,
     story: &Story,
-    before: usize,
-    addrs: NumberSpan,
+    sought: SoughtWrite,
     out: &mut W,
 ) -> Result<(), Unwritten>
-    ensures { OnOk result (WritesLast shown.entry map.now story.now before addrs (W.contents out.old) (W.contents out.new)) }
+    ensures { OnOk result (WritesLast shown.entry map.now story.now sought (W.contents out.old) (W.contents out.new)) }
 {
-    let none = unwritten(alloc, addrs)?;
-    let text = last_text(
-        alloc,
-        shown,
-        map,
-        story,
-        before,
-        Act::Write(addrs),
-        none.as_str(),
-    )?;
+    let none = unwritten(alloc, sought.addrs)?;
+    let text = last_text(alloc, shown, map, story, sought, none.as_str())?;
     write!(out, "{text}\n")?;
     out.flush()?;
     Ok(())

@@ -1,6 +1,7 @@
 //! The last entry that writes some bytes, or notifies an address.
 ghost use Rattle.std.specs.Prelude.{◌≡◌, ◌↔◌, true, None, IfSome};
-ghost use Rattle.show_named.specs.Lasts.{Does, HasNone, IsLast, Notifies, Writes};
+ghost use Rattle.show_named.specs.declared.lasts.Act.TheVariants as acts;
+ghost use Rattle.show_named.specs.Lasts.{Does, HasNone, IsLast, IsLastIfAny, Notifies, Writes};
 
 use race_history::{AccessKind, access_of};
 use selection::NumberSpan;
@@ -63,4 +64,22 @@ pub fn last_of(log: &[Entry], before: usize, act: Act) -> Option<usize>
         }
     }
     None
+}
+
+/// The last entry of a log that writes some bytes, before a moment.
+#[derive(Clone, Copy, PartialEq, Eq, Debug)]
+pub struct SoughtWrite {
+    /// It writes a byte at one of these addresses.
+    pub addrs: NumberSpan,
+    /// How many entries are before the moment.
+    pub before: usize,
+}
+
+impl SoughtWrite {
+    /// Its place in a log, counted from 0, if one writes there.
+    pub fn place_in(self, log: &[Entry]) -> Option<usize>
+        ensures { IsLastIfAny (acts.Write self.addrs) log.now self.before result }
+    {
+        last_of(log, self.before, Act::Write(self.addrs))
+    }
 }

@@ -7,18 +7,14 @@
 //! comes next `NextStood` keeps where its thread stands and what it comes to, of which no clause speaks.
 #![tactic(auto)]
 
-mod around;
 mod code;
 mod entries;
 mod listing;
 mod next;
 mod rows;
-mod spot;
 
-pub use around::Around;
 pub use code::CodeMap;
 pub use entries::{PlaceBehind, entry_text};
 pub use listing::{Shown, Story, chosen_entries, write_rows};
 pub use next::{NextStood, Stood};
 pub use rows::{Row, Rows, number_in};
-pub use spot::Spot;

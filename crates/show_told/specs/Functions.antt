@@ -2,9 +2,9 @@
 use Rattle.std.specs.Prelude.{ℕ, List, [], ◌∷◌, ◌++◌, codes, flat_map, Option, Some, None, option_map, string_bytes}
 use Rattle.dwarf_frames.specs.declared.frames.Chain.{Chain}
 use Rattle.show_text.specs.Plain.{plain_text}
-use Rattle.show_rows.specs.Around.{around_text}
-use Rattle.show_rows.specs.Spots.{source_text, spot_text}
-use Rattle.show_rows.specs.declared.spot.Spot.{Spot}
+use Rattle.show_spots.specs.Around.{around_text}
+use Rattle.show_spots.specs.Spots.{source_text, spot_text}
+use Rattle.show_spots.specs.declared.spot.Spot.{Spot}
 use Rattle.show_told.specs.declared.functions.ChainedSpot.{ChainedSpot}
 use Rattle.show_told.specs.declared.functions.ToldFunction.{ToldFunction}
 use Rattle.show_told.specs.declared.values.TypedWord.{TypedWord}

@@ -6,7 +6,7 @@ ghost use Rattle.show_told.specs.Functions as specified;
 
 use crate::values::{ToldValue, TypedWord};
 use dwarf_frames::Chain;
-use show_rows::{Around, Spot};
+use show_spots::{Around, Spot};
 use show_text::Plain;
 use std::alloc::{AllocError, Global};
 use std::fmt::{self, Formatter};

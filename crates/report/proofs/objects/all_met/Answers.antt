@@ -2,7 +2,7 @@ use Rattle.std.proofs.Common.{◌+◌, List, sym, subst, take}
 use Rattle.std.specs.List.{AllZip}
 use Rattle.search_finds.specs.declared.met.Met.{Met}
 use Rattle.report_json.specs.declared.drawn.MetEnding.{MetEnding}
-use Rattle.report_looks.proofs.Zipped.{zipped_more}
+use Rattle.show_rows.proofs.Zipped.{zipped_more}
 use Rattle.report.specs.SearchObjects.{IsMetOf}
 use Rattle.report.proofs.objects.all_met.Goals as goal
 

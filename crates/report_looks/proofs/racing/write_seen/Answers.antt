@@ -4,8 +4,8 @@ use Rattle.show_rows.specs.Listing.{IsStoryOf}
 use Rattle.race_history.specs.Races.{AreRaces}
 use Rattle.replay_text.specs.declared.parts.RecordParts.{RecordParts}
 use Rattle.show_races.specs.Kinds.{kinds_in}
-use Rattle.search_races.specs.Races.{Says}
-use Rattle.search_races.proofs.Told.{kinds_alike, says_by, told_of}
+use Rattle.show_races.specs.Races.{Says}
+use Rattle.show_races.proofs.Told.{kinds_alike, says_by, told_of}
 use Rattle.report_looks.proofs.racing.write_seen.Goals as goal
 
 pub returns-clause-says : goal.returns-clause-says

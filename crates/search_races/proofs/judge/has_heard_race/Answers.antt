@@ -4,8 +4,8 @@ use Rattle.types.specs.declared.parts.Parts.{Parts}
 use Rattle.interp.specs.declared.place.CodePlace.{CodePlace}
 use Rattle.show_rows.specs.declared.rows.Row.{Row}
 use Rattle.search_races.specs.Heard.{row_heard}
-use Rattle.search_races.specs.Races.{Says, SaysOfRun}
-use Rattle.search_races.specs.Rows.{kinds_of}
+use Rattle.show_races.specs.Races.{Says, SaysOfRun}
+use Rattle.show_races.specs.Rows.{kinds_of}
 use Rattle.search_races.proofs.Heard.{heard_so}
 use Rattle.search_races.proofs.judge.has_heard_race.Goals as goal
 

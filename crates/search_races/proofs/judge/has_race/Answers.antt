@@ -1,8 +1,8 @@
 use Rattle.std.proofs.Common.{List, Option, subst}
 use Rattle.std.proofs.lemmas.Result.{IfOk-weaker}
 use Rattle.show_rows.specs.declared.rows.Row.{Row}
-use Rattle.search_races.specs.Races.{Says, SaysOfRun}
-use Rattle.search_races.specs.Rows.{kinds_of}
+use Rattle.show_races.specs.Races.{Says, SaysOfRun}
+use Rattle.show_races.specs.Rows.{kinds_of}
 use Rattle.search_races.proofs.judge.has_race.Goals as goal
 
 pub returns : goal.returns

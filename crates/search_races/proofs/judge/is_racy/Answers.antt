@@ -5,7 +5,7 @@ use Rattle.race_history.specs.declared.race.Race.{Race}
 use Rattle.race_history.specs.Races.{AreRaces, HasEach, IsCut}
 use Rattle.show_races.specs.Kinds.{kinds_shown}
 use Rattle.show_races.proofs.Laws.{carried, kinds_length, no_race}
-use Rattle.search_races.proofs.Told.{says_by}
+use Rattle.show_races.proofs.Told.{says_by}
 use Rattle.search_races.proofs.judge.is_racy.Goals as goal
 
 pub races_of-requires-clause-kinds : goal.races_of-requires-clause-kinds

@@ -1,9 +1,9 @@
 use Rattle.std.proofs.Common.{◌∙◌, ap, refl}
 use Rattle.std.proofs.lemmas.Result.{IfOk-weaker}
 use Rattle.replay_text.specs.declared.parts.RecordParts.{RecordParts}
-use Rattle.search_races.specs.Races.{Says}
-use Rattle.search_races.specs.Rows.{kinds_of}
-use Rattle.search_races.proofs.Told.{told_of}
+use Rattle.show_races.specs.Races.{Says}
+use Rattle.show_races.specs.Rows.{kinds_of}
+use Rattle.show_races.proofs.Told.{told_of}
 use Rattle.search_races.proofs.judge.is_racy_by.Goals as goal
 
 pub returns : goal.returns

@@ -1,0 +1,3 @@
+mod ObjectRows
+mod Objects
+pub mod RacePairs
