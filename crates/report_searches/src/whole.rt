@@ -18,7 +18,7 @@ use report_command::Search;
 use report_jobs::Trouble;
 use search_endings::Ending;
 use search_modules::{Hands, RaceFree, ThreadRace, all_endings, race_free_endings};
-use search_reach::{Follows, SearchOrder, Verdict};
+use search_reach::{Follows, SearchOrder, SearchPlan, Verdict};
 use spawn_host::Request;
 use std::alloc::Global;
 use std::thread::Threads;
@@ -122,9 +122,13 @@ fn free_of<R: Threads + Sync, F: Follows>(
     ensures trouble { IfErr result IsOfSystem }
 {
     let early = early_of(search);
+    let plan = SearchPlan {
+        order: order_of(search),
+        most,
+        sought: early,
+    };
     let dump = search.sought.dump as usize;
-    let order = order_of(search);
-    let mut free = race_free_endings(alloc, request, hands, order, most, dump, &early, follower)?;
+    let mut free = race_free_endings(alloc, request, hands, &plan, dump, follower)?;
     free.ended.levels = None;
     Ok(free)
 }
@@ -189,9 +193,13 @@ fn all_of<F: Follows>(
     ensures trouble { IfErr result IsOfSystem }
 {
     let early = early_of(search);
+    let plan = SearchPlan {
+        order: order_of(search),
+        most,
+        sought: early,
+    };
     let dump = search.sought.dump as usize;
-    let order = order_of(search);
-    Ok(all_endings(alloc, request, order, most, dump, &early, follower)?)
+    Ok(all_endings(alloc, request, &plan, dump, follower)?)
 }
 
 /// What is found of all runs of a call behind that first look.
