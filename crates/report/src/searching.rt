@@ -30,7 +30,7 @@ use report_searches::{
     keep_made, keep_raced, keep_run, kept_if_found, kept_of, kept_race, no_memory, raced_of,
     status_of_none, whole_of,
 };
-use search_finds::{EndingTable, Halt, Hears, SearchResult, first_found, first_judged};
+use search_finds::{Crew, EndingTable, Halt, Hears, SearchResult, first_found, first_judged};
 use search_modules::Hands;
 use search_races::RaceJudge;
 use spawn_host::Request;
@@ -191,8 +191,11 @@ fn search_for_endings<R: Threads + Sync, F: Hears, W: Write, S: Write>(
     ensures trouble { IfErr result IsOfSystem }
 {
     let sought = &search.sought;
-    let jobs = jobs_of(rt, search);
-    let searched = match first_found(rt, alloc, request, sought, jobs, follower) {
+    let crew = Crew {
+        rt,
+        jobs: jobs_of(rt, search),
+    };
+    let searched = match first_found(&crew, alloc, request, sought, follower) {
         Ok(searched) => searched,
         Err(fault) => return Err(no_memory(fault)),
     };
@@ -258,8 +261,11 @@ fn search_for_races<R: Threads + Sync, F: Hears, W: Write, S: Write>(
 {
     let search = asked.search;
     let sought = &search.sought;
-    let jobs = jobs_of(rt, search);
-    let searched = match first_judged(rt, alloc, request, sought, &RaceJudge, jobs, follower) {
+    let crew = Crew {
+        rt,
+        jobs: jobs_of(rt, search),
+    };
+    let searched = match first_judged(&crew, alloc, request, sought, &RaceJudge, follower) {
         Ok(searched) => searched,
         Err(fault) => return Err(no_memory(fault)),
     };
