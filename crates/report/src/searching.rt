@@ -26,7 +26,7 @@ use crate::whole::{FirstLook, first_look, whole_of};
 use report_command::Form;
 use report_jobs::{Streams, Trouble, args_of, keep, request_of};
 use report_json::{FoundAs, RunRaces};
-use search_finds::{Halt, Hears, SearchResult, first_found, first_judged};
+use search_finds::{Crew, Halt, Hears, SearchResult, first_found, first_judged};
 use search_modules::Hands;
 use search_races::RaceJudge;
 use std::alloc::Global;
@@ -167,8 +167,11 @@ fn search_for_endings<T: Teller, R: Threads + Sync, W: Write, E, S: Write, F: He
         ..
     } = call;
     let sought = &search.sought;
-    let jobs = jobs_of(rt, search);
-    let searched = match first_found(rt, alloc, request, sought, jobs, follower) {
+    let crew = Crew {
+        rt,
+        jobs: jobs_of(rt, search),
+    };
+    let searched = match first_found(&crew, alloc, request, sought, follower) {
         Ok(searched) => searched,
         Err(_) => return Err(Trouble::NoMemory),
     };
@@ -222,8 +225,11 @@ fn search_for_races<T: Teller, R: Threads + Sync, W: Write, E, S: Write, F: Hear
         ..
     } = call;
     let sought = &search.sought;
-    let jobs = jobs_of(rt, search);
-    let searched = match first_judged(rt, alloc, request, sought, &RaceJudge, jobs, follower) {
+    let crew = Crew {
+        rt,
+        jobs: jobs_of(rt, search),
+    };
+    let searched = match first_judged(&crew, alloc, request, sought, &RaceJudge, follower) {
         Ok(searched) => searched,
         Err(_) => return Err(Trouble::NoMemory),
     };

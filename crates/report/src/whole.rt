@@ -19,7 +19,7 @@ use report_jobs::Trouble;
 use search_endings::Ending;
 use search_finds::is_looked_for;
 use search_modules::{Hands, RaceFree, ThreadRace, all_endings, race_free_endings};
-use search_reach::{Follows, SearchOrder, Seeks, Verdict};
+use search_reach::{Follows, SearchOrder, SearchPlan, Seeks, Verdict};
 use selection::{Find, Sought};
 use std::alloc::{AllocError, Global};
 use std::thread::Threads;
@@ -166,10 +166,13 @@ pub(crate) fn first_look<R: Threads + Sync, F: Follows>(
             way: Vec::new(alloc),
         });
     }
-    let early = early_of(search);
+    let plan = SearchPlan {
+        order: order_of(search),
+        most,
+        sought: early_of(search),
+    };
     let dump = search.sought.dump as usize;
-    let order = order_of(search);
-    let free = race_free_endings(alloc, request, hands, order, most, dump, &early, follower)?;
+    let free = race_free_endings(alloc, request, hands, &plan, dump, follower)?;
     let RaceFree {
         mut ended,
         race,
@@ -209,10 +212,13 @@ fn all_of<F: Follows>(
         search,
         ..
     } = call;
-    let early = early_of(search);
+    let plan = SearchPlan {
+        order: order_of(search),
+        most,
+        sought: early_of(search),
+    };
     let dump = search.sought.dump as usize;
-    let order = order_of(search);
-    Ok(all_endings(alloc, request, order, most, dump, &early, follower)?)
+    Ok(all_endings(alloc, request, &plan, dump, follower)?)
 }
 
 /// What is found of all runs of a call behind that first look.

@@ -24,6 +24,7 @@
 
 mod ahead;
 mod ending;
+mod finder;
 mod finding;
 mod following;
 mod hears;
@@ -41,7 +42,9 @@ mod table;
 mod words;
 
 pub use ending::{ending_of, have_one_ending};
-pub use finding::{Halt, NumberedRun, SearchResult, first_found, first_judged, run_of_number};
+pub use finding::{
+    Crew, Halt, NumberedRun, SearchResult, first_found, first_judged, run_of_number,
+};
 pub use following::{run_round, run_to};
 pub use hears::Hears;
 pub use judging::Judges;

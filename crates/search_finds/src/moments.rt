@@ -74,8 +74,8 @@ fn word_of(event: Event) -> Option<u64> {
     }
 }
 
-/// The number of the word at an address, with that.
-fn number_at(memory: &OneMemory, addr: u64) -> u64 {
+/// The hash of the word at an address, with that.
+fn hash_of_word(memory: &OneMemory, addr: u64) -> u64 {
     let first = usize::try_from(addr).unwrap_or(usize::MAX);
     let last = first.saturating_add(8);
     match memory.bytes().get(first..last) {
@@ -138,7 +138,7 @@ impl<'a> Moments<'a> {
     /// Sees what threads share behind an event.
     fn see_shared<'m>(&mut self, event: Event, walk: &Walk<Thread<'m>>) -> Result<(), AllocError> {
         if let Some(addr) = word_of(event) {
-            self.memory = self.memory.wrapping_add(number_at(&walk.memory, addr));
+            self.memory = self.memory.wrapping_add(hash_of_word(&walk.memory, addr));
         }
         match event {
             Event::Ask(_) | Event::Told(_) => {
@@ -215,7 +215,7 @@ impl<'a, 'm> Watch<Thread<'m>> for Moments<'a> {
 
     fn event(&mut self, entry: &Entry, _thread: &Thread<'m>, memory: &OneMemory) {
         if let Some(addr) = word_of(entry.event) {
-            self.memory = self.memory.wrapping_sub(number_at(memory, addr));
+            self.memory = self.memory.wrapping_sub(hash_of_word(memory, addr));
         }
     }
 

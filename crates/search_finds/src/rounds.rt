@@ -80,34 +80,31 @@ fn threads_at(
     Ok(schedule)
 }
 
+/// The moments by the number of the run; or those of one thread, by its own number.
+fn numbers_by(
+    alloc: Global,
+    moments: &[BeforeEvent],
+    by: Option<u32>,
+) -> Result<Vec<Numbered>, AllocError> {
+    let mut all = Vec::with_capacity(alloc, moments.len())?;
+    for (place, moment) in moments.iter().enumerate() {
+        let number = match by {
+            None => moment.run,
+            Some(thread) if thread == moment.thread => moment.own,
+            Some(_) => continue,
+        };
+        all.push(Numbered { place, number })?;
+    }
+    Ok(all)
+}
+
 /// The threads of a run's events in order, without what lies between two moments in which all is the same.
 pub(crate) fn without_repeats(
     alloc: Global,
     moments: &[BeforeEvent],
 ) -> Result<Vec<u32>, AllocError> {
-    let mut all = Vec::with_capacity(alloc, moments.len())?;
-    for (place, moment) in moments.iter().enumerate() {
-        let number = moment.run;
-        all.push(Numbered { place, number })?;
-    }
-    let kept = without_rounds(alloc, &all)?;
+    let kept = without_rounds(alloc, &numbers_by(alloc, moments, None)?)?;
     threads_at(alloc, moments, &kept)
-}
-
-/// The moments of one thread.
-fn moments_by(
-    alloc: Global,
-    moments: &[BeforeEvent],
-    thread: u32,
-) -> Result<Vec<Numbered>, AllocError> {
-    let mut own = Vec::new(alloc);
-    for (place, moment) in moments.iter().enumerate() {
-        if moment.thread == thread {
-            let number = moment.own;
-            own.push(Numbered { place, number })?;
-        }
-    }
-    Ok(own)
 }
 
 /// The threads of a run's events in order, without those of one thread that lie between two moments in which it is the
@@ -118,8 +115,7 @@ pub(crate) fn without_own_repeats(
 ) -> Result<Vec<u32>, AllocError> {
     let mut kept = Vec::new(alloc);
     for thread in 0..MOST_THREADS as u32 {
-        let own = moments_by(alloc, moments, thread)?;
-        let mut own = without_rounds(alloc, &own)?;
+        let mut own = without_rounds(alloc, &numbers_by(alloc, moments, Some(thread))?)?;
         kept.append(&mut own)?;
     }
     threads_at(alloc, moments, &kept)

@@ -83,6 +83,10 @@ module _ {X T E V A G H M : Type 0} (k : ThreadSystem X T E V A G H M) where
     pub keeps : (t : ℕ) (a : NextAccess) → t ≢ n → Within s.owned.items t a → Within x.owned.items t a
     pub each : (z : State X T) → IsResting k s.flat z → IsAfterTurn k n x z
 
+  -- It is so of each state whose turn of thread n leads there so, and in which threads want these accesses next.
+  abbrev pub OfComing : ℕ → List (Option NextAccess) → Owning (RestingState G H) → (Owning (RestingState G H) → Type 0) → Type 0
+  OfComing n wanted x so = (s : Owning (RestingState G H)) → AreWanted s.flat wanted → ComesOnward n s x → so s
+
   abbrev pub IsRace : ThreadRace → Type 0
   IsRace r = HasRace k.system k.first k.accesses r.one r.other
 

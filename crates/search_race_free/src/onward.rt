@@ -1,9 +1,8 @@
 //! The turn of a thread, and plain ones after it.
 ghost use Rattle.std.specs.Prelude.{◌≡◌, ◌≢◌, true, None, IfOk};
-ghost use Rattle.search_race_free.specs.declared.owning.Owning.{Owning as OwningState};
 ghost use Rattle.search_race_free.specs.Reduced.{ComesOf};
 ghost use Rattle.search_race_free.specs.Touches.{access_at};
-ghost use Rattle.search_race_free.specs.Search.{AreWanted, WantsSome, IsOwned, ComesOnward, IsCame};
+ghost use Rattle.search_race_free.specs.Search.{AreWanted, WantsSome, IsOwned, ComesOnward, OfComing, IsCame};
 
 use crate::alone::{Arrival, after_event, run_alone, wanted};
 use crate::touches::{first_race, of_others};
@@ -39,8 +38,8 @@ fn run_free<M: Accesses>(
     most: u32,
 ) -> Result<Arrival<Owning<RestingState<M::Shared, M::Thread>>>, AllocError>
     requires { IsOwned (M.threads system.now) at }
-    ensures { (s : OwningState _) → AreWanted (M.threads system.now) s.flat before.now → ComesOnward (M.threads system.now) n s at
-        → IfOk result (IsCame (M.threads system.now) (M.stuck system.now) s.flat (ComesOnward (M.threads system.now) n s)) }
+    ensures { OfComing (M.threads system.now) n before.now at (λ s. IfOk result
+        (IsCame (M.threads system.now) (M.stuck system.now) s.flat (ComesOnward (M.threads system.now) n s))) }
 {
     if is_free(before, n, m) {
         run_alone(alloc, system, at, m, most)

@@ -19,7 +19,7 @@ use crate::next::{first_state, next_states};
 use crate::{Accesses, Owning, ThreadRace};
 use search_graph::Move;
 use search_reach::{
-    Ended, Follows, Meets, NextState, Reached, SearchOrder, Seeks, Verdict, conclude, reach,
+    Ended, Follows, Meets, NextState, Reached, SearchPlan, Seeks, Verdict, conclude, reach,
 };
 use search_settled::{RestingState, put_rows, threads_of};
 use search_table::{StateParts, States};
@@ -298,8 +298,8 @@ fn racing(behind: Option<RaceBehind>) -> Option<ThreadRace>
 }
 
 /// The endings of all runs of threads, whatever the order of their turns, where no threads race in any run: at
-/// `Verdict::All` none do. It meets no more than `most` states and a few, those before an ending that is looked for, and
-/// those before it is told to end. At `Verdict::CannotTell` there may be a race, which is then given. A thread makes at
+/// `Verdict::All` none do. It meets no more than the plan's most states and a few, those before an ending that is looked
+/// for, and those before it is told to end. At `Verdict::CannotTell` there may be a race, which is then given. A thread makes at
 /// most `most_plain` plain turns in a row before others have theirs, whatever comes of it. The crew may make ahead what
 /// comes of states: whoever it is, all that is said is said.
 ///
@@ -312,15 +312,13 @@ pub fn search_race_free<M: Accesses, C: MakesAhead<M>, Q: Seeks<M::Ending>, F: F
     alloc: Global,
     system: &M,
     crew: &C,
-    order: SearchOrder,
-    most: u32,
+    plan: &SearchPlan<Q>,
     most_plain: u32,
-    sought: &Q,
     follower: &mut F,
 ) -> Result<RaceFree<M::Ending>, AllocError>
     requires { C.ready crew.now }
     ensures found { IfOk result
-        (λ r. AreEndings (reduced M.Moves system.now) M.Ending.eq most (F.wish follower.new) r.ended) }
+        (λ r. AreEndings (reduced M.Moves system.now) M.Ending.eq plan.now.most (F.wish follower.new) r.ended) }
     ensures paths { IfOk result (λ r. vec_len r.ended.paths ≡ index_set_len r.ended.endings) }
     ensures ways { IfOk result
         (λ r. HasWays (reduced M.Moves system.now) (owning_eq M.Shared.eq M.Thread.eq) r.ended) }
@@ -329,7 +327,7 @@ pub fn search_race_free<M: Accesses, C: MakesAhead<M>, Q: Seeks<M::Ending>, F: F
     ensures live { IfOk result
         (λ r. IsLiveWhereAll (reduced M.Moves system.now) (owning_eq M.Shared.eq M.Thread.eq)
         r.ended.states r.ended.verdict r.ended.liveness) }
-    ensures seeks { IfOk result (λ r. SeeksIn (Q.sought sought.now) M.Ending.eq r.ended.verdict r.ended.endings.keys) }
+    ensures seeks { IfOk result (λ r. SeeksIn (Q.sought plan.now.sought) M.Ending.eq r.ended.verdict r.ended.endings.keys) }
     ensures obeys { IfOk result (λ r.
         Obeys (F.wish follower.old) (F.wish follower.new) (F.told_at follower.new) r.ended.verdict r.ended.states) }
     ensures none { IfOk result (λ r. r.ended.verdict ≡ verdicts.All → HasNoRace M.Moves system.now) }
@@ -340,10 +338,10 @@ pub fn search_race_free<M: Accesses, C: MakesAhead<M>, Q: Seeks<M::Ending>, F: F
         crew,
         most_plain,
     };
-    let reached = reach(alloc, &turns, order, most, sought, follower)?;
+    let reached = reach(alloc, &turns, plan, follower)?;
     let behind = race_in(alloc, system, &reached, most_plain)?;
     let way = way_behind(alloc, reached.moves.as_slice(), behind)?;
-    let ended = conclude(alloc, &turns, most, sought, reached, follower)?;
+    let ended = conclude(alloc, &turns, plan, reached, follower)?;
     Ok(RaceFree {
         ended,
         race: racing(behind),

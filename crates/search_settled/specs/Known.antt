@@ -1,12 +1,12 @@
 -- Turns that are known, and the states of a table. Types: as in Threads.
-use Rattle.std.specs.Prelude.{ℕ, ◌≡◌, ◌^◌, ◌<◌, ◌⊎◌, Bool, true, List, length, Option, Some, None, slice_set}
+use Rattle.std.specs.Prelude.{ℕ, ◌≡◌, ◌^◌, ◌<◌, ◌+◌, ◌∷◌, ◌⊎◌, Bool, true, List, length, Option, Some, None, slice_set}
 use Rattle.std.specs.List.{slice_get, AllZip}
 use Rattle.std.specs.Cmp.Lexicographic.{pointwise}
 use Rattle.schedule.specs.System.{Want.Calls, State}
 use Rattle.schedule.specs.Scheduled.{after_event}
 use Rattle.search_table.specs.declared.parts.StateParts.{StateParts}
 use Rattle.search_table.specs.declared.states.States.{States}
-use Rattle.search_table.specs.Tables.{IsRow, AreStates, states_of}
+use Rattle.search_table.specs.Tables.{AreThreads, IsRow, AreStates, states_of}
 use Rattle.search_graph.specs.declared.graph.Move.{Move}
 use Rattle.search_reach.specs.declared.explores.NextState.{NextState}
 use Rattle.search_reach.specs.Explored.{Gains, Notes}
@@ -17,6 +17,7 @@ use Rattle.search_settled.specs.declared.met.MetParts.{MetParts}
 use Rattle.search_settled.specs.declared.met.NextRow.{NextRow}
 use Rattle.search_settled.specs.declared.met.Tables.{Tables}
 use Rattle.search_settled.specs.declared.met.QuietTurn.{QuietTurn}
+use Rattle.search_settled.specs.declared.next.ThreadOf.{ThreadOf}
 use Rattle.search_settled.specs.declared.met.QuietTurn.TheVariants.{Still, Alone}
 use Rattle.search_settled.specs.declared.turns.EventOutcome.{EventOutcome}
 use Rattle.search_settled.specs.declared.turns.EventOutcome.TheVariants.{Told, Heard, Unknown}
@@ -44,6 +45,13 @@ module _ {G H : Type 0} (t : StateParts G H) where
   -- The row is of that state.
   abbrev pub IsOf : List ℕ → RestingState G H → Type 0
   IsOf r c = IsRow t r c.shared c.threads.items
+
+  -- It is so of the threads of these numbers; or of some that are.
+  abbrev pub OfThreads : List ℕ → (List H → Type 0) → Type 0
+  OfThreads numbers so = (xs : List H) → AreThreads t numbers xs → so xs
+
+  abbrev pub OfSomeThreads : List ℕ → (List H → Type 0) → Type 0
+  OfSomeThreads numbers so = (xs : List H) × AreThreads t numbers xs × so xs
 
   -- The states of a table are these.
   abbrev pub AreOf : States → List (RestingState G H) → Type 0
@@ -123,6 +131,15 @@ module _ {X T E V A G H M : Type 0} (k : ThreadSystem X T E V A G H M) where
       pub thread_at : slice_get t.threads.keys thread ≡ Some thread_is
       pub among : slice_get c.threads.items n ≡ Some thread_is
 
+    -- There is such a state of its row; it is so of each.
+    abbrev pub HasThread : ThreadOf → Type 0
+    HasThread of =
+        (c : RestingState G H) × IsThreadAt (of.shared ∷ of.threads.now) of.thread of.n c
+
+    abbrev pub OfThread : ThreadOf → (RestingState G H → Type 0) → Type 0
+    OfThread of so =
+        (c : RestingState G H) → IsThreadAt (of.shared ∷ of.threads.now) of.thread of.n c → so c
+
     -- It is so of the state of a row.
     abbrev pub OfRow : List ℕ → (RestingState G H → Type 0) → Type 0
     OfRow r so = (c : RestingState G H) → IsOf t r c → IsSomewhere k c → so c
@@ -142,6 +159,10 @@ module _ {X T E V A G H M : Type 0} (k : ThreadSystem X T E V A G H M) where
     -- There is such a state of the row.
     abbrev pub IsSomeRow : List ℕ → Type 0
     IsSomeRow r = (c : RestingState G H) × IsOf t r c × IsSomewhere k c
+
+  -- Where these are the rows of the next states by the events of the threads before this one, those have its too.
+  abbrev pub AddsNext : StateParts G H → StateParts G H → ThreadOf → List NextRow → List NextRow → RestingState G H → Type 0
+  AddsNext t u of before after c = AreNextBelow t c of.n before → AreNextBelow u c (of.n + 1) after
 
   -- The row is of a state that equals one to which threads come after an event of thread n.
   pub record IsRowAfter (eq_shared : G → G → Bool) (eq_thread : H → H → Bool) (t : StateParts G H) (after : G)

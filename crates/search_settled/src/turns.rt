@@ -7,7 +7,7 @@ ghost use Rattle.search_settled.specs.Alone.{IsUnheard};
 ghost use Rattle.search_settled.specs.Flat.{ComesAfter};
 
 use crate::Moves;
-use crate::met::{Known, MetParts, QuietTurn, note};
+use crate::met::{Known, MetParts, QuietTurn, note, recall};
 use std::alloc::{AllocError, Global};
 
 /// What comes of the event that a thread wants.
@@ -95,7 +95,8 @@ fn made_anew<M: Moves>(
     Ok(EventOutcome::Told(QuietTurn::Alone { shared, thread }))
 }
 
-/// What comes of the event that thread n wants, which was not known, and is noted if nobody else hears of it.
+/// What comes of the event that thread n wants: its turn, if that is known; else what is found now, and is noted if nobody
+/// else hears of it.
 pub(crate) fn made_by<M: Moves>(
     alloc: Global,
     system: &M,
@@ -114,6 +115,10 @@ pub(crate) fn made_by<M: Moves>(
     ensures gives_up { IfOk result (λ r. r ≡ Unknown → OfNumbers (M.threads system.now) met.old.parts shared thread
         (IsLostBy (M.threads system.now) (M.stuck system.now) n)) }
 {
+    let known = met.known.as_slice();
+    if let Some(turn) = recall(known, shared, thread, n as u32) {
+        return Ok(EventOutcome::Told(turn));
+    }
     let made = made_anew(alloc, system, met, shared, thread, n)?;
     if let EventOutcome::Told(turn) = made {
         let n = n as u32;

@@ -50,18 +50,18 @@ fn times_of(table: &EndingTable, outcomes: &[Outcome], byte: u8) -> u64 {
 /// What thread 0 answers and what is stored in the end: thread 0 comes first, or thread 1, or an update is lost.
 static UPDATES: [(u32, u8); 3] = [(1, 2), (2, 2), (1, 1)];
 
-/// Whether thread 0 answers so and this byte is stored in some run.
-fn has_update(table: &EndingTable, answer: u32, byte: u8) -> bool {
-    let ends = [Outcome::Done(Some(Value::I32(answer))), Outcome::Done(None)];
-    times_of(table, &ends, byte) > 0
-}
-
 /// Whether each of these endings was met, and no other.
 fn has_updates(table: &EndingTable, updates: &[(u32, u8)]) -> bool {
+    for (answer, byte) in updates {
+        let ends = [
+            Outcome::Done(Some(Value::I32(*answer))),
+            Outcome::Done(None),
+        ];
+        if times_of(table, &ends, *byte) == 0 {
+            return false;
+        }
+    }
     table.met.len() == updates.len()
-        && updates
-            .iter()
-            .all(|(answer, byte)| has_update(table, *answer, *byte))
 }
 
 fn check_updates<R: Abort>(rt: &R, alloc: Global, way: Way) -> Result<(), Trouble> {
@@ -101,18 +101,13 @@ fn is_met<R: Threads + Wait + Sync>(
     Ok(table.met.iter().any(|met| met.ending == ending))
 }
 
-fn check_real<R: Abort + Threads + Wait + Sync>(rt: &R, alloc: Global) -> Result<(), Trouble> {
-    let valid = load(alloc, LOST_UPDATE)?;
-    let table = endings_of(alloc, &valid, &[], Way::Random, 300)?;
-    for run in 0..50 {
-        assert!(rt; is_met(rt, alloc, &valid, &table)?, "{run}");
-    }
-    Ok(())
-}
-
 #[test]
 fn runs_of_the_machine_end_as_drawn_ones(rt: HostRuntime) -> Result<(), Fail> {
-    check_real(&rt, rt.alloc())?;
+    let valid = load(rt.alloc(), LOST_UPDATE)?;
+    let table = endings_of(rt.alloc(), &valid, &[], Way::Random, 300)?;
+    for run in 0..50 {
+        assert!(rt; is_met(&rt, rt.alloc(), &valid, &table)?, "{run}");
+    }
     Ok(())
 }
 
@@ -135,23 +130,30 @@ fn a_schedule_loses_the_update(rt: HostRuntime) -> Result<(), Fail> {
 
 /// Threads that sleep without a timeout are asleep for good in each run.
 #[rattlefmt::skip]
-static ASLEEP: [Outcome; 5] = [
+const ASLEEP: [Outcome; 5] = [
     Outcome::Trap(Trap::DivideByZero),
     Outcome::Stop(Stop::AsleepForGood), Outcome::Trap(Trap::Unreachable),
     Outcome::Stop(Stop::AsleepForGood), Outcome::Trap(Trap::OutOfBounds),
 ];
 
-fn check_sleepers<R: Abort>(rt: &R, alloc: Global, way: Way) -> Result<(), Trouble> {
-    let valid = load(alloc, SLEEPERS)?;
-    let table = endings_of(alloc, &valid, &[], way, 50)?;
-    assert!(rt; times_of(&table, &ASLEEP, 0) == 50, "{way:?}: {table:?}");
-    Ok(())
-}
+/// Nobody waits in a loop for good: thread 1 comes to its store in each run.
+const LOOKED: [Outcome; 2] = [Outcome::Done(Some(Value::I32(7))), Outcome::Done(None)];
+
+/// Modules of which each run ends so: how many are made, the threads' ends, and the byte at 0.
+#[rattlefmt::skip]
+static ENDING_SO: [(&[u8], u64, &[Outcome], u8); 2] = [
+    (SLEEPERS, 50, &ASLEEP, 0),
+    (LOOKING, 100, &LOOKED, 1),
+];
 
 #[test]
-fn sleepers_sleep_for_good(rt: HostRuntime) -> Result<(), Fail> {
-    for way in WAYS {
-        check_sleepers(&rt, rt.alloc(), way)?;
+fn each_run_ends_so(rt: HostRuntime) -> Result<(), Fail> {
+    for (module, runs, ends, byte) in ENDING_SO {
+        let valid = load(rt.alloc(), module)?;
+        for way in WAYS {
+            let table = endings_of(rt.alloc(), &valid, &[], way, runs)?;
+            assert!(rt; times_of(&table, ends, byte) == runs, "{way:?}: {table:?}");
+        }
     }
     Ok(())
 }
@@ -192,28 +194,12 @@ fn a_sleeper_is_woken_in_some_runs(rt: HostRuntime) -> Result<(), Fail> {
     Ok(())
 }
 
-/// Nobody waits in a loop for good: thread 1 comes to its store in each run.
-fn check_looking<R: Abort>(rt: &R, alloc: Global, way: Way) -> Result<(), Trouble> {
-    let valid = load(alloc, LOOKING)?;
-    let ends = [Outcome::Done(Some(Value::I32(7))), Outcome::Done(None)];
-    let table = endings_of(alloc, &valid, &[], way, 100)?;
-    assert!(rt; times_of(&table, &ends, 1) == 100, "{way:?}: {table:?}");
-    Ok(())
-}
-
-/// How many entries the run has in which thread 0 goes on as long as it can.
-fn entries_alone(alloc: Global) -> Result<usize, Trouble> {
-    let valid = load(alloc, LOOKING)?;
-    let made = run(alloc, &valid, &[], &mut Along::new(&[]))?;
-    Ok(made.record.parts().log.as_slice().len())
-}
-
+/// The run has few entries in which thread 0 goes on as long as it can.
 #[test]
-fn nobody_looks_for_good(rt: HostRuntime) -> Result<(), Fail> {
-    for way in WAYS {
-        check_looking(&rt, rt.alloc(), way)?;
-    }
-    let entries = entries_alone(rt.alloc())?;
+fn a_run_alone_is_short(rt: HostRuntime) -> Result<(), Fail> {
+    let valid = load(rt.alloc(), LOOKING)?;
+    let made = run(rt.alloc(), &valid, &[], &mut Along::new(&[]))?;
+    let entries = made.record.parts().log.as_slice().len();
     assert!(rt; entries < 300, "{entries}");
     Ok(())
 }

@@ -7,13 +7,12 @@ use crate::modules::LOST_UPDATE;
 use crate::runs::{FUEL, LIMIT, Trouble, load};
 use replay::replay;
 use search_finds::{
-    EndingTable, Halt, Met, SearchResult, Size, first_found, have_one_ending, shrunk, size_of,
+    Crew, EndingTable, Halt, SearchResult, Size, first_found, have_one_ending, shrunk, size_of,
 };
 use search_scheduled::MadeRun;
 use selection::{Find, SearchTarget, Sought, Way};
 use spawn_host::{Call, EndState, Request};
 use std::alloc::Global;
-use std::process::Abort;
 use std::test::Fail;
 use std::thread::Threads;
 use test_modules::{BROKEN_LOCK, SLEEPERS};
@@ -114,19 +113,6 @@ fn sought_by(wish: &Wish) -> Sought<'static> {
     }
 }
 
-fn searched_by<R: Threads + Sync>(
-    rt: &R,
-    alloc: Global,
-    request: &Request,
-    sought: &Sought,
-    jobs: usize,
-) -> Result<SearchResult, Trouble> {
-    if sought.from > 1000 || sought.runs > 1000 {
-        return Err(Trouble::Refused);
-    }
-    Ok(first_found(rt, alloc, request, sought, jobs, &mut ())?)
-}
-
 fn searched<R: Threads + Sync>(
     rt: &R,
     alloc: Global,
@@ -135,21 +121,20 @@ fn searched<R: Threads + Sync>(
 ) -> Result<SearchResult, Trouble> {
     let valid = load(alloc, wish.module)?;
     let request = Request::new(&valid, CALL)?;
-    searched_by(rt, alloc, &request, &sought_by(wish), jobs)
-}
-
-fn are_one_row(one: &Met, other: &Met) -> bool {
-    one.times == other.times && one.first == other.first && one.ending == other.ending
+    let sought = sought_by(wish);
+    if sought.from > 1000 || sought.runs > 1000 {
+        return Err(Trouble::Refused);
+    }
+    Ok(first_found(&Crew { rt, jobs }, alloc, &request, &sought, &mut ())?)
 }
 
 fn are_one_table(one: &EndingTable, other: &EndingTable) -> bool {
-    one.runs == other.runs
-        && one.met.len() == other.met.len()
-        && one
-            .met
-            .iter()
-            .zip(other.met.iter())
-            .all(|(row, to)| are_one_row(row, to))
+    for (one, other) in one.met.iter().zip(other.met.iter()) {
+        if one.times != other.times || one.first != other.first || one.ending != other.ending {
+            return false;
+        }
+    }
+    one.runs == other.runs && one.met.len() == other.met.len()
 }
 
 fn are_one_halt(one: &Halt, other: &Halt) -> bool {
@@ -180,22 +165,15 @@ fn is_one_by<R: Threads + Sync>(
     )
 }
 
-fn check_jobs<R: Abort + Threads + Sync>(
-    rt: &R,
-    alloc: Global,
-    wishes: &[Wish],
-    jobs: usize,
-) -> Result<(), Trouble> {
-    for (place, wish) in wishes.iter().enumerate() {
-        assert!(rt; is_one_by(rt, alloc, wish, jobs)?, "{place}: {jobs} jobs");
-    }
-    Ok(())
-}
-
 #[test]
 fn a_find_is_one_on_any_number_of_jobs(rt: HostRuntime) -> Result<(), Fail> {
     for jobs in JOBS {
-        check_jobs(&rt, rt.alloc(), &WISHES, jobs)?;
+        for (place, wish) in WISHES.iter().enumerate() {
+            assert!(rt;
+                is_one_by(&rt, rt.alloc(), wish, jobs)?,
+                "{place}: {jobs} jobs"
+            );
+        }
     }
     Ok(())
 }
@@ -240,7 +218,13 @@ fn found_by<R: Threads + Sync>(
     if sought.from > 1000 || sought.runs > 1000 {
         return Err(Trouble::Refused);
     }
-    let SearchResult { halt, .. } = first_found(rt, alloc, request, sought, 2, &mut ())?;
+    let SearchResult { halt, .. } = first_found(
+        &Crew { rt, jobs: 2 },
+        alloc,
+        request,
+        sought,
+        &mut (),
+    )?;
     let Halt::Found(found) = halt else {
         return Ok(None);
     };
@@ -277,19 +261,10 @@ fn shrinks<R: Threads + Sync>(rt: &R, alloc: Global, wish: &Wish) -> Result<bool
     }
 }
 
-fn check_shrinks<R: Abort + Threads + Sync>(
-    rt: &R,
-    alloc: Global,
-    wishes: &[Wish],
-) -> Result<(), Trouble> {
-    for (place, wish) in wishes.iter().enumerate() {
-        assert!(rt; shrinks(rt, alloc, wish)?, "{place}");
-    }
-    Ok(())
-}
-
 #[test]
 fn a_find_is_replayed_and_shrunk(rt: HostRuntime) -> Result<(), Fail> {
-    check_shrinks(&rt, rt.alloc(), &WISHES[..5])?;
+    for (place, wish) in WISHES[..5].iter().enumerate() {
+        assert!(rt; shrinks(&rt, rt.alloc(), wish)?, "{place}");
+    }
     Ok(())
 }

@@ -7,7 +7,6 @@ use search_scheduled::SearchFault;
 use search_strategies::Along;
 use spawn_host::{Call, CallFault};
 use std::alloc::Global;
-use std::process::Abort;
 use std::test::Fail;
 use types::{MOST_LIMIT, Outcome, Stop, Value};
 use validate::ValidModule;
@@ -40,18 +39,13 @@ fn first_end(
     Ok(end.threads.first().map(|report| report.outcome))
 }
 
-fn check_limited<R: Abort>(rt: &R, alloc: Global) -> Result<(), Trouble> {
-    let valid = load(alloc, LOOKING)?;
-    for (fuel, limit, stop) in LIMITED {
-        let end = first_end(alloc, &valid, fuel, limit)?;
-        assert!(rt; end == Some(Outcome::Stop(stop)), "{fuel} {limit}: {end:?}");
-    }
-    Ok(())
-}
-
 #[test]
 fn runs_come_to_their_limits(rt: HostRuntime) -> Result<(), Fail> {
-    check_limited(&rt, rt.alloc())?;
+    let valid = load(rt.alloc(), LOOKING)?;
+    for (fuel, limit, stop) in LIMITED {
+        let end = first_end(rt.alloc(), &valid, fuel, limit)?;
+        assert!(rt; end == Some(Outcome::Stop(stop)), "{fuel} {limit}: {end:?}");
+    }
     Ok(())
 }
 
@@ -65,21 +59,16 @@ static FAULTY: [(&str, &[Value], u64, u32, Trouble); 5] = [
     ("f", &[], u64::MAX, LIMIT, Trouble::Search(SearchFault::NoEnd)),
 ];
 
-fn check_faults<R: Abort>(rt: &R, alloc: Global) -> Result<(), Trouble> {
-    let valid = load(alloc, LOOKING)?;
+#[test]
+fn faults_are_told(rt: HostRuntime) -> Result<(), Fail> {
+    let valid = load(rt.alloc(), LOOKING)?;
     for (name, args, fuel, limit, fault) in FAULTY {
         let call = Call { name, args, fuel };
-        let said = match run_call(alloc, &valid, call, limit, &mut Along::new(&[])) {
+        let said = match run_call(rt.alloc(), &valid, call, limit, &mut Along::new(&[])) {
             Ok(_) => None,
             Err(said) => Some(said),
         };
         assert!(rt; said == Some(fault), "{name} {fuel} {limit}: {said:?}");
     }
-    Ok(())
-}
-
-#[test]
-fn faults_are_told(rt: HostRuntime) -> Result<(), Fail> {
-    check_faults(&rt, rt.alloc())?;
     Ok(())
 }

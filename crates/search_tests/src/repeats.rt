@@ -96,16 +96,11 @@ fn check_module<R: Abort>(
     Ok(())
 }
 
-fn check_repeats<R: Abort>(rt: &R, alloc: Global, modules: &[(&[u8], u64)]) -> Result<(), Trouble> {
-    for (module, runs) in modules {
-        let valid = load(alloc, module)?;
-        check_module(rt, alloc, &valid, *runs)?;
-    }
-    Ok(())
-}
-
 #[test]
 fn a_run_is_one_whenever_it_is_made(rt: HostRuntime) -> Result<(), Fail> {
-    check_repeats(&rt, rt.alloc(), &MODULES)?;
+    for (module, runs) in MODULES.as_slice() {
+        let valid = load(rt.alloc(), module)?;
+        check_module(&rt, rt.alloc(), &valid, *runs)?;
+    }
     Ok(())
 }

@@ -2,7 +2,7 @@
 
 use crate::modules::LOST_UPDATE;
 use crate::runs::{FUEL, LIMIT, Trouble, load};
-use search_finds::{Halt, Hears, SearchResult, Size, first_found};
+use search_finds::{Crew, Halt, Hears, SearchResult, Size, first_found};
 use search_reach::{Follows, Wish};
 use search_strategies::EndWatch;
 use selection::{Find, SearchTarget, Sought, Way};
@@ -11,26 +11,34 @@ use std::alloc::Global;
 use std::test::Fail;
 use std::thread::Threads;
 
-/// Wishes an end once so many runs were made.
+/// Wishes an end once so many runs were made, or states met.
 #[derive(Drop)]
-struct Few {
-    most: u64,
-    wish: Wish,
+pub(crate) struct Few {
+    pub(crate) most: usize,
+    pub(crate) wish: Wish,
+    pub(crate) told_at: usize,
 }
 
 impl Follows for Few {
     ghost wish = { λ f. f.wish };
 
-    ghost told_at = { λ _. 0 };
+    ghost told_at = { λ f. f.told_at };
 
     fn runs(&mut self, made: u64, _endings: usize) -> Wish {
-        if made >= self.most {
+        if made >= self.most as u64 {
             self.wish = Wish::End;
         }
         self.wish
     }
 
-    fn states(&mut self, _met: usize, _left: usize) -> Wish {
+    fn states(&mut self, met: usize, _left: usize) -> Wish {
+        if let Wish::End = self.wish {
+            return Wish::End;
+        }
+        self.told_at = met;
+        if met >= self.most {
+            self.wish = Wish::End;
+        }
         self.wish
     }
 
@@ -92,20 +100,17 @@ fn told<R: Threads + Sync>(
     let mut few = Few {
         most: 3,
         wish: Wish::GoOn,
+        told_at: 0,
     };
-    Ok(first_found(rt, alloc, &request, &sought, 2, &mut few)?)
+    Ok(first_found(&Crew { rt, jobs: 2 }, alloc, &request, &sought, &mut few)?)
 }
 
+/// It ends behind the third run; and what is found comes first.
 #[test]
 fn a_search_ends_behind_the_third_run(rt: HostRuntime) -> Result<(), Fail> {
     let SearchResult { table, halt } = told(&rt, rt.alloc(), "trap")?;
     assert!(rt; matches!(&halt, Halt::Told));
     assert_eq!(rt; table.runs, 3);
-    Ok(())
-}
-
-#[test]
-fn what_is_found_comes_first(rt: HostRuntime) -> Result<(), Fail> {
     let SearchResult { table, halt } = told(&rt, rt.alloc(), "thread 0: ok")?;
     assert!(rt; matches!(&halt, Halt::Found(_)));
     assert_eq!(rt; table.runs, 1);

@@ -52,6 +52,13 @@ abbrev pub SaysOther : Shown → DataMap → Story → ℕ → NumberSpan → Li
 SaysOther shown map story n addrs text = SaysLastOther shown map story n addrs text
     ⊎ ((IsOwn shown.record.now.log n addrs → ⊥) × (text ≡ []))
 
+-- What is told of where a thread stands, of these texts: of its last entry, and of who was there last.
+abbrev pub stand_text : Shown → Stand → List ℕ → List ℕ → List ℕ → List ℕ → List ℕ
+stand_text shown stand last written other notified =
+    last ++ (codes "\n  touches nothing else since entry " ++ (decimal (line_at shown stand.since)
+    ++ (codes " (" ++ (times_text stand.times ++ (codes ")\n  last write there: " ++ (written
+    ++ (codes "\n" ++ (other ++ (codes "  last notify there: " ++ (notified ++ codes "\n"))))))))))
+
 -- Where a thread stands: its last entry that touches bytes, since which line it touches no others, and how often; then
 -- who wrote them last, and of the others where that is the thread itself, and who notified their first address last.
 pub record SaysStand (shown : Shown) (map : DataMap) (story : Story) (n : ℕ) (text : List ℕ) : Type 0 where
@@ -65,9 +72,7 @@ pub record SaysStand (shown : Shown) (map : DataMap) (story : Story) (n : ℕ) (
   pub other_is : SaysOther shown map story n stand.addrs other
   pub notified : List ℕ
   pub notified_is : SaysLast shown map story (length shown.record.now.log) (acts.Notify stand.addrs.first) (codes "nobody") notified
-  pub words : text ≡ last ++ (codes "\n  touches nothing else since entry " ++ (decimal (line_at shown stand.since)
-      ++ (codes " (" ++ (times_text stand.times ++ (codes ")\n  last write there: " ++ (written
-      ++ (codes "\n" ++ (other ++ (codes "  last notify there: " ++ (notified ++ codes "\n"))))))))))
+  pub words : text ≡ stand_text shown stand last written other notified
 
 -- A thread that touches no bytes stands nowhere.
 abbrev pub SaysNowhere : Shown → ℕ → List ℕ → Type 0

@@ -1,6 +1,7 @@
 //! Depth first: the same endings, over as many states; and an ending is met early.
 
-use crate::all_runs::rows::{DUMP, Gone, MODULES, MOST, call_of, gone_in, gone_through};
+use crate::all_runs::free::check_same;
+use crate::all_runs::rows::{DUMP, Gone, MODULES, MOST, call_of, gone_in, gone_through, plan_in};
 use crate::runs::{LIMIT, load};
 use search_endings::Ending;
 use search_finds::run_to;
@@ -40,10 +41,7 @@ fn check_deep<R: Abort>(
     assert_eq!(rt; deep.verdict, Verdict::All);
     assert_eq!(rt; deep.states, gone.states as usize);
     assert_eq!(rt; deep.levels, None);
-    assert_eq!(rt; deep.endings.len(), broad.endings.len());
-    for ending in deep.endings.as_slice() {
-        assert!(rt; broad.endings.contains(ending));
-    }
+    check_same(rt, &deep, &broad);
     check_paths(rt, alloc, valid, gone, &deep)
 }
 
@@ -95,7 +93,8 @@ fn until_one_ends<R: Abort>(
     order: SearchOrder,
 ) -> Result<usize, Fail> {
     let request = Request::new(valid, call_of(gone))?;
-    let found = all_endings(alloc, &request, order, MOST, DUMP as usize, &Any, &mut ())?;
+    let plan = plan_in(order, MOST, Any);
+    let found = all_endings(alloc, &request, &plan, DUMP as usize, &mut ())?;
     assert_eq!(rt; found.verdict, Verdict::Sought);
     assert_eq!(rt; found.endings.len(), 1);
     check_paths(rt, alloc, valid, gone, &found)?;

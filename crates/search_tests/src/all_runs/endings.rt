@@ -55,21 +55,15 @@ fn endings_are_those_of_another_enumeration(rt: HostRuntime) -> Result<(), Fail>
     Ok(())
 }
 
-/// What a search says that may meet so many states.
-fn verdict_at(alloc: Global, valid: &ValidModule, gone: &Gone, most: u32) -> Result<Verdict, Fail> {
-    let all = gone_through(alloc, valid, gone, most)?;
-    Ok(all.verdict)
-}
-
 /// With one state fewer than there are the list is never said to be all.
 #[test]
 fn the_bound_is_kept(rt: HostRuntime) -> Result<(), Fail> {
     for gone in MODULES.as_slice() {
         let valid = load(rt.alloc(), gone.module)?;
-        let enough = verdict_at(rt.alloc(), &valid, gone, gone.states)?;
-        assert_eq!(rt; enough, Verdict::All);
-        let few = verdict_at(rt.alloc(), &valid, gone, gone.states.saturating_sub(1))?;
-        assert_eq!(rt; few, Verdict::TooMany);
+        let enough = gone_through(rt.alloc(), &valid, gone, gone.states)?;
+        assert_eq!(rt; enough.verdict, Verdict::All);
+        let few = gone_through(rt.alloc(), &valid, gone, gone.states.saturating_sub(1))?;
+        assert_eq!(rt; few.verdict, Verdict::TooMany);
     }
     Ok(())
 }

@@ -1,6 +1,6 @@
 //! The same endings where no threads race, over fewer states; and races where some do.
 
-use crate::all_runs::rows::{DUMP, EXCHANGES, Gone, MODULES, MOST, call_of, gone_through};
+use crate::all_runs::rows::{DUMP, EXCHANGES, Gone, MODULES, MOST, call_of, gone_through, plan_in};
 use crate::runs::{LIMIT, load};
 use search_endings::Ending;
 use search_finds::run_to;
@@ -41,20 +41,12 @@ fn gone_freely(
     order: SearchOrder,
 ) -> Result<RaceFree<Ending>, Fail> {
     let request = Request::new(valid, call_of(gone))?;
-    Ok(race_free_endings(
-        alloc,
-        &request,
-        &Alone,
-        order,
-        MOST,
-        DUMP as usize,
-        &(),
-        &mut (),
-    )?)
+    let plan = plan_in(order, MOST, ());
+    Ok(race_free_endings(alloc, &request, &Alone, &plan, DUMP as usize, &mut ())?)
 }
 
 /// They are the endings of every order.
-fn check_same<R: Abort>(rt: &R, free: &Ended<Ending>, all: &Ended<Ending>) {
+pub(crate) fn check_same<R: Abort>(rt: &R, free: &Ended<Ending>, all: &Ended<Ending>) {
     assert_eq!(rt; free.endings.len(), all.endings.len());
     for ending in free.endings.as_slice() {
         assert!(rt; all.endings.contains(ending));

@@ -1,13 +1,13 @@
 //! Calls of small modules, gone through.
 
-ghost use Rattle.std.specs.Prelude.{◌≤◌};
+ghost use Rattle.std.specs.Prelude.{◌≡◌, ◌≤◌};
 ghost use Rattle.types.specs.declared.limits.TheConstants.{MOST_FUEL};
 
 use crate::all_runs::examples::{BROKEN, EXCHANGE, MUTEX, PETERSON, SEQLOCK, TICKETS, WAKEUP};
 use crate::runs::FUEL;
 use search_endings::Ending;
 use search_modules::all_endings;
-use search_reach::{Ended, SearchOrder};
+use search_reach::{Ended, SearchOrder, SearchPlan};
 use spawn_host::{Call, Request};
 use std::alloc::Global;
 use std::test::Fail;
@@ -133,6 +133,17 @@ pub(crate) fn call_of(gone: &Gone) -> Call<'static>
     }
 }
 
+/// A search that goes so.
+pub(crate) fn plan_in<Q>(order: SearchOrder, most: u32, sought: Q) -> SearchPlan<Q>
+    ensures { result ≡ record { order = order; most = most; sought = sought } }
+{
+    SearchPlan {
+        order,
+        most,
+        sought,
+    }
+}
+
 pub(crate) fn gone_through(
     alloc: Global,
     valid: &ValidModule,
@@ -151,5 +162,6 @@ pub(crate) fn gone_in(
     most: u32,
 ) -> Result<Ended<Ending>, Fail> {
     let request = Request::new(valid, call_of(gone))?;
-    Ok(all_endings(alloc, &request, order, most, DUMP as usize, &(), &mut ())?)
+    let plan = plan_in(order, most, ());
+    Ok(all_endings(alloc, &request, &plan, DUMP as usize, &mut ())?)
 }

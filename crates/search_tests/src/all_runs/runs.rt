@@ -22,17 +22,6 @@ fn is_listed(all: &Ended<Ending>, ending: &Ending) -> bool {
     all.endings.as_slice().iter().any(|listed| listed == ending)
 }
 
-/// Whether the run along these choices ends so.
-fn leads_to(
-    alloc: Global,
-    request: &Request,
-    path: &[usize],
-    ending: &Ending,
-) -> Result<bool, Fail> {
-    let made = run_to(alloc, request, LIMIT, DUMP, path, ending)?;
-    Ok(made.is_some())
-}
-
 fn check_paths<R: Abort>(
     rt: &R,
     alloc: Global,
@@ -44,8 +33,8 @@ fn check_paths<R: Abort>(
     let request = Request::new(valid, call_of(gone))?;
     for (place, ending) in all.endings.as_slice().iter().enumerate() {
         for (other, path) in all.paths.iter().enumerate() {
-            let leads = leads_to(alloc, &request, path.as_slice(), ending)?;
-            assert_eq!(rt; leads, place == other);
+            let made = run_to(alloc, &request, LIMIT, DUMP, path.as_slice(), ending)?;
+            assert_eq!(rt; made.is_some(), place == other);
         }
     }
     Ok(())
@@ -93,28 +82,6 @@ fn drawn_runs_end_as_listed(rt: HostRuntime) -> Result<(), Fail> {
     Ok(())
 }
 
-/// How a run by threads of the machine ends, over the memory behind a lock.
-fn locked<R: Threads + Wait + Sync>(
-    rt: &R,
-    alloc: Global,
-    valid: &ValidModule,
-    gone: &Gone,
-) -> Result<Ending, Fail> {
-    let (_, end) = record_run(rt, alloc, valid, call_of(gone), LIMIT, &mut OpenGate)?;
-    Ok(ending_of(alloc, &end, DUMP)?)
-}
-
-/// The same over the row of words.
-fn on_words<R: Threads + Wait + Sync>(
-    rt: &R,
-    alloc: Global,
-    valid: &ValidModule,
-    gone: &Gone,
-) -> Result<Ending, Fail> {
-    let end = run_on_words(rt, alloc, valid, call_of(gone), &mut OpenGate)?;
-    Ok(ending_of(alloc, &end, DUMP)?)
-}
-
 fn check_real<R: Abort + Threads + Wait + Sync>(
     rt: &R,
     alloc: Global,
@@ -123,10 +90,10 @@ fn check_real<R: Abort + Threads + Wait + Sync>(
 ) -> Result<(), Fail> {
     let all = gone_through(alloc, valid, gone, MOST)?;
     for _ in 0..100 {
-        let ending = locked(rt, alloc, valid, gone)?;
-        assert!(rt; is_listed(&all, &ending));
-        let ending = on_words(rt, alloc, valid, gone)?;
-        assert!(rt; is_listed(&all, &ending));
+        let (_, locked) = record_run(rt, alloc, valid, call_of(gone), LIMIT, &mut OpenGate)?;
+        assert!(rt; is_listed(&all, &ending_of(alloc, &locked, DUMP)?));
+        let on_words = run_on_words(rt, alloc, valid, call_of(gone), &mut OpenGate)?;
+        assert!(rt; is_listed(&all, &ending_of(alloc, &on_words, DUMP)?));
     }
     Ok(())
 }

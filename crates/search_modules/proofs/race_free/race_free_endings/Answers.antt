@@ -61,5 +61,5 @@ returns-clause-race g c =
 pub returns-clause-seeks : goal.returns-clause-seeks
 returns-clause-seeks g c =
     IfOk-weaker c.search_race_free.result _ _
-    (λ free seeks. sought_by (g.Q.Seeks.sought c.args.sought.now) free.ended.verdict free.ended.endings.keys seeks)
+    (λ free seeks. sought_by (g.Q.Seeks.sought c.args.plan.now.sought) free.ended.verdict free.ended.endings.keys seeks)
     c.search_race_free.ensures.seeks

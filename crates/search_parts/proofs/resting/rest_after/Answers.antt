@@ -24,7 +24,7 @@ told-requires c =
     let z = r.1 in
     let e = r.2 in
     let after = r.3 in
-    let n = c.args.n in
+    let n = c.args.event.now.n in
     let m = c.args.m in
     let v : Walker = put z.threads n ((system_of b).takes (z.threads n) (reply_by z.shared n e)) m in
     let own = rw c.in-Some-3.is at c.in_ok-own.ensures.rests in
@@ -41,7 +41,7 @@ told-requires c =
 
 pub returns-clause-rests : goal.returns-clause-rests
 returns-clause-rests c = λ b z e after.
-    let n = c.args.n in
+    let n = c.args.event.now.n in
     let m = c.args.m in
     let w = c.args.valid.now in
     let v : Walker = put z.threads n ((system_of b).takes (z.threads n) (reply_by z.shared n e)) m in
@@ -67,7 +67,7 @@ returns-clause-rests c = λ b z e after.
 
 pub returns-in_default-2-clause-gives_up : goal.returns-in_default-2-clause-gives_up
 returns-in_default-2-clause-gives_up c _ = λ b z e after.
-    let n = c.args.n in
+    let n = c.args.event.now.n in
     let m = c.args.m in
     let g = c.in-Some.begun in
     let v : Walker = put z.threads n ((system_of b).takes (z.threads n) (reply_by z.shared n e)) m in
@@ -87,7 +87,7 @@ returns-in_default-2-clause-gives_up c _ = λ b z e after.
 
 pub returns-in_default-3-clause-gives_up : goal.returns-in_default-3-clause-gives_up
 returns-in_default-3-clause-gives_up c _ = λ b z e after.
-    let n = c.args.n in
+    let n = c.args.event.now.n in
     let m = c.args.m in
     let v : Walker = put z.threads n ((system_of b).takes (z.threads n) (reply_by z.shared n e)) m in
     let turns : MakesTurns (system_of b) patience v = c.in_ok-own.ensures.gives_up c.in_default-3.is b z e after in
@@ -104,7 +104,7 @@ returns-in_default-3-clause-gives_up c _ = λ b z e after.
 
 pub returns-in_default-4-clause-gives_up : goal.returns-in_default-4-clause-gives_up
 returns-in_default-4-clause-gives_up c _ = λ b z e after.
-    let n = c.args.n in
+    let n = c.args.event.now.n in
     let m = c.args.m in
     let w = c.args.valid.now in
     let v : Walker = put z.threads n ((system_of b).takes (z.threads n) (reply_by z.shared n e)) m in

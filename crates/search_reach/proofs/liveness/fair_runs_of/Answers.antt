@@ -7,7 +7,7 @@ pub returns-in_ok-round-in-Cycle : goal.returns-in_ok-round-in-Cycle
 returns-in_ok-round-in-Cycle c = let cycle = c.in-Cycle.cycle in let round = c.in_ok-round-in-Cycle.round in let moves-are = c.as_slice.ensures.value in
     record {
       cycle = c.in-Cycle.cycle;
-      is = subst (λ f. Says c.args.graph.now.moves.items f) c.in-Cycle.is c.in_ok-judge.ensures;
+      is = subst (λ f. Says c.args.graph.now c.in_ok-hint.hint f) c.in-Cycle.is c.in_ok-judge.ensures;
       threads = c.in_ok-round-in-Cycle.ensures.threads;
       states = c.in_ok-round-in-Cycle.ensures.states;
       path = subst (λ l. IsPathTo l c.args.graph.now.states round.path.items cycle.start) moves-are

@@ -4,15 +4,15 @@ use Rattle.search_finds.specs.Searching.{AreMetIn, first_of}
 use Rattle.search_finds.specs.declared.search.JudgedEnding.{JudgedEnding}
 use Rattle.search_finds.proofs.InRow.{put_behind}
 use Rattle.search_finds.proofs.Pieces.{one_fewer, pieces_left, piece_last}
-use Rattle.search_finds.proofs.search.RunMaker.add.Goals as goal
+use Rattle.search_finds.proofs.finder.Finder.add.Goals as goal
 
 len_is : (v : Vec JudgedEnding) → vec_len v ≡ length v.items
 len_is v = omega (arith, v.ok)
 
 pub drop_later-requires : goal.drop_later-requires
 drop_later-requires g c =
-    let says = g.J.Judges.judges c.args.judge.now c.args.self.now.request.now in
-    let s = c.args.self.now in
+    let says = g.J.Judges.judges c.args.self.now.judge.now c.args.self.now.maker.request.now in
+    let s = c.args.self.now.maker in
     let a = c.args.ahead in
     let first = c.first-first.ensures in
     let wanted = c.wanted-wanted.ensures in
@@ -21,8 +21,8 @@ drop_later-requires g c =
 
 pub returns-clause-endings : goal.returns-clause-endings
 returns-clause-endings g c =
-    let says = g.J.Judges.judges c.args.judge.now c.args.self.now.request.now in
-    let s = c.args.self.now in
+    let says = g.J.Judges.judges c.args.self.now.judge.now c.args.self.now.maker.request.now in
+    let s = c.args.self.now.maker in
     let a = c.args.ahead in
     let q = s.request.now in
     let last = piece_last says s a _ _ _ _ c.pop.ensures.items c.in-Some.is c.requires.pieces in
@@ -38,11 +38,11 @@ returns-clause-endings g c =
 
 pub returns-clause-pieces : goal.returns-clause-pieces
 returns-clause-pieces g c =
-    pieces_left (g.J.Judges.judges c.args.judge.now c.args.self.now.request.now) c.args.self.now c.args.ahead _ _ _ _ c.pop.ensures.items c.in-Some.is
+    pieces_left (g.J.Judges.judges c.args.self.now.judge.now c.args.self.now.maker.request.now) c.args.self.now.maker c.args.ahead _ _ _ _ c.pop.ensures.items c.in-Some.is
     c.requires.pieces
 
 pub returns-clause-last : goal.returns-clause-last
 returns-clause-last g c =
-    let fewer = one_fewer (g.J.Judges.judges c.args.judge.now c.args.self.now.request.now) c.args.self.now c.args.ahead _ _ _ _ c.pop.ensures.items
+    let fewer = one_fewer (g.J.Judges.judges c.args.self.now.judge.now c.args.self.now.maker.request.now) c.args.self.now.maker c.args.ahead _ _ _ _ c.pop.ensures.items
     c.in-Some.is in
     let all = c.requires.last in omega (arith, fewer, all)

@@ -1,6 +1,6 @@
 use Rattle.search_finds.specs.Sizes.{size_in}
 use Rattle.search_finds.proofs.Smaller.{no_larger}
-use Rattle.search_finds.proofs.shrinking.without_waits.Goals as goal
+use Rattle.search_finds.proofs.shrinking.Trials.without_waits.Goals as goal
 
 pub returns-clause-size : goal.returns-clause-size
 returns-clause-size g c =

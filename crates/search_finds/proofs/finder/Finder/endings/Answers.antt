@@ -1,12 +1,12 @@
 use Rattle.std.proofs.Common.{◌≡◌, ◌+◌, ℕ, List, length, subst, sym, arith}
 use Rattle.search_finds.specs.Drawing.{AreOfRunsBack, IsEndingAmong}
 use Rattle.search_finds.specs.declared.search.JudgedEnding.{JudgedEnding}
-use Rattle.search_finds.proofs.search.RunMaker.endings.Goals as goal
+use Rattle.search_finds.proofs.finder.Finder.endings.Goals as goal
 
 pub loop-n-preserved : goal.loop-n-preserved
 loop-n-preserved g c =
-    let s = c.args.self.now in
-    let says = g.J.Judges.judges c.args.judge.now c.args.self.now.request.now in
+    let s = c.args.self.now.maker in
+    let says = g.J.Judges.judges c.args.self.now.judge.now c.args.self.now.maker.request.now in
     let inv = c.loop-n.invariant in
     let met = rw c.in-Some.is at c.in_ok-ending.ensures.met in
     let count : c.args.from + c.loop-n.n ≡ c.args.from + length c.loop-n.endings.items = let n = inv.0 in omega (arith, n) in (
