@@ -30,24 +30,6 @@ enum Width {
     Given(u64),
 }
 
-/// What the number or the bytes of a value mean.
-#[derive(Clone, Copy)]
-enum Class {
-    Constant,
-    String,
-    StringAt,
-    LineStringAt,
-    StringIndex,
-    Address,
-    AddressIndex,
-    UnitReference,
-    Reference,
-    SectionOffset,
-    ListIndex,
-    Expression,
-    Other,
-}
-
 /// The number or the bytes of a value.
 #[derive(Clone, Copy)]
 enum Raw<'a> {
@@ -58,9 +40,12 @@ enum Raw<'a> {
 /// How the values of an attribute are spelled, and what they are.
 #[derive(Clone, Copy)]
 pub struct AttributeForm {
+    code: u64,
     width: Width,
-    class: Class,
 }
+
+/// The form of a number without a sign, as it is.
+const UDATA: u64 = 0x0f;
 
 /// What an attribute says.
 #[derive(Clone, Copy)]
@@ -146,72 +131,50 @@ impl Width {
     }
 }
 
-impl Class {
-    /// What the values of a form mean.
-    fn of(code: u64) -> Class {
-        match code {
-            // data1, data2, data4, data8, flag, sdata, udata, flag_present
-            0x0b | 0x05 | 0x06 | 0x07 | 0x0c | 0x0d | 0x0f | 0x19 => Class::Constant,
-            // string, strp, line_strp
-            0x08 => Class::String,
-            0x0e => Class::StringAt,
-            0x1f => Class::LineStringAt,
-            // strx, strx1 to strx4
-            0x1a | 0x25 | 0x26 | 0x27 | 0x28 => Class::StringIndex,
-            // addr; addrx, addrx1 to addrx4
-            0x01 => Class::Address,
-            0x1b | 0x29 | 0x2a | 0x2b | 0x2c => Class::AddressIndex,
-            // ref1, ref2, ref4, ref8, ref_udata; ref_addr
-            0x11 | 0x12 | 0x13 | 0x14 | 0x15 => Class::UnitReference,
-            0x10 => Class::Reference,
-            // sec_offset; loclistx, rnglistx
-            0x17 => Class::SectionOffset,
-            0x22 | 0x23 => Class::ListIndex,
-            // exprloc
-            0x18 => Class::Expression,
-            _ => Class::Other,
-        }
-    }
-
-    /// What a number or bytes mean.
-    fn value<'a>(self, raw: Raw<'a>) -> AttributeValue<'a> {
-        match (self, raw) {
-            (Class::Constant, Raw::Number(number)) => AttributeValue::Constant(number),
-            (Class::String, Raw::Bytes(bytes)) => AttributeValue::String(bytes),
-            (Class::StringAt, Raw::Number(offset)) => AttributeValue::StringAt(offset),
-            (Class::LineStringAt, Raw::Number(offset)) => AttributeValue::LineStringAt(offset),
-            (Class::StringIndex, Raw::Number(index)) => AttributeValue::StringIndex(index),
-            (Class::Address, Raw::Number(address)) => AttributeValue::Address(address),
-            (Class::AddressIndex, Raw::Number(index)) => AttributeValue::AddressIndex(index),
-            (Class::UnitReference, Raw::Number(offset)) => AttributeValue::UnitReference(offset),
-            (Class::Reference, Raw::Number(offset)) => AttributeValue::Reference(offset),
-            (Class::SectionOffset, Raw::Number(offset)) => AttributeValue::SectionOffset(offset),
-            (Class::ListIndex, Raw::Number(index)) => AttributeValue::ListIndex(index),
-            (Class::Expression, Raw::Bytes(bytes)) => AttributeValue::Expression(bytes),
-            _ => AttributeValue::Other,
-        }
-    }
-}
-
 impl AttributeForm {
     /// The form of a code, where it is one whose values stand with their attributes.
     pub fn of(code: u64) -> Option<AttributeForm> {
-        Some(AttributeForm {
-            width: Width::of(code)?,
-            class: Class::of(code),
-        })
+        let width = Width::of(code)?;
+        Some(AttributeForm { code, width })
     }
 
     /// The form whose values are all this constant, which stands behind the form itself (`DW_FORM_implicit_const`).
     pub fn implicit(constant: u64) -> AttributeForm {
         AttributeForm {
+            code: UDATA,
             width: Width::Given(constant),
-            class: Class::Constant,
+        }
+    }
+
+    /// What a number or bytes mean.
+    fn value<'a>(self, raw: Raw<'a>) -> AttributeValue<'a> {
+        match (self.code, raw) {
+            // data1, data2, data4, data8, flag, sdata, udata, flag_present
+            (0x0b | 0x05 | 0x06 | 0x07 | 0x0c | 0x0d | UDATA | 0x19, Raw::Number(number)) =>
+                AttributeValue::Constant(number),
+            // string, strp, line_strp
+            (0x08, Raw::Bytes(bytes)) => AttributeValue::String(bytes),
+            (0x0e, Raw::Number(offset)) => AttributeValue::StringAt(offset),
+            (0x1f, Raw::Number(offset)) => AttributeValue::LineStringAt(offset),
+            // strx, strx1 to strx4
+            (0x1a | 0x25..=0x28, Raw::Number(index)) => AttributeValue::StringIndex(index),
+            // addr; addrx, addrx1 to addrx4
+            (0x01, Raw::Number(address)) => AttributeValue::Address(address),
+            (0x1b | 0x29..=0x2c, Raw::Number(index)) => AttributeValue::AddressIndex(index),
+            // ref1, ref2, ref4, ref8, ref_udata; ref_addr
+            (0x11..=0x15, Raw::Number(offset)) => AttributeValue::UnitReference(offset),
+            (0x10, Raw::Number(offset)) => AttributeValue::Reference(offset),
+            // sec_offset; loclistx, rnglistx
+            (0x17, Raw::Number(offset)) => AttributeValue::SectionOffset(offset),
+            (0x22 | 0x23, Raw::Number(index)) => AttributeValue::ListIndex(index),
+            // exprloc
+            (0x18, Raw::Bytes(bytes)) => AttributeValue::Expression(bytes),
+            _ => AttributeValue::Other,
         }
     }
 
     /// A value of this form.
     pub fn read<'a>(self, cursor: &mut Cursor<'a>) -> Result<AttributeValue<'a>, DebugFault> {
-        Ok(self.class.value(self.width.read(cursor)?))
+        Ok(self.value(self.width.read(cursor)?))
     }
 }
