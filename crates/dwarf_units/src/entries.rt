@@ -69,13 +69,9 @@ impl Units<'_> {
 
     /// Takes a step. Answers whether one was left.
     pub(crate) fn step(&self) -> bool {
-        match self.steps.get().checked_sub(1) {
-            Some(left) => {
-                self.steps.set(left);
-                true
-            }
-            None => false,
-        }
+        let left = self.steps.get().checked_sub(1);
+        self.steps.set(left.unwrap_or(0));
+        left.is_some()
     }
 
     /// Takes the steps for so many bytes that were passed over.
@@ -106,21 +102,17 @@ impl<'a> Units<'a> {
 
     /// What an entry is.
     pub fn tag(&self, entry: usize) -> Tag {
-        match self.entries.get(entry) {
-            Some(entry) => match self.abbreviations.at(entry.kind as usize) {
-                Some(kind) => kind.tag,
-                None => Tag::Other,
-            },
-            None => Tag::Other,
-        }
+        self.entries
+            .get(entry)
+            .and_then(|entry| self.abbreviations.at(entry.kind as usize))
+            .map_or(Tag::Other, |kind| kind.tag)
     }
 
     /// The index of the first entry behind those that an entry holds.
     fn end_of(&self, entry: usize) -> usize {
-        match self.entries.get(entry) {
-            Some(entry) => entry.end as usize,
-            None => 0,
-        }
+        self.entries
+            .get(entry)
+            .map_or(0, |entry| entry.end as usize)
     }
 
     /// The first of the entries right below an entry.
@@ -192,7 +184,7 @@ impl<'a> Units<'a> {
             let len = cursor.len();
             let value = spec.form.read(&mut cursor).ok()?;
             self.pass(len.saturating_sub(cursor.len()));
-            if spec.code == wanted.code() {
+            if spec.code == wanted as u64 {
                 return Some(value);
             }
         }

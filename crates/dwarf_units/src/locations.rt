@@ -59,7 +59,6 @@ fn read_wasm(cursor: &mut Cursor) -> Result<Location, DebugFault> {
     })
 }
 
-/// The next operation.
 fn read_operation(cursor: &mut Cursor) -> Result<Operation, DebugFault> {
     Ok(match cursor.read_u8()? {
         // addr, plus_uconst, fbreg

@@ -37,16 +37,15 @@ impl<'a> Units<'a> {
         in_table(self.sections.text_offsets, base, index)
     }
 
-    /// Where the list of ranges of an index stands in `.debug_rnglists`, in the unit of an entry.
-    pub(crate) fn ranges_offset(&self, entry: usize, index: u64) -> Option<u64> {
-        let base = self.base_of(entry, Attribute::RnglistsBase)?;
-        in_table(self.sections.range_lists, base, index)?.checked_add(base)
-    }
-
-    /// Where the list of locations of an index stands in `.debug_loclists`, in the unit of an entry.
-    pub(crate) fn locations_offset(&self, entry: usize, index: u64) -> Option<u64> {
-        let base = self.base_of(entry, Attribute::LoclistsBase)?;
-        in_table(self.sections.location_lists, base, index)?.checked_add(base)
+    /// Where the list of an index stands in `.debug_loclists` or `.debug_rnglists`, in the unit of an entry.
+    pub(crate) fn list_offset(&self, entry: usize, has_places: bool, index: u64) -> Option<u64> {
+        let (section, base) = if has_places {
+            (self.sections.location_lists, Attribute::LoclistsBase)
+        } else {
+            (self.sections.range_lists, Attribute::RnglistsBase)
+        };
+        let base = self.base_of(entry, base)?;
+        in_table(section, base, index)?.checked_add(base)
     }
 
     /// The address that an attribute of an entry says.
