@@ -30,12 +30,7 @@ fn narrow(number: usize) -> Result<u32, DebugFault> {
 
 impl DebugEntry {
     /// An entry that holds none, at an index.
-    pub fn new(
-        offset: usize,
-        kind: usize,
-        unit: usize,
-        index: usize,
-    ) -> Result<DebugEntry, DebugFault> {
+    pub fn new(offset: usize, kind: usize, unit: usize, index: usize) -> Result<Self, DebugFault> {
         Ok(DebugEntry {
             offset: narrow(offset)?,
             kind: narrow(kind)?,
@@ -59,7 +54,7 @@ pub struct Units<'a> {
     pub(crate) steps: Cell<u64>,
 }
 
-impl Units<'_> {
+impl<'a> Units<'a> {
     /// Lets what is asked from now on take so many steps in all: one for each attribute, each entry right below another
     /// one and each item of a list that is passed over, and one for each 64 bytes. Behind the last one nothing is said
     /// of an entry but its kind, so that what others wrote costs no more.
@@ -79,9 +74,7 @@ impl Units<'_> {
         self.steps
             .set(self.steps.get().saturating_sub(bytes as u64 / STEP_BYTES));
     }
-}
 
-impl<'a> Units<'a> {
     /// How many entries there are.
     pub fn len(&self) -> usize {
         self.entries.len()

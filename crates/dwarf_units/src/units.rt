@@ -1,6 +1,6 @@
 //! Units, and their entries read one after the other (DWARF 5, sections 7.5.1 and 7.5.2).
 
-use crate::abbreviations::{Abbreviations, AbbreviationsTable};
+use crate::abbreviations::{Abbreviations, KindTable};
 use crate::entries::{DebugEntry, Units};
 use crate::sections::InfoSections;
 use dwarf_reader::{Cursor, DebugFault};
@@ -15,7 +15,7 @@ pub(crate) struct Unit {
     /// What is behind it.
     pub end: usize,
     pub is_version_5: bool,
-    pub abbreviations: AbbreviationsTable,
+    pub abbreviations: KindTable,
     /// The index of its first entry.
     pub root: usize,
 }
@@ -45,7 +45,7 @@ fn read_header(cursor: &mut Cursor) -> Result<(bool, u64), DebugFault> {
 fn read_entry(
     cursor: &mut Cursor,
     abbreviations: &Abbreviations,
-    table: AbbreviationsTable,
+    table: KindTable,
 ) -> Result<Option<(usize, bool)>, DebugFault> {
     let code = cursor.read_unsigned()?;
     if code == 0 {
