@@ -2,7 +2,7 @@
 
 ghost use Rattle.std.specs.Prelude.{◌+◌, ◌≤◌, All, IfOk};
 
-use crate::members::{Bits, first_members};
+use crate::members::{Bits, members};
 use crate::parts::{PartShape, VariablePart};
 use crate::place::ByteRange;
 use dwarf_units::Units;
@@ -39,30 +39,24 @@ struct OpenPart {
 }
 
 impl OpenPart {
-    /// The part as it is.
     fn close(self, is_cut: bool) -> Leaf {
-        let OpenPart { words, part, bits } = self;
         Leaf {
-            words,
-            place: part.place,
-            its_type: part.its_type,
-            bits,
+            words: self.words,
+            place: self.part.place,
+            its_type: self.part.its_type,
+            bits: self.bits,
             is_cut,
         }
     }
 
     /// Its members, those with a name and those without.
-    fn members(
-        &self,
-        alloc: Global,
-        units: &Units,
-        inner: &mut Vec<OpenPart>,
-    ) -> Result<(), AllocError> {
-        for member in &first_members(alloc, units, self.part.its_type, MOST_LEAVES + 1)? {
+    fn members(&self, alloc: Global, units: &Units) -> Result<Vec<OpenPart>, AllocError> {
+        let mut inner = Vec::new(alloc);
+        for member in &members(alloc, units, self.part.its_type, MOST_LEAVES + 1)? {
             let Some(part) = self.part.member(units, *member) else {
                 continue;
             };
-            let name = member.name.unwrap_or("");
+            let (name, bits) = (member.name.unwrap_or(""), member.bits);
             if name.len() > MOST_WORDS {
                 continue;
             }
@@ -70,13 +64,9 @@ impl OpenPart {
             if !name.is_empty() {
                 write!(words, ".{name}")?;
             }
-            inner.push(OpenPart {
-                words,
-                part,
-                bits: member.bits,
-            })?;
+            inner.push(OpenPart { words, part, bits })?;
         }
-        Ok(())
+        Ok(inner)
     }
 
     /// Its first elements, which have so many bytes each.
@@ -86,8 +76,8 @@ impl OpenPart {
         units: &Units,
         count: u64,
         size: u64,
-        inner: &mut Vec<OpenPart>,
-    ) -> Result<(), AllocError> {
+    ) -> Result<Vec<OpenPart>, AllocError> {
+        let mut inner = Vec::new(alloc);
         for number in 0..count.min(MOST_LEAVES as u64 + 1) {
             let Some(part) = self.part.element(alloc, units, number, size)? else {
                 break;
@@ -98,7 +88,7 @@ impl OpenPart {
                 bits: None,
             })?;
         }
-        Ok(())
+        Ok(inner)
     }
 }
 
@@ -127,17 +117,14 @@ pub fn leaves_of(
             leaves.push(next.close(true))?;
             return Ok(leaves);
         }
-        let mut inner = Vec::new(alloc);
-        match next.part.shape(alloc, units)? {
-            PartShape::Members => next.members(alloc, units, &mut inner)?,
-            PartShape::Elements { count, size } => {
-                next.elements(alloc, units, count, size, &mut inner)?
-            }
+        let mut inner = match next.part.shape(alloc, units)? {
+            PartShape::Members => next.members(alloc, units)?,
+            PartShape::Elements { count, size } => next.elements(alloc, units, count, size)?,
             PartShape::Whole => {
                 leaves.push(next.close(false))?;
                 continue;
             }
-        }
+        };
         inner.reverse();
         open.append(&mut inner)?;
     }

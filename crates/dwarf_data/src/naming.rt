@@ -21,17 +21,12 @@ struct NamedPart {
 
 impl NamedPart {
     /// Goes on to the first member that has an address. Answers whether there is one.
-    fn to_member(
-        &mut self,
-        alloc: Global,
-        units: &Units,
-        address: u64,
-    ) -> Result<bool, AllocError> {
-        for member in &members(alloc, units, self.part.its_type)? {
+    fn to_member(&mut self, alloc: Global, units: &Units, addr: u64) -> Result<bool, AllocError> {
+        for member in &members(alloc, units, self.part.its_type, units.len())? {
             let Some(part) = self.part.member(units, *member) else {
                 continue;
             };
-            if part.place.contains(address) {
+            if part.place.contains(addr) {
                 if let Some(name) = member.name {
                     write!(self.words, ".{name}")?;
                     self.start = part.place.start;
@@ -43,27 +38,25 @@ impl NamedPart {
         Ok(false)
     }
 
-    /// Goes on to the element that has an address. Answers whether there is one.
+    /// Goes on to the element that has an addr. Answers whether there is one.
     fn to_element(
         &mut self,
         alloc: Global,
         units: &Units,
-        address: u64,
+        addr: u64,
         size: u64,
     ) -> Result<bool, AllocError> {
         if size == 0 {
             return Ok(false);
         }
-        let number = address.saturating_sub(self.part.place.start) / size;
-        match self.part.element(alloc, units, number, size)? {
-            Some(part) => {
-                write!(self.words, "[{number}]")?;
-                self.start = part.place.start;
-                self.part = part;
-                Ok(true)
-            }
-            None => Ok(false),
-        }
+        let number = addr.saturating_sub(self.part.place.start) / size;
+        let Some(part) = self.part.element(alloc, units, number, size)? else {
+            return Ok(false);
+        };
+        write!(self.words, "[{number}]")?;
+        self.start = part.place.start;
+        self.part = part;
+        Ok(true)
     }
 
     /// Goes on to the part right below that has an address. Answers whether there is one.
@@ -74,9 +67,7 @@ impl NamedPart {
             PartShape::Whole => Ok(false),
         }
     }
-}
 
-impl NamedPart {
     /// Whether a part of this type begins at an address.
     fn is_at(&self, address: u64, its_type: Option<usize>) -> bool {
         self.part.place.start == address && its_type == Some(self.part.its_type)
@@ -115,10 +106,5 @@ pub fn name_at(
     if past > 0 {
         write!(named.words, "+{past}")?;
     }
-    let NamedPart {
-        words,
-        part: _,
-        start: _,
-    } = named;
-    Ok(Some(words))
+    Ok(Some(named.words))
 }

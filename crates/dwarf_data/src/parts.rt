@@ -64,7 +64,7 @@ impl VariablePart {
     {
         VariablePart::new(
             units,
-            self.place.inner(member.offset, member.size)?,
+            self.place.inner(member.place.start, member.place.size)?,
             member.its_type,
         )
     }

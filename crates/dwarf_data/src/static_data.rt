@@ -45,10 +45,10 @@ fn span_of(alloc: Global, units: &Units, entry: usize) -> Result<Option<Spanned>
 pub fn read_data(alloc: Global, units: &Units) -> Result<Spans, AllocError> {
     let mut spans = Vec::new(alloc);
     for entry in 0..units.len() {
-        if matches!(units.tag(entry), Tag::Variable) {
-            if let Some(span) = span_of(alloc, units, entry)? {
-                spans.push(span)?;
-            }
+        if matches!(units.tag(entry), Tag::Variable)
+            && let Some(span) = span_of(alloc, units, entry)?
+        {
+            spans.push(span)?;
         }
     }
     Spans::new(alloc, spans)

@@ -29,12 +29,10 @@ enum Step<'w> {
 
 /// A name or a number up to the next `.` or `[`, and what is behind it.
 fn split(words: &str) -> (&str, &str) {
-    match words.find(['.', '[']) {
-        Some(end) => match (words.get(..end), words.get(end..)) {
-            (Some(name), Some(rest)) => (name, rest),
-            _ => (words, ""),
-        },
-        None => (words, ""),
+    let end = words.find(['.', '[']).unwrap_or(words.len());
+    match (words.get(..end), words.get(end..)) {
+        (Some(name), Some(rest)) => (name, rest),
+        _ => (words, ""),
     }
 }
 
@@ -66,7 +64,7 @@ fn member_named(
         if !matches!(outer.shape(alloc, units)?, PartShape::Members) {
             continue;
         }
-        for member in &members(alloc, units, outer.its_type)? {
+        for member in &members(alloc, units, outer.its_type, units.len())? {
             let Some(inner) = outer.member(units, *member) else {
                 continue;
             };
@@ -80,7 +78,6 @@ fn member_named(
     Ok(None)
 }
 
-/// The part that a step leads to.
 fn follow(
     alloc: Global,
     units: &Units,

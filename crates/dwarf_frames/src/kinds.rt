@@ -18,26 +18,23 @@ pub enum ValueKind {
 }
 
 /// How the values of a type without parts are read (DWARF 5, section 7.8).
-fn base(encoding: u64) -> ValueKind {
-    match encoding {
+fn base(units: &Units, its_type: usize) -> ValueKind {
+    match units.number(its_type, Attribute::Encoding) {
         // signed, signed_char
-        0x05 | 0x06 => ValueKind::Signed,
+        Some(0x05 | 0x06) => ValueKind::Signed,
         // boolean, unsigned, unsigned_char, UTF
-        0x02 | 0x07 | 0x08 | 0x10 => ValueKind::Unsigned,
+        Some(0x02 | 0x07 | 0x08 | 0x10) => ValueKind::Unsigned,
         // float
-        0x04 => ValueKind::Float,
+        Some(0x04) => ValueKind::Float,
         _ => ValueKind::Other,
     }
 }
 
 /// How the values of an enumeration are read: as those of its type, which has no parts.
 fn enumeration(units: &Units, its_type: usize) -> ValueKind {
-    let Some(under) = units.type_of(its_type).and_then(|under| bare(units, under)) else {
-        return ValueKind::Unsigned;
-    };
-    match units.number(under, Attribute::Encoding) {
-        Some(encoding) => base(encoding),
-        None => ValueKind::Other,
+    match units.type_of(its_type).and_then(|under| bare(units, under)) {
+        Some(under) => base(units, under),
+        None => ValueKind::Unsigned,
     }
 }
 
@@ -50,10 +47,7 @@ pub(crate) fn kind_of(units: &Units, its_type: usize) -> ValueKind {
         Tag::PointerType => ValueKind::Pointer,
         Tag::StructureType | Tag::UnionType | Tag::ArrayType => ValueKind::Parts,
         Tag::EnumerationType => enumeration(units, bare),
-        Tag::BaseType => match units.number(bare, Attribute::Encoding) {
-            Some(encoding) => base(encoding),
-            None => ValueKind::Other,
-        },
+        Tag::BaseType => base(units, bare),
         _ => ValueKind::Other,
     }
 }

@@ -33,7 +33,6 @@ pub struct FrameValue {
     pub bits: u32,
 }
 
-/// All bits of so many bytes.
 fn all_bits(size: u64) -> Bits {
     Bits {
         first: 0,
@@ -48,7 +47,6 @@ struct ReadAs {
     target: Option<usize>,
 }
 
-/// How the values of a type are read.
 fn read_of(units: &Units, its_type: usize) -> ReadAs {
     let kind = kind_of(units, its_type);
     let target = if kind == ValueKind::Pointer {
@@ -62,23 +60,19 @@ fn read_of(units: &Units, its_type: usize) -> ReadAs {
 }
 
 /// A value, where its bytes are a number, or only that it is there is told.
-fn told(
-    label: String,
-    location: Location,
-    size: u64,
-    read: ReadAs,
-    bits: Bits,
-) -> Option<FrameValue> {
+fn told(label: String, place: Location, size: u64, read: ReadAs, bits: Bits) -> Option<FrameValue> {
     let ReadAs { kind, target } = read;
-    match kind {
-        ValueKind::Signed | ValueKind::Unsigned | ValueKind::Pointer if size > MOST_BYTES =>
-            return None,
-        ValueKind::Float | ValueKind::Other => return None,
-        _ => {}
+    let is_told = match kind {
+        ValueKind::Signed | ValueKind::Unsigned | ValueKind::Pointer => size <= MOST_BYTES,
+        ValueKind::Float | ValueKind::Other => false,
+        ValueKind::Parts => true,
+    };
+    if !is_told {
+        return None;
     }
     Some(FrameValue {
         label,
-        location,
+        location: place,
         size: u8::try_from(size).unwrap_or(u8::MAX),
         kind,
         target,
@@ -146,13 +140,7 @@ fn part_of(
     } else {
         read_of(units, leaf.its_type)
     };
-    let label = label_of(
-        alloc,
-        inlined,
-        variable,
-        words.as_str(),
-        leaf.words.as_str(),
-    )?;
+    let label = label_of(alloc, inlined, variable, &words, &leaf.words)?;
     let size = leaf.place.size;
     let bits = leaf.bits.unwrap_or(all_bits(size));
     Ok(told(label, location, size, read, bits))
@@ -160,10 +148,11 @@ fn part_of(
 
 /// Adds a value, if there is one and there is room.
 fn add(values: &mut Vec<FrameValue>, value: Option<FrameValue>) -> Result<(), AllocError> {
-    if let Some(value) = value {
-        if values.len() < MOST_VALUES && value.label.len() <= MOST_LABEL {
-            values.push(value)?;
-        }
+    if let Some(value) = value
+        && values.len() < MOST_VALUES
+        && value.label.len() <= MOST_LABEL
+    {
+        values.push(value)?;
     }
     Ok(())
 }

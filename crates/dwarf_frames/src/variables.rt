@@ -32,7 +32,7 @@ struct VariableScope {
     frame: Option<Base>,
 }
 
-/// What an entry of a scope says of a variable, where it says all while the code at an offset runs.
+/// What the entry of a variable in a scope says of it, where it says all while the code at an offset runs.
 fn variable_of<'a>(
     alloc: Global,
     units: &Units<'a>,
@@ -40,11 +40,6 @@ fn variable_of<'a>(
     entry: usize,
     offset: u64,
 ) -> Result<Option<Variable<'a>>, AllocError> {
-    let is_parameter = match units.tag(entry) {
-        Tag::FormalParameter => true,
-        Tag::Variable => false,
-        _ => return Ok(None),
-    };
     let location = units
         .place_at(entry, offset)
         .and_then(|place| units.location(entry, place, scope.frame));
@@ -63,7 +58,7 @@ fn variable_of<'a>(
     };
     Ok(Some(Variable {
         name,
-        is_parameter,
+        is_parameter: units.tag(entry) == Tag::FormalParameter,
         depth: scope.depth,
         its_type,
         type_words,
@@ -104,54 +99,29 @@ const MOST_VARIABLES: usize = 256;
 /// The most bytes of a variable's name.
 const MOST_NAME: usize = 256;
 
-/// A name that stands in front of others.
-#[derive(Clone, Copy)]
-struct SeenName<'a> {
-    name: &'a str,
-    depth: usize,
-}
-
-/// The variables that are found at an offset of the code, and the names that were seen on the way.
+/// The names that stand in front of others, each with the depth of its function.
 #[derive(Drop)]
-struct FoundVariables<'a> {
-    seen: Vec<SeenName<'a>>,
-    variables: Vec<Variable<'a>>,
+struct SeenNames<'a> {
+    all: Vec<(&'a str, usize)>,
 }
 
-impl<'a> FoundVariables<'a> {
-    /// Adds what an entry of a scope says of a variable, if no variable of its own function that was seen has its name,
-    /// and not more were seen than are looked at.
-    fn add(
-        &mut self,
-        alloc: Global,
-        units: &Units<'a>,
-        scope: VariableScope,
-        entry: usize,
-        offset: u64,
-    ) -> Result<(), AllocError> {
-        if !matches!(units.tag(entry), Tag::FormalParameter | Tag::Variable)
-            || self.seen.len() >= MOST_VARIABLES
-        {
-            return Ok(());
+impl<'a> SeenNames<'a> {
+    /// Notes the name of an entry, if it is one of a variable and not more were noted than are looked at. Answers whether
+    /// no other of its function hides it.
+    fn note(&mut self, units: &Units<'a>, entry: usize, depth: usize) -> Result<bool, AllocError> {
+        let is_variable = matches!(units.tag(entry), Tag::FormalParameter | Tag::Variable);
+        if !is_variable || self.all.len() >= MOST_VARIABLES {
+            return Ok(false);
         }
-        let (Some(name), depth) = (units.name(entry), scope.depth) else {
-            return Ok(());
+        let Some(name) = units.name(entry) else {
+            return Ok(false);
         };
         if name.len() > MOST_NAME {
-            return Ok(());
+            return Ok(false);
         }
-        let is_hidden = self
-            .seen
-            .iter()
-            .any(|other| other.depth == depth && other.name == name);
-        self.seen.push(SeenName { name, depth })?;
-        if is_hidden {
-            return Ok(());
-        }
-        if let Some(variable) = variable_of(alloc, units, scope, entry, offset)? {
-            self.variables.push(variable)?;
-        }
-        Ok(())
+        let is_hidden = self.all.contains(&(name, depth));
+        self.all.push((name, depth))?;
+        Ok(!is_hidden)
     }
 }
 
@@ -164,14 +134,18 @@ pub fn variables_at<'a>(
     functions: &Spans,
     offset: u64,
 ) -> Result<Vec<Variable<'a>>, AllocError> {
-    let mut found = FoundVariables {
-        seen: Vec::new(alloc),
-        variables: Vec::new(alloc),
+    let mut variables = Vec::new(alloc);
+    let mut seen = SeenNames {
+        all: Vec::new(alloc),
     };
     for scope in scopes(alloc, units, functions, offset)?.iter().rev() {
         for entry in &units.children(alloc, scope.entry, units.len())? {
-            found.add(alloc, units, *scope, *entry, offset)?;
+            if seen.note(units, *entry, scope.depth)?
+                && let Some(variable) = variable_of(alloc, units, *scope, *entry, offset)?
+            {
+                variables.push(variable)?;
+            }
         }
     }
-    Ok(found.variables)
+    Ok(variables)
 }

@@ -38,16 +38,13 @@ fn files_at<'a>(
     let mut cursor = Cursor::new(sections.lines.get(offset..).ok_or(DebugFault::Unreadable)?);
     let size = cursor.read_number(4)?;
     let mut unit = Cursor::new(cursor.read_bytes(size)?);
-    let version = unit.read_number(2)?;
-    if version != 4 && version != 5 {
-        return Err(DebugFault::Unreadable);
-    }
     let len = unit.len();
-    let header = read_header(alloc, &mut unit, version, sections)?;
+    let header = read_header(alloc, &mut unit, sections)?;
     Ok(Files {
         first: header.first_file,
         sources: header.files,
-        size: len.saturating_sub(unit.len()),
+        // those of the version aren't counted
+        size: len.saturating_sub(unit.len()).saturating_sub(2),
     })
 }
 

@@ -57,13 +57,9 @@ impl LineMachine {
     }
 
     /// An instruction with a size in front, which may be of a kind that isn't known.
-    fn extended(
-        self,
-        place: &mut LineRegisters,
-        instructions: &mut Cursor,
-    ) -> Result<Emitted, DebugFault> {
-        let size = instructions.read_unsigned()?;
-        let mut operands = Cursor::new(instructions.read_bytes(size)?);
+    fn extended(self, place: &mut LineRegisters, code: &mut Cursor) -> Result<Emitted, DebugFault> {
+        let size = code.read_unsigned()?;
+        let mut operands = Cursor::new(code.read_bytes(size)?);
         match operands.read_u8()? {
             1 => return Ok(Emitted::End),
             // An address of which more than 8 bytes are said has those of its front.

@@ -74,11 +74,7 @@ fn read_program<'a>(
     sections: DebugSections<'a>,
     ranges: &mut Vec<Range<'a>>,
 ) -> Result<(), DebugFault> {
-    let version = unit.read_number(2)?;
-    if version != 4 && version != 5 {
-        return Err(DebugFault::Unreadable);
-    }
-    let header = read_header(alloc, unit, version, sections)?;
+    let header = read_header(alloc, unit, sections)?;
     let program = unit.read_bytes(unit.len() as u64)?;
     header.run(program, ranges)
 }

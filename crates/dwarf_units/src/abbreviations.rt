@@ -29,7 +29,7 @@ pub(crate) struct Abbreviation {
 /// The abbreviations table of a unit: where its kinds begin among all, and how many they are. Their codes count from 1
 /// on.
 #[derive(Clone, Copy)]
-pub(crate) struct AbbreviationsTable {
+pub(crate) struct KindTable {
     first: usize,
     count: u64,
 }
@@ -42,7 +42,7 @@ pub(crate) struct Abbreviations {
     /// Up to where the section has been read.
     read_to: usize,
     /// Where the table begins that was read last, and the table.
-    last: Option<(usize, AbbreviationsTable)>,
+    last: Option<(usize, KindTable)>,
 }
 
 impl Abbreviations {
@@ -97,11 +97,7 @@ impl Abbreviations {
     }
 
     /// A table, as far as it can be read.
-    fn read_table(
-        &mut self,
-        section: &[u8],
-        offset: usize,
-    ) -> Result<AbbreviationsTable, DebugFault> {
+    fn read_table(&mut self, section: &[u8], offset: usize) -> Result<KindTable, DebugFault> {
         let mut cursor = Cursor::new(section.get(offset..).ok_or(DebugFault::Unreadable)?);
         let first = self.kinds.len();
         let mut count = 0;
@@ -113,21 +109,17 @@ impl Abbreviations {
             }
         }
         self.read_to = section.len().saturating_sub(cursor.len());
-        Ok(AbbreviationsTable { first, count })
+        Ok(KindTable { first, count })
     }
 
     /// The table at an offset. Tables stand behind one another as their units do, and each is read once;
     /// one in front of what was read isn't looked for.
-    pub fn table_at(
-        &mut self,
-        section: &[u8],
-        offset: u64,
-    ) -> Result<AbbreviationsTable, DebugFault> {
+    pub fn table_at(&mut self, section: &[u8], offset: u64) -> Result<KindTable, DebugFault> {
         let offset = usize::try_from(offset).map_err(|_| DebugFault::Unreadable)?;
-        if let Some((last, table)) = self.last {
-            if last == offset {
-                return Ok(table);
-            }
+        if let Some((last, table)) = self.last
+            && last == offset
+        {
+            return Ok(table);
         }
         if offset < self.read_to {
             return Err(DebugFault::Unreadable);
@@ -138,7 +130,7 @@ impl Abbreviations {
     }
 
     /// Where a kind of a table stands among all, by its code.
-    pub fn place_of(&self, table: AbbreviationsTable, code: u64) -> Option<usize> {
+    pub fn place_of(&self, table: KindTable, code: u64) -> Option<usize> {
         if code == 0 || code > table.count {
             return None;
         }

@@ -30,12 +30,7 @@ fn narrow(number: usize) -> Result<u32, DebugFault> {
 
 impl DebugEntry {
     /// An entry that holds none, at an index.
-    pub fn new(
-        offset: usize,
-        kind: usize,
-        unit: usize,
-        index: usize,
-    ) -> Result<DebugEntry, DebugFault> {
+    pub fn new(offset: usize, kind: usize, unit: usize, index: usize) -> Result<Self, DebugFault> {
         Ok(DebugEntry {
             offset: narrow(offset)?,
             kind: narrow(kind)?,
@@ -59,7 +54,7 @@ pub struct Units<'a> {
     pub(crate) steps: Cell<u64>,
 }
 
-impl Units<'_> {
+impl<'a> Units<'a> {
     /// Lets what is asked from now on take so many steps in all: one for each attribute, each entry right below another
     /// one and each item of a list that is passed over, and one for each 64 bytes. Behind the last one nothing is said
     /// of an entry but its kind, so that what others wrote costs no more.
@@ -69,13 +64,9 @@ impl Units<'_> {
 
     /// Takes a step. Answers whether one was left.
     pub(crate) fn step(&self) -> bool {
-        match self.steps.get().checked_sub(1) {
-            Some(left) => {
-                self.steps.set(left);
-                true
-            }
-            None => false,
-        }
+        let left = self.steps.get().checked_sub(1);
+        self.steps.set(left.unwrap_or(0));
+        left.is_some()
     }
 
     /// Takes the steps for so many bytes that were passed over.
@@ -83,9 +74,7 @@ impl Units<'_> {
         self.steps
             .set(self.steps.get().saturating_sub(bytes as u64 / STEP_BYTES));
     }
-}
 
-impl<'a> Units<'a> {
     /// How many entries there are.
     pub fn len(&self) -> usize {
         self.entries.len()
@@ -106,21 +95,17 @@ impl<'a> Units<'a> {
 
     /// What an entry is.
     pub fn tag(&self, entry: usize) -> Tag {
-        match self.entries.get(entry) {
-            Some(entry) => match self.abbreviations.at(entry.kind as usize) {
-                Some(kind) => kind.tag,
-                None => Tag::Other,
-            },
-            None => Tag::Other,
-        }
+        self.entries
+            .get(entry)
+            .and_then(|entry| self.abbreviations.at(entry.kind as usize))
+            .map_or(Tag::Other, |kind| kind.tag)
     }
 
     /// The index of the first entry behind those that an entry holds.
     fn end_of(&self, entry: usize) -> usize {
-        match self.entries.get(entry) {
-            Some(entry) => entry.end as usize,
-            None => 0,
-        }
+        self.entries
+            .get(entry)
+            .map_or(0, |entry| entry.end as usize)
     }
 
     /// The first of the entries right below an entry.
@@ -192,7 +177,7 @@ impl<'a> Units<'a> {
             let len = cursor.len();
             let value = spec.form.read(&mut cursor).ok()?;
             self.pass(len.saturating_sub(cursor.len()));
-            if spec.code == wanted.code() {
+            if spec.code == wanted as u64 {
                 return Some(value);
             }
         }

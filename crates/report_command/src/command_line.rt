@@ -160,7 +160,6 @@ pub enum Misuse {
 }
 
 impl Misuse {
-    /// The command whose options they are.
     fn command(self) -> CommandName {
         match self {
             Misuse::RecordsWords
@@ -258,7 +257,6 @@ fn refused(alloc: Global, command: Option<CommandName>, refusal: CommandRefusal<
     }
 }
 
-/// The job of `check`.
 fn check_job<'a>(matches: &ArgMatches<'a>) -> Result<Job<'a>, CommandRefusal<'static>>
     ensures range { IfOk result IsInRange }
     ensures asks { IfOk result (AsksNamed (codes "check") (found_of matches.now)) }
@@ -270,7 +268,6 @@ fn check_job<'a>(matches: &ArgMatches<'a>) -> Result<Job<'a>, CommandRefusal<'st
     })
 }
 
-/// The job of `run`.
 fn run_job<'a>(alloc: Global, matches: &ArgMatches<'a>) -> Result<Job<'a>, CommandRefusal<'static>>
     ensures range { IfOk result IsInRange }
     ensures asks { IfOk result (AsksNamed (codes "run") (found_of matches.now)) }
@@ -292,7 +289,6 @@ fn run_job<'a>(alloc: Global, matches: &ArgMatches<'a>) -> Result<Job<'a>, Comma
     }))
 }
 
-/// The job of `replay`.
 fn replay_job<'a>(matches: &ArgMatches<'a>) -> Result<Job<'a>, CommandRefusal<'static>>
     ensures range { IfOk result IsInRange }
     ensures asks { IfOk result (AsksNamed (codes "replay") (found_of matches.now)) }

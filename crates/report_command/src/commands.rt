@@ -92,7 +92,6 @@ impl CommandName {
     }
 }
 
-/// An argument as the parser wants it.
 fn arg_of<'a>(alloc: Global, row: &CommandArgument<'static>) -> Result<Arg<'a>, AllocError> {
     let count = match row.position {
         Position::Rest => ValueRange::new(0..),
@@ -146,7 +145,6 @@ fn args_of<'a>(alloc: Global, command: CommandName) -> Result<Vec<Arg<'a>>, Allo
     Ok(args)
 }
 
-/// A command with the arguments that it takes.
 fn command_of<'a>(alloc: Global, row: &CommandRow) -> Result<Command<'a>, AllocError> {
     let args = args_of(alloc, row.command)?;
     let command = Command::new(alloc, row.word).about(row.about);

@@ -56,7 +56,6 @@ fn can_stand(alloc: Global, words: &str, outcome: Outcome) -> Result<bool, Alloc
     Ok(false)
 }
 
-/// Whether a line with one of these outcomes can have the words.
 fn can_stand_in(alloc: Global, words: &str, outcomes: &[Outcome]) -> Result<bool, AllocError> {
     for outcome in outcomes {
         if can_stand(alloc, words, *outcome)? {
@@ -143,7 +142,6 @@ fn plain_value(words: &str) -> Option<Value> {
     }
 }
 
-/// The one of these outcomes that is spelled so.
 fn spelled_in(
     alloc: Global,
     words: &str,

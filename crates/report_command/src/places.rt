@@ -120,7 +120,6 @@ pub(crate) trait ValueReader<'a> {
     /// Which value a text has.
     ghost reads: { List ℕ → Self.Value → Type 0 };
 
-    /// The value of a text, if it has one.
     fn read(text: &'a str) -> Option<Self::Value>
         ensures { IfSome result (reads text.now) };
 }

@@ -84,7 +84,6 @@ impl<'a> ValueReader<'a> for WayReader {
     }
 }
 
-/// The strategy.
 fn way_of(matches: &ArgMatches) -> Result<Way, CommandRefusal<'static>>
     ensures { IfOk result (AsksWay (found_of matches.now)) }
 {
@@ -122,7 +121,6 @@ fn find_of<'a>(
     }
 }
 
-/// The result that is expected, if one is.
 fn expect_of(
     alloc: Global,
     matches: &ArgMatches,
@@ -152,7 +150,6 @@ fn sought_words_of<'a>(
     }
 }
 
-/// What is looked for.
 fn target_of<'a>(
     alloc: Global,
     matches: &ArgMatches<'a>,

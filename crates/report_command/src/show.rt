@@ -109,7 +109,6 @@ pub struct ShowLook<'a> {
     pub view: RecordView<'a>,
 }
 
-/// When threads have colors.
 fn color_of(matches: &ArgMatches) -> Color
     ensures { AsksColor (found_of matches.now) result }
 {
@@ -176,7 +175,6 @@ fn shown_of<'a>(matches: &ArgMatches<'a>) -> Result<RecordView<'a>, CommandRefus
     }
 }
 
-/// What is to be made of the record.
 fn view_of<'a>(matches: &ArgMatches<'a>) -> Result<RecordView<'a>, CommandRefusal<'static>>
     ensures range { IfOk result IsViewInRange }
     ensures asks { IfOk result (AsksView (found_of matches.now)) }
@@ -188,7 +186,6 @@ fn view_of<'a>(matches: &ArgMatches<'a>) -> Result<RecordView<'a>, CommandRefusa
     }
 }
 
-/// How the record is shown, and what is made of it.
 fn look_of<'a>(
     alloc: Global,
     matches: &ArgMatches<'a>,

@@ -43,7 +43,6 @@ impl ToJson for FairCycle {
     }
 }
 
-/// Whether every fair run ends, in words.
 fn fair_of(fair_runs: &FairRuns) -> &'static str
     ensures { result.now ≡ fair_words fair_runs.now }
 {
@@ -64,7 +63,6 @@ fn cycles(fair_runs: &FairRuns) -> usize
     }
 }
 
-/// Sends the fair run that goes on for ever, where one does.
 fn put_cycle<S: Serializer>(
     alloc: Global,
     out: &mut S,
@@ -90,7 +88,6 @@ impl ToJson for Liveness {
     }
 }
 
-/// Whether the endings are all, or why they aren't, in words.
 fn verdict_of(verdict: Verdict) -> &'static str
     ensures { result.now ≡ verdict_words verdict }
 {

@@ -86,21 +86,18 @@ impl ToJson for Way {
     }
 }
 
-/// Whether there are bytes.
 fn has_some(bytes: &[u8]) -> bool
     ensures { result ≡ specified.has_some bytes.now }
 {
     !bytes.is_empty()
 }
 
-/// How many fields an ending has.
 fn count_fields(ending: &Ending) -> usize
     ensures { result ≡ count (ending_fields ending.now) }
 {
     2 + usize::from(has_some(ending.bytes()))
 }
 
-/// Sends the fields of an ending.
 fn put_ending<S: Serializer>(alloc: Global, out: &mut S, ending: &Ending) -> Result<(), S::Error>
     ensures { OnOk result (SendsFields (ending_fields ending.now) (S.written out.old) (S.written out.new)) }
 {
@@ -154,7 +151,6 @@ impl ToJson for Coverage {
     }
 }
 
-/// Why no further run was made, in words.
 fn verdict_of(halt: &DrawnEnd) -> &'static str
     ensures { result.now ≡ verdict_words halt.now }
 {

@@ -87,7 +87,6 @@ fn send_thread<S: Serializer>(
     out.end_map()
 }
 
-/// The place of a thread, if it is known.
 fn place_at<'a>(places: &[Option<PlaceObject<'a>>], thread: usize) -> Option<PlaceObject<'a>>
     ensures { result ≡ ends.place_at places.now thread }
 {
@@ -117,7 +116,6 @@ impl ToJson for Threads<'_> {
     }
 }
 
-/// Sends a thread of an ending: its number, and how it ended.
 fn send_ended<S: Serializer>(
     alloc: Global,
     out: &mut S,
@@ -184,7 +182,6 @@ fn first_bytes(dump: u32, bytes: &[u8]) -> &[u8]
     &bytes[..bytes.len().min(dump as usize)]
 }
 
-/// Whether all threads ended well.
 fn all_done(reports: &[ThreadReport]) -> bool
     ensures { result ≡ list_all (λ r. specified.is_done r.outcome) reports.now }
 {

@@ -46,7 +46,6 @@ pub struct FoundObject<'a> {
     pub run: Option<RunEndObject<'a>>,
 }
 
-/// Sends as what something was found.
 fn put_found_as<S: Serializer>(
     alloc: Global,
     out: &mut S,

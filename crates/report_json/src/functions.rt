@@ -60,7 +60,6 @@ impl ToJson for Chain {
     }
 }
 
-/// Sends the offset in a function, where it is known.
 fn put_offset<S: Serializer>(
     alloc: Global,
     out: &mut S,
@@ -74,7 +73,6 @@ fn put_offset<S: Serializer>(
     }
 }
 
-/// Sends a line of source, where it is known.
 fn put_source<S: Serializer>(
     alloc: Global,
     out: &mut S,

@@ -35,7 +35,6 @@ pub enum ThreadState {
     Gone,
 }
 
-/// It in words.
 fn words_of(state: ThreadState) -> &'static str
     ensures { result.now ≡ specified.state_words state }
 {
@@ -262,7 +261,6 @@ impl ToJson for EndShown<'_> {
     }
 }
 
-/// What is said of a last write.
 struct LastShown<'r, 'a>(&'r LastRow<'a>);
 
 impl Drop for LastShown<'_, '_> {

@@ -23,12 +23,10 @@ pub(crate) trait ToJson {
     /// That value.
     ghost json: { Self → Json };
 
-    /// Sends it.
     fn send<S: Serializer>(&self, alloc: Global, out: &mut S) -> Result<(), S::Error>
         ensures { OnOk result (Sends (json self.now) (S.written out.old) (S.written out.new)) };
 }
 
-/// Sends a number.
 fn send_number<S: Serializer>(out: &mut S, n: u64) -> Result<(), S::Error>
     ensures { OnOk result (Sends (number n) (S.written out.old) (S.written out.new)) }
 {

@@ -80,7 +80,6 @@ impl ToJson for NextWrite {
     }
 }
 
-/// Whether both are so.
 fn both(one: bool, other: bool) -> bool
     ensures { result ≡ (one && other) }
 {

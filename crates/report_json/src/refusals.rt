@@ -45,7 +45,6 @@ pub enum RefusedObject<'a> {
     EndLine(u32),
 }
 
-/// Sends a stage and words.
 fn send_words<S: Serializer>(
     alloc: Global,
     out: &mut S,
@@ -58,7 +57,6 @@ fn send_words<S: Serializer>(
     send_two(alloc, out, ("stage", &stage), ("fault", &fault))
 }
 
-/// Sends a stage, words, and a line.
 fn send_line_of<S: Serializer>(
     alloc: Global,
     out: &mut S,
@@ -76,7 +74,6 @@ fn send_line_of<S: Serializer>(
     out.end_map()
 }
 
-/// Sends the fault of bytes at an offset.
 fn send_read<S: Serializer>(
     alloc: Global,
     out: &mut S,
@@ -93,7 +90,6 @@ fn send_read<S: Serializer>(
     out.end_map()
 }
 
-/// Sends the rule that is broken in a body.
 fn send_rule_in_body<S: Serializer>(
     alloc: Global,
     out: &mut S,
@@ -205,7 +201,6 @@ impl ToJson for Failure<'_> {
     }
 }
 
-/// A job that failed.
 #[derive(Clone, Copy)]
 struct FailedObject<'a>(Failure<'a>);
 

@@ -37,7 +37,6 @@ pub fn is_one_place(rt: &HostRuntime, one: &str, other: &str) -> bool {
     }
 }
 
-/// Where a record goes.
 #[derive(Drop)]
 enum RecordTarget {
     /// A file that takes the place of what has this path, once all of it is there.

@@ -59,7 +59,6 @@ impl<'a> JobStop<'a> {
         }
     }
 
-    /// Says it on these streams, as `tell` says.
     fn say<W: Write, E: Write>(
         &self,
         alloc: Global,

@@ -57,7 +57,6 @@ fn memory_of<'a>(job: &Job<'a>) -> Option<&'a str>
     }
 }
 
-/// A path as it is said, or nothing.
 fn path_text(path: Option<&str>) -> &str
     ensures { result.now ≡ path_text path.entry }
 {
@@ -299,7 +298,6 @@ fn note_unkept(rt: &HostRuntime, job: &Job, save: &SavedFile) {
     }
 }
 
-/// The files that a job makes.
 #[derive(Drop)]
 struct JobFiles<'a> {
     save: SavedFile<'a>,
@@ -307,7 +305,6 @@ struct JobFiles<'a> {
 }
 
 impl JobFiles<'_> {
-    /// Takes away what there is of both.
     fn give_up(self) {
         self.save.give_up();
         self.memory.give_up();

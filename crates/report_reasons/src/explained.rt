@@ -90,7 +90,6 @@ fn add_done(
     add_advice(alloc, out, done.advised)
 }
 
-/// Adds what to do about threads that were stopped.
 fn add_advice(alloc: Global, out: &mut String, advised: Advised) -> Result<(), AllocError> {
     for words in &advised.lines(alloc)? {
         write!(out, "{words}\n")?;
@@ -98,7 +97,6 @@ fn add_advice(alloc: Global, out: &mut String, advised: Advised) -> Result<(), A
     Ok(())
 }
 
-/// Adds why something is refused.
 fn add_refused(
     alloc: Global,
     out: &mut String,

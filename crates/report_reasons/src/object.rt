@@ -66,7 +66,6 @@ fn told(refused: &Refused) -> report_json::RefusedObject<'static>
     }
 }
 
-/// Writes the object of what is refused.
 fn write_refused<W: Write>(
     alloc: Global,
     refused: &Refused,
@@ -82,7 +81,6 @@ fn write_refused<W: Write>(
     write_refusal(alloc, out, &refusal)
 }
 
-/// Writes the object of what failed.
 fn write_failure<W: Write>(alloc: Global, failed: Failed, out: &mut W) -> Result<(), Unwritten>
     ensures { OnOk result (WritesFailed failed.entry (W.contents out.old) (W.contents out.new)) }
 {

@@ -99,7 +99,6 @@ pub(crate) fn imported_functions(bytes: &[u8]) -> Option<u32> {
     Some(functions)
 }
 
-/// What a section is called.
 fn section_name(id: u8) -> &'static str {
     match id {
         0 => "custom",

@@ -40,7 +40,6 @@ pub(crate) fn add_in_body(
     write!(out, ": {kind}\n")
 }
 
-/// Adds what a rule outside bodies asks for.
 fn add_words(out: &mut String, kind: Fault) -> Result<(), AllocError> {
     let words = match kind {
         Fault::MoreThanOne => {
@@ -92,13 +91,11 @@ fn add_imports(out: &mut String, bytes: &[u8]) -> Result<(), AllocError> {
     )
 }
 
-/// The index of the start function, if there is one.
 fn start_in(bytes: &[u8]) -> Option<u32> {
     let section = section_of(bytes, 8)?;
     Reader::new(section.contents).read_u32().ok()
 }
 
-/// Adds the start function.
 fn add_start(alloc: Global, out: &mut String, bytes: &[u8]) -> Result<(), AllocError> {
     out.push_str("the start section")?;
     if let Some(index) = start_in(bytes) {

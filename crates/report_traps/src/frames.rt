@@ -25,7 +25,6 @@ pub struct Frames {
     frames: Vec<HeardFrame>,
 }
 
-/// Room for the functions of all threads.
 fn room(alloc: Global) -> Result<Vec<HeardFrame>, AllocError> {
     let mut frames = Vec::with_capacity(alloc, MOST_THREADS * KEPT)?;
     for _ in 0..MOST_THREADS * KEPT {
@@ -40,11 +39,9 @@ fn room(alloc: Global) -> Result<Vec<HeardFrame>, AllocError> {
 impl Frames {
     /// None yet. Where memory is refused there is no room for any.
     pub fn new(alloc: Global) -> Frames {
-        let frames = match room(alloc) {
-            Ok(frames) => frames,
-            Err(_) => Vec::new(alloc),
-        };
-        Frames { frames }
+        Frames {
+            frames: room(alloc).unwrap_or(Vec::new(alloc)),
+        }
     }
 
     /// That of a thread at a depth, if it is kept.
@@ -54,15 +51,6 @@ impl Frames {
         }
         self.frames
             .get(thread.saturating_mul(KEPT).saturating_add(depth))
-    }
-
-    /// Keeps a function of a thread.
-    fn keep(&self, thread: usize, heard: TrapFrame) {
-        if let Some(frame) = self.frame(thread, heard.depth) {
-            let number = (heard.function as u64).saturating_add(1);
-            frame.instr.store(heard.instr as u64, Ordering::SeqCst);
-            frame.function.store(number, Ordering::SeqCst);
-        }
     }
 
     /// Where a thread trapped, at depth 0, or where the call stands by which that function was called, itself or
@@ -96,7 +84,12 @@ impl Gate for &Frames {
     #[inline]
     fn gather(&mut self, _other: &Frames) {}
 
-    fn trapped(&self, thread: u32, frame: TrapFrame) {
-        self.keep(thread as usize, frame);
+    /// Keeps a function of a thread.
+    fn trapped(&self, thread: u32, heard: TrapFrame) {
+        if let Some(frame) = self.frame(thread as usize, heard.depth) {
+            let number = (heard.function as u64).saturating_add(1);
+            frame.instr.store(heard.instr as u64, Ordering::SeqCst);
+            frame.function.store(number, Ordering::SeqCst);
+        }
     }
 }

@@ -15,18 +15,11 @@ pub struct Traps<'m, 'n> {
     code: CodeMap<'m, 'n>,
 }
 
-/// A place, as an object has it.
 fn place_of(spot: Spot<'_>) -> PlaceObject<'_> {
-    let Spot {
-        name,
-        offset,
-        source,
-        text: _,
-    } = spot;
     PlaceObject {
-        function: name,
-        offset: offset.map(Offset),
-        source: source.map(|(file, line)| SourceObject { file, line }),
+        function: spot.name,
+        offset: spot.offset.map(Offset),
+        source: spot.source.map(|(file, line)| SourceObject { file, line }),
     }
 }
 

@@ -55,7 +55,6 @@ pub struct Sheet {
     is_colored: bool,
 }
 
-/// How a row is laid out.
 #[derive(Clone, Copy)]
 struct Layout {
     /// The blanks before the number of the line.
@@ -83,7 +82,6 @@ impl Sheet {
         }
     }
 
-    /// Which column a thread has.
     fn column_of(&self, thread: u32) -> usize {
         self.threads
             .iter()
@@ -140,12 +138,10 @@ impl Sheet {
     }
 }
 
-/// How many digits a number has.
 fn digits_of(number: u64) -> usize {
     number.checked_ilog10().unwrap_or(0) as usize + 1
 }
 
-/// So many blanks.
 #[derive(Clone, Copy)]
 struct Blanks(usize);
 

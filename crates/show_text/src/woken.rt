@@ -196,7 +196,6 @@ fn sleeper_of(at: usize, made: Entry, context: Option<Context>) -> Option<Sleepi
     }
 }
 
-/// The context of the entry at a place.
 fn context_at(contexts: &[Context], at: usize) -> Option<Context>
     ensures { result ≡ slice_get contexts.now at }
 {

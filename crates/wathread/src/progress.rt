@@ -30,7 +30,6 @@ pub(crate) struct EndSignal<'a> {
 }
 
 impl EndSignal<'_> {
-    /// Whether so much time has passed.
     fn is_late(&self) -> bool {
         let Some((began, most)) = self.until.time else {
             return false;
@@ -128,7 +127,6 @@ impl<'a> SearchProgress<'a> {
         Some(now.duration_since(began))
     }
 
-    /// What says whether it is to end.
     fn bell(&self) -> EndSignal<'a> {
         EndSignal {
             rt: self.rt,

@@ -40,7 +40,6 @@ pub(crate) fn accepted_line(alloc: Global, functions: usize) -> Result<Line, Unw
     Ok(Line { status: 0, text })
 }
 
-/// The text of a refusal.
 fn refusal_text(alloc: Global, refusal: &RefusalObject) -> Result<Vec<u8>, Unwritten>
     ensures { IfOk result (λ text. text.items ≡ json_line (refusal_json refusal.now)) }
 {
@@ -67,7 +66,6 @@ pub(crate) fn refusal_line(
     Ok(Line { status, text })
 }
 
-/// The line of how a run ended.
 fn line_of_run(alloc: Global, run: &RunEndObject) -> Result<Line, Unwritten>
     ensures status { IfOk result (λ line. line.status ≡ specified.status_of run.now.threads.now) }
     ensures text { IfOk result (λ line. line.text.items ≡ json_line (run_json run.now)) }
@@ -104,7 +102,6 @@ fn status_of(all: &Ended<Ending>) -> u8
     1
 }
 
-/// The text of a search through every order.
 fn complete_text(alloc: Global, complete: &CompleteObject) -> Result<Vec<u8>, Unwritten>
     ensures { IfOk result (λ text. text.items ≡ json_line (complete_json complete.now)) }
 {

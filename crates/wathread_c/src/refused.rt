@@ -37,7 +37,6 @@ fn refused_module(refusal: ModuleRefusal) -> Option<RefusedObject<'static>>
     }
 }
 
-/// What is refused of a call.
 fn refused_call(fault: CallFault) -> RefusedObject<'static>
     ensures { IsRefusedAs (faults.Call fault) result }
 {

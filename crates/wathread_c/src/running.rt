@@ -15,7 +15,6 @@ use search_scheduled::MadeRun;
 use std::alloc::Global;
 use types::ThreadReport;
 
-/// Whether all threads ended well.
 fn all_done(reports: &[ThreadReport]) -> bool
     ensures { result ≡ list_all (λ r. specified.is_done r.outcome) reports.now }
 {
@@ -45,7 +44,6 @@ fn keep(alloc: Global, made: &MadeRun, record: &mut [u8], answer: &mut CallAnswe
     status_of(&made.end.threads)
 }
 
-/// Runs a function of this name.
 fn run_named(
     alloc: Global,
     module: &[u8],

@@ -13,7 +13,6 @@ use std::alloc::Global;
 /// What a name comes to that is no UTF-8, as no exported one is.
 const NO_NAME: HostFault = HostFault::Call(CallFault::UnknownExport);
 
-/// Searches the runs of a function of this name.
 fn search_named(
     alloc: Global,
     module: &[u8],
