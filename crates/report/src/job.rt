@@ -166,7 +166,7 @@ where
     let request = SearchRequest {
         module: &valid,
         code,
-        search: asked,
+        search: &*asked,
     };
     match search_module(rt, alloc, request, streams, follower) {
         Ok(status) => Ok(Done {

@@ -94,10 +94,10 @@ fn end_orders<T: Teller, W: Write, S: Write>(
 /// Goes through all runs of a call: where no threads race by the orders that matter then, and else through every order
 /// of their entries. Tells a race that it found, the endings, whether these are all, what is known of races, what never
 /// ends, and what was found; and keeps the record of that, where one is wanted. Answers the status.
-fn search_orders<T: Teller, R: Threads + Sync, W: Write, E, S: Write, F: Hears>(
+fn search_orders<'a, T: Teller, R: Threads + Sync, W: Write, E, S: Write, F: Hears>(
     alloc: Global,
     teller: &T,
-    call: SearchedCall,
+    call: SearchedCall<'a>,
     orders: &Orders<R>,
     streams: &mut Streams<W, E, S>,
     follower: &mut F,
@@ -118,7 +118,7 @@ fn search_orders<T: Teller, R: Threads + Sync, W: Write, E, S: Write, F: Hears>(
     let search = call.search;
     let look = first_look(alloc, call, hands, *most, follower)?;
     follower.end();
-    let raced = race_told(alloc, teller, call, &look, out, save)?;
+    let raced: Raced<'a, 'a> = race_told(alloc, teller, call, &look, out, save)?;
     let whole = whole_of(alloc, call, *most, look, follower)?;
     follower.end();
     teller.tell(alloc, News::Orders(&whole, *most), out)?;
