@@ -71,9 +71,11 @@ returns-clause-tells g c =
       between = saved c.race_told.new.save;
       keeps_race = c.in_ok-raced.ensures.kept;
       keeps_found = c.in_ok-end_orders.ensures.kept;
-      tells = subst (λ (form : Form). AllIn form q.parts _ found _) c.requires.form (all_told g.T.Teller.form q.parts _ found (contents c.args.streams.now.out) (contents c.race_told.new.out) (contents c.tell.new.out)
-          (contents c.tell-2.new.out) (contents c.end_orders.new.out) c.in_ok-raced.ensures.tells
-          (c.in_ok-tell.ensures.tells q.parts tt) (c.in_ok-tell-2.ensures.tells q.parts tt) (c.in_ok-end_orders.ensures.tells q.parts race));
+      tells = subst (λ (form : Form). AllIn form q.parts _ found _) c.requires.form
+          (all_told g.T.Teller.form q.parts _ found (contents c.args.streams.now.out) (contents c.race_told.new.out)
+          (contents c.tell.new.out) (contents c.tell-2.new.out) (contents c.end_orders.new.out) c.in_ok-raced.ensures.tells
+          (c.in_ok-tell.ensures.tells q.parts tt) (c.in_ok-tell-2.ensures.tells q.parts tt)
+          (c.in_ok-end_orders.ensures.tells q.parts race));
       status_is = c.in_ok-behind.ensures.status;
     }
 
