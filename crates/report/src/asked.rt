@@ -2,7 +2,6 @@
 use report_command::Search;
 use report_looks::CodeBytes;
 use spawn_host::Request;
-use std::thread::{self, Threads};
 use validate_module::ValidModule;
 
 /// A search that is asked for, through runs of a module; and the bytes of that, which name its functions and the lines of
@@ -21,12 +20,4 @@ pub(crate) struct SearchedCall<'a> {
     pub request: &'a Request<'a, 'a>,
     pub code: CodeBytes<'a>,
     pub search: &'a Search<'a>,
-}
-
-/// How many threads make runs, or go on from states: as many as are asked for, or as there are processors.
-pub(crate) fn jobs_of<R: Threads>(rt: &R, search: &Search) -> usize {
-    match search.jobs {
-        Some(jobs) => jobs as usize,
-        None => thread::available_parallelism(rt).map_or(1, |count| count.get()),
-    }
 }

@@ -50,11 +50,11 @@ pub struct JobBytes<'a> {
 ///
 /// # Errors
 /// Why it isn't done: what is refused, and then nothing is written but that line; or what failed.
-pub fn perform<'j, R, W, E, S, F>(
+pub fn perform<'j, 'x, R, W, E, S, F>(
     rt: &R,
     alloc: Global,
-    job: &Job<'j>,
-    bytes: JobBytes,
+    job: &'x Job<'j>,
+    bytes: JobBytes<'x>,
     streams: &mut Streams<W, E, S>,
     follower: &mut F,
 ) -> Result<Done, Undone<'j>>
@@ -84,11 +84,11 @@ where
 }
 
 /// Does a job, and says nothing of why it isn't done.
-fn perform_silent<'j, R, W, E, S, F>(
+fn perform_silent<'j, 'x, R, W, E, S, F>(
     rt: &R,
     alloc: Global,
-    job: &Job<'j>,
-    bytes: JobBytes,
+    job: &'x Job<'j>,
+    bytes: JobBytes<'x>,
     streams: &mut Streams<W, E, S>,
     follower: &mut F,
 ) -> Result<Done, Undone<'j>>
@@ -126,11 +126,11 @@ where
 }
 
 /// Searches through runs of a module.
-fn search<'j, R, W, E, S, F>(
+fn search<'j, 'x, R, W, E, S, F>(
     rt: &R,
     alloc: Global,
-    asked: &Search<'j>,
-    code: CodeBytes,
+    asked: &'x Search<'j>,
+    code: CodeBytes<'x>,
     streams: &mut Streams<W, E, S>,
     follower: &mut F,
 ) -> Result<Done, Undone<'j>>
@@ -162,7 +162,7 @@ where
     let request = SearchRequest {
         module: &valid,
         code,
-        search: asked,
+        search: &*asked,
     };
     match search_module(rt, alloc, request, streams, follower) {
         Ok(status) => Ok(Done {

@@ -1,19 +1,21 @@
 //! Searches by the program: what comes of one is decided here, and told by `telling` in the form that is asked for.
 ghost use Rattle.std.specs.Prelude.{◌≡◌, ◌≤◌, IfOk, IfErr, Some, true, false, is_some};
+ghost use Rattle.types.specs.declared.parts.Parts.{Parts};
 ghost use Rattle.report_command.specs.Searches.{IsSearchInRange};
 ghost use Rattle.report_jobs.specs.Asked.{IsAskedBy};
 ghost use Rattle.report_jobs.specs.Prints.{changed};
 ghost use Rattle.report_jobs.specs.Silence.{Stays};
 ghost use Rattle.report_jobs.specs.Troubles.{IsTroubleOf};
 ghost use Rattle.report.specs.Drawn.{cut_in};
-ghost use Rattle.report.specs.Racing.{IsRacedOf, KeepsRaced, SaysRaced, keeps_race, racing_in};
+ghost use Rattle.report.specs.Found.{KeepsFound};
+ghost use Rattle.report.specs.Racing.{CanTell, IsRacedIn, IsRacedOf, KeepsRaced, SaysRaced, keeps_race, racing_in};
 ghost use Rattle.report.specs.Searched.{IsSearched};
 ghost use Rattle.report.specs.Searches.{Finds, IsOfSystem, IsWellAt};
 ghost use Rattle.report.specs.Silent.{IfRefusedCall, LeavesOthers};
-ghost use Rattle.report.specs.Telling.{InLines, TellsNoneFound};
+ghost use Rattle.report.specs.Telling.{EndsAll, InLines, TellsNoneFound};
 ghost use Rattle.report.specs.Told.{IsStatusOfTable, TellsAll, TellsDrawn, TellsDrawnRaces};
 
-use crate::asked::{SearchRequest, SearchedCall, jobs_of};
+use crate::asked::{SearchRequest, SearchedCall};
 use crate::found::{
     FoundRun, behind_of, keep_found, keep_made, keep_raced, kept_if_found, kept_of,
 };
@@ -23,7 +25,7 @@ use crate::raced::{Raced, kept_race, raced_of};
 use crate::table::{DrawnTable, NoneFound, status_of_none};
 use crate::telling::{Conclusion, News, Teller, ToldSearch};
 use crate::whole::{FirstLook, first_look, whole_of};
-use report_command::Form;
+use report_command::{Form, Search};
 use report_jobs::{Streams, Trouble, args_of, keep, request_of};
 use report_json::{FoundAs, RunRaces};
 use search_finds::{Crew, Halt, Hears, SearchResult, first_found, first_judged};
@@ -31,7 +33,7 @@ use search_modules::Hands;
 use search_races::RaceJudge;
 use std::alloc::Global;
 use std::io::Write;
-use std::thread::Threads;
+use std::thread::{self, Threads};
 
 /// What goes through every order of entries: so many threads as are asked for, and depth first one alone, with so many states
 /// at most.
@@ -67,13 +69,35 @@ fn race_told<'a, T: Teller, W: Write, S: Write>(
     Ok(raced)
 }
 
+/// Tells the rest of what was found in every order, and keeps the record of it, where one is wanted.
+fn end_orders<T: Teller, W: Write, S: Write>(
+    alloc: Global,
+    teller: &T,
+    search: &Search,
+    told: ToldSearch,
+    out: &mut W,
+    save: &mut S,
+) -> Result<(), Trouble>
+    requires { CanTell told.raced.now }
+    ensures tells { (m : Parts) → IsRacedIn m told.entry.raced.now
+        → IfOk result (λ _. EndsAll T.form m told.entry (changed W.contents out.old out.new)) }
+    ensures kept { IfOk result
+        (λ _. KeepsFound search.now told.entry.kept.now (changed S.contents save.old save.new)) }
+    ensures unwanted { is_some search.now.save ≡ false → Stays save.old save.new }
+    ensures trouble { IfErr result IsOfSystem }
+{
+    teller.conclude(alloc, Conclusion::Orders(told), out)?;
+    keep_found(search, told.kept, save)?;
+    Ok(())
+}
+
 /// Goes through all runs of a call: where no threads race by the orders that matter then, and else through every order
 /// of their entries. Tells a race that it found, the endings, whether these are all, what is known of races, what never
 /// ends, and what was found; and keeps the record of that, where one is wanted. Answers the status.
-fn search_orders<T: Teller, R: Threads + Sync, W: Write, E, S: Write, F: Hears>(
+fn search_orders<'a, T: Teller, R: Threads + Sync, W: Write, E, S: Write, F: Hears>(
     alloc: Global,
     teller: &T,
-    call: SearchedCall,
+    call: SearchedCall<'a>,
     orders: &Orders<R>,
     streams: &mut Streams<W, E, S>,
     follower: &mut F,
@@ -94,7 +118,7 @@ fn search_orders<T: Teller, R: Threads + Sync, W: Write, E, S: Write, F: Hears>(
     let search = call.search;
     let look = first_look(alloc, call, hands, *most, follower)?;
     follower.end();
-    let raced = race_told(alloc, teller, call, &look, out, save)?;
+    let raced: Raced<'a, 'a> = race_told(alloc, teller, call, &look, out, save)?;
     let whole = whole_of(alloc, call, *most, look, follower)?;
     follower.end();
     teller.tell(alloc, News::Orders(&whole, *most), out)?;
@@ -109,8 +133,7 @@ fn search_orders<T: Teller, R: Threads + Sync, W: Write, E, S: Write, F: Hears>(
         status: behind.status,
         dump: search.sought.dump,
     };
-    teller.conclude(alloc, Conclusion::Orders(told), out)?;
-    keep_found(search, &kept, save)?;
+    end_orders(alloc, teller, search, told, out, save)?;
     Ok(behind.status)
 }
 
@@ -143,10 +166,10 @@ fn end_without<T: Teller, W: Write>(
 /// and keeps the record of what was found, where one is wanted. Answers the status: 1 where a run was found or an ending
 /// has a trap or a stop, and else 0.
 fn search_for_endings<T: Teller, R: Threads + Sync, W: Write, E, S: Write, F: Hears>(
-    rt: &R,
     alloc: Global,
     teller: &T,
     call: SearchedCall,
+    hands: &Hands<R>,
     streams: &mut Streams<W, E, S>,
     follower: &mut F,
 ) -> Result<u8, Trouble>
@@ -167,10 +190,8 @@ fn search_for_endings<T: Teller, R: Threads + Sync, W: Write, E, S: Write, F: He
         ..
     } = call;
     let sought = &search.sought;
-    let crew = Crew {
-        rt,
-        jobs: jobs_of(rt, search),
-    };
+    let Hands { rt, jobs } = *hands;
+    let crew = Crew { rt, jobs };
     let searched = match first_found(&crew, alloc, request, sought, follower) {
         Ok(searched) => searched,
         Err(_) => return Err(Trouble::NoMemory),
@@ -200,10 +221,10 @@ fn search_for_endings<T: Teller, R: Threads + Sync, W: Write, E, S: Write, F: He
 
 /// The same up to the first run with a race: tells that and its race, or that none has one.
 fn search_for_races<T: Teller, R: Threads + Sync, W: Write, E, S: Write, F: Hears>(
-    rt: &R,
     alloc: Global,
     teller: &T,
     call: SearchedCall,
+    hands: &Hands<R>,
     streams: &mut Streams<W, E, S>,
     follower: &mut F,
 ) -> Result<u8, Trouble>
@@ -225,10 +246,8 @@ fn search_for_races<T: Teller, R: Threads + Sync, W: Write, E, S: Write, F: Hear
         ..
     } = call;
     let sought = &search.sought;
-    let crew = Crew {
-        rt,
-        jobs: jobs_of(rt, search),
-    };
+    let Hands { rt, jobs } = *hands;
+    let crew = Crew { rt, jobs };
     let searched = match first_judged(&crew, alloc, request, sought, &RaceJudge, follower) {
         Ok(searched) => searched,
         Err(_) => return Err(Trouble::NoMemory),
@@ -274,9 +293,13 @@ fn search_call<T: Teller, R: Threads + Sync, W: Write, E, S: Write, F: Hears>(
     ensures trouble { IfErr result IsOfSystem }
 {
     let search = call.search;
+    let jobs = match search.jobs {
+        Some(jobs) => jobs as usize,
+        None => thread::available_parallelism(rt).map_or(1, |count| count.get()),
+    };
     match search.all {
         Some(most) => {
-            let jobs = if search.deep { 1 } else { jobs_of(rt, search) };
+            let jobs = if search.deep { 1 } else { jobs };
             let orders = Orders {
                 hands: Hands { rt, jobs },
                 most,
@@ -284,10 +307,11 @@ fn search_call<T: Teller, R: Threads + Sync, W: Write, E, S: Write, F: Hears>(
             search_orders(alloc, teller, call, &orders, streams, follower)
         }
         None => {
+            let hands = Hands { rt, jobs };
             if search.races {
-                return search_for_races(rt, alloc, teller, call, streams, follower);
+                return search_for_races(alloc, teller, call, &hands, streams, follower);
             }
-            search_for_endings(rt, alloc, teller, call, streams, follower)
+            search_for_endings(alloc, teller, call, &hands, streams, follower)
         }
     }
 }

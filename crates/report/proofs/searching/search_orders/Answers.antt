@@ -12,8 +12,8 @@ use Rattle.report.specs.Told.{AllIn}
 use Rattle.report.proofs.AllTold.{all_told}
 use Rattle.report.proofs.searching.search_orders.Goals as goal
 
-pub conclude-requires : goal.conclude-requires
-conclude-requires g c =
+pub end_orders-requires : goal.end_orders-requires
+end_orders-requires g c =
     can_tell c.args.call.request.now c.args.call.search.now _ c.in_ok-raced.raced c.in_ok-raced.ensures.raced
 
 pub kept_if_found-requires : goal.kept_if_found-requires
@@ -29,12 +29,12 @@ returns-clause-finds g c =
     let saved = g.S.Write.contents in
     let a = saved c.args.streams.now.save in
     let b = saved c.race_told.new.save in
-    let last = saved c.keep_found.new.save in
+    let last = saved c.end_orders.new.save in
     let w = c.in_ok-whole.whole in
     let behind = c.in_ok-behind.behind in
     let has = c.in_ok-behind.ensures.has in
     let is_kept = c.in_ok-kept.ensures.kept in
-    let kept = c.in_ok-keep_found.ensures.kept in
+    let kept = c.in_ok-end_orders.ensures.kept in
     let few = c.in_ok-behind.ensures.status.statuses in
     let unkept = c.race_told.ensures.unkept in
     finds_all q.parts s a b last behind.status s.races refl (λ no. ap saved (unkept no))
@@ -70,10 +70,12 @@ returns-clause-tells g c =
       is_kept = c.in_ok-kept.ensures.kept;
       between = saved c.race_told.new.save;
       keeps_race = c.in_ok-raced.ensures.kept;
-      keeps_found = c.in_ok-keep_found.ensures.kept;
-      tells = subst (λ (form : Form). AllIn form q.parts _ found _) c.requires.form (all_told g.T.Teller.form q.parts _ found (contents c.args.streams.now.out) (contents c.race_told.new.out) (contents c.tell.new.out)
-          (contents c.tell-2.new.out) (contents c.conclude.new.out) c.in_ok-raced.ensures.tells
-          (c.in_ok-tell.ensures.tells q.parts tt) (c.in_ok-tell-2.ensures.tells q.parts tt) (c.in_ok-conclude.ensures.tells q.parts race));
+      keeps_found = c.in_ok-end_orders.ensures.kept;
+      tells = subst (λ (form : Form). AllIn form q.parts _ found _) c.requires.form
+          (all_told g.T.Teller.form q.parts _ found (contents c.args.streams.now.out) (contents c.race_told.new.out)
+          (contents c.tell.new.out) (contents c.tell-2.new.out) (contents c.end_orders.new.out) c.in_ok-raced.ensures.tells
+          (c.in_ok-tell.ensures.tells q.parts tt) (c.in_ok-tell-2.ensures.tells q.parts tt)
+          (c.in_ok-end_orders.ensures.tells q.parts race));
       status_is = c.in_ok-behind.ensures.status;
     }
 
@@ -83,7 +85,7 @@ returns-clause-well g c =
     c.in_ok-behind.behind.status c.in_ok-behind.ensures.status
 
 pub returns-clause-others : goal.returns-clause-others
-returns-clause-others g c = ((λ none. c.keep_found.ensures.unwanted none ∙ c.race_told.ensures.unwanted none), refl, refl)
+returns-clause-others g c = ((λ none. c.end_orders.ensures.unwanted none ∙ c.race_told.ensures.unwanted none), refl, refl)
 
 pub returns-in_err-behind-clause-trouble : goal.returns-in_err-behind-clause-trouble
 returns-in_err-behind-clause-trouble g c =
@@ -100,7 +102,7 @@ returns-in_err-kept-clause-trouble g c =
     let p = err_from_is_err_and c.from_residual-in_err-kept.result c.from_residual-in_err-kept.ensures.1 in
     rw (p.1, p.2) c.in_err-kept.ensures.trouble
 
-pub returns-in_err-conclude-clause-trouble : goal.returns-in_err-conclude-clause-trouble
-returns-in_err-conclude-clause-trouble g c =
-    let p = err_from_is_err_and c.from_residual-in_err-conclude.result c.from_residual-in_err-conclude.ensures.1 in
-    rw (p.1, p.2) c.in_err-conclude.ensures.trouble
+pub returns-in_err-end_orders-clause-trouble : goal.returns-in_err-end_orders-clause-trouble
+returns-in_err-end_orders-clause-trouble g c =
+    let p = err_from_is_err_and c.from_residual-in_err-end_orders.result c.from_residual-in_err-end_orders.ensures.1 in
+    rw (p.1, p.2) c.in_err-end_orders.ensures.trouble
