@@ -3,8 +3,8 @@
 ghost use Rattle.std.specs.Prelude.{◌+◌, ◌≤◌, All, IfOk};
 
 use crate::members::{Bits, first_members};
-use crate::parts::{PartShape, VariablePart};
-use crate::place::ByteRange;
+use crate::parts::{Part, Shape};
+use crate::place::Place;
 use dwarf_units::Units;
 use std::alloc::{AllocError, Global};
 use std::fmt::Write;
@@ -23,7 +23,7 @@ const MOST_WORDS: usize = 256;
 #[derive(Drop)]
 pub struct Leaf {
     pub words: String,
-    pub place: ByteRange,
+    pub place: Place,
     pub its_type: usize,
     pub bits: Option<Bits>,
     /// Whether it has parts that aren't told.
@@ -32,16 +32,16 @@ pub struct Leaf {
 
 /// A part of a value that may have parts.
 #[derive(Drop)]
-struct OpenPart {
+struct Open {
     words: String,
-    part: VariablePart,
+    part: Part,
     bits: Option<Bits>,
 }
 
-impl OpenPart {
+impl Open {
     /// The part as it is.
     fn close(self, is_cut: bool) -> Leaf {
-        let OpenPart { words, part, bits } = self;
+        let Open { words, part, bits } = self;
         Leaf {
             words,
             place: part.place,
@@ -56,7 +56,7 @@ impl OpenPart {
         &self,
         alloc: Global,
         units: &Units,
-        inner: &mut Vec<OpenPart>,
+        inner: &mut Vec<Open>,
     ) -> Result<(), AllocError> {
         for member in &first_members(alloc, units, self.part.its_type, MOST_LEAVES + 1)? {
             let Some(part) = self.part.member(units, *member) else {
@@ -70,7 +70,7 @@ impl OpenPart {
             if !name.is_empty() {
                 write!(words, ".{name}")?;
             }
-            inner.push(OpenPart {
+            inner.push(Open {
                 words,
                 part,
                 bits: member.bits,
@@ -86,13 +86,13 @@ impl OpenPart {
         units: &Units,
         count: u64,
         size: u64,
-        inner: &mut Vec<OpenPart>,
+        inner: &mut Vec<Open>,
     ) -> Result<(), AllocError> {
         for number in 0..count.min(MOST_LEAVES as u64 + 1) {
             let Some(part) = self.part.element(alloc, units, number, size)? else {
                 break;
             };
-            inner.push(OpenPart {
+            inner.push(Open {
                 words: format!(in alloc; "{}[{number}]", self.words)?,
                 part,
                 bits: None,
@@ -110,11 +110,11 @@ pub fn leaves_of(
     size: u64,
 ) -> Result<Vec<Leaf>, AllocError> {
     let mut leaves = Vec::new(alloc);
-    let Some(part) = VariablePart::new(units, ByteRange { start: 0, size }, its_type) else {
+    let Some(part) = Part::new(units, Place { start: 0, size }, its_type) else {
         return Ok(leaves);
     };
     let mut open = Vec::new(alloc);
-    open.push(OpenPart {
+    open.push(Open {
         words: String::new(alloc),
         part,
         bits: None,
@@ -129,11 +129,11 @@ pub fn leaves_of(
         }
         let mut inner = Vec::new(alloc);
         match next.part.shape(alloc, units)? {
-            PartShape::Members => next.members(alloc, units, &mut inner)?,
-            PartShape::Elements { count, size } => {
+            Shape::Members => next.members(alloc, units, &mut inner)?,
+            Shape::Elements { count, size } => {
                 next.elements(alloc, units, count, size, &mut inner)?
             }
-            PartShape::Whole => {
+            Shape::Whole => {
                 leaves.push(next.close(false))?;
                 continue;
             }

@@ -4,7 +4,7 @@ ghost use Rattle.std.specs.Prelude.{IfOk, OnSome, IsSome, find};
 ghost use Rattle.dwarf_units.specs.Spans.{holds};
 
 use crate::members::members;
-use crate::parts::{PartShape, VariablePart};
+use crate::parts::{Part, Shape};
 use crate::sizes::MOST_TYPES;
 use crate::static_data::whole;
 use dwarf_units::{Spans, Units};
@@ -13,13 +13,13 @@ use std::fmt::Write;
 
 /// The words of a part so far, the part, and where the last part began that has a name of its own.
 #[derive(Drop)]
-struct NamedPart {
+struct Named {
     words: String,
-    part: VariablePart,
+    part: Part,
     start: u64,
 }
 
-impl NamedPart {
+impl Named {
     /// Goes on to the first member that has an address. Answers whether there is one.
     fn to_member(
         &mut self,
@@ -69,14 +69,14 @@ impl NamedPart {
     /// Goes on to the part right below that has an address. Answers whether there is one.
     fn step(&mut self, alloc: Global, units: &Units, address: u64) -> Result<bool, AllocError> {
         match self.part.shape(alloc, units)? {
-            PartShape::Members => self.to_member(alloc, units, address),
-            PartShape::Elements { count: _, size } => self.to_element(alloc, units, address, size),
-            PartShape::Whole => Ok(false),
+            Shape::Members => self.to_member(alloc, units, address),
+            Shape::Elements { count: _, size } => self.to_element(alloc, units, address, size),
+            Shape::Whole => Ok(false),
         }
     }
 }
 
-impl NamedPart {
+impl Named {
     /// Whether a part of this type begins at an address.
     fn is_at(&self, address: u64, its_type: Option<usize>) -> bool {
         self.part.place.start == address && its_type == Some(self.part.its_type)
@@ -101,7 +101,7 @@ pub fn name_at(
     let (Some(name), Some(part)) = (units.name(span.entry), whole(units, span)) else {
         return Ok(None);
     };
-    let mut named = NamedPart {
+    let mut named = Named {
         words: String::from_str(alloc, name)?,
         part,
         start: span.start,
@@ -115,7 +115,7 @@ pub fn name_at(
     if past > 0 {
         write!(named.words, "+{past}")?;
     }
-    let NamedPart {
+    let Named {
         words,
         part: _,
         start: _,

@@ -3,14 +3,14 @@
 ghost use Rattle.std.specs.Prelude.{◌≡◌, IfOk, IfSome};
 
 use crate::members::Member;
-use crate::place::ByteRange;
+use crate::place::Place;
 use crate::sizes::{bare, dimensions};
 use dwarf_units::{Tag, Units};
 use std::alloc::{AllocError, Global};
 
 /// What a part is made of.
 #[derive(Clone, Copy)]
-pub(crate) enum PartShape {
+pub(crate) enum Shape {
     Members,
     /// So many elements of so many bytes.
     Elements { count: u64, size: u64 },
@@ -20,20 +20,20 @@ pub(crate) enum PartShape {
 
 /// A part of a variable: its bytes, its type, and how many dimensions of this type the way to it has passed.
 #[derive(Clone, Copy)]
-pub(crate) struct VariablePart {
-    pub place: ByteRange,
+pub(crate) struct Part {
+    pub place: Place,
     pub its_type: usize,
     dimension: usize,
 }
 
-impl VariablePart {
+impl Part {
     ghost use Rattle.dwarf_data.specs.Within.{LiesWithin};
 
     /// All of what has a place and a type.
-    pub fn new(units: &Units, place: ByteRange, its_type: usize) -> Option<VariablePart>
+    pub fn new(units: &Units, place: Place, its_type: usize) -> Option<Part>
         ensures { IfSome result (λ p. p.place ≡ place) }
     {
-        Some(VariablePart {
+        Some(Part {
             place,
             its_type: bare(units, its_type)?,
             dimension: 0,
@@ -41,28 +41,28 @@ impl VariablePart {
     }
 
     /// What it is made of.
-    pub fn shape(self, alloc: Global, units: &Units) -> Result<PartShape, AllocError> {
+    pub fn shape(self, alloc: Global, units: &Units) -> Result<Shape, AllocError> {
         match units.tag(self.its_type) {
-            Tag::StructureType | Tag::UnionType => Ok(PartShape::Members),
+            Tag::StructureType | Tag::UnionType => Ok(Shape::Members),
             Tag::ArrayType => {
                 let counts = dimensions(alloc, units, self.its_type)?;
                 match counts.get(self.dimension) {
-                    Some(Some(count)) if *count > 0 => Ok(PartShape::Elements {
+                    Some(Some(count)) if *count > 0 => Ok(Shape::Elements {
                         count: *count,
                         size: self.place.size / *count,
                     }),
-                    _ => Ok(PartShape::Whole),
+                    _ => Ok(Shape::Whole),
                 }
             }
-            _ => Ok(PartShape::Whole),
+            _ => Ok(Shape::Whole),
         }
     }
 
     /// A member.
-    pub fn member(self, units: &Units, member: Member) -> Option<VariablePart>
+    pub fn member(self, units: &Units, member: Member) -> Option<Part>
         ensures { LiesWithin self.place result }
     {
-        VariablePart::new(
+        Part::new(
             units,
             self.place.inner(member.offset, member.size)?,
             member.its_type,
@@ -76,7 +76,7 @@ impl VariablePart {
         units: &Units,
         number: u64,
         size: u64,
-    ) -> Result<Option<VariablePart>, AllocError>
+    ) -> Result<Option<Part>, AllocError>
         ensures { IfOk result (LiesWithin self.place) }
     {
         let Some(offset) = number.checked_mul(size) else {
@@ -87,14 +87,14 @@ impl VariablePart {
         };
         let dimension = self.dimension.saturating_add(1);
         if dimension < dimensions(alloc, units, self.its_type)?.len() {
-            return Ok(Some(VariablePart {
+            return Ok(Some(Part {
                 place,
                 its_type: self.its_type,
                 dimension,
             }));
         }
         Ok(match units.type_of(self.its_type) {
-            Some(its_type) => VariablePart::new(units, place, its_type),
+            Some(its_type) => Part::new(units, place, its_type),
             None => None,
         })
     }

@@ -4,23 +4,23 @@ ghost use Rattle.std.specs.Prelude.{◌≡◌, ◌-◌, MatchOption, ◌&&◌, n
 
 /// Bytes of memory: where they begin, and how many they are.
 #[derive(Clone, Copy, Debug, PartialEq, Eq)]
-pub struct ByteRange {
+pub struct Place {
     pub start: u64,
     pub size: u64,
 }
 
-impl ByteRange {
+impl Place {
     ghost use Rattle.dwarf_data.specs.Within.{IsInner, HasNoInner};
 
     /// Some of its bytes: from an offset on, so many.
-    pub(crate) fn inner(self, offset: u64, size: u64) -> Option<ByteRange>
+    pub(crate) fn inner(self, offset: u64, size: u64) -> Option<Place>
         ensures { MatchOption result (HasNoInner self offset size) (IsInner self offset size) }
     {
         if offset > self.size || size > self.size - offset {
             return None;
         }
         let start = self.start.checked_add(offset)?;
-        Some(ByteRange { start, size })
+        Some(Place { start, size })
     }
 
     /// Whether an address is one of its bytes.

@@ -2,10 +2,10 @@
 
 ghost use Rattle.std.specs.Prelude.{◌≡◌, ◌+◌, ◌≤◌, IfSome};
 
-use crate::parts::VariablePart;
-use crate::place::ByteRange;
+use crate::parts::Part;
+use crate::place::Place;
 use crate::sizes::size_of;
-use dwarf_reader::AttributeValue;
+use dwarf_reader::Value;
 use dwarf_units::{Attribute, Location, Spanned, Spans, Tag, Units};
 use std::alloc::{AllocError, Global};
 
@@ -14,7 +14,7 @@ const MEMORY_END: u64 = 0x1_0000_0000;
 
 /// The address of a variable that stands at one.
 fn address_of(units: &Units, entry: usize) -> Option<u64> {
-    let AttributeValue::Expression(place) = units.value(entry, Attribute::Location)? else {
+    let Value::Expression(place) = units.value(entry, Attribute::Location)? else {
         return None;
     };
     match units.location(entry, place, None)? {
@@ -55,13 +55,13 @@ pub fn read_data(alloc: Global, units: &Units) -> Result<Spans, AllocError> {
 }
 
 /// A variable as a part of itself.
-pub(crate) fn whole(units: &Units, span: Spanned) -> Option<VariablePart>
+pub(crate) fn whole(units: &Units, span: Spanned) -> Option<Part>
     ensures start { IfSome result (λ p. p.place.start ≡ span.start) }
     ensures end { IfSome result (λ p. p.place.start + p.place.size ≡ span.end) }
 {
-    let place = ByteRange {
+    let place = Place {
         start: span.start,
         size: span.end.checked_sub(span.start)?,
     };
-    VariablePart::new(units, place, units.type_of(span.entry)?)
+    Part::new(units, place, units.type_of(span.entry)?)
 }

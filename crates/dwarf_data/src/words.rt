@@ -4,8 +4,8 @@ ghost use Rattle.std.specs.Prelude.{IfOk, IfSome};
 ghost use Rattle.dwarf_data.specs.Within.{LiesWithin, IsInSpan, NamesWithin};
 
 use crate::members::members;
-use crate::parts::{PartShape, VariablePart};
-use crate::place::ByteRange;
+use crate::parts::{Part, Shape};
+use crate::place::Place;
 use crate::sizes::MOST_TYPES;
 use crate::static_data::whole;
 use dwarf_units::{Spanned, Spans, Units};
@@ -13,9 +13,9 @@ use std::alloc::{AllocError, Global};
 
 /// What words name.
 #[derive(Clone, Copy, Debug, PartialEq, Eq)]
-pub enum NamedBytes {
+pub enum Sought {
     Nothing,
-    One(ByteRange),
+    One(Place),
     /// Variables at different places have the name.
     Several,
 }
@@ -52,9 +52,9 @@ fn next_step(words: &str) -> Option<(Step<'_>, &str)> {
 fn member_named(
     alloc: Global,
     units: &Units,
-    part: VariablePart,
+    part: Part,
     name: &str,
-) -> Result<Option<VariablePart>, AllocError>
+) -> Result<Option<Part>, AllocError>
     ensures { IfOk result (LiesWithin part.place) }
 {
     let mut parts = Vec::new(alloc);
@@ -63,7 +63,7 @@ fn member_named(
         let Some(outer) = parts.get(next).copied() else {
             break;
         };
-        if !matches!(outer.shape(alloc, units)?, PartShape::Members) {
+        if !matches!(outer.shape(alloc, units)?, Shape::Members) {
             continue;
         }
         for member in &members(alloc, units, outer.its_type)? {
@@ -81,17 +81,12 @@ fn member_named(
 }
 
 /// The part that a step leads to.
-fn follow(
-    alloc: Global,
-    units: &Units,
-    part: VariablePart,
-    step: Step,
-) -> Result<Option<VariablePart>, AllocError>
+fn follow(alloc: Global, units: &Units, part: Part, step: Step) -> Result<Option<Part>, AllocError>
     ensures { IfOk result (LiesWithin part.place) }
 {
     match (step, part.shape(alloc, units)?) {
-        (Step::Member(name), PartShape::Members) => member_named(alloc, units, part, name),
-        (Step::Element(number), PartShape::Elements { count, size }) if number < count => {
+        (Step::Member(name), Shape::Members) => member_named(alloc, units, part, name),
+        (Step::Element(number), Shape::Elements { count, size }) if number < count => {
             part.element(alloc, units, number, size)
         }
         _ => Ok(None),
@@ -102,9 +97,9 @@ fn follow(
 fn follow_all(
     alloc: Global,
     units: &Units,
-    part: VariablePart,
+    part: Part,
     steps: &str,
-) -> Result<Option<VariablePart>, AllocError>
+) -> Result<Option<Part>, AllocError>
     ensures { IfOk result (LiesWithin part.place) }
 {
     let mut reached = part;
@@ -125,16 +120,16 @@ fn follow_all(
     Ok(None)
 }
 
-impl NamedBytes {
+impl Sought {
     ghost use Rattle.dwarf_data.specs.Within.{NamesOneMore};
 
     /// With one more place that has the name.
-    fn and(self, place: ByteRange) -> NamedBytes
+    fn and(self, place: Place) -> Sought
         ensures { NamesOneMore place result }
     {
         match self {
-            NamedBytes::Nothing => NamedBytes::One(place),
-            NamedBytes::One(_) | NamedBytes::Several => NamedBytes::Several,
+            Sought::Nothing => Sought::One(place),
+            Sought::One(_) | Sought::Several => Sought::Several,
         }
     }
 }
@@ -146,7 +141,7 @@ fn place_in(
     span: Spanned,
     variable: &str,
     steps: &str,
-) -> Result<Option<ByteRange>, AllocError>
+) -> Result<Option<Place>, AllocError>
     ensures { IfOk result (λ place. IfSome place (IsInSpan span)) }
 {
     if units.name(span.entry) != Some(variable) {
@@ -167,11 +162,11 @@ pub fn place_of(
     units: &Units,
     data: &Spans,
     words: &str,
-) -> Result<NamedBytes, AllocError>
+) -> Result<Sought, AllocError>
     ensures { IfOk result (NamesWithin «data».now.items.items) }
 {
     let (variable, steps) = split(words);
-    let mut sought = NamedBytes::Nothing;
+    let mut sought = Sought::Nothing;
     for span in data.items() {
         if let Some(place) = place_in(alloc, units, *span, variable, steps)? {
             sought = sought.and(place);

@@ -26,7 +26,7 @@ pub struct Chain {
 
 /// What is said of a frame whose function is at an offset of the code.
 #[derive(Drop)]
-pub struct CallFrame {
+pub struct Frame {
     /// The offset of which it is said, if it is known.
     pub offset: Option<usize>,
     /// Whether functions are known at all.
@@ -83,10 +83,10 @@ fn chain_of(
 }
 
 /// Of an offset at which no function is known.
-fn unknown(alloc: Global, offset: Option<usize>, is_known: bool) -> CallFrame
+fn unknown(alloc: Global, offset: Option<usize>, is_known: bool) -> Frame
     ensures { result.offset ≡ offset }
 {
-    CallFrame {
+    Frame {
         offset,
         is_known,
         chain: None,
@@ -101,7 +101,7 @@ pub fn read_frame(
     lines: DebugSections,
     functions: &Spans,
     offset: Option<usize>,
-) -> Result<CallFrame, AllocError>
+) -> Result<Frame, AllocError>
     ensures { IfOk result (λ frame. frame.offset ≡ offset) }
 {
     let is_known = !functions.items().is_empty();
@@ -115,7 +115,7 @@ pub fn read_frame(
     let inlined = inlined_at(alloc, units, lines, functions, at)?;
     let name = units.name(function.entry).unwrap_or(UNKNOWN);
     let variables = variables_at(alloc, units, functions, at)?;
-    Ok(CallFrame {
+    Ok(Frame {
         offset,
         is_known,
         chain: chain_of(alloc, inlined.as_slice(), name)?,

@@ -1,7 +1,7 @@
 //! The values that a frame has: variables without parts, and the parts of those that have some.
 
 use crate::inlined::Inlined;
-use crate::kinds::{ValueKind, kind_of};
+use crate::kinds::{Kind, kind_of};
 use crate::variables::Variable;
 use crate::wording::type_words;
 use dwarf_data::{Bits, Leaf, bare, leaves_of};
@@ -26,7 +26,7 @@ pub struct FrameValue {
     pub label: String,
     pub location: Location,
     pub size: u8,
-    pub kind: ValueKind,
+    pub kind: Kind,
     /// The type of what it points to, if it does.
     pub target: Option<usize>,
     pub first_bit: u32,
@@ -43,22 +43,22 @@ fn all_bits(size: u64) -> Bits {
 
 /// How the bytes of a value are read, and the type of what it points to, if it does.
 #[derive(Clone, Copy)]
-struct ReadAs {
-    kind: ValueKind,
+struct Read {
+    kind: Kind,
     target: Option<usize>,
 }
 
 /// How the values of a type are read.
-fn read_of(units: &Units, its_type: usize) -> ReadAs {
+fn read_of(units: &Units, its_type: usize) -> Read {
     let kind = kind_of(units, its_type);
-    let target = if kind == ValueKind::Pointer {
+    let target = if kind == Kind::Pointer {
         bare(units, its_type)
             .and_then(|pointer| units.type_of(pointer))
             .and_then(|target| bare(units, target))
     } else {
         None
     };
-    ReadAs { kind, target }
+    Read { kind, target }
 }
 
 /// A value, where its bytes are a number, or only that it is there is told.
@@ -66,14 +66,13 @@ fn told(
     label: String,
     location: Location,
     size: u64,
-    read: ReadAs,
+    read: Read,
     bits: Bits,
 ) -> Option<FrameValue> {
-    let ReadAs { kind, target } = read;
+    let Read { kind, target } = read;
     match kind {
-        ValueKind::Signed | ValueKind::Unsigned | ValueKind::Pointer if size > MOST_BYTES =>
-            return None,
-        ValueKind::Float | ValueKind::Other => return None,
+        Kind::Signed | Kind::Unsigned | Kind::Pointer if size > MOST_BYTES => return None,
+        Kind::Float | Kind::Other => return None,
         _ => {}
     }
     Some(FrameValue {
@@ -139,8 +138,8 @@ fn part_of(
         return Ok(None);
     };
     let read = if leaf.is_cut {
-        ReadAs {
-            kind: ValueKind::Parts,
+        Read {
+            kind: Kind::Parts,
             target: None,
         }
     } else {
@@ -180,7 +179,7 @@ pub(crate) fn values_of(
         if values.len() >= MOST_VALUES {
             break;
         }
-        if variable.kind != ValueKind::Parts {
+        if variable.kind != Kind::Parts {
             add(&mut values, value_of(alloc, units, inlined, variable)?)?;
             continue;
         }

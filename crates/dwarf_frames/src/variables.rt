@@ -1,6 +1,6 @@
 //! Parameters and locals.
 
-use crate::kinds::{ValueKind, kind_of};
+use crate::kinds::{Kind, kind_of};
 use crate::scopes::scopes_at;
 use crate::wording::type_words;
 use dwarf_data::size_of;
@@ -20,13 +20,13 @@ pub struct Variable<'a> {
     pub type_words: String,
     /// In bytes.
     pub size: u64,
-    pub kind: ValueKind,
+    pub kind: Kind,
     pub location: Location,
 }
 
 /// Where a scope is: how many calls lead to it, and the base of the function's frames.
 #[derive(Clone, Copy)]
-struct VariableScope {
+struct Scope {
     entry: usize,
     depth: usize,
     frame: Option<Base>,
@@ -36,7 +36,7 @@ struct VariableScope {
 fn variable_of<'a>(
     alloc: Global,
     units: &Units<'a>,
-    scope: VariableScope,
+    scope: Scope,
     entry: usize,
     offset: u64,
 ) -> Result<Option<Variable<'a>>, AllocError> {
@@ -79,7 +79,7 @@ fn scopes(
     units: &Units,
     functions: &Spans,
     offset: u64,
-) -> Result<Vec<VariableScope>, AllocError> {
+) -> Result<Vec<Scope>, AllocError> {
     let mut scopes = Vec::new(alloc);
     let mut depth = 0usize;
     let mut frame = None;
@@ -89,7 +89,7 @@ fn scopes(
             Tag::InlinedSubroutine => depth = depth.saturating_add(1),
             _ => {}
         }
-        scopes.push(VariableScope {
+        scopes.push(Scope {
             entry: *entry,
             depth,
             frame,
@@ -106,7 +106,7 @@ const MOST_NAME: usize = 256;
 
 /// A name that stands in front of others.
 #[derive(Clone, Copy)]
-struct SeenName<'a> {
+struct Seen<'a> {
     name: &'a str,
     depth: usize,
 }
@@ -116,10 +116,10 @@ struct SeenName<'a> {
 fn add_variable<'a>(
     alloc: Global,
     units: &Units<'a>,
-    scope: VariableScope,
+    scope: Scope,
     entry: usize,
     offset: u64,
-    seen: &mut Vec<SeenName<'a>>,
+    seen: &mut Vec<Seen<'a>>,
     variables: &mut Vec<Variable<'a>>,
 ) -> Result<(), AllocError> {
     if !matches!(units.tag(entry), Tag::FormalParameter | Tag::Variable)
@@ -136,7 +136,7 @@ fn add_variable<'a>(
     let is_hidden = seen
         .iter()
         .any(|other| other.depth == depth && other.name == name);
-    seen.push(SeenName { name, depth })?;
+    seen.push(Seen { name, depth })?;
     if is_hidden {
         return Ok(());
     }

@@ -2,7 +2,7 @@
 
 use crate::program::LineMachine;
 use crate::table::DebugSections;
-use dwarf_reader::{AttributeForm, AttributeValue, Cursor, DebugFault, string_at};
+use dwarf_reader::{Cursor, Fault, Form, Value, string_at};
 use std::alloc::Global;
 
 /// A file of source: the name of its directory, where it has one, and its own.
@@ -14,7 +14,7 @@ pub struct Source<'a> {
 
 /// What stands in front of a unit's program.
 #[derive(Drop)]
-pub struct LineHeader<'a> {
+pub struct Header<'a> {
     pub machine: LineMachine,
     /// How many operands the standard opcodes have, from 1 on.
     pub lengths: &'a [u8],
@@ -34,7 +34,7 @@ struct FileEntry<'a> {
 #[derive(Clone, Copy)]
 struct ContentFormat {
     content: u64,
-    form: AttributeForm,
+    form: Form,
 }
 
 /// The content types of a name and of the number of a directory.
@@ -46,16 +46,16 @@ const DIRECTORY_INDEX: u64 = 2;
 const MOST_NAME: usize = 1024;
 
 /// The text that bytes are.
-fn text_of(bytes: &[u8]) -> Result<&str, DebugFault> {
-    std::str::from_utf8(bytes).map_err(|_| DebugFault::Unreadable)
+fn text_of(bytes: &[u8]) -> Result<&str, Fault> {
+    std::str::from_utf8(bytes).map_err(|_| Fault::Unreadable)
 }
 
 /// What the entries of a table of version 5 say, and how it is spelled.
-fn read_format(alloc: Global, cursor: &mut Cursor) -> Result<Vec<ContentFormat>, DebugFault> {
+fn read_format(alloc: Global, cursor: &mut Cursor) -> Result<Vec<ContentFormat>, Fault> {
     let mut format = Vec::new(alloc);
     for _ in 0..cursor.read_u8()? {
         let content = cursor.read_unsigned()?;
-        let form = AttributeForm::of(cursor.read_unsigned()?).ok_or(DebugFault::Unreadable)?;
+        let form = Form::of(cursor.read_unsigned()?).ok_or(Fault::Unreadable)?;
         format.push(ContentFormat { content, form })?;
     }
     Ok(format)
@@ -67,24 +67,20 @@ impl<'a> FileEntry<'a> {
         &mut self,
         sections: DebugSections<'a>,
         content: u64,
-        value: AttributeValue<'a>,
-    ) -> Result<(), DebugFault> {
+        value: Value<'a>,
+    ) -> Result<(), Fault> {
         let bytes = match value {
-            AttributeValue::String(bytes) => bytes,
-            AttributeValue::LineStringAt(offset) => string_at(
-                sections.line_texts,
-                offset,
-                MOST_NAME,
-            )?,
-            AttributeValue::StringAt(offset) => string_at(sections.texts, offset, MOST_NAME)?,
-            AttributeValue::Constant(number) => {
+            Value::String(bytes) => bytes,
+            Value::LineStringAt(offset) => string_at(sections.line_texts, offset, MOST_NAME)?,
+            Value::StringAt(offset) => string_at(sections.texts, offset, MOST_NAME)?,
+            Value::Constant(number) => {
                 if content == DIRECTORY_INDEX {
                     self.directory = number;
                 }
                 return Ok(());
             }
-            AttributeValue::Other => return Ok(()),
-            _ => return Err(DebugFault::Unreadable),
+            Value::Other => return Ok(()),
+            _ => return Err(Fault::Unreadable),
         };
         let name = text_of(bytes)?;
         if content == PATH {
@@ -99,7 +95,7 @@ fn read_entry<'a>(
     cursor: &mut Cursor<'a>,
     sections: DebugSections<'a>,
     format: &[ContentFormat],
-) -> Result<FileEntry<'a>, DebugFault> {
+) -> Result<FileEntry<'a>, Fault> {
     let mut entry = FileEntry {
         name: "",
         directory: 0,
@@ -115,12 +111,12 @@ fn read_table<'a>(
     alloc: Global,
     cursor: &mut Cursor<'a>,
     sections: DebugSections<'a>,
-) -> Result<Vec<FileEntry<'a>>, DebugFault> {
+) -> Result<Vec<FileEntry<'a>>, Fault> {
     let format = read_format(alloc, cursor)?;
     let count = cursor.read_unsigned()?;
     // Each entry has a byte at least, or it has no name.
     if count > cursor.len() as u64 {
-        return Err(DebugFault::Unreadable);
+        return Err(Fault::Unreadable);
     }
     let mut entries = Vec::new(alloc);
     for _ in 0..count {
@@ -133,7 +129,7 @@ fn read_table<'a>(
 fn read_directories<'a>(
     alloc: Global,
     cursor: &mut Cursor<'a>,
-) -> Result<Vec<FileEntry<'a>>, DebugFault> {
+) -> Result<Vec<FileEntry<'a>>, Fault> {
     let mut entries = Vec::new(alloc);
     // The directory 0 is that of the compilation, which stands elsewhere.
     entries.push(FileEntry {
@@ -151,10 +147,7 @@ fn read_directories<'a>(
 }
 
 /// The files of version 4. An empty name ends them.
-fn read_files<'a>(
-    alloc: Global,
-    cursor: &mut Cursor<'a>,
-) -> Result<Vec<FileEntry<'a>>, DebugFault> {
+fn read_files<'a>(alloc: Global, cursor: &mut Cursor<'a>) -> Result<Vec<FileEntry<'a>>, Fault> {
     let mut entries = Vec::new(alloc);
     for _ in 0..cursor.len() {
         let name = text_of(cursor.read_string()?)?;
@@ -175,7 +168,7 @@ fn sources<'a>(
     alloc: Global,
     directories: &[FileEntry<'a>],
     files: &[FileEntry<'a>],
-) -> Result<Vec<Source<'a>>, DebugFault> {
+) -> Result<Vec<Source<'a>>, Fault> {
     let mut sources = Vec::new(alloc);
     for file in files {
         let directory = match usize::try_from(file.directory) {
@@ -194,7 +187,7 @@ fn sources<'a>(
 }
 
 /// What stands between the length of the header and the tables of files.
-fn read_machine<'a>(cursor: &mut Cursor<'a>) -> Result<(LineMachine, &'a [u8]), DebugFault> {
+fn read_machine<'a>(cursor: &mut Cursor<'a>) -> Result<(LineMachine, &'a [u8]), Fault> {
     let &[
         instruction,
         operations,
@@ -204,10 +197,10 @@ fn read_machine<'a>(cursor: &mut Cursor<'a>) -> Result<(LineMachine, &'a [u8]), 
         opcode_base,
     ] = cursor.read_bytes(6)?
     else {
-        return Err(DebugFault::Unreadable);
+        return Err(Fault::Unreadable);
     };
     if operations != 1 || line_range == 0 || opcode_base == 0 {
-        return Err(DebugFault::Unreadable);
+        return Err(Fault::Unreadable);
     }
     let lengths = cursor.read_bytes(u64::from(opcode_base - 1))?;
     Ok((
@@ -227,7 +220,7 @@ pub fn read_header<'a>(
     unit: &mut Cursor<'a>,
     version: u64,
     sections: DebugSections<'a>,
-) -> Result<LineHeader<'a>, DebugFault> {
+) -> Result<Header<'a>, Fault> {
     if version == 5 {
         // the sizes of an address and of a segment's number
         unit.read_bytes(2)?;
@@ -247,7 +240,7 @@ pub fn read_header<'a>(
         )
     };
     let files = sources(alloc, directories.as_slice(), files.as_slice())?;
-    Ok(LineHeader {
+    Ok(Header {
         machine,
         lengths,
         files,

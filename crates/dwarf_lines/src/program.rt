@@ -2,7 +2,7 @@
 
 ghost use Rattle.std.specs.Prelude.{◌<◌};
 
-use dwarf_reader::{Cursor, DebugFault};
+use dwarf_reader::{Cursor, Fault};
 
 /// The state machine that runs a program: how far a unit of advance goes, and what its special opcodes do.
 #[derive(Clone, Copy, PartialEq, Eq)]
@@ -61,7 +61,7 @@ impl LineMachine {
         self,
         place: &mut LineRegisters,
         instructions: &mut Cursor,
-    ) -> Result<Emitted, DebugFault> {
+    ) -> Result<Emitted, Fault> {
         let size = instructions.read_unsigned()?;
         let mut operands = Cursor::new(instructions.read_bytes(size)?);
         match operands.read_u8()? {
@@ -79,7 +79,7 @@ impl LineMachine {
         place: &mut LineRegisters,
         lengths: &[u8],
         instructions: &mut Cursor,
-    ) -> Result<Emitted, DebugFault> {
+    ) -> Result<Emitted, Fault> {
         let opcode = instructions.read_u8()?;
         if opcode >= self.opcode_base {
             self.special(place, opcode - self.opcode_base);

@@ -3,7 +3,7 @@
 ghost use Rattle.std.specs.Prelude.{◌≤◌};
 
 use crate::cursor::Cursor;
-use crate::fault::DebugFault;
+use crate::fault::Fault;
 
 /// How the bytes of a value are read.
 #[derive(Clone, Copy)]
@@ -57,14 +57,14 @@ enum Raw<'a> {
 
 /// How the values of an attribute are spelled, and what they are.
 #[derive(Clone, Copy)]
-pub struct AttributeForm {
+pub struct Form {
     width: Width,
     class: Class,
 }
 
 /// What an attribute says.
 #[derive(Clone, Copy)]
-pub enum AttributeValue<'a> {
+pub enum Value<'a> {
     /// A number or a flag; a number with a sign in two's complement of 64 bits.
     Constant(u64),
     String(&'a [u8]),
@@ -125,7 +125,7 @@ impl Width {
     }
 
     /// The number or the bytes of a value.
-    fn read<'a>(self, cursor: &mut Cursor<'a>) -> Result<Raw<'a>, DebugFault> {
+    fn read<'a>(self, cursor: &mut Cursor<'a>) -> Result<Raw<'a>, Fault> {
         let len = match self {
             Width::One => return Ok(Raw::Number(cursor.read_number(1)?)),
             Width::Two => return Ok(Raw::Number(cursor.read_number(2)?)),
@@ -174,44 +174,44 @@ impl Class {
     }
 
     /// What a number or bytes mean.
-    fn value<'a>(self, raw: Raw<'a>) -> AttributeValue<'a> {
+    fn value<'a>(self, raw: Raw<'a>) -> Value<'a> {
         match (self, raw) {
-            (Class::Constant, Raw::Number(number)) => AttributeValue::Constant(number),
-            (Class::String, Raw::Bytes(bytes)) => AttributeValue::String(bytes),
-            (Class::StringAt, Raw::Number(offset)) => AttributeValue::StringAt(offset),
-            (Class::LineStringAt, Raw::Number(offset)) => AttributeValue::LineStringAt(offset),
-            (Class::StringIndex, Raw::Number(index)) => AttributeValue::StringIndex(index),
-            (Class::Address, Raw::Number(address)) => AttributeValue::Address(address),
-            (Class::AddressIndex, Raw::Number(index)) => AttributeValue::AddressIndex(index),
-            (Class::UnitReference, Raw::Number(offset)) => AttributeValue::UnitReference(offset),
-            (Class::Reference, Raw::Number(offset)) => AttributeValue::Reference(offset),
-            (Class::SectionOffset, Raw::Number(offset)) => AttributeValue::SectionOffset(offset),
-            (Class::ListIndex, Raw::Number(index)) => AttributeValue::ListIndex(index),
-            (Class::Expression, Raw::Bytes(bytes)) => AttributeValue::Expression(bytes),
-            _ => AttributeValue::Other,
+            (Class::Constant, Raw::Number(number)) => Value::Constant(number),
+            (Class::String, Raw::Bytes(bytes)) => Value::String(bytes),
+            (Class::StringAt, Raw::Number(offset)) => Value::StringAt(offset),
+            (Class::LineStringAt, Raw::Number(offset)) => Value::LineStringAt(offset),
+            (Class::StringIndex, Raw::Number(index)) => Value::StringIndex(index),
+            (Class::Address, Raw::Number(address)) => Value::Address(address),
+            (Class::AddressIndex, Raw::Number(index)) => Value::AddressIndex(index),
+            (Class::UnitReference, Raw::Number(offset)) => Value::UnitReference(offset),
+            (Class::Reference, Raw::Number(offset)) => Value::Reference(offset),
+            (Class::SectionOffset, Raw::Number(offset)) => Value::SectionOffset(offset),
+            (Class::ListIndex, Raw::Number(index)) => Value::ListIndex(index),
+            (Class::Expression, Raw::Bytes(bytes)) => Value::Expression(bytes),
+            _ => Value::Other,
         }
     }
 }
 
-impl AttributeForm {
+impl Form {
     /// The form of a code, where it is one whose values stand with their attributes.
-    pub fn of(code: u64) -> Option<AttributeForm> {
-        Some(AttributeForm {
+    pub fn of(code: u64) -> Option<Form> {
+        Some(Form {
             width: Width::of(code)?,
             class: Class::of(code),
         })
     }
 
     /// The form whose values are all this constant, which stands behind the form itself (`DW_FORM_implicit_const`).
-    pub fn implicit(constant: u64) -> AttributeForm {
-        AttributeForm {
+    pub fn implicit(constant: u64) -> Form {
+        Form {
             width: Width::Given(constant),
             class: Class::Constant,
         }
     }
 
     /// A value of this form.
-    pub fn read<'a>(self, cursor: &mut Cursor<'a>) -> Result<AttributeValue<'a>, DebugFault> {
+    pub fn read<'a>(self, cursor: &mut Cursor<'a>) -> Result<Value<'a>, Fault> {
         Ok(self.class.value(self.width.read(cursor)?))
     }
 }

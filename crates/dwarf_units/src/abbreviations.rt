@@ -1,7 +1,7 @@
 //! What the entries of a kind have in common: their tag, and how their attributes are spelled (DWARF 5, section 7.5.3).
 
 use crate::tags::Tag;
-use dwarf_reader::{AttributeForm, Cursor, DebugFault};
+use dwarf_reader::{Cursor, Fault, Form};
 use std::alloc::Global;
 
 /// The most attributes that an entry may have: each costs time, even one without bytes.
@@ -14,7 +14,7 @@ const IMPLICIT_CONST: u64 = 0x21;
 #[derive(Clone, Copy)]
 pub(crate) struct AttributeSpec {
     pub code: u64,
-    pub form: AttributeForm,
+    pub form: Form,
 }
 
 /// A kind of entries: where its attributes begin among all, and how many they are.
@@ -56,7 +56,7 @@ impl Abbreviations {
     }
 
     /// The attributes of one kind, up to the pair of zeros.
-    fn read_specs(&mut self, cursor: &mut Cursor) -> Result<(), DebugFault> {
+    fn read_specs(&mut self, cursor: &mut Cursor) -> Result<(), Fault> {
         for _ in 0..MOST_SPECS {
             let code = cursor.read_unsigned()?;
             let form = cursor.read_unsigned()?;
@@ -64,17 +64,17 @@ impl Abbreviations {
                 return Ok(());
             }
             let form = if form == IMPLICIT_CONST {
-                AttributeForm::implicit(cursor.read_signed()?)
+                Form::implicit(cursor.read_signed()?)
             } else {
-                AttributeForm::of(form).ok_or(DebugFault::Unreadable)?
+                Form::of(form).ok_or(Fault::Unreadable)?
             };
             self.specs.push(AttributeSpec { code, form })?;
         }
-        Err(DebugFault::Unreadable)
+        Err(Fault::Unreadable)
     }
 
     /// One kind, or none where the table ends. Its code is the next one.
-    fn read_kind(&mut self, cursor: &mut Cursor, number: u64) -> Result<bool, DebugFault> {
+    fn read_kind(&mut self, cursor: &mut Cursor, number: u64) -> Result<bool, Fault> {
         let code = cursor.read_unsigned()?;
         if code == 0 {
             return Ok(false);
@@ -85,7 +85,7 @@ impl Abbreviations {
         self.read_specs(cursor)?;
         let count = self.specs.len().saturating_sub(first);
         if code != number {
-            return Err(DebugFault::Unreadable);
+            return Err(Fault::Unreadable);
         }
         self.kinds.push(Abbreviation {
             tag,
@@ -97,18 +97,14 @@ impl Abbreviations {
     }
 
     /// A table, as far as it can be read.
-    fn read_table(
-        &mut self,
-        section: &[u8],
-        offset: usize,
-    ) -> Result<AbbreviationsTable, DebugFault> {
-        let mut cursor = Cursor::new(section.get(offset..).ok_or(DebugFault::Unreadable)?);
+    fn read_table(&mut self, section: &[u8], offset: usize) -> Result<AbbreviationsTable, Fault> {
+        let mut cursor = Cursor::new(section.get(offset..).ok_or(Fault::Unreadable)?);
         let first = self.kinds.len();
         let mut count = 0;
         for number in 1..=cursor.len() as u64 {
             match self.read_kind(&mut cursor, number) {
                 Ok(true) => count = number,
-                Err(DebugFault::OutOfMemory) => return Err(DebugFault::OutOfMemory),
+                Err(Fault::OutOfMemory) => return Err(Fault::OutOfMemory),
                 _ => break,
             }
         }
@@ -118,19 +114,15 @@ impl Abbreviations {
 
     /// The table at an offset. Tables stand behind one another as their units do, and each is read once;
     /// one in front of what was read isn't looked for.
-    pub fn table_at(
-        &mut self,
-        section: &[u8],
-        offset: u64,
-    ) -> Result<AbbreviationsTable, DebugFault> {
-        let offset = usize::try_from(offset).map_err(|_| DebugFault::Unreadable)?;
+    pub fn table_at(&mut self, section: &[u8], offset: u64) -> Result<AbbreviationsTable, Fault> {
+        let offset = usize::try_from(offset).map_err(|_| Fault::Unreadable)?;
         if let Some((last, table)) = self.last {
             if last == offset {
                 return Ok(table);
             }
         }
         if offset < self.read_to {
-            return Err(DebugFault::Unreadable);
+            return Err(Fault::Unreadable);
         }
         let table = self.read_table(section, offset)?;
         self.last = Some((offset, table));

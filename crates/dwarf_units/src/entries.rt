@@ -7,7 +7,7 @@ use crate::attributes::Attribute;
 use crate::sections::InfoSections;
 use crate::tags::Tag;
 use crate::units::Unit;
-use dwarf_reader::{AttributeValue, Cursor, DebugFault};
+use dwarf_reader::{Cursor, Fault, Value};
 use std::alloc::{AllocError, Global};
 use std::cell::Cell;
 
@@ -24,18 +24,13 @@ pub(crate) struct DebugEntry {
     end: u32,
 }
 
-fn narrow(number: usize) -> Result<u32, DebugFault> {
-    u32::try_from(number).map_err(|_| DebugFault::Unreadable)
+fn narrow(number: usize) -> Result<u32, Fault> {
+    u32::try_from(number).map_err(|_| Fault::Unreadable)
 }
 
 impl DebugEntry {
     /// An entry that holds none, at an index.
-    pub fn new(
-        offset: usize,
-        kind: usize,
-        unit: usize,
-        index: usize,
-    ) -> Result<DebugEntry, DebugFault> {
+    pub fn new(offset: usize, kind: usize, unit: usize, index: usize) -> Result<DebugEntry, Fault> {
         Ok(DebugEntry {
             offset: narrow(offset)?,
             kind: narrow(kind)?,
@@ -178,7 +173,7 @@ impl<'a> Units<'a> {
     }
 
     /// What an attribute of an entry says, the first of its code.
-    pub fn value(&self, entry: usize, wanted: Attribute) -> Option<AttributeValue<'a>> {
+    pub fn value(&self, entry: usize, wanted: Attribute) -> Option<Value<'a>> {
         let unit = self.unit_of(entry)?;
         let entry = self.entries.get(entry)?;
         let bytes = self.sections.info.get(entry.offset as usize..unit.end)?;
@@ -210,11 +205,11 @@ impl<'a> Units<'a> {
     /// The entry that an attribute of an entry names.
     pub fn entry(&self, entry: usize, wanted: Attribute) -> Option<usize> {
         match self.value(entry, wanted)? {
-            AttributeValue::UnitReference(offset) => {
+            Value::UnitReference(offset) => {
                 let start = self.unit_of(entry)?.start as u64;
                 self.index_of(start.saturating_add(offset))
             }
-            AttributeValue::Reference(offset) => self.index_of(offset),
+            Value::Reference(offset) => self.index_of(offset),
             _ => None,
         }
     }

@@ -5,7 +5,7 @@ ghost use Rattle.std.specs.Prelude.{◌≡◌, ◌&&◌, nat_le, nat_lt};
 
 use crate::attributes::Attribute;
 use crate::entries::Units;
-use dwarf_reader::{AttributeValue, Cursor, DebugFault};
+use dwarf_reader::{Cursor, Fault, Value};
 
 /// The most items of a list that are read.
 const MOST_ITEMS: u32 = 4096;
@@ -28,7 +28,7 @@ impl CodeRange {
 
 /// An item of a list.
 #[derive(Clone, Copy)]
-enum ListItem {
+enum Listed {
     End,
     /// From here on offsets are counted.
     Base(u64),
@@ -84,22 +84,22 @@ impl ListKind {
     }
 }
 
-fn between(start: u64, end: u64) -> ListItem {
-    ListItem::Code(CodeRange { start, end })
+fn between(start: u64, end: u64) -> Listed {
+    Listed::Code(CodeRange { start, end })
 }
 
-fn from(start: u64, length: u64) -> ListItem {
+fn from(start: u64, length: u64) -> Listed {
     between(start, start.saturating_add(length))
 }
 
 /// An item of version 4: two offsets from the base. Two zeros end the list, and the greatest number sets the base.
-fn read_pair(cursor: &mut Cursor, base: u64) -> Result<ListItem, DebugFault> {
+fn read_pair(cursor: &mut Cursor, base: u64) -> Result<Listed, Fault> {
     let start = cursor.read_number(4)?;
     let end = cursor.read_number(4)?;
     Ok(if start == 0 && end == 0 {
-        ListItem::End
+        Listed::End
     } else if start == 0xffff_ffff {
-        ListItem::Base(end)
+        Listed::Base(end)
     } else {
         between(base.saturating_add(start), base.saturating_add(end))
     })
@@ -107,9 +107,9 @@ fn read_pair(cursor: &mut Cursor, base: u64) -> Result<ListItem, DebugFault> {
 
 impl<'a> Units<'a> {
     /// An address by its index, in LEB128, in the unit of an entry.
-    fn read_indexed(&self, cursor: &mut Cursor, entry: usize) -> Result<u64, DebugFault> {
+    fn read_indexed(&self, cursor: &mut Cursor, entry: usize) -> Result<u64, Fault> {
         let index = cursor.read_unsigned()?;
-        self.address_of(entry, index).ok_or(DebugFault::Unreadable)
+        self.address_of(entry, index).ok_or(Fault::Unreadable)
     }
 
     /// What is behind the kind of an item of version 5.
@@ -119,12 +119,12 @@ impl<'a> Units<'a> {
         entry: usize,
         kind: ListKind,
         base: u64,
-    ) -> Result<ListItem, DebugFault> {
+    ) -> Result<Listed, Fault> {
         Ok(match kind {
-            ListKind::End => ListItem::End,
-            ListKind::Elsewhere => ListItem::Elsewhere,
-            ListKind::BaseIndex => ListItem::Base(self.read_indexed(cursor, entry)?),
-            ListKind::Base => ListItem::Base(cursor.read_number(4)?),
+            ListKind::End => Listed::End,
+            ListKind::Elsewhere => Listed::Elsewhere,
+            ListKind::BaseIndex => Listed::Base(self.read_indexed(cursor, entry)?),
+            ListKind::Base => Listed::Base(cursor.read_number(4)?),
             ListKind::IndexToIndex => {
                 let start = self.read_indexed(cursor, entry)?;
                 between(start, self.read_indexed(cursor, entry)?)
@@ -155,11 +155,11 @@ impl<'a> Units<'a> {
         entry: usize,
         is_version_5: bool,
         base: u64,
-    ) -> Result<ListItem, DebugFault> {
+    ) -> Result<Listed, Fault> {
         if !is_version_5 {
             return read_pair(cursor, base);
         }
-        let kind = ListKind::of_ranges(cursor.read_u8()?).ok_or(DebugFault::Unreadable)?;
+        let kind = ListKind::of_ranges(cursor.read_u8()?).ok_or(Fault::Unreadable)?;
         self.read_item(cursor, entry, kind, base)
     }
 
@@ -170,16 +170,16 @@ impl<'a> Units<'a> {
         entry: usize,
         is_version_5: bool,
         base: u64,
-    ) -> Result<(ListItem, &'a [u8]), DebugFault> {
+    ) -> Result<(Listed, &'a [u8]), Fault> {
         let item = if is_version_5 {
-            let kind = ListKind::of_locations(cursor.read_u8()?).ok_or(DebugFault::Unreadable)?;
+            let kind = ListKind::of_locations(cursor.read_u8()?).ok_or(Fault::Unreadable)?;
             self.read_item(cursor, entry, kind, base)?
         } else {
             read_pair(cursor, base)?
         };
         let expression: &'a [u8] = match item {
-            ListItem::End | ListItem::Base(_) => &[],
-            ListItem::Code(_) | ListItem::Elsewhere => {
+            Listed::End | Listed::Base(_) => &[],
+            Listed::Code(_) | Listed::Elsewhere => {
                 let len = if is_version_5 {
                     cursor.read_unsigned()?
                 } else {
@@ -205,7 +205,7 @@ impl<'a> Units<'a> {
     }
 
     /// Whether a list of ranges has an offset.
-    fn is_in_ranges(&self, entry: usize, list: AttributeValue<'a>, offset: u64) -> Option<bool> {
+    fn is_in_ranges(&self, entry: usize, list: Value<'a>, offset: u64) -> Option<bool> {
         let is_version_5 = self.unit_of(entry)?.is_version_5;
         let section = if is_version_5 {
             self.sections.range_lists
@@ -213,11 +213,8 @@ impl<'a> Units<'a> {
             self.sections.ranges
         };
         let mut cursor = match list {
-            AttributeValue::SectionOffset(at) => self.list_at(section, at)?,
-            AttributeValue::ListIndex(index) => self.list_at(
-                section,
-                self.ranges_offset(entry, index)?,
-            )?,
+            Value::SectionOffset(at) => self.list_at(section, at)?,
+            Value::ListIndex(index) => self.list_at(section, self.ranges_offset(entry, index)?)?,
             _ => return None,
         };
         let mut base = self.base_address(entry);
@@ -229,10 +226,10 @@ impl<'a> Units<'a> {
                 .read_range(&mut cursor, entry, is_version_5, base)
                 .ok()?
             {
-                ListItem::Base(next) => base = next,
-                ListItem::Code(range) if range.contains(offset) => return Some(true),
-                ListItem::Code(_) => {}
-                ListItem::End | ListItem::Elsewhere => break,
+                Listed::Base(next) => base = next,
+                Listed::Code(range) if range.contains(offset) => return Some(true),
+                Listed::Code(_) => {}
+                Listed::End | Listed::Elsewhere => break,
             }
         }
         None
@@ -242,9 +239,9 @@ impl<'a> Units<'a> {
     pub fn code_of(&self, entry: usize) -> Option<CodeRange> {
         let start = self.address(entry, Attribute::LowPc)?;
         let end = match self.value(entry, Attribute::HighPc)? {
-            AttributeValue::Constant(length) => start.saturating_add(length),
-            AttributeValue::Address(end) => end,
-            AttributeValue::AddressIndex(index) => self.address_of(entry, index)?,
+            Value::Constant(length) => start.saturating_add(length),
+            Value::Address(end) => end,
+            Value::AddressIndex(index) => self.address_of(entry, index)?,
             _ => return None,
         };
         Some(CodeRange { start, end })
@@ -263,7 +260,7 @@ impl<'a> Units<'a> {
 
     /// The expression of the place of an entry while the code at an offset runs: that of the first item of its list that
     /// has the offset.
-    fn listed_at(&self, entry: usize, list: AttributeValue<'a>, offset: u64) -> Option<&'a [u8]> {
+    fn listed_at(&self, entry: usize, list: Value<'a>, offset: u64) -> Option<&'a [u8]> {
         let is_version_5 = self.unit_of(entry)?.is_version_5;
         let section = if is_version_5 {
             self.sections.location_lists
@@ -271,8 +268,8 @@ impl<'a> Units<'a> {
             self.sections.locations
         };
         let mut cursor = match list {
-            AttributeValue::SectionOffset(at) => self.list_at(section, at)?,
-            AttributeValue::ListIndex(index) => {
+            Value::SectionOffset(at) => self.list_at(section, at)?,
+            Value::ListIndex(index) => {
                 self.list_at(section, self.locations_offset(entry, index)?)?
             }
             _ => return None,
@@ -287,11 +284,11 @@ impl<'a> Units<'a> {
                 .read_location(&mut cursor, entry, is_version_5, base)
                 .ok()?
             {
-                (ListItem::Base(next), _) => base = next,
-                (ListItem::Code(range), place) if range.contains(offset) => return Some(place),
-                (ListItem::Code(_), _) => {}
-                (ListItem::Elsewhere, place) => elsewhere = Some(place),
-                (ListItem::End, _) => return elsewhere,
+                (Listed::Base(next), _) => base = next,
+                (Listed::Code(range), place) if range.contains(offset) => return Some(place),
+                (Listed::Code(_), _) => {}
+                (Listed::Elsewhere, place) => elsewhere = Some(place),
+                (Listed::End, _) => return elsewhere,
             }
         }
         None
@@ -300,7 +297,7 @@ impl<'a> Units<'a> {
     /// The expression of the place of an entry while the code at an offset runs.
     pub fn place_at(&self, entry: usize, offset: u64) -> Option<&'a [u8]> {
         match self.value(entry, Attribute::Location)? {
-            AttributeValue::Expression(place) => Some(place),
+            Value::Expression(place) => Some(place),
             list => self.listed_at(entry, list, offset),
         }
     }

@@ -2,7 +2,7 @@
 
 use crate::attributes::Attribute;
 use crate::entries::Units;
-use dwarf_reader::{AttributeValue, Cursor, DebugFault};
+use dwarf_reader::{Cursor, Fault, Value};
 
 /// A place of WebAssembly that holds an address.
 #[derive(Clone, Copy, Debug, PartialEq, Eq)]
@@ -43,24 +43,24 @@ enum Operation {
 }
 
 /// A place of WebAssembly: a local, a global, an operand, or a global in four bytes.
-fn read_wasm(cursor: &mut Cursor) -> Result<Location, DebugFault> {
+fn read_wasm(cursor: &mut Cursor) -> Result<Location, Fault> {
     let kind = cursor.read_u8()?;
     let index = if kind == 3 {
         cursor.read_number(4)?
     } else {
         cursor.read_unsigned()?
     };
-    let index = u32::try_from(index).map_err(|_| DebugFault::Unreadable)?;
+    let index = u32::try_from(index).map_err(|_| Fault::Unreadable)?;
     Ok(match kind {
         0 => Location::Local(index),
         1 | 3 => Location::Global(index),
         2 => Location::Operand(index),
-        _ => return Err(DebugFault::Unreadable),
+        _ => return Err(Fault::Unreadable),
     })
 }
 
 /// The next operation.
-fn read_operation(cursor: &mut Cursor) -> Result<Operation, DebugFault> {
+fn read_operation(cursor: &mut Cursor) -> Result<Operation, Fault> {
     Ok(match cursor.read_u8()? {
         // addr, plus_uconst, fbreg
         0x03 => Operation::Address(cursor.read_number(4)?),
@@ -70,7 +70,7 @@ fn read_operation(cursor: &mut Cursor) -> Result<Operation, DebugFault> {
         0x9f => Operation::IsValue,
         0xa1 => Operation::AddressIndex(cursor.read_unsigned()?),
         0xed => Operation::Wasm(read_wasm(cursor)?),
-        _ => return Err(DebugFault::Unreadable),
+        _ => return Err(Fault::Unreadable),
     })
 }
 
@@ -145,8 +145,7 @@ impl<'a> Units<'a> {
 
     /// The base of a function's frames.
     pub fn frame_base(&self, function: usize) -> Option<Base> {
-        let AttributeValue::Expression(expression) = self.value(function, Attribute::FrameBase)?
-        else {
+        let Value::Expression(expression) = self.value(function, Attribute::FrameBase)? else {
             return None;
         };
         match self.location(function, expression, None)? {

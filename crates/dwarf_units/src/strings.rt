@@ -2,7 +2,7 @@
 
 use crate::attributes::Attribute;
 use crate::entries::Units;
-use dwarf_reader::{AttributeValue, string_at};
+use dwarf_reader::{Value, string_at};
 
 /// The most bytes of a string that isn't in its entry.
 const MOST_STRING: usize = 4096;
@@ -12,10 +12,10 @@ impl<'a> Units<'a> {
     pub fn string(&self, entry: usize, wanted: Attribute) -> Option<&'a str> {
         let strings = self.sections.texts;
         let (section, offset) = match self.value(entry, wanted)? {
-            AttributeValue::String(bytes) => return self.pass_string(bytes),
-            AttributeValue::StringAt(offset) => (strings, offset),
-            AttributeValue::LineStringAt(offset) => (self.sections.line_texts, offset),
-            AttributeValue::StringIndex(index) => (strings, self.string_offset(entry, index)?),
+            Value::String(bytes) => return self.pass_string(bytes),
+            Value::StringAt(offset) => (strings, offset),
+            Value::LineStringAt(offset) => (self.sections.line_texts, offset),
+            Value::StringIndex(index) => (strings, self.string_offset(entry, index)?),
             _ => return None,
         };
         self.pass_string(string_at(section, offset, MOST_STRING).ok()?)

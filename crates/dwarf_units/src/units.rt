@@ -3,7 +3,7 @@
 use crate::abbreviations::{Abbreviations, AbbreviationsTable};
 use crate::entries::{DebugEntry, Units};
 use crate::sections::InfoSections;
-use dwarf_reader::{Cursor, DebugFault};
+use dwarf_reader::{Cursor, Fault};
 use std::alloc::{AllocError, Global};
 use std::cell::Cell;
 
@@ -21,7 +21,7 @@ pub(crate) struct Unit {
 }
 
 /// What the bytes of an entry are.
-enum EntryHead {
+enum Found {
     /// The end of the entries of a parent.
     End,
     /// An entry, whose kind stands at a place; whether entries of its own follow.
@@ -29,7 +29,7 @@ enum EntryHead {
 }
 
 /// What stands in a unit behind its length: whether it is of version 5, and the offset of its abbreviations.
-fn read_header(cursor: &mut Cursor) -> Result<(bool, u64), DebugFault> {
+fn read_header(cursor: &mut Cursor) -> Result<(bool, u64), Fault> {
     let version = cursor.read_number(2)?;
     let (abbreviations, address_size) = match version {
         4 => {
@@ -41,14 +41,14 @@ fn read_header(cursor: &mut Cursor) -> Result<(bool, u64), DebugFault> {
             let address_size = cursor.read_u8()?;
             // a unit of code, a part of one
             if unit_type != 1 && unit_type != 3 {
-                return Err(DebugFault::Unreadable);
+                return Err(Fault::Unreadable);
             }
             (cursor.read_number(4)?, address_size)
         }
-        _ => return Err(DebugFault::Unreadable),
+        _ => return Err(Fault::Unreadable),
     };
     if address_size != 4 {
-        return Err(DebugFault::Unreadable);
+        return Err(Fault::Unreadable);
     }
     Ok((version == 5, abbreviations))
 }
@@ -58,19 +58,19 @@ fn read_entry(
     cursor: &mut Cursor,
     abbreviations: &Abbreviations,
     table: AbbreviationsTable,
-) -> Result<EntryHead, DebugFault> {
+) -> Result<Found, Fault> {
     let code = cursor.read_unsigned()?;
     if code == 0 {
-        return Ok(EntryHead::End);
+        return Ok(Found::End);
     }
     let kind = abbreviations
         .place_of(table, code)
-        .ok_or(DebugFault::Unreadable)?;
-    let abbreviation = abbreviations.at(kind).ok_or(DebugFault::Unreadable)?;
+        .ok_or(Fault::Unreadable)?;
+    let abbreviation = abbreviations.at(kind).ok_or(Fault::Unreadable)?;
     for spec in abbreviations.specs_of(abbreviation) {
         spec.form.read(cursor)?;
     }
-    Ok(EntryHead::Entry {
+    Ok(Found::Entry {
         kind,
         has_children: abbreviation.has_children,
     })
@@ -83,16 +83,16 @@ impl<'a> Units<'a> {
         cursor: &mut Cursor<'a>,
         unit: Unit,
         open: &mut Vec<usize>,
-    ) -> Result<(), DebugFault> {
+    ) -> Result<(), Fault> {
         for _ in 0..cursor.len() {
             let offset = unit.end.saturating_sub(cursor.len());
             match read_entry(cursor, &self.abbreviations, unit.abbreviations)? {
-                EntryHead::End => {
+                Found::End => {
                     if let Some(parent) = open.pop() {
                         self.close(parent);
                     }
                 }
-                EntryHead::Entry { kind, has_children } => {
+                Found::Entry { kind, has_children } => {
                     let index = self.entries.len();
                     let entry = DebugEntry::new(offset, kind, self.units.len(), index)?;
                     self.entries.push(entry)?;
@@ -109,12 +109,7 @@ impl<'a> Units<'a> {
     }
 
     /// A unit, as far as its entries can be read.
-    fn read_unit(
-        &mut self,
-        alloc: Global,
-        start: usize,
-        contents: &'a [u8],
-    ) -> Result<(), DebugFault> {
+    fn read_unit(&mut self, alloc: Global, start: usize, contents: &'a [u8]) -> Result<(), Fault> {
         let mut cursor = Cursor::new(contents);
         let (is_version_5, offset) = read_header(&mut cursor)?;
         let abbreviations = self
@@ -137,12 +132,12 @@ impl<'a> Units<'a> {
     }
 
     /// The next unit. Where it can't be read on it has the entries that were read.
-    fn read_next(&mut self, alloc: Global, cursor: &mut Cursor<'a>) -> Result<(), DebugFault> {
+    fn read_next(&mut self, alloc: Global, cursor: &mut Cursor<'a>) -> Result<(), Fault> {
         let start = self.sections.info.len().saturating_sub(cursor.len());
         let size = cursor.read_number(4)?;
         let contents = cursor.read_bytes(size)?;
         match self.read_unit(alloc, start, contents) {
-            Err(DebugFault::OutOfMemory) => Err(DebugFault::OutOfMemory),
+            Err(Fault::OutOfMemory) => Err(Fault::OutOfMemory),
             _ => Ok(()),
         }
     }
@@ -162,8 +157,8 @@ pub fn read_units<'a>(alloc: Global, sections: InfoSections<'a>) -> Result<Units
     for _ in 0..cursor.len() {
         match units.read_next(alloc, &mut cursor) {
             Ok(()) => {}
-            Err(DebugFault::Unreadable) => break,
-            Err(DebugFault::OutOfMemory) => return Err(AllocError),
+            Err(Fault::Unreadable) => break,
+            Err(Fault::OutOfMemory) => return Err(AllocError),
         }
     }
     Ok(units)

@@ -2,7 +2,7 @@
 
 use crate::attributes::Attribute;
 use crate::entries::Units;
-use dwarf_reader::{AttributeValue, Cursor};
+use dwarf_reader::{Cursor, Value};
 
 /// The number of 4 bytes at an index of a table, which begins at an offset in its section.
 fn in_table(section: &[u8], base: u64, index: u64) -> Option<u64> {
@@ -15,7 +15,7 @@ impl<'a> Units<'a> {
     fn base_of(&self, entry: usize, base: Attribute) -> Option<u64> {
         let root = self.unit_of(entry)?.root;
         match self.value(root, base)? {
-            AttributeValue::SectionOffset(offset) => Some(offset),
+            Value::SectionOffset(offset) => Some(offset),
             _ => None,
         }
     }
@@ -52,8 +52,8 @@ impl<'a> Units<'a> {
     /// The address that an attribute of an entry says.
     pub fn address(&self, entry: usize, wanted: Attribute) -> Option<u64> {
         match self.value(entry, wanted)? {
-            AttributeValue::Address(address) => Some(address),
-            AttributeValue::AddressIndex(index) => self.address_of(entry, index),
+            Value::Address(address) => Some(address),
+            Value::AddressIndex(index) => self.address_of(entry, index),
             _ => None,
         }
     }
@@ -61,7 +61,7 @@ impl<'a> Units<'a> {
     /// The number that an attribute of an entry says.
     pub fn number(&self, entry: usize, wanted: Attribute) -> Option<u64> {
         match self.value(entry, wanted)? {
-            AttributeValue::Constant(number) => Some(number),
+            Value::Constant(number) => Some(number),
             _ => None,
         }
     }

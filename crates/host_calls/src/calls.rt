@@ -12,7 +12,7 @@ use report_jobs::load_checked;
 use search_endings::Ending;
 use search_finds::run_of_number;
 use search_modules::{Ended, all_endings};
-use search_reach::SearchOrder;
+use search_reach::Order;
 use search_scheduled::MadeRun;
 use spawn_host::{Call, EndState};
 use std::alloc::Global;
@@ -112,7 +112,7 @@ pub fn endings_of(
     match all_endings(
         alloc,
         &request,
-        SearchOrder::Breadth,
+        Order::Breadth,
         most_states,
         dump as usize,
         &(),

@@ -8,14 +8,14 @@ use types::{Entry, Event, Question, Reply};
 
 /// By which instruction an access was made: a plain one or an atomic one.
 #[derive(Clone, Copy, PartialEq, Eq, Debug)]
-pub enum AccessKind {
+pub enum Kind {
     Plain,
     Atomic,
 }
 
 /// An access to the bytes `addr .. addr + width`.
 #[derive(Clone, Copy, PartialEq, Eq, Debug)]
-pub struct ThreadAccess {
+pub struct Access {
     /// The thread's number.
     pub thread: u32,
     /// The first byte's address.
@@ -47,20 +47,20 @@ pub(crate) fn is_out_of_bounds(reply: Reply) -> bool
     }
 }
 
-fn is_atomic(kind: AccessKind) -> bool
+fn is_atomic(kind: Kind) -> bool
     ensures { result ≡ is_atomic kind }
 {
     match kind {
-        AccessKind::Plain => false,
-        AccessKind::Atomic => true,
+        Kind::Plain => false,
+        Kind::Atomic => true,
     }
 }
 
 /// An access that reads alone.
-fn reading(thread: u32, addr: u64, width: u8, atomic: bool) -> ThreadAccess
+fn reading(thread: u32, addr: u64, width: u8, atomic: bool) -> Access
     ensures { result ≡ reading thread addr width atomic }
 {
-    ThreadAccess {
+    Access {
         thread,
         addr,
         width,
@@ -71,10 +71,10 @@ fn reading(thread: u32, addr: u64, width: u8, atomic: bool) -> ThreadAccess
 }
 
 /// An atomic access that reads and may write.
-fn changing(thread: u32, addr: u64, width: u8, writes: bool) -> ThreadAccess
+fn changing(thread: u32, addr: u64, width: u8, writes: bool) -> Access
     ensures { result ≡ changing thread addr width writes }
 {
-    ThreadAccess {
+    Access {
         thread,
         addr,
         width,
@@ -85,7 +85,7 @@ fn changing(thread: u32, addr: u64, width: u8, writes: bool) -> ThreadAccess
 }
 
 /// The access that an event makes within bounds.
-fn access_within(thread: u32, event: Event, reply: Reply, kind: AccessKind) -> Option<ThreadAccess>
+fn access_within(thread: u32, event: Event, reply: Reply, kind: Kind) -> Option<Access>
     ensures { result ≡ access_within thread event reply kind }
 {
     match event {
@@ -99,7 +99,7 @@ fn access_within(thread: u32, event: Event, reply: Reply, kind: AccessKind) -> O
             width,
             reach: _,
             value: _,
-        } => Some(ThreadAccess {
+        } => Some(Access {
             thread,
             addr,
             width,
@@ -132,7 +132,7 @@ fn access_within(thread: u32, event: Event, reply: Reply, kind: AccessKind) -> O
 }
 
 /// The access that an entry makes.
-pub fn access_of(entry: &Entry, kind: AccessKind) -> Option<ThreadAccess>
+pub fn access_of(entry: &Entry, kind: Kind) -> Option<Access>
     ensures { result ≡ access_of entry.now kind }
 {
     if is_out_of_bounds(entry.reply) {
@@ -142,7 +142,7 @@ pub fn access_of(entry: &Entry, kind: AccessKind) -> Option<ThreadAccess>
 }
 
 /// Whether two accesses touch a byte in common.
-pub(crate) fn touches(a: &ThreadAccess, b: &ThreadAccess) -> bool
+pub(crate) fn touches(a: &Access, b: &Access) -> bool
     ensures { result ≡ touches a.now b.now }
 {
     if a.addr <= b.addr {
@@ -153,21 +153,21 @@ pub(crate) fn touches(a: &ThreadAccess, b: &ThreadAccess) -> bool
 }
 
 /// Whether both are atomic, of exactly the same bytes.
-pub(crate) fn are_matched(a: &ThreadAccess, b: &ThreadAccess) -> bool
+pub(crate) fn are_matched(a: &Access, b: &Access) -> bool
     ensures { result ≡ are_matched a.now b.now }
 {
     a.atomic && b.atomic && a.addr == b.addr && a.width == b.width
 }
 
 /// Whether two accesses of two threads touch a byte in common, one writes, and they aren't matched.
-pub(crate) fn conflicts(a: &ThreadAccess, b: &ThreadAccess) -> bool
+pub(crate) fn conflicts(a: &Access, b: &Access) -> bool
     ensures { result ≡ conflicts a.now b.now }
 {
     a.thread != b.thread && touches(a, b) && (a.writes || b.writes) && !are_matched(a, b)
 }
 
 /// Whether two accesses are the same.
-pub(crate) fn is_same(a: &ThreadAccess, b: &ThreadAccess) -> bool
+pub(crate) fn is_same(a: &Access, b: &Access) -> bool
     ensures { result ≡ is_same a.now b.now }
 {
     *a == *b

@@ -1,5 +1,6 @@
 mod Plain
 mod Asking
 mod Silent
-mod AllTold
-mod Performing
+mod RacePairs
+mod Kept
+mod Objected

@@ -2,5 +2,4 @@ pub mod Jobs
 pub mod Searched
 pub mod Silent
 pub mod SearchObjects
-pub mod Telling
-pub mod Told
+pub mod Written

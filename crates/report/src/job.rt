@@ -1,27 +1,20 @@
 //! What the program does: each job of its command line.
-ghost use Rattle.std.specs.Prelude.{◌≡◌, ◌≤◌, ◌⊎◌, IfErr, IfOk, false, is_some};
+ghost use Rattle.std.specs.Prelude.{◌≡◌, ◌≤◌, ◌⊎◌, false, is_some};
 ghost use Rattle.report_command.specs.Jobs.{IsInRange};
 ghost use Rattle.report_command.specs.Searches.{IsSearchInRange};
 ghost use Rattle.report_jobs.specs.Jobs.{HasNoSuchCall, IsNoValidModule};
 ghost use Rattle.report_jobs.specs.Prints.{changed, written};
 ghost use Rattle.report_jobs.specs.Silence.{IsRefusal, Stays, makes_memory};
-ghost use Rattle.report_jobs.specs.Told.{TellsRefusal, TellsWhatIsWrong};
-ghost use Rattle.report_jobs.specs.Trapped.{Tells};
-ghost use Rattle.report_jobs.specs.Undone.{ended_status, undone_line, undone_status};
-ghost use Rattle.report_jobs.specs.Why.{RefusesModule, RefusesRecord};
-ghost use Rattle.report_jobs.specs.Troubles.{IsTroubleOf};
-ghost use Rattle.report_searches.specs.Searches.{Finds, IsWellAt};
-ghost use Rattle.report.specs.Searched.{HasSearched, IsDrawn, IsDrawnForRaces, IsPrintedOf};
+ghost use Rattle.report_jobs.specs.Told.{TellsWhatIsWrong};
+ghost use Rattle.report.specs.Searched.{HasSearched};
 ghost use Rattle.report.specs.Jobs.{Performs};
-ghost use Rattle.report.specs.Silent.{IfRefusedCall, writes_file};
+ghost use Rattle.report.specs.Silent.{writes_file};
 
 use crate::searching::search_module;
 use report_command::{Job, Search};
-use report_jobs::{
-    Done, Streams, Trouble, Undone, load, of_refusal, of_trouble, perform_plain, tell_ended,
-};
+use report_jobs::{Streams, complain, load, perform_plain, refuse};
 use report_looks::{CodeBytes, races_saved, show_saved};
-use report_searches::SearchRequest;
+use report_searches::Asked;
 use search_finds::Hears;
 use spawn_host::own_function;
 use std::alloc::Global;
@@ -40,22 +33,19 @@ use validate_module::ValidModule;
 /// and else nothing. A show takes names from the
 /// module itself (`show_saved` takes them from another file's bytes, and lines of source too). `follower` hears how far a search came.
 ///
-/// Answers what came of it, of which the program's status is 0 where the module was accepted or all threads ended well, 1
-/// for a trap or stop, or where a search found a run, has not all endings or none, 2 for a refused module, 3 for a refused
-/// run, 4 for a refused record, 5 where memory, a thread or a stream failed. Its line was told then, as far as `err` took
-/// it; at 4 that is the one which names the first line of the record's text that is wrong or doesn't fit.
-///
-/// # Errors
-/// Why it isn't done: what is refused, and then nothing is written but that line; or what failed.
-pub fn perform<'j, R, W, E, S, F>(
+/// Answers the program's status: 0 where the module was accepted or all threads ended well, 1 for a trap or stop, or
+/// where a search found a run, has not all endings or none, 2 for a refused module, 3 for a refused run, 4 for a
+/// refused record, 5 where memory, a thread or a stream failed. A write about what went wrong that fails doesn't change
+/// it. At 4 that is the line which names the first line of the record's text that is wrong or doesn't fit.
+pub fn perform<R, W, E, S, F>(
     rt: &R,
     alloc: Global,
-    job: &Job<'j>,
+    job: &Job,
     module: &[u8],
     saved: &[u8],
     streams: &mut Streams<W, E, S>,
     follower: &mut F,
-) -> Result<Done, Undone<'j>>
+) -> u8
 where
     R: Threads + Wait + Sync,
     W: Write,
@@ -64,48 +54,11 @@ where
     F: Hears,
     requires { IsInRange job.now }
     ensures performs { Performs job.now «module».now saved.now
-        (written W.contents E.contents S.contents streams.old streams.new) (ended_status result) }
-    ensures refusal { ended_status result ≡ 2
-        → TellsRefusal «module».now (changed E.contents streams.old.err streams.new.err) }
-    ensures told { ended_status result ≡ 4
+        (written W.contents E.contents S.contents streams.old streams.new) result }
+    ensures told { result ≡ 4
         → TellsWhatIsWrong «module».now saved.now (changed E.contents streams.old.err streams.new.err) }
-    ensures why { IfErr result (λ why. IsRefusal (undone_status why)
-        → Tells (E.contents streams.old.err) (E.contents streams.new.err) (undone_line why)) }
-    ensures silent { IsRefusal (ended_status result) → Stays streams.old.out streams.new.out
-        × Stays streams.old.save streams.new.save × Stays streams.old.memory streams.new.memory }
-    ensures no_memory { makes_memory job.now ≡ false → Stays streams.old.memory streams.new.memory }
-    ensures unwanted { writes_file job.now ≡ false → Stays streams.old.save streams.new.save }
-{
-    let ended = perform_silent(rt, alloc, job, module, saved, streams, follower);
-    tell_ended(&mut streams.err, &ended);
-    ended
-}
-
-/// Does a job, and says nothing of why it isn't done.
-fn perform_silent<'j, R, W, E, S, F>(
-    rt: &R,
-    alloc: Global,
-    job: &Job<'j>,
-    module: &[u8],
-    saved: &[u8],
-    streams: &mut Streams<W, E, S>,
-    follower: &mut F,
-) -> Result<Done, Undone<'j>>
-where
-    R: Threads + Wait + Sync,
-    W: Write,
-    E: Write,
-    S: Write,
-    F: Hears,
-    requires { IsInRange job.now }
-    ensures performs { Performs job.now «module».now saved.now
-        (written W.contents E.contents S.contents streams.old streams.new) (ended_status result) }
-    ensures done { IfOk result (λ done. done.status ≤ 1) }
-    ensures why { IfErr result (λ why. undone_status why ≡ 2 → RefusesModule «module».now why) }
-    ensures wrong { IfErr result (λ why. undone_status why ≡ 4 → RefusesRecord «module».now saved.now why) }
-    ensures silent { IsRefusal (ended_status result)
-        → (Stays streams.old.out streams.new.out × Stays streams.old.err streams.new.err)
-        × Stays streams.old.save streams.new.save × Stays streams.old.memory streams.new.memory }
+    ensures silent { IsRefusal result → Stays streams.old.out streams.new.out × Stays streams.old.save streams.new.save
+        × Stays streams.old.memory streams.new.memory }
     ensures no_memory { makes_memory job.now ≡ false → Stays streams.old.memory streams.new.memory }
     ensures unwanted { writes_file job.now ≡ false → Stays streams.old.save streams.new.save }
 {
@@ -129,55 +82,14 @@ where
 }
 
 /// Searches through runs of a module.
-fn search<'j, R, W, E, S, F>(
+fn search<R, W, E, S, F>(
     rt: &R,
     alloc: Global,
-    asked: &Search<'j>,
-    module: &[u8],
-    streams: &mut Streams<W, E, S>,
-    follower: &mut F,
-) -> Result<Done, Undone<'j>>
-where
-    R: Threads + Sync,
-    W: Write,
-    E: Write,
-    S: Write,
-    F: Hears,
-    requires { IsSearchInRange asked.now }
-    ensures made { ended_status result ≤ 1 → HasSearched «module».now asked.now
-        (changed W.contents streams.old.out streams.new.out) (changed S.contents streams.old.save streams.new.save)
-        (ended_status result) }
-    ensures done { IfOk result (λ done. done.status ≤ 1) }
-    ensures refused { ended_status result ≡ 2 → IsNoValidModule «module».now }
-    ensures why { IfErr result (λ why. undone_status why ≡ 2 → RefusesModule «module».now why) }
-    ensures silent { IsRefusal (ended_status result)
-        → Stays streams.old.out streams.new.out × Stays streams.old.save streams.new.save }
-    ensures unwanted { is_some asked.now.save ≡ false → Stays streams.old.save streams.new.save }
-    ensures no_memory { Stays streams.old.memory streams.new.memory }
-    ensures unsaid { Stays streams.old.err streams.new.err }
-    ensures cannot { ended_status result ≡ 3 → HasNoSuchCall «module».now asked.now.call }
-    ensures status { (ended_status result ≤ 3) ⊎ (ended_status result ≡ 5) }
-{
-    let valid = match load(alloc, module) {
-        Ok(valid) => valid,
-        Err(refusal) => return Err(of_refusal(refusal)),
-    };
-    match searched(rt, alloc, &valid, asked, module, streams, follower) {
-        Ok(done) => Ok(done),
-        Err(trouble) => Err(of_trouble(trouble, valid, asked.save, None)),
-    }
-}
-
-/// The same of a valid module, whose text the bytes are.
-fn searched<R, W, E, S, F>(
-    rt: &R,
-    alloc: Global,
-    valid: &ValidModule,
     asked: &Search,
     module: &[u8],
     streams: &mut Streams<W, E, S>,
     follower: &mut F,
-) -> Result<Done, Trouble>
+) -> u8
 where
     R: Threads + Sync,
     W: Write,
@@ -185,41 +97,44 @@ where
     S: Write,
     F: Hears,
     requires { IsSearchInRange asked.now }
-    ensures finds { IfOk result
-        (λ done. Finds valid.now.parts asked.now (changed S.contents streams.old.save streams.new.save) done.status) }
-    ensures well { IfOk result (λ done. IsWellAt valid.now.parts asked.now done.status) }
-    ensures drawn { IfOk result
-        (λ done. IsDrawn valid.now.parts asked.now (changed W.contents streams.old.out streams.new.out)
-        (changed S.contents streams.old.save streams.new.save) done.status) }
-    ensures drawn_races { IfOk result
-        (λ done. IsDrawnForRaces valid.now.parts asked.now (changed W.contents streams.old.out streams.new.out)
-        (changed S.contents streams.old.save streams.new.save) done.status) }
-    ensures prints { IfOk result
-        (λ done. IsPrintedOf valid.now.parts asked.now (changed W.contents streams.old.out streams.new.out)
-        (changed S.contents streams.old.save streams.new.save) done.status) }
-    ensures trouble { IfErr result (IsTroubleOf valid.now.parts asked.now.call) }
-    ensures silent { IfErr result (λ e. IfRefusedCall e
-        (Stays streams.old.out streams.new.out × Stays streams.old.save streams.new.save)) }
+    ensures made { result ≤ 1 → HasSearched «module».now asked.now (changed W.contents streams.old.out streams.new.out)
+        (changed S.contents streams.old.save streams.new.save) result }
+    ensures refused { result ≡ 2 → IsNoValidModule «module».now }
+    ensures silent { IsRefusal result → Stays streams.old.out streams.new.out × Stays streams.old.save streams.new.save }
     ensures unwanted { is_some asked.now.save ≡ false → Stays streams.old.save streams.new.save }
     ensures no_memory { Stays streams.old.memory streams.new.memory }
-    ensures unsaid { Stays streams.old.err streams.new.err }
+    ensures cannot { result ≡ 3 → HasNoSuchCall «module».now asked.now.call }
+    ensures status { (result ≤ 3) ⊎ (result ≡ 5) }
 {
-    let Streams { out, save, .. } = streams;
-    let whole = SearchRequest {
+    let Streams { out, err, save, .. } = streams;
+    let valid = match load(alloc, module) {
+        Ok(valid) => valid,
+        Err(refusal) => return refuse(err, refusal),
+    };
+    let whole = Asked {
         search: asked,
         bytes: module,
     };
-    let done = search_module(rt, alloc, valid, whole, follower, out, save)?;
-    Ok(Done {
-        is_bare: is_bare(valid, asked),
-        ..done
-    })
+    match search_module(rt, alloc, &valid, whole, follower, out, save) {
+        Ok(status) => {
+            note_if_bare(err, &valid, asked);
+            status
+        }
+        Err(trouble) => complain(err, trouble, asked.save),
+    }
 }
 
-/// Whether only how threads ended is compared: the function returns nothing, and no bytes are named.
-fn is_bare(valid: &ValidModule, asked: &Search) -> bool {
-    let Some(function) = own_function(valid, asked.call.invoke) else {
-        return false;
+/// Says that only how threads ended is compared, where the function returns nothing and no bytes are named.
+fn note_if_bare<E: Write>(err: &mut E, valid: &ValidModule, asked: &Search) {
+    let name = asked.call.invoke;
+    let Some(function) = own_function(valid, name) else {
+        return;
     };
-    function.func_type.results.as_slice().is_empty() && asked.sought.dump == 0
+    if function.func_type.results.as_slice().is_empty() && asked.sought.dump == 0 {
+        let _ = write!(
+            err,
+            "note: {name} returns nothing, and without --dump no bytes belong to an ending: only how the threads \
+             ended is compared\n"
+        );
+    }
 }

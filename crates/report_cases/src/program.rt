@@ -3,9 +3,9 @@ ghost use Rattle.report_command.specs.Jobs.{IsInRange};
 
 use dwarf_lines::SourceFile;
 use report::{CodeBytes, Job, Streams, perform, show_saved};
-use report_command::{Form, JobOrder, Usage, asked};
-use report_jobs::{JobResult, status_of, tell_ended};
-use report_reasons::{JobInputs, call_of, explain, write_undone};
+use report_command::{Form, Order, Usage, asked};
+use report_reasons::{Done, explain_done};
+use report_refusals::write_no_end;
 use search_finds::{Hears, Size};
 use search_reach::{Follows, Wish};
 use std::alloc::{AllocError, Global};
@@ -95,13 +95,7 @@ impl Hears for Wishes {
 }
 
 /// Does a job.
-fn do_job<'j, R: Threads + Wait + Sync>(
-    rt: &R,
-    alloc: Global,
-    job: &Job<'j>,
-    input: Input,
-    gave: &mut Gave,
-) -> JobResult<'j>
+fn do_job<R: Threads + Wait + Sync>(rt: &R, alloc: Global, job: &Job, input: Input, gave: &mut Gave)
 where
     requires { IsInRange job.now }
 {
@@ -112,7 +106,7 @@ where
         sources,
         wish,
     } = input;
-    match job {
+    gave.status = match job {
         Job::Show { how, .. } if !names.is_empty() || !sources.is_empty() => {
             let names = if names.is_empty() { module } else { names };
             let code = CodeBytes {
@@ -120,9 +114,7 @@ where
                 names,
                 sources,
             };
-            let ended = show_saved(alloc, code, saved, how, &mut gave.streams);
-            tell_ended(&mut gave.streams.err, &ended);
-            ended
+            show_saved(alloc, code, saved, how, &mut gave.streams)
         }
         _ => perform(
             rt,
@@ -133,37 +125,37 @@ where
             &mut gave.streams,
             &mut Wishes { wish },
         ),
-    }
+    };
 }
 
-/// Tells what came of a job beside its line: in an object of one that isn't done and printed nothing, where one is asked
-/// for, and in the lines that explain it.
-fn tell_more(
-    alloc: Global,
-    job: &Job,
-    ended: &JobResult,
-    input: Input,
-    is_explained: bool,
-    gave: &mut Gave,
-) -> Result<(), AllocError> {
-    let given = JobInputs {
+/// Adds to what is said why the job came to its status.
+fn explain(alloc: Global, job: &Job, input: Input, gave: &mut Gave) -> Result<(), AllocError> {
+    let mut lines = String::new(alloc);
+    let done = Done {
         module: input.module,
         saved: input.saved,
-        call: call_of(job),
+        printed: &gave.streams.out,
+        status: gave.status,
     };
-    let mut lines = String::new(alloc);
-    explain(alloc, &mut lines, ended, given)?;
-    if let Err(undone) = ended
-        && job.form() == Form::Json
-        && gave.streams.out.is_empty()
-    {
-        let hints: Vec<&str> = lines.as_str().lines().collect(alloc)?;
-        let _ = write_undone(alloc, undone, &hints, &mut gave.streams.out);
-    }
-    if is_explained {
-        gave.streams.err.extend_from_slice(lines.as_bytes())?;
-    }
+    explain_done(alloc, job, done, &mut lines)?;
+    gave.streams.err.extend_from_slice(lines.as_bytes())?;
     Ok(())
+}
+
+/// Prints the object of a job that was refused or failed, and printed nothing.
+fn print_no_end(alloc: Global, job: &Job, input: Input, gave: &mut Gave) {
+    if !gave.streams.out.is_empty() {
+        return;
+    }
+    let done = Done {
+        module: input.module,
+        saved: input.saved,
+        printed: b"",
+        status: gave.status,
+    };
+    if let Ok(told) = str::from_utf8(&gave.streams.err) {
+        let _ = write_no_end(alloc, job, done, told, &mut gave.streams.out);
+    }
 }
 
 /// Help goes to standard output, and what is wrong about the words to standard error.
@@ -192,14 +184,18 @@ pub(crate) fn program<R: Threads + Wait + Sync>(
     gave.clear();
     match asked(alloc, words) {
         Ok(
-            JobOrder {
+            Order {
                 job,
                 explain: is_explained,
             },
         ) => {
-            let ended = do_job(rt, alloc, &job, input, gave);
-            gave.status = status_of(&ended);
-            tell_more(alloc, &job, &ended, input, is_explained.is_on(false), gave)?;
+            do_job(rt, alloc, &job, input, gave);
+            if job.form() == Form::Json {
+                print_no_end(alloc, &job, input, gave);
+            }
+            if is_explained.is_on(false) {
+                explain(alloc, &job, input, gave)?;
+            }
         }
         Err(usage) => tell_usage(&usage, gave),
     }

@@ -7,5 +7,3 @@ pub mod Plain
 pub mod Silence
 pub mod Told
 pub mod Trapped
-pub mod Undone
-pub mod Why

@@ -17,7 +17,7 @@ use Rattle.search_endings.specs.Ends.{status_of}
 use Rattle.report_json.specs.Json.{json_line}
 use Rattle.report_json.specs.Refusals.{accepted_json}
 use Rattle.report_json.specs.Ends.{run_json}
-use Rattle.report_json.specs.declared.ends.RunEndObject.{RunEndObject}
+use Rattle.report_json.specs.declared.ends.RunEnd.{RunEnd}
 use Rattle.report_command.specs.declared.form.Form.{Form}
 use Rattle.report_command.specs.declared.form.Form.TheVariants.{Lines, Json}
 use Rattle.report_command.specs.declared.form.EndLook.{EndLook}
@@ -83,7 +83,7 @@ end_text units end dump =
 
 -- An object that has of a run how its threads ended and what they spent, the page count and the first bytes, so many or
 -- all if there are fewer. Its places and hints are any.
-pub record IsObjectOf (end : EndState) (dump : ℕ) (run : RunEndObject) : Type 0 where
+pub record IsObjectOf (end : EndState) (dump : ℕ) (run : RunEnd) : Type 0 where
   pub threads_are : run.threads.now ≡ end.threads.items
   pub pages_are : run.pages ≡ end.pages
   pub dump_is : run.dump ≡ dump
@@ -91,7 +91,7 @@ pub record IsObjectOf (end : EndState) (dump : ℕ) (run : RunEndObject) : Type 
 
 -- Such an object was written.
 pub record WritesObject (end : EndState) (dump : ℕ) (out : WriterChange) : Type 0 where
-  pub run : RunEndObject
+  pub run : RunEnd
   pub is : IsObjectOf end dump run
   pub object : Appends out.old out.new (json_line (run_json run))
 

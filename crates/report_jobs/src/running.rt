@@ -14,7 +14,6 @@ use crate::args::read_args;
 use crate::printing::print_end;
 use crate::streams::Streams;
 use crate::trapped::Whence;
-use crate::undone::Done;
 use replay_text::{Record, write_record};
 use report_command::{CallWords, RunJob};
 use report_runs::{Call, EndState, RecordRunFault, record_request, run_request_on_words};
@@ -154,8 +153,8 @@ pub fn request_of<'m, 'a>(
 }
 
 /// Runs the function, prints its end, and writes the record and the bytes of the memory where they are wanted. `bytes`
-/// have the names and the lines of the module. Answers what came of it: the status is 0 where all threads ended well, 1
-/// for a trap or stop.
+/// have the names and the lines of the module. Answers the status: 0 where all threads ended well, 1 for a trap or
+/// stop.
 pub(crate) fn print_run<R, W, E, S>(
     rt: &R,
     alloc: Global,
@@ -163,18 +162,17 @@ pub(crate) fn print_run<R, W, E, S>(
     bytes: &[u8],
     job: &RunJob,
     streams: &mut Streams<W, E, S>,
-) -> Result<Done, Trouble>
+) -> Result<u8, Trouble>
 where
     R: Threads + Wait + Sync,
     W: Write,
     E: Write,
     S: Write,
     requires fuel { job.now.call.fuel ≤ MOST_FUEL }
-    ensures made { IfOk result (λ done. PrintsRun «module».now.parts job.now
-        (written W.contents E.contents S.contents streams.old streams.new) done.status) }
+    ensures made { IfOk result (PrintsRun «module».now.parts job.now
+        (written W.contents E.contents S.contents streams.old streams.new)) }
     ensures trouble { IfErr result (IsTroubleOf «module».now.parts job.now.call) }
-    ensures silent { IfErr result (λ e. Leaves e
-        (Stays streams.old.out streams.new.out × Stays streams.old.err streams.new.err)
+    ensures silent { IfErr result (λ e. Leaves e (Stays streams.old.out streams.new.out)
         (Stays streams.old.save streams.new.save × Stays streams.old.memory streams.new.memory)) }
     ensures unwanted { is_some job.now.save ≡ false → Stays streams.old.save streams.new.save }
     ensures no_memory { is_some job.now.memory_out ≡ false → Stays streams.old.memory streams.new.memory }
@@ -202,7 +200,7 @@ fn print_on_words<R, W, E, S>(
     job: &RunJob,
     whence: Whence,
     streams: &mut Streams<W, E, S>,
-) -> Result<Done, Trouble>
+) -> Result<u8, Trouble>
 where
     R: Threads + Wait + Sync,
     W: Write,
@@ -210,11 +208,10 @@ where
     S: Write,
     requires memory { job.now.on_words ≡ true }
     requires asked { IsAskedBy job.now.call request.now }
-    ensures made { IfOk result (λ done. PrintsRun request.now.parts job.now
-        (written W.contents E.contents S.contents streams.old streams.new) done.status) }
+    ensures made { IfOk result (PrintsRun request.now.parts job.now
+        (written W.contents E.contents S.contents streams.old streams.new)) }
     ensures trouble { IfErr result (IsTroubleOf request.now.parts job.now.call) }
-    ensures silent { IfErr result (λ e. Leaves e
-        (Stays streams.old.out streams.new.out × Stays streams.old.err streams.new.err)
+    ensures silent { IfErr result (λ e. Leaves e (Stays streams.old.out streams.new.out)
         (Stays streams.old.save streams.new.save × Stays streams.old.memory streams.new.memory)) }
     ensures unrecorded { Stays streams.old.save streams.new.save }
     ensures no_memory { is_some job.now.memory_out ≡ false → Stays streams.old.memory streams.new.memory }
@@ -227,9 +224,9 @@ where
         memory,
         ..
     } = streams;
-    let done = print_and_write(alloc, &end, job, whence, out, err, memory);
+    let status = print_and_write(alloc, &end, job, whence, out, err, memory);
     drop(end);
-    done
+    status
 }
 
 /// The same over the memory that records.
@@ -240,7 +237,7 @@ fn print_recorded<R, W, E, S>(
     job: &RunJob,
     whence: Whence,
     streams: &mut Streams<W, E, S>,
-) -> Result<Done, Trouble>
+) -> Result<u8, Trouble>
 where
     R: Threads + Wait + Sync,
     W: Write,
@@ -249,21 +246,20 @@ where
     requires fuel { job.now.call.fuel ≤ MOST_FUEL }
     requires memory { job.now.on_words ≡ false }
     requires asked { IsAskedBy job.now.call request.now }
-    ensures made { IfOk result (λ done. PrintsRun request.now.parts job.now
-        (written W.contents E.contents S.contents streams.old streams.new) done.status) }
+    ensures made { IfOk result (PrintsRun request.now.parts job.now
+        (written W.contents E.contents S.contents streams.old streams.new)) }
     ensures trouble { IfErr result (IsTroubleOf request.now.parts job.now.call) }
-    ensures silent { IfErr result (λ e. Leaves e
-        (Stays streams.old.out streams.new.out × Stays streams.old.err streams.new.err)
+    ensures silent { IfErr result (λ e. Leaves e (Stays streams.old.out streams.new.out)
         (Stays streams.old.save streams.new.save × Stays streams.old.memory streams.new.memory)) }
     ensures unwanted { is_some job.now.save ≡ false → Stays streams.old.save streams.new.save }
     ensures no_memory { is_some job.now.memory_out ≡ false → Stays streams.old.memory streams.new.memory }
 {
     let mut gate = whence.frames;
     let (record, end) = record_request(rt, alloc, request, job.limit, &mut gate)?;
-    let done = print_and_keep(alloc, &record, &end, job, whence, streams);
+    let status = print_and_keep(alloc, &record, &end, job, whence, streams);
     drop(record);
     drop(end);
-    done
+    status
 }
 
 /// Prints the end of a recorded run, and writes the record and the bytes of the memory where they are wanted.
@@ -274,12 +270,11 @@ fn print_and_keep<W: Write, E: Write, S: Write>(
     job: &RunJob,
     whence: Whence,
     streams: &mut Streams<W, E, S>,
-) -> Result<Done, Trouble>
-    ensures made { IfOk result (λ done. PrintsAndKeeps job.now recorded.now end.now
-        (written W.contents E.contents S.contents streams.old streams.new) done.status) }
+) -> Result<u8, Trouble>
+    ensures made { IfOk result (PrintsAndKeeps job.now recorded.now end.now
+        (written W.contents E.contents S.contents streams.old streams.new)) }
     ensures trouble { IfErr result IsUnwritten }
-    ensures silent { IfErr result (λ e. Leaves e
-        (Stays streams.old.out streams.new.out × Stays streams.old.err streams.new.err)
+    ensures silent { IfErr result (λ e. Leaves e (Stays streams.old.out streams.new.out)
         (Stays streams.old.save streams.new.save × Stays streams.old.memory streams.new.memory)) }
     ensures unwanted { is_some job.now.save ≡ false → Stays streams.old.save streams.new.save }
     ensures no_memory { is_some job.now.memory_out ≡ false → Stays streams.old.memory streams.new.memory }
@@ -290,9 +285,9 @@ fn print_and_keep<W: Write, E: Write, S: Write>(
         save,
         memory,
     } = streams;
-    let done = print_and_write(alloc, end, job, whence, out, err, memory)?;
+    let status = print_and_write(alloc, end, job, whence, out, err, memory)?;
     keep(recorded, job.save.is_some(), save)?;
-    Ok(done)
+    Ok(status)
 }
 
 /// Prints the end of a run, and writes the bytes of its memory where they are wanted.
@@ -304,20 +299,19 @@ fn print_and_write<W: Write, E: Write, S: Write>(
     out: &mut W,
     err: &mut E,
     memory: &mut S,
-) -> Result<Done, Trouble>
-    ensures made { IfOk result (λ done. PrintsAll job.now end.now (changed W.contents out.old out.new)
-        (changed E.contents err.old err.new) (changed S.contents memory.old memory.new) done.status) }
+) -> Result<u8, Trouble>
+    ensures made { IfOk result (PrintsAll job.now end.now (changed W.contents out.old out.new)
+        (changed E.contents err.old err.new) (changed S.contents memory.old memory.new)) }
     ensures trouble { IfErr result IsUnwritten }
-    ensures silent { IfErr result
-        (λ e. Leaves e (Stays out.old out.new × Stays err.old err.new) (Stays memory.old memory.new)) }
+    ensures silent { IfErr result (λ e. Leaves e (Stays out.old out.new) (Stays memory.old memory.new)) }
     ensures no_memory { is_some job.now.memory_out ≡ false → Stays memory.old memory.new }
 {
-    let done = match print_end(alloc, out, err, end, job.look, whence) {
-        Ok(done) => done,
+    let status = match print_end(alloc, out, err, end, job.look, whence) {
+        Ok(status) => status,
         Err(unwritten) => return Err(unprinted(unwritten)),
     };
     keep_bytes(&end.bytes, job.memory_out.is_some(), memory)?;
-    Ok(done)
+    Ok(status)
 }
 
 /// Writes the bytes of a memory to their file, where they are wanted; where they aren't the file's writer stays as it

@@ -62,7 +62,8 @@ fn add_places(line: &mut String, traps: Option<&Traps>, thread: usize) -> Result
         return Ok(());
     };
     write!(line, " at {site}")?;
-    add_callers(line, traps, thread)
+    add_callers(line, traps, thread)?;
+    Ok(())
 }
 
 /// The line of a thread that trapped.

@@ -1,7 +1,5 @@
 -- Objects and lists that are sent part by part.
-use Rattle.std.proofs.Common.{ℕ, suc, ◌≡◌, ◌+◌, ◌^◌, ◌<◌, ◌≤◌, List, [], ◌∷◌, Option, Some, None, Bool, true, false}
-use Rattle.std.proofs.Common.{◌||◌, length, drop, get_or, decimal, if◌then◌else◌, nat_lt, refl, ap, sym, subst, ◌∙◌}
-use Rattle.std.proofs.Common.{arith, drop-cons, add-one}
+use Rattle.std.proofs.Common.{ℕ, suc, ◌≡◌, ◌+◌, ◌^◌, ◌<◌, ◌≤◌, List, [], ◌∷◌, Option, Some, None, Bool, true, false, ◌||◌, length, drop, get_or, decimal, if◌then◌else◌, nat_lt, refl, ap, sym, subst, ◌∙◌, arith, drop-cons, add-one}
 use Rattle.std.proofs.lemmas.List.{drop_all}
 use Rattle.std.specs.Int.{from_bool}
 use Rattle.std.specs.Io.KnownBytes.{Appends}
@@ -11,9 +9,7 @@ use Rattle.serde_json.specs.Events.{SendsMembers, SendsItems, members_len, items
 use Rattle.serde_json.specs.Sent.{IsTextOf}
 use Rattle.serde_json.specs.Written.{has_float, items_have_float, members_have_float}
 use Rattle.serde_json.proofs.FreeTexts.{text_of_value}
-use Rattle.report_json.specs.Json.{Json, Items, Fields, Field, null, truth, number, text, list, object, no_items, item}
-use Rattle.report_json.specs.Json.{no_fields, field, value_of, items_of, members_of, json_text, items, list_of}
-use Rattle.report_json.specs.Json.{numbered, fields, object_of, is, is_given, are_some}
+use Rattle.report_json.specs.Json.{Json, Items, Fields, Field, null, truth, number, text, list, object, no_items, item, no_fields, field, value_of, items_of, members_of, json_text, items, list_of, numbered, fields, object_of, is, is_given, are_some}
 use Rattle.report_json.specs.Sent.{Sends, SendsField, SendsFields, given, some, count}
 use Rattle.report_json.specs.Ends.{bytes_field}
 

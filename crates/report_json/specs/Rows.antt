@@ -1,7 +1,7 @@
 -- What is shown of a record: its entries, and its races.
 use Rattle.std.specs.Prelude.{ℕ, ◌≡◌, Bool, true, false, ◌&&◌, List, [], ◌∷◌, ◌++◌, codes}
 use Rattle.show_text.specs.Words.{words_text}
-use Rattle.report_json.specs.declared.rows.RowObject.{RowObject}
+use Rattle.report_json.specs.declared.rows.Row.{Row}
 use Rattle.report_json.specs.declared.races.RaceEntry.{RaceEntry}
 use Rattle.report_json.specs.declared.races.NextWrite.{NextWrite}
 use Rattle.report_json.specs.declared.races.RacePair.{RacePair}
@@ -10,7 +10,7 @@ use Rattle.report_json.specs.Json.{Json, Field, truth, number, text, is, is_give
 use Rattle.report_json.specs.Places.{place_json}
 
 -- An entry: its line of the record, its thread, its words, and where it was made, if that is known.
-abbrev pub row_fields : RowObject → List Field
+abbrev pub row_fields : Row → List Field
 row_fields row =
     is (codes "line") (number row.line)
     ∷ is (codes "thread") (number row.words.entry.thread)
@@ -18,11 +18,11 @@ row_fields row =
     ∷ is_given (codes "at") place_json row.place
     ∷ []
 
-abbrev pub row_json : RowObject → Json
+abbrev pub row_json : Row → Json
 row_json row = object_of (row_fields row)
 
 -- The entries of a record.
-abbrev pub rows_json : List RowObject → Json
+abbrev pub rows_json : List Row → Json
 rows_json rows = object_of (is (codes "status") (number 0) ∷ is (codes "rows") (list_of row_json rows) ∷ [])
 
 -- The text of it in pieces: in front of the rows, each row, with a comma before it where it isn't the first one, and
@@ -34,17 +34,17 @@ abbrev pub separator : Bool → List ℕ
 separator true = []
 separator false = codes ","
 
-abbrev pub row_text : Bool → RowObject → List ℕ
+abbrev pub row_text : Bool → Row → List ℕ
 row_text is_first row = separator is_first ++ json_text (row_json row)
 
 abbrev pub rows_back : List ℕ
 rows_back = codes "]}\n"
 
-abbrev pub later_rows : List RowObject → List ℕ
+abbrev pub later_rows : List Row → List ℕ
 later_rows [] = []
 later_rows (row ∷ rows) = row_text false row ++ later_rows rows
 
-abbrev pub rows_text : List RowObject → List ℕ
+abbrev pub rows_text : List Row → List ℕ
 rows_text [] = []
 rows_text (row ∷ rows) = row_text true row ++ later_rows rows
 
@@ -98,4 +98,4 @@ races_json races = object_of (races_fields races)
 
 -- The pieces are the text of the whole.
 abbrev pub AreWhole : Type 0
-AreWhole = (rows : List RowObject) → rows_front ++ (rows_text rows ++ rows_back) ≡ json_line (rows_json rows)
+AreWhole = (rows : List Row) → rows_front ++ (rows_text rows ++ rows_back) ≡ json_line (rows_json rows)

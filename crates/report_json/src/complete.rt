@@ -8,7 +8,7 @@ ghost use Rattle.report_json.specs.Sent as counted;
 ghost use Rattle.report_json.specs.Json.{json_line};
 ghost use Rattle.report_json.specs.Sent.{SendsField};
 
-use crate::found::FoundObject;
+use crate::found::Found;
 use crate::object::{ToJson, given, put, put_if, put_list, write_line};
 use crate::raced::{RunRaces, count_races, put_races};
 use search_endings::Ending;
@@ -20,7 +20,7 @@ use std::io::Write;
 
 /// What a search through every order of entries comes to.
 #[derive(Clone, Copy)]
-pub struct CompleteObject<'a> {
+pub struct Complete<'a> {
     /// 0 where there is an ending, all are there, all threads ended well, none is looked for, every state can end, every
     /// fair run ends, and no run has a race or races are allowed, and else 1.
     pub status: u8,
@@ -29,7 +29,7 @@ pub struct CompleteObject<'a> {
     pub all: &'a Ended<Ending>,
     /// What is known of races, where that was asked.
     pub races: Option<RunRaces<'a>>,
-    pub found: Option<FoundObject<'a>>,
+    pub found: Option<Found<'a>>,
 }
 
 impl ToJson for FairCycle {
@@ -113,7 +113,7 @@ fn levels_of(all: &Ended<Ending>) -> Option<u32>
     }
 }
 
-impl ToJson for CompleteObject<'_> {
+impl ToJson for Complete<'_> {
     ghost json = { complete_json };
 
     fn send<S: Serializer>(&self, alloc: Global, out: &mut S) -> Result<(), S::Error> {
@@ -141,7 +141,7 @@ impl ToJson for CompleteObject<'_> {
 pub fn write_complete<W: Write>(
     alloc: Global,
     out: &mut W,
-    complete: &CompleteObject,
+    complete: &Complete,
 ) -> Result<(), Unwritten>
     ensures object { Wrote W.contents out.old out.new result (json_line (complete_json complete.now)) }
     ensures left { IfErr result (LeavesAs out.old out.new) }

@@ -14,7 +14,7 @@ ghost use Rattle.report_json.specs.Sent.{Sends, SendsField};
 ghost use Rattle.types.specs.Outcomes.{trap_words, stop_words};
 
 use crate::object::{ToJson, given, put, put_if, put_some, send_one, send_two, some, write_line};
-use crate::places::PlaceObject;
+use crate::places::Place;
 use search_endings::is_done;
 use serde::Serializer;
 use show_text::Unwritten;
@@ -74,7 +74,7 @@ fn send_thread<S: Serializer>(
     out: &mut S,
     thread: usize,
     report: ThreadReport,
-    place: Option<PlaceObject>,
+    place: Option<Place>,
 ) -> Result<(), S::Error>
     ensures { OnOk result
         (Sends (object_of (thread_fields thread report place.entry)) (S.written out.old) (S.written out.new)) }
@@ -88,7 +88,7 @@ fn send_thread<S: Serializer>(
 }
 
 /// The place of a thread, if it is known.
-fn place_at<'a>(places: &[Option<PlaceObject<'a>>], thread: usize) -> Option<PlaceObject<'a>>
+fn place_at<'a>(places: &[Option<Place<'a>>], thread: usize) -> Option<Place<'a>>
     ensures { result ≡ ends.place_at places.now thread }
 {
     match places.get(thread) {
@@ -100,7 +100,7 @@ fn place_at<'a>(places: &[Option<PlaceObject<'a>>], thread: usize) -> Option<Pla
 /// The threads of a run, from thread 0 on, and the places that are known of them.
 #[derive(Clone, Copy)]
 struct Threads<'a> {
-    places: &'a [Option<PlaceObject<'a>>],
+    places: &'a [Option<Place<'a>>],
     reports: &'a [ThreadReport],
 }
 
@@ -200,11 +200,11 @@ pub fn status_of(reports: &[ThreadReport]) -> u8
 
 /// How a run ended.
 #[derive(Clone, Copy)]
-pub struct RunEndObject<'a> {
+pub struct RunEnd<'a> {
     /// From thread 0 on.
     pub threads: &'a [ThreadReport],
     /// Where threads stood as they ended, as far as that is known, from thread 0 on.
-    pub places: &'a [Option<PlaceObject<'a>>],
+    pub places: &'a [Option<Place<'a>>],
     pub pages: u32,
     /// How many first bytes are printed, or all if there are fewer; none and no field where it is 0.
     pub dump: u32,
@@ -213,11 +213,11 @@ pub struct RunEndObject<'a> {
     pub hints: &'a [&'a str],
 }
 
-impl ToJson for RunEndObject<'_> {
+impl ToJson for RunEnd<'_> {
     ghost json = { run_json };
 
     fn send<S: Serializer>(&self, alloc: Global, out: &mut S) -> Result<(), S::Error> {
-        let RunEndObject {
+        let RunEnd {
             threads: reports,
             places,
             pages,
@@ -241,7 +241,7 @@ impl ToJson for RunEndObject<'_> {
 /// # Errors
 /// Where memory is refused, and then nothing was written; that of the writer, and then what was written isn't said. So
 /// of each function here.
-pub fn write_run<W: Write>(alloc: Global, out: &mut W, end: &RunEndObject) -> Result<u8, Unwritten>
+pub fn write_run<W: Write>(alloc: Global, out: &mut W, end: &RunEnd) -> Result<u8, Unwritten>
     ensures object { Wrote W.contents out.old out.new result (json_line (run_json end.now)) }
     ensures left { IfErr result (LeavesAs out.old out.new) }
     ensures status { IfOk result (λ status. status ≡ status_of end.now.threads.now) }

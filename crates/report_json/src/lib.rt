@@ -20,14 +20,14 @@ mod races;
 mod refusals;
 mod rows;
 
-pub use complete::{CompleteObject, write_complete};
-pub use drawn::{Coverage, DrawnEnd, DrawnObject, DrawnRuns, MetEnding, write_drawn};
-pub use ends::{RunEndObject, status_of, write_run};
-pub use found::{FoundAs, FoundObject, RunSize, Shrunk};
-pub use places::{Offset, PlaceObject, SourceObject};
+pub use complete::{Complete, write_complete};
+pub use drawn::{Coverage, Drawn, DrawnEnd, DrawnRuns, MetEnding, write_drawn};
+pub use ends::{RunEnd, status_of, write_run};
+pub use found::{Found, FoundAs, RunSize, Shrunk};
+pub use places::{Offset, Place, Source};
 pub use raced::{RacingThreads, RunRaces};
 pub use races::{NextWrite, RaceEntry, RacePair, RacePairs, write_races};
 pub use refusals::{
-    Failure, RefusalObject, RefusedObject, write_accepted, write_done, write_failed, write_refusal,
+    Failure, Refusal, Refused, write_accepted, write_done, write_failed, write_refusal,
 };
-pub use rows::{RowObject, begin_rows, end_rows, the_rows_are_one_object, write_row, write_rows};
+pub use rows::{Row, begin_rows, end_rows, the_rows_are_one_object, write_row, write_rows};

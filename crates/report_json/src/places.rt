@@ -12,7 +12,7 @@ pub struct Offset(pub usize);
 
 /// A line of source.
 #[derive(Clone, Copy)]
-pub struct SourceObject<'a> {
+pub struct Source<'a> {
     pub file: &'a str,
     pub line: u64,
 }
@@ -20,10 +20,10 @@ pub struct SourceObject<'a> {
 /// A place in a module: the function, how far the instruction is behind the start of its body, and the line of source,
 /// as far as they are known. Names are as they are in the module: control characters have escapes in JSON.
 #[derive(Clone, Copy)]
-pub struct PlaceObject<'a> {
+pub struct Place<'a> {
     pub function: FunctionName<'a>,
     pub offset: Option<Offset>,
-    pub source: Option<SourceObject<'a>>,
+    pub source: Option<Source<'a>>,
 }
 
 impl ToJson for FunctionName<'_> {
@@ -52,11 +52,11 @@ impl ToJson for Offset {
     }
 }
 
-impl ToJson for SourceObject<'_> {
+impl ToJson for Source<'_> {
     ghost json = { source_json };
 
     fn send<S: Serializer>(&self, alloc: Global, out: &mut S) -> Result<(), S::Error> {
-        let SourceObject { file, line } = *self;
+        let Source { file, line } = *self;
         match format!(in alloc; "{file}:{line}") {
             Ok(text) => out.str(text.as_str()),
             Err(_) => Err(out.custom("no memory")),
@@ -64,7 +64,7 @@ impl ToJson for SourceObject<'_> {
     }
 }
 
-impl ToJson for PlaceObject<'_> {
+impl ToJson for Place<'_> {
     ghost json = { place_json };
 
     fn send<S: Serializer>(&self, alloc: Global, out: &mut S) -> Result<(), S::Error> {

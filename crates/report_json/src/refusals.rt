@@ -17,7 +17,7 @@ use std::io::Write;
 
 /// What is refused, and why.
 #[derive(Clone, Copy)]
-pub enum RefusedObject<'a> {
+pub enum Refused<'a> {
     /// Bytes that can't be read as a module, and where.
     Read {
         kind: Fault,
@@ -83,8 +83,7 @@ fn send_read<S: Serializer>(
     kind: Fault,
     offset: usize,
 ) -> Result<(), S::Error>
-    ensures { OnOk result
-        (Sends (refused_json (RefusedObject.Read kind offset)) (S.written out.old) (S.written out.new)) }
+    ensures { OnOk result (Sends (refused_json (Refused.Read kind offset)) (S.written out.old) (S.written out.new)) }
 {
     out.begin_map(Some(3))?;
     put(alloc, out, "stage", &"read")?;
@@ -102,8 +101,7 @@ fn send_rule_in_body<S: Serializer>(
     instruction: usize,
 ) -> Result<(), S::Error>
     ensures { OnOk result
-        (Sends (refused_json (RefusedObject.RuleInBody kind function instruction)) (S.written out.old)
-        (S.written out.new)) }
+        (Sends (refused_json (Refused.RuleInBody kind function instruction)) (S.written out.old) (S.written out.new)) }
 {
     out.begin_map(Some(4))?;
     put(alloc, out, "stage", &"validity")?;
@@ -113,13 +111,13 @@ fn send_rule_in_body<S: Serializer>(
     out.end_map()
 }
 
-impl ToJson for RefusedObject<'_> {
+impl ToJson for Refused<'_> {
     ghost json = { refused_json };
 
     fn send<S: Serializer>(&self, alloc: Global, out: &mut S) -> Result<(), S::Error> {
         match *self {
-            RefusedObject::Read { kind, offset } => send_read(alloc, out, kind, offset),
-            RefusedObject::Rule(kind) => {
+            Refused::Read { kind, offset } => send_read(alloc, out, kind, offset),
+            Refused::Rule(kind) => {
                 send_two(
                     alloc,
                     out,
@@ -127,37 +125,35 @@ impl ToJson for RefusedObject<'_> {
                     ("number", &kind.number()),
                 )
             }
-            RefusedObject::RuleInBody {
+            Refused::RuleInBody {
                 kind,
                 function,
                 instruction,
             } => send_rule_in_body(alloc, out, kind, function, instruction),
-            RefusedObject::Call(words) => send_words(alloc, out, "call", words),
-            RefusedObject::Header(line) => send_line_of(alloc, out, "record", "header line", line),
-            RefusedObject::Unreadable(line) => {
+            Refused::Call(words) => send_words(alloc, out, "call", words),
+            Refused::Header(line) => send_line_of(alloc, out, "record", "header line", line),
+            Refused::Unreadable(line) => {
                 send_line_of(alloc, out, "record", "line unreadable", line)
             }
-            RefusedObject::EndMissing => send_words(alloc, out, "record", "end missing"),
-            RefusedObject::Line(line) => {
+            Refused::EndMissing => send_words(alloc, out, "record", "end missing"),
+            Refused::Line(line) => {
                 send_line_of(alloc, out, "replay", "line does not fit", line as usize)
             }
-            RefusedObject::EndLine(line) => {
+            Refused::EndLine(line) => {
                 send_line_of(alloc, out, "replay", "end line does not fit", line as usize)
             }
         }
     }
 }
 
-impl RefusedObject<'_> {
+impl Refused<'_> {
     /// The status of a job that is refused so: 2 of a module, 3 of a call, 4 of a record.
     pub fn status(&self) -> u8
         ensures { result ≡ specified.status_of_refused self.now }
     {
         match self {
-            RefusedObject::Read { .. }
-            | RefusedObject::Rule(_)
-            | RefusedObject::RuleInBody { .. } => 2,
-            RefusedObject::Call(_) => 3,
+            Refused::Read { .. } | Refused::Rule(_) | Refused::RuleInBody { .. } => 2,
+            Refused::Call(_) => 3,
             _ => 4,
         }
     }
@@ -165,16 +161,16 @@ impl RefusedObject<'_> {
 
 /// What is refused, and what to do about it.
 #[derive(Clone, Copy)]
-pub struct RefusalObject<'a> {
-    pub refused: RefusedObject<'a>,
+pub struct Refusal<'a> {
+    pub refused: Refused<'a>,
     pub hints: &'a [&'a str],
 }
 
-impl ToJson for RefusalObject<'_> {
+impl ToJson for Refusal<'_> {
     ghost json = { refusal_json };
 
     fn send<S: Serializer>(&self, alloc: Global, out: &mut S) -> Result<(), S::Error> {
-        let RefusalObject { refused, hints } = *self;
+        let Refusal { refused, hints } = *self;
         out.begin_map(Some(2 + some(hints)))?;
         put(alloc, out, "status", &refused.status())?;
         put(alloc, out, "refused", &refused)?;
@@ -207,9 +203,9 @@ impl ToJson for Failure<'_> {
 
 /// A job that failed.
 #[derive(Clone, Copy)]
-struct FailedObject<'a>(Failure<'a>);
+struct Failed<'a>(Failure<'a>);
 
-impl ToJson for FailedObject<'_> {
+impl ToJson for Failed<'_> {
     ghost json = { λ f. failed_json f.0 };
 
     fn send<S: Serializer>(&self, alloc: Global, out: &mut S) -> Result<(), S::Error> {
@@ -237,7 +233,7 @@ impl ToJson for Accepted {
 pub fn write_refusal<W: Write>(
     alloc: Global,
     out: &mut W,
-    refusal: &RefusalObject,
+    refusal: &Refusal,
 ) -> Result<(), Unwritten>
     ensures object { Wrote W.contents out.old out.new result (json_line (refusal_json refusal.now)) }
     ensures left { IfErr result (LeavesAs out.old out.new) }
@@ -250,7 +246,7 @@ pub fn write_failed<W: Write>(alloc: Global, out: &mut W, failure: Failure) -> R
     ensures object { Wrote W.contents out.old out.new result (json_line (failed_json failure.entry)) }
     ensures left { IfErr result (LeavesAs out.old out.new) }
 {
-    write_line(alloc, out, &FailedObject(failure))
+    write_line(alloc, out, &Failed(failure))
 }
 
 /// Writes the object of a module that is accepted, with so many functions of its own.
@@ -267,9 +263,9 @@ pub fn write_accepted<W: Write>(
 
 /// A job that is done, of which nothing else is said.
 #[derive(Clone, Copy)]
-struct DoneObject;
+struct Done;
 
-impl ToJson for DoneObject {
+impl ToJson for Done {
     ghost use Rattle.report_json.specs.Refusals.{done_json};
 
     ghost json = { λ _. done_json };
@@ -284,5 +280,5 @@ pub fn write_done<W: Write>(alloc: Global, out: &mut W) -> Result<(), Unwritten>
     ensures object { Wrote W.contents out.old out.new result (json_line specified.done_json) }
     ensures left { IfErr result (LeavesAs out.old out.new) }
 {
-    write_line(alloc, out, &DoneObject)
+    write_line(alloc, out, &Done)
 }

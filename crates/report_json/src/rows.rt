@@ -6,7 +6,7 @@ ghost use Rattle.report_json.specs.Rows.{row_json, rows_front, separator, row_te
 ghost use Rattle.report_json.specs.Json.{json_line, text};
 
 use crate::object::{ToJson, given, put, put_if, write_text};
-use crate::places::PlaceObject;
+use crate::places::Place;
 use serde::Serializer;
 use show_text::{Unwritten, Words};
 use std::alloc::Global;
@@ -14,10 +14,10 @@ use std::io::{self, Write};
 
 /// An entry: its line of the record, its words, and where it was made, if that is known.
 #[derive(Clone, Copy)]
-pub struct RowObject<'a> {
+pub struct Row<'a> {
     pub line: u64,
     pub words: Words<'a>,
-    pub place: Option<PlaceObject<'a>>,
+    pub place: Option<Place<'a>>,
 }
 
 impl ToJson for Words<'_> {
@@ -31,7 +31,7 @@ impl ToJson for Words<'_> {
     }
 }
 
-impl ToJson for RowObject<'_> {
+impl ToJson for Row<'_> {
     ghost json = { row_json };
 
     fn send<S: Serializer>(&self, alloc: Global, out: &mut S) -> Result<(), S::Error> {
@@ -72,7 +72,7 @@ pub fn write_row<W: Write>(
     alloc: Global,
     out: &mut W,
     is_first: bool,
-    row: &RowObject,
+    row: &Row,
 ) -> Result<(), Unwritten>
     ensures { Wrote W.contents out.old out.new result (row_text is_first row.now) }
 {
@@ -100,7 +100,7 @@ pub fn the_rows_are_one_object()
 ///
 /// # Errors
 /// Where memory is refused; that of the writer, and then what was written isn't said.
-pub fn write_rows<W: Write>(alloc: Global, out: &mut W, rows: &[RowObject]) -> Result<(), Unwritten>
+pub fn write_rows<W: Write>(alloc: Global, out: &mut W, rows: &[Row]) -> Result<(), Unwritten>
     ensures { Wrote W.contents out.old out.new result (json_line (rows_json rows.now)) }
 {
     begin_rows(out)?;

@@ -1,8 +1,7 @@
 //! Entries and races.
 
 use report_json::{
-    NextWrite, PlaceObject, RaceEntry, RacePair, RacePairs, RowObject, SourceObject, write_races,
-    write_rows,
+    NextWrite, Place, RaceEntry, RacePair, RacePairs, Row, Source, write_races, write_rows,
 };
 use show_places::FunctionName;
 use show_text::{Context, Words};
@@ -11,7 +10,7 @@ use std::test::Fail;
 use types::{Entry, Event, Reply};
 
 /// A plain load of 4 bytes at 4096, on line 25.
-const LOAD: RowObject<'static> = RowObject {
+const LOAD: Row<'static> = Row {
     line: 25,
     words: Words {
         entry: Entry {
@@ -33,7 +32,7 @@ const LOAD: RowObject<'static> = RowObject {
 };
 
 /// Whether entries are printed so.
-fn are_printed(alloc: Global, rows: &[RowObject], text: &str) -> bool {
+fn are_printed(alloc: Global, rows: &[Row], text: &str) -> bool {
     let mut out = Vec::new(alloc);
     write_rows(alloc, &mut out, rows).is_ok() && out.as_slice() == text.as_bytes()
 }
@@ -42,10 +41,10 @@ fn are_printed(alloc: Global, rows: &[RowObject], text: &str) -> bool {
 fn entries(rt: HostRuntime) -> Result<(), Fail> {
     let mut placed = LOAD;
     placed.line = 26;
-    placed.place = Some(PlaceObject {
+    placed.place = Some(Place {
         function: FunctionName::Exported("f"),
         offset: None,
-        source: Some(SourceObject {
+        source: Some(Source {
             file: "a \"b\".c",
             line: 7,
         }),

@@ -4,4 +4,3 @@ pub mod Zipped
 mod Printed
 mod ObjectRows
 mod RunMoments
-pub mod Sightings

@@ -1,12 +1,11 @@
 -- The rows of an object, one behind the other.
-use Rattle.std.proofs.Common.{◌≡◌, ◌∙◌, ℕ, ◌+◌, ◌<◌, ◌≤◌, List, [], ◌∷◌, ◌++◌, Bool, false, length, take, get_or, true}
-use Rattle.std.proofs.Common.{Option, None, Some, append-nil, refl, sym, ap, subst, arith}
+use Rattle.std.proofs.Common.{◌≡◌, ◌∙◌, ℕ, ◌+◌, ◌<◌, ◌≤◌, List, [], ◌∷◌, ◌++◌, Bool, false, length, take, get_or, true, Option, None, Some, append-nil, refl, sym, ap, subst, arith}
 use Rattle.std.specs.List.{AllZip}
 use Rattle.std.specs.Io.KnownBytes.{Appends}
 use Rattle.std.proofs.Math.Seq.{take-append_seam, get_or-append_seam}
 use Rattle.std.proofs.lemmas.List.{take_all}
 use Rattle.types.specs.declared.event.Entry.{Entry}
-use Rattle.report_json.specs.declared.rows.RowObject.{RowObject}
+use Rattle.report_json.specs.declared.rows.Row.{Row}
 use Rattle.report_json.specs.Json.{json_line}
 use Rattle.report_json.specs.Rows.{row_text, rows_back, rows_front, rows_json, rows_text}
 use Rattle.report_json.proofs.RowTexts.{is_nil, rows_done, rows_go_on}
@@ -21,21 +20,21 @@ length_more [] x = refl
 length_more (y ∷ xs) x = omega (arith, length_more xs x)
 
 -- One more row is written behind these.
-row_behind : (rows : List RowObject) (row : RowObject) (is_first : Bool) (a b c : Option (List ℕ)) → is_first ≡ is_nil rows
+row_behind : (rows : List Row) (row : Row) (is_first : Bool) (a b c : Option (List ℕ)) → is_first ≡ is_nil rows
     → Appends a b (rows_text rows) → Appends b c (row_text is_first row)
     → (false ≡ is_nil (rows ++ row ∷ [])) × Appends a c (rows_text (rows ++ row ∷ []))
 row_behind rows row is_first a b c first before one =
-    let all : List RowObject = rows ++ row ∷ [] in
+    let all : List Row = rows ++ row ∷ [] in
     let here : take (length rows) all ≡ rows = take-append_seam rows (row ∷ []) in
     let it : get_or all (length rows) row ≡ row = get_or-append_seam rows row [] row in
     let long : length all ≡ length rows + 1 = length_more rows row in
-    subst (λ (rs : List RowObject). (false ≡ is_nil rs) × Appends a c (rows_text rs)) (take_all (length rows + 1) all (omega (arith, long)))
+    subst (λ (rs : List Row). (false ≡ is_nil rs) × Appends a c (rows_text rs)) (take_all (length rows + 1) all (omega (arith, long)))
     (rows_go_on all (length rows) row is_first a b c (omega (arith, long))
     (first ∙ sym (ap is_nil here))
-    (subst (λ (rs : List RowObject). Appends a b (rows_text rs)) (sym here) before)
-    (subst (λ (r : RowObject). Appends b c (row_text is_first r)) (sym it) one))
+    (subst (λ (rs : List Row). Appends a b (rows_text rs)) (sym here) before)
+    (subst (λ (r : Row). Appends b c (row_text is_first r)) (sym it) one))
 
-pub row_at : (shown : Shown) (story : Story) (at : ℕ) (log : List Entry) (d : Entry) (row : RowObject) → log ≡ shown.record.now.log
+pub row_at : (shown : Shown) (story : Story) (at : ℕ) (log : List Entry) (d : Entry) (row : Row) → log ≡ shown.record.now.log
     → at < length shown.record.now.log → IsRowOf shown story at (get_or log at d) row → IsRowAt shown story at row
 row_at shown story at log d row same within is = record {
   made = get_or log at d;
@@ -45,7 +44,7 @@ row_at shown story at log d row same within is = record {
 
 -- These rows are written, and the next one is the first where there is none yet.
 abbrev pub HasRows : Shown → Story → List ℕ → Bool → Option (List ℕ) → Option (List ℕ) → Type 0
-HasRows shown story places is_first old new = (rows : List RowObject) × (is_first ≡ is_nil rows) × AllZip (IsRowAt shown story) places rows
+HasRows shown story places is_first old new = (rows : List Row) × (is_first ≡ is_nil rows) × AllZip (IsRowAt shown story) places rows
     × Appends old new (rows_text rows)
 
 pub no_rows : (shown : Shown) (story : Story) (a : Option (List ℕ)) → HasRows shown story [] true a a
@@ -65,9 +64,9 @@ rows_all shown story places k is_first a b all (rows, first, each, before) =
     (rows, subst (λ (ps : List ℕ). AllZip (IsRowAt shown story) ps rows) (take_all k places all) each, before)
 
 -- Between its front and its back they are one object.
-pub object_of_rows : (rows : List RowObject) (a b c d : Option (List ℕ)) → Appends a b rows_front → Appends b c (rows_text rows)
+pub object_of_rows : (rows : List Row) (a b c d : Option (List ℕ)) → Appends a b rows_front → Appends b c (rows_text rows)
     → Appends c d rows_back → Appends a d (json_line (rows_json rows))
 object_of_rows rows a b c d front middle back =
     let all : take (length rows) rows ≡ rows = take_all (length rows) rows (omega arith) in
     rows_done rows (length rows) a b c d (omega arith) front
-    (subst (λ (rs : List RowObject). Appends b c (rows_text rs)) (sym all) middle) back
+    (subst (λ (rs : List Row). Appends b c (rows_text rs)) (sym all) middle) back

@@ -15,7 +15,7 @@ use Rattle.replay_text.specs.declared.parts.RecordParts.{RecordParts}
 use Rattle.replay_text.specs.Versions.{header_count}
 use Rattle.selection.specs.declared.choice.Choice.{Choice}
 use Rattle.selection.specs.declared.choice.Look.{Look}
-use Rattle.selection.specs.declared.choice.NumberSpan.{NumberSpan}
+use Rattle.selection.specs.declared.choice.Span.{Span}
 use Rattle.selection.specs.Choices.{span_of}
 use Rattle.report_command.specs.declared.places.Data.{Data}
 use Rattle.report_command.specs.declared.places.Data.TheVariants.{At, Named}
@@ -23,11 +23,11 @@ use Rattle.report_command.specs.declared.places.When.{When}
 use Rattle.report_command.specs.declared.places.When.TheVariants.{Line, End, Trap}
 use Rattle.report_command.specs.declared.show.At as At
 use Rattle.report_command.specs.declared.show.ShowLook.{ShowLook}
-use Rattle.report_command.specs.declared.show.RecordView.{RecordView}
-use Rattle.report_command.specs.declared.show.RecordView.TheVariants as views
+use Rattle.report_command.specs.declared.show.View.{View}
+use Rattle.report_command.specs.declared.show.View.TheVariants as views
 use Rattle.report_command.specs.Views.{path_of}
 use Rattle.report_jobs.specs.Prints.{WriterChange}
-use Rattle.dwarf_data.specs.declared.place.ByteRange.{ByteRange}
+use Rattle.dwarf_data.specs.declared.place.Place.{Place}
 use Rattle.dwarf_data.specs.Within.{IsWithinOne}
 use Rattle.show_events.specs.Written.{WritesPage, WritesTrace}
 use Rattle.show_events.specs.declared.run.MomentText.{MomentText}
@@ -41,7 +41,7 @@ use Rattle.show_rows.specs.declared.listing.Story.{Story}
 use Rattle.show_rows.specs.Listing.{IsStoryOf}
 use Rattle.show_named.specs.LastTexts.{WritesLast}
 use Rattle.show_waits.specs.Waits.{WritesWaits}
-use Rattle.report_looks.specs.declared.wanted.LookRequest.{LookRequest}
+use Rattle.report_looks.specs.declared.wanted.Asked.{Asked}
 use Rattle.report_looks.specs.declared.wanted.Here.{Here}
 use Rattle.report_looks.specs.declared.wanted.Wanted.{Wanted}
 use Rattle.report_looks.specs.declared.wanted.Wanted.TheVariants as wanted
@@ -75,9 +75,9 @@ place_in r End = Some (length r.log)
 place_in r Trap = position (leaves_trapped r.ends) r.log
 
 -- The addresses are those, or all of the bytes of static data that words name.
-abbrev pub AreAddresses : DataMap → Data → NumberSpan → Type 0
+abbrev pub AreAddresses : DataMap → Data → Span → Type 0
 AreAddresses map (At addrs) span = span ≡ addrs
-AreAddresses map (Named words) span = (place : ByteRange) × IsWithinOne map.spans.items.items place
+AreAddresses map (Named words) span = (place : Place) × IsWithinOne map.spans.items.items place
     × (span ≡ span_of place.start place.size)
 
 abbrev pub is_end : When → Bool
@@ -94,14 +94,14 @@ pub record IsHere (r : RecordParts) (at : At.At) (here : Here) : Type 0 where
   pub raw : here.is_raw ≡ at.is_raw
 
 -- What is wanted of a view, with addresses and places of this record.
-abbrev pub IsWanted : RecordParts → DataMap → RecordView → Wanted → Type 0
-IsWanted r map (views.Write write) w = (addrs : NumberSpan) × (before : ℕ) × (w ≡ wanted.Write addrs before)
+abbrev pub IsWanted : RecordParts → DataMap → View → Wanted → Type 0
+IsWanted r map (views.Write write) w = (addrs : Span) × (before : ℕ) × (w ≡ wanted.Write addrs before)
     × AreAddresses map write.bytes addrs × (place_in r write.before ≡ Some before)
 IsWanted r map (views.Moment at) w = (here : Here) × (w ≡ wanted.Moment here) × IsHere r at here
 IsWanted r map view w = w ≡ wanted.Entries view
 
 -- The look that is asked for, at these addresses.
-pub record IsLookAt (how : ShowLook) (addrs : List NumberSpan) (look : Look) : Type 0 where
+pub record IsLookAt (how : ShowLook) (addrs : List Span) (look : Look) : Type 0 where
   pub lines : look.choice.lines.items ≡ how.lines.items
   pub threads : look.choice.threads.items ≡ how.threads.items
   pub addrs_are : look.choice.addrs.items ≡ addrs
@@ -109,14 +109,14 @@ pub record IsLookAt (how : ShowLook) (addrs : List NumberSpan) (look : Look) : T
   pub color : look.color ≡ how.color
 
 -- What is shown of a record, and how.
-pub record IsAsked (r : RecordParts) (map : DataMap) (how : ShowLook) (asked : LookRequest) : Type 0 where
+pub record IsAsked (r : RecordParts) (map : DataMap) (how : ShowLook) (asked : Asked) : Type 0 where
   pub wanted_is : IsWanted r map how.view asked.wanted
-  pub addrs : List NumberSpan
+  pub addrs : List Span
   pub addrs_are : AllZip (AreAddresses map) how.bytes.items addrs
   pub look_is : IsLookAt how addrs asked.look
 
 -- The words of the last entry before a place that writes there are written, or that none does.
-abbrev pub WritesLastOf : Shown → DataMap → ℕ → NumberSpan → Option (List ℕ) → Option (List ℕ) → Type 0
+abbrev pub WritesLastOf : Shown → DataMap → ℕ → Span → Option (List ℕ) → Option (List ℕ) → Type 0
 WritesLastOf shown map before addrs old new = (story : Story) × IsStoryOf shown.record.now.log story
     × WritesLast shown map story before addrs old new
 
@@ -151,7 +151,7 @@ WritesFoldedOf shown map look old new = (between : Option (List ℕ)) × WritesF
     × WritesBelow (has_waits shown look) shown map between new
 
 -- Entries as rows, as an object, as a page with these moments, or as a trace.
-abbrev pub WritesEntries : RecordView → Shown → DataMap → Look → Option (List ℕ) → Option (List ℕ) → Type 0
+abbrev pub WritesEntries : View → Shown → DataMap → Look → Option (List ℕ) → Option (List ℕ) → Type 0
 WritesEntries (views.Page path) shown map look old new = (races : List Race) × (moments : List MomentText)
     × AreOfPage shown map look races moments × WritesPage shown races moments look old new
 WritesEntries (views.Trace path) shown map look old new = (races : List Race) × WritesTrace shown races look old new
@@ -174,8 +174,7 @@ pub record IsShown (m : Parts) (r : RecordParts) (rows : List (Option Row)) (sho
   pub of_module : shown.code.now.parts.now ≡ m
 
 -- What is asked for of it is written.
-abbrev pub PrintsAsked : Parts → RecordParts → List (Option Row) → DataMap → LookRequest → Option (List ℕ)
-    → Option (List ℕ) → Type 0
+abbrev pub PrintsAsked : Parts → RecordParts → List (Option Row) → DataMap → Asked → Option (List ℕ) → Option (List ℕ) → Type 0
 PrintsAsked m r rows map asked old new = (shown : Shown) × IsShown m r rows shown
     × WritesWanted shown map asked.look asked.wanted old new
 
@@ -185,10 +184,10 @@ pub record PrintsShow (how : ShowLook) (out : WriterChange) (m : Parts) (saved :
   pub rows : List (Option Row)
   pub seen : IsSeen m saved record_is rows
   pub map : DataMap
-  pub asked : LookRequest
+  pub asked : Asked
   pub asked_is : IsAsked record_is map how asked
   pub prints : PrintsAsked m record_is rows map asked out.old out.new
 
 -- A page and a trace are written to the file that is made, and all else to standard output.
-abbrev pub stream_of : RecordView → WriterChange → WriterChange → WriterChange
+abbrev pub stream_of : View → WriterChange → WriterChange → WriterChange
 stream_of view out save = cond (is_some (path_of view)) save out

@@ -3,8 +3,8 @@ use Rattle.std.specs.Prelude.{ℕ, ◌≡◌, ◌-◌, ◌/◌, max, min, false,
 use Rattle.std.specs.List.{AllZip}
 use Rattle.race_history.specs.declared.race.Race.{Race}
 use Rattle.selection.specs.declared.choice.Look.{Look}
-use Rattle.report_command.specs.declared.show.RecordView.{RecordView}
-use Rattle.report_command.specs.declared.show.RecordView.TheVariants as views
+use Rattle.report_command.specs.declared.show.View.{View}
+use Rattle.report_command.specs.declared.show.View.TheVariants as views
 use Rattle.show_events.specs.Around.{failure, part_around}
 use Rattle.show_events.specs.declared.run.MomentText.{MomentText}
 use Rattle.show_moments.specs.declared.moment.Bytes.{Bytes}
@@ -43,6 +43,6 @@ pub record AreOfPage (shown : Shown) (map : DataMap) (look : Look) (races : List
   pub each : AreMomentsOf seen look races moments
 
 -- The moments are those of a page, if one is wanted.
-abbrev pub AreMarks : RecordView → Shown → DataMap → Look → Marks → Type 0
+abbrev pub AreMarks : View → Shown → DataMap → Look → Marks → Type 0
 AreMarks (views.Page path) shown map look marks = AreOfPage shown map look marks.races.items marks.moments.items
 AreMarks view shown map look marks = Unit {0}

@@ -4,24 +4,24 @@ use Rattle.std.specs.Borrow.{Bor}
 use Rattle.std.specs.List.{AllZip, slice_get}
 use Rattle.std.specs.Io.KnownBytes.{Appends}
 use Rattle.types.specs.declared.event.Entry.{Entry}
-use Rattle.race_history.specs.declared.access.ThreadAccess.{ThreadAccess}
-use Rattle.race_history.specs.declared.access.AccessKind.{AccessKind}
-use Rattle.race_history.specs.declared.access.AccessKind.TheVariants.{Plain, Atomic}
+use Rattle.race_history.specs.declared.access.Access.{Access}
+use Rattle.race_history.specs.declared.access.Kind.{Kind}
+use Rattle.race_history.specs.declared.access.Kind.TheVariants.{Plain, Atomic}
 use Rattle.race_history.specs.declared.race.Race.{Race}
 use Rattle.interp.specs.declared.place.CodePlace.{CodePlace}
 use Rattle.selection.specs.declared.choice.Look.{Look}
 use Rattle.report_json.specs.Json.{json_line}
 use Rattle.report_json.specs.Rows.{races_json, row_text, rows_json, rows_text}
 use Rattle.report_json.specs.declared.places.Offset.{Offset}
-use Rattle.report_json.specs.declared.places.PlaceObject.{PlaceObject}
-use Rattle.report_json.specs.declared.places.SourceObject.{SourceObject}
-use Rattle.report_json.specs.declared.rows.RowObject.{RowObject}
+use Rattle.report_json.specs.declared.places.Place.{Place}
+use Rattle.report_json.specs.declared.places.Source.{Source}
+use Rattle.report_json.specs.declared.rows.Row.{Row}
 use Rattle.report_json.specs.declared.races.NextWrite.{NextWrite}
 use Rattle.report_json.specs.declared.races.RaceEntry.{RaceEntry}
 use Rattle.report_json.specs.declared.races.RacePair.{RacePair}
 use Rattle.report_json.specs.declared.races.RacePairs.{RacePairs}
 use Rattle.show_races.specs.Written.{IsNextWrite, access_at}
-use Rattle.show_races.specs.declared.found.RecordRaces.{RecordRaces}
+use Rattle.show_races.specs.declared.found.Races.{Races}
 use Rattle.show_rows.specs.Listing.{AreWordsOf, IsStoryOf, chosen, line_at, place_of}
 use Rattle.show_rows.specs.Spots.{IsSpotOf}
 use Rattle.show_rows.specs.declared.code.CodeMap.{CodeMap}
@@ -35,69 +35,68 @@ IsOffset None None = Unit {0}
 IsOffset (Some n) (Some offset) = offset.0 ≡ n
 IsOffset known offset = ⊥
 
-abbrev pub IsSource : Option (Bor (List ℕ) × ℕ) → Option SourceObject → Type 0
+abbrev pub IsSource : Option (Bor (List ℕ) × ℕ) → Option Source → Type 0
 IsSource None None = Unit {0}
 IsSource (Some known) (Some source) = (source.file ≡ known.0) × (source.line ≡ known.1)
 IsSource known source = ⊥
 
 -- A place in the code: its function, and its offset and its line of source, as far as they are known.
-pub record IsPlaceOf (spot : Spot) (place : PlaceObject) : Type 0 where
+pub record IsPlaceOf (spot : Spot) (place : Place) : Type 0 where
   pub function : place.function ≡ spot.name
   pub offset : IsOffset spot.offset place.offset
   pub source : IsSource spot.source place.source
 
 -- Where an entry was made, if that is known.
-abbrev pub IsPlaceAt : CodeMap → Option CodePlace → Option PlaceObject → Type 0
+abbrev pub IsPlaceAt : CodeMap → Option CodePlace → Option Place → Type 0
 IsPlaceAt code None None = Unit {0}
 IsPlaceAt code (Some at) (Some place) = (spot : Spot) × IsSpotOf code at spot × IsPlaceOf spot place
 IsPlaceAt code known place = ⊥
 
 -- The entry at a place of the log: its line of the record, its words, and where it was made.
-pub record IsRowOf (shown : Shown) (story : Story) (at : ℕ) (made : Entry) (row : RowObject) : Type 0 where
+pub record IsRowOf (shown : Shown) (story : Story) (at : ℕ) (made : Entry) (row : Row) : Type 0 where
   pub line : row.line ≡ line_at shown at
   pub words : AreWordsOf shown story at made row.words
   pub place : IsPlaceAt shown.code.now (place_of shown story at) row.place
 
 -- The row of the entry that stands at a place of the log.
-pub record IsRowAt (shown : Shown) (story : Story) (at : ℕ) (row : RowObject) : Type 0 where
+pub record IsRowAt (shown : Shown) (story : Story) (at : ℕ) (row : Row) : Type 0 where
   pub made : Entry
   pub stands : slice_get shown.record.now.log at ≡ Some made
   pub row_of : IsRowOf shown story at made row
 
 -- What was written is the row of the entry at a place; and those of the entries at these places, in order.
 abbrev pub AddsRow : Shown → Story → ℕ → Bool → Option (List ℕ) → Option (List ℕ) → Type 0
-AddsRow shown story at is_first old new = (row : RowObject) × IsRowAt shown story at row
-    × Appends old new (row_text is_first row)
+AddsRow shown story at is_first old new = (row : Row) × IsRowAt shown story at row × Appends old new (row_text is_first row)
 
 abbrev pub AddsRows : Shown → Story → List ℕ → Option (List ℕ) → Option (List ℕ) → Type 0
-AddsRows shown story places old new = (rows : List RowObject) × AllZip (IsRowAt shown story) places rows
+AddsRows shown story places old new = (rows : List Row) × AllZip (IsRowAt shown story) places rows
     × Appends old new (rows_text rows)
 
 -- What was written is one object: of the entries that are chosen, in order.
 pub record WritesObject (shown : Shown) (look : Look) (old new : Option (List ℕ)) : Type 0 where
   pub story : Story
   pub is_story : IsStoryOf shown.record.now.log story
-  pub rows : List RowObject
+  pub rows : List Row
   pub each : AllZip (IsRowAt shown story) (chosen shown look) rows
   pub object : Appends old new (json_line (rows_json rows))
 
 -- By an atomic instruction.
-abbrev pub is_atomic_kind : Option AccessKind → Bool
+abbrev pub is_atomic_kind : Option Kind → Bool
 is_atomic_kind None = false
 is_atomic_kind (Some Plain) = false
 is_atomic_kind (Some Atomic) = true
 
 -- The first byte of an access, and how many it touches; an entry that races makes one.
-abbrev pub first_byte : Option ThreadAccess → ℕ
+abbrev pub first_byte : Option Access → ℕ
 first_byte None = 0
 first_byte (Some a) = a.addr
 
-abbrev pub bytes_of : Option ThreadAccess → ℕ
+abbrev pub bytes_of : Option Access → ℕ
 bytes_of None = 0
 bytes_of (Some a) = a.width
 
 -- The entry at a place, with what it touches, and how.
-pub record IsEntryOf (shown : Shown) (story : Story) (kinds : List AccessKind) (at : ℕ) (e : RaceEntry) : Type 0 where
+pub record IsEntryOf (shown : Shown) (story : Story) (kinds : List Kind) (at : ℕ) (e : RaceEntry) : Type 0 where
   pub made : Entry
   pub stands : slice_get shown.record.now.log at ≡ Some made
   pub row : IsRowOf shown story at made e.row
@@ -112,7 +111,7 @@ IsWriteOf shown second (Some at) (Some next) = (next.line ≡ line_at shown at) 
 IsWriteOf shown second known next = ⊥
 
 -- The next one of the thread that makes the first entry of a race, behind that.
-pub record IsNextOf (shown : Shown) (kinds : List AccessKind) (r : Race) (write : Option NextWrite) : Type 0 where
+pub record IsNextOf (shown : Shown) (kinds : List Kind) (r : Race) (write : Option NextWrite) : Type 0 where
   pub made : Entry
   pub stands : slice_get shown.record.now.log r.first ≡ Some made
   pub next : Option ℕ
@@ -120,14 +119,13 @@ pub record IsNextOf (shown : Shown) (kinds : List AccessKind) (r : Race) (write 
   pub is : IsWriteOf shown r.second next write
 
 -- Two entries that race, and that write.
-pub record IsPairOf (shown : Shown) (story : Story) (kinds : List AccessKind) (r : Race)
-    (pair : RacePair) : Type 0 where
+pub record IsPairOf (shown : Shown) (story : Story) (kinds : List Kind) (r : Race) (pair : RacePair) : Type 0 where
   pub first : IsEntryOf shown story kinds r.first pair.first
   pub second : IsEntryOf shown story kinds r.second pair.second
   pub next : IsNextOf shown kinds r pair.next_write
 
 -- What was written is the object of each of these races, in order, which says whether that are all.
-pub record WritesPairs (shown : Shown) (story : Story) (races : RecordRaces) (old new : Option (List ℕ)) : Type 0 where
+pub record WritesPairs (shown : Shown) (story : Story) (races : Races) (old new : Option (List ℕ)) : Type 0 where
   pub pairs : RacePairs
   pub each : AllZip (IsPairOf shown story races.kinds.items) races.pairs.items pairs.pairs.now
   pub more : pairs.is_cut ≡ races.is_cut

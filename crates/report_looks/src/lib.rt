@@ -1,7 +1,7 @@
 //! What the program shows of a record: its entries in words, and its races. `showing` has the entries as rows, a moment, a
 //! page, a trace or an object, or the last write of some bytes: `wanted` finds what is asked for in the record, `printing`
 //! writes it, and `ends` what the end of its run is like; `racing` has the races, as lines or as the object that `pairing`
-//! makes, and `sighting` those that a run has, and the first one, with what it is told by.
+//! makes.
 //!
 //! Proved: 0 of a show says that the record is of a run of the module, 0 of races that no two accesses of that run race, 1
 //! that some do, 2 and 4 that there is no such module or record, 3 of a show that there is one which has not what is asked
@@ -23,9 +23,8 @@ mod pairing;
 mod printing;
 mod racing;
 mod showing;
-mod sighting;
 mod wanted;
 
+pub use pairing::pair_of;
 pub use racing::races_saved;
 pub use showing::{CodeBytes, show_saved};
-pub use sighting::{FirstRace, first_race};

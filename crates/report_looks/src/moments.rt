@@ -9,7 +9,7 @@ use crate::printing::{MOST_MARKS, moment_of, races_in};
 use crate::wanted::Here;
 use race_history::Race;
 use replay_text::Record;
-use report_command::RecordView;
+use report_command::View;
 use selection::{Look, touched};
 use show_events::{MomentText, failure_of, part_around};
 use show_moments::{Bytes, MomentView, write_moment};
@@ -140,14 +140,14 @@ pub(crate) fn marks_of(
     shown: Shown,
     map: &DataMap,
     look: &Look,
-    view: RecordView,
+    view: View,
 ) -> Result<Marks, Unwritten>
     requires of_module { shown.code.now.parts.now ≡ «module».now.parts }
     requires of_record { «record».now ≡ shown.record.now }
     ensures { IfOk result (AreMarks view.entry shown.entry map.now look.now) }
 {
     match view {
-        RecordView::Page(_) => {
+        View::Page(_) => {
             let races = races_in(alloc, shown, MOST_OF_PAGE)?;
             let seen = MomentView {
                 valid: module,
@@ -158,17 +158,15 @@ pub(crate) fn marks_of(
             let moments = moments_of(alloc, seen, record, look, &races)?;
             Ok(Marks { races, moments })
         }
-        RecordView::Trace(_) => Ok(Marks {
+        View::Trace(_) => Ok(Marks {
             races: races_in(alloc, shown, MOST_MARKS)?,
             moments: Vec::new(alloc),
         }),
-        RecordView::Rows
-        | RecordView::Unfolded
-        | RecordView::Object
-        | RecordView::Moment(_)
-        | RecordView::Write(_) => Ok(Marks {
-            races: Vec::new(alloc),
-            moments: Vec::new(alloc),
-        }),
+        View::Rows | View::Unfolded | View::Object | View::Moment(_) | View::Write(_) => Ok(
+            Marks {
+                races: Vec::new(alloc),
+                moments: Vec::new(alloc),
+            },
+        ),
     }
 }

@@ -2,7 +2,7 @@
 ghost use Rattle.std.specs.Prelude.{◌<◌, All, OnOk, length};
 ghost use Rattle.report_looks.specs.RaceObjects.{AddsRow, AddsRows, IsOffset, IsPlaceOf, IsRowOf, IsSource, WritesObject};
 
-use report_json::{Offset, PlaceObject, RowObject, SourceObject, begin_rows, end_rows, write_row};
+use report_json::{Offset, Place, Row, Source, begin_rows, end_rows, write_row};
 use selection::Look;
 use show_rows::{Shown, Spot, Story, chosen_entries};
 use show_text::Unwritten;
@@ -21,20 +21,20 @@ fn offset_of(offset: Option<usize>) -> Option<Offset>
 }
 
 /// A line of source, where it is known.
-fn source_of(source: Option<(&str, u64)>) -> Option<SourceObject<'_>>
+fn source_of(source: Option<(&str, u64)>) -> Option<Source<'_>>
     ensures { IsSource source.entry result }
 {
     match source {
-        Some((file, line)) => Some(SourceObject { file, line }),
+        Some((file, line)) => Some(Source { file, line }),
         None => None,
     }
 }
 
 /// A place in the code.
-fn place_of(spot: Spot<'_>) -> PlaceObject<'_>
+fn place_of(spot: Spot<'_>) -> Place<'_>
     ensures { IsPlaceOf spot.entry result }
 {
-    PlaceObject {
+    Place {
         function: spot.name,
         offset: offset_of(spot.offset),
         source: source_of(spot.source),
@@ -42,19 +42,14 @@ fn place_of(spot: Spot<'_>) -> PlaceObject<'_>
 }
 
 /// The entry at a place in the log.
-pub(crate) fn row_of<'a>(
-    shown: &'a Shown,
-    story: &'a Story,
-    at: usize,
-    entry: &Entry,
-) -> RowObject<'a>
+pub(crate) fn row_of<'a>(shown: &'a Shown, story: &'a Story, at: usize, entry: &Entry) -> Row<'a>
     ensures { IsRowOf shown.now story.now at entry.now result }
 {
     let place = match shown.place_at(story, at) {
         Some(place) => Some(place_of(shown.code.spot(place))),
         None => None,
     };
-    RowObject {
+    Row {
         line: shown.line_of(at),
         words: shown.words_at(story, at, entry),
         place,

@@ -7,9 +7,9 @@ ghost use Rattle.report_looks.specs.RaceObjects as specified;
 ghost use Rattle.report_looks.specs.RaceObjects.{IsEntryOf, IsNextOf, IsPairOf, WritesPairs};
 
 use crate::objects::row_of;
-use race_history::{AccessKind, Race, ThreadAccess, access_of};
+use race_history::{Access, Kind, Race, access_of};
 use report_json::{NextWrite, RaceEntry, RacePair, RacePairs};
-use show_races::{RecordRaces, next_atomic_write};
+use show_races::{Races, next_atomic_write};
 use show_rows::{Shown, Story};
 use show_text::Unwritten;
 use std::alloc::{AllocError, Global};
@@ -17,20 +17,20 @@ use std::io::Write;
 use types::Entry;
 
 /// Whether the entry at a place was made by an atomic instruction.
-fn is_atomic_at(kinds: &[AccessKind], at: usize) -> bool
+fn is_atomic_at(kinds: &[Kind], at: usize) -> bool
     ensures { result ≡ specified.is_atomic_kind (slice_get kinds.now at) }
 {
     match kinds.get(at) {
         Some(kind) => match kind {
-            AccessKind::Plain => false,
-            AccessKind::Atomic => true,
+            Kind::Plain => false,
+            Kind::Atomic => true,
         },
         None => false,
     }
 }
 
 /// What the entry at a place does with the memory.
-fn access_at(log: &[Entry], kinds: &[AccessKind], at: usize) -> Option<ThreadAccess>
+fn access_at(log: &[Entry], kinds: &[Kind], at: usize) -> Option<Access>
     ensures { result ≡ access_at log.now kinds.now at }
 {
     match (log.get(at), kinds.get(at)) {
@@ -40,7 +40,7 @@ fn access_at(log: &[Entry], kinds: &[AccessKind], at: usize) -> Option<ThreadAcc
 }
 
 /// The first byte of an access.
-fn first_byte(access: Option<ThreadAccess>) -> u64
+fn first_byte(access: Option<Access>) -> u64
     ensures { result ≡ specified.first_byte access }
 {
     match access {
@@ -50,7 +50,7 @@ fn first_byte(access: Option<ThreadAccess>) -> u64
 }
 
 /// How many bytes it touches.
-fn bytes_of(access: Option<ThreadAccess>) -> u8
+fn bytes_of(access: Option<Access>) -> u8
     ensures { result ≡ specified.bytes_of access }
 {
     match access {
@@ -60,12 +60,7 @@ fn bytes_of(access: Option<ThreadAccess>) -> u8
 }
 
 /// The entry at a place, with what it touches.
-fn entry_of<'a>(
-    shown: &'a Shown,
-    story: &'a Story,
-    kinds: &[AccessKind],
-    at: usize,
-) -> RaceEntry<'a>
+fn entry_of<'a>(shown: &'a Shown, story: &'a Story, kinds: &[Kind], at: usize) -> RaceEntry<'a>
     requires { at < length shown.now.record.now.log }
     ensures { IsEntryOf shown.now story.now kinds.now at result }
 {
@@ -80,7 +75,7 @@ fn entry_of<'a>(
 }
 
 /// The next atomic write of the thread that makes the first entry of a race.
-fn next_write(shown: &Shown, kinds: &[AccessKind], race: Race) -> Option<NextWrite>
+fn next_write(shown: &Shown, kinds: &[Kind], race: Race) -> Option<NextWrite>
     requires { race.first < length shown.now.record.now.log }
     ensures { IsNextOf shown.now kinds.now race result }
 {
@@ -96,12 +91,7 @@ fn next_write(shown: &Shown, kinds: &[AccessKind], race: Race) -> Option<NextWri
 }
 
 /// Two entries that race.
-pub(crate) fn pair_of<'a>(
-    shown: &'a Shown,
-    story: &'a Story,
-    kinds: &[AccessKind],
-    race: Race,
-) -> RacePair<'a>
+pub fn pair_of<'a>(shown: &'a Shown, story: &'a Story, kinds: &[Kind], race: Race) -> RacePair<'a>
     requires { IsWithin shown.now.record.now.log race }
     ensures { IsPairOf shown.now story.now kinds.now race result }
 {
@@ -117,7 +107,7 @@ fn pairs_of<'a>(
     alloc: Global,
     shown: &'a Shown,
     story: &'a Story,
-    kinds: &[AccessKind],
+    kinds: &[Kind],
     races: &[Race],
 ) -> Result<Vec<RacePair<'a>>, AllocError>
     requires { All (IsWithin shown.now.record.now.log) races.now }
@@ -136,7 +126,7 @@ pub(crate) fn write_pairs<W: Write>(
     alloc: Global,
     shown: &Shown,
     story: &Story,
-    races: &RecordRaces,
+    races: &Races,
     out: &mut W,
 ) -> Result<(), Unwritten>
     requires { All (IsWithin shown.now.record.now.log) races.now.pairs.items }

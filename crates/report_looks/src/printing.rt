@@ -10,12 +10,12 @@ use crate::ends::write_end;
 use crate::moments::{Marks, marks_of};
 use crate::objects::write_entries;
 use crate::showing::SeenRun;
-use crate::wanted::{Here, LookRequest, Wanted};
+use crate::wanted::{Asked, Here, Wanted};
 use race_history::{Race, is_history};
 use replay::replay_watched;
 use replay_text::Record;
-use report_command::RecordView;
-use selection::{Choice, Look, NumberSpan};
+use report_command::View;
+use selection::{Choice, Look, Span};
 use show_events::{write_page, write_trace};
 use show_moments::{Moment, MomentView, write_moment};
 use show_named::{DataMap, write_folded, write_last, write_rows};
@@ -48,7 +48,7 @@ pub(crate) fn print_asked<W: Write>(
     seen: &SeenRun,
     code: &CodeMap,
     map: &DataMap,
-    asked: &LookRequest,
+    asked: &Asked,
     out: &mut W,
 ) -> Result<(), Unwritten>
     requires { code.now.parts.now ≡ «module».now.parts }
@@ -79,7 +79,7 @@ fn print_last<W: Write>(
     shown: Shown,
     map: &DataMap,
     before: usize,
-    addrs: NumberSpan,
+    addrs: Span,
     out: &mut W,
 ) -> Result<(), Unwritten>
     ensures { OnOk result (WritesLastOf shown.entry map.now before addrs (W.contents out.old) (W.contents out.new)) }
@@ -94,7 +94,7 @@ fn print_entries<W: Write>(
     shown: Shown,
     map: &DataMap,
     look: &Look,
-    view: RecordView,
+    view: View,
     marks: &Marks,
     out: &mut W,
 ) -> Result<(), Unwritten>
@@ -102,13 +102,11 @@ fn print_entries<W: Write>(
     ensures { OnOk result (WritesEntries view.entry shown.entry map.now look.now (W.contents out.old) (W.contents out.new)) }
 {
     match view {
-        RecordView::Page(_) => write_page(alloc, shown, look, &marks.races, &marks.moments, out),
-        RecordView::Trace(_) => write_trace(alloc, shown, look, &marks.races, out),
-        RecordView::Object => write_entries(alloc, shown, look, out),
-        RecordView::Unfolded => print_rows(alloc, shown, map, look, out),
-        RecordView::Rows | RecordView::Moment(_) | RecordView::Write(_) => print_folded(
-            alloc, shown, map, look, out,
-        ),
+        View::Page(_) => write_page(alloc, shown, look, &marks.races, &marks.moments, out),
+        View::Trace(_) => write_trace(alloc, shown, look, &marks.races, out),
+        View::Object => write_entries(alloc, shown, look, out),
+        View::Unfolded => print_rows(alloc, shown, map, look, out),
+        View::Rows | View::Moment(_) | View::Write(_) => print_folded(alloc, shown, map, look, out),
     }
 }
 

@@ -1,44 +1,50 @@
 //! What is asked for of a record, with its own places and addresses; or why it has no such thing.
-ghost use Rattle.std.specs.Prelude.{◌≡◌, ◌++◌, ◌∷◌, [], IfErr, IfOk, None, OnOk, position};
+ghost use Rattle.std.specs.Prelude.{◌≡◌, ◌++◌, ◌∷◌, [], IfErr, IfOk, OnOk, position};
 ghost use Rattle.std.specs.List.{AllZip};
 ghost use Rattle.selection.specs.Choices as chosen;
-ghost use Rattle.report_command.specs.declared.show.RecordView.TheVariants as views;
+ghost use Rattle.report_command.specs.declared.show.View.TheVariants as views;
 ghost use Rattle.show_named.specs.declared.data_map.DataMap.{DataMap};
-ghost use Rattle.report_jobs.specs.declared.replaying.Unfit.TheVariants as unfits;
-ghost use Rattle.report_looks.specs.declared.wanted.Unshown.TheVariants as unshown;
 ghost use Rattle.report_looks.specs.Looked as looked;
 ghost use Rattle.report_looks.specs.Looked.{AreAddresses, IsAsked, IsLookAt, IsWanted};
 ghost use Rattle.report_looks.specs.Silent.{IsUnrefused};
 
-use dwarf_data::{ByteRange, NamedBytes};
+use dwarf_data::{Place, Sought};
 use replay_text::RecordParts;
-use report_command::{At, Data, LastWrite, RecordView, ShowLook, When};
-use report_jobs::{Absent, Unfit};
-use selection::{Choice, Look, NumberSpan};
+use report_command::{At, Data, LastWrite, ShowLook, View, When};
+use report_jobs::Unfit;
+use selection::{Choice, Look, Span};
 use show_moments::Bytes;
 use show_named::DataMap;
-use show_rows::Stood;
 use std::alloc::{AllocError, Global};
+use std::fmt::{self, Formatter, Write};
 use types::{Entry, Event, Outcome, Question, ThreadReport};
 
-/// Why nothing is shown.
-#[derive(Clone, Copy)]
-pub(crate) enum Unshown {
-    /// The record is of no run, or memory or the stream failed; and what the thread of the entry that doesn't fit does in
-    /// place of it, where there is such an entry.
-    Unfit { unfit: Unfit, stood: Option<Stood> },
-    /// The record has not what is asked for.
-    Absent(Absent),
+/// What a record of a run has not that is asked for.
+#[derive(Clone, Copy, PartialEq, Eq, Debug)]
+pub(crate) enum Absent {
+    /// No static data has the name, or the module has no debug section.
+    NoData,
+    /// Data at different places has it.
+    SeveralData,
+    /// No thread trapped.
+    NoTrap,
 }
 
-/// Too little memory was left.
-pub(crate) fn no_memory() -> Unshown
-    ensures { result ≡ unshown.Unfit unfits.NoMemory None }
-{
-    Unshown::Unfit {
-        unfit: Unfit::NoMemory,
-        stood: None,
+impl fmt::Display for Absent {
+    fn fmt<W: Write>(&self, f: &mut Formatter<W>) -> fmt::Result {
+        f.write_str(match self {
+            Absent::NoData => "no static data of this name; a debug section has names",
+            Absent::SeveralData => "data at several addresses has this name",
+            Absent::NoTrap => "no thread trapped",
+        })
     }
+}
+
+/// Why nothing is shown.
+#[derive(Drop)]
+pub(crate) enum Unshown {
+    Unfit(Unfit),
+    Absent(Absent),
 }
 
 /// A moment of a record: how many entries are before it, whether it is the end, and the bytes that are shown of it.
@@ -53,7 +59,7 @@ pub(crate) struct Here {
 
 /// What is shown of a record, and how.
 #[derive(Drop)]
-pub(crate) struct LookRequest<'a> {
+pub(crate) struct Asked<'a> {
     pub wanted: Wanted<'a>,
     pub look: Look,
 }
@@ -62,11 +68,11 @@ pub(crate) struct LookRequest<'a> {
 #[derive(Clone, Copy)]
 pub(crate) enum Wanted<'a> {
     /// Its entries, in the form of this view.
-    Entries(RecordView<'a>),
+    Entries(View<'a>),
     /// A moment of it.
     Moment(Here),
     /// The last entry before the one of this place that writes a byte at these addresses.
-    Write { addrs: NumberSpan, before: usize },
+    Write { addrs: Span, before: usize },
 }
 
 /// Whether a thread leaves that trapped.
@@ -106,17 +112,17 @@ pub(crate) fn place_in(parts: &RecordParts, when: When) -> Option<usize>
 }
 
 /// The addresses of bytes.
-fn addresses_of(place: ByteRange) -> NumberSpan
+fn addresses_of(place: Place) -> Span
     ensures { result ≡ chosen.span_of place.start place.size }
 {
-    NumberSpan {
+    Span {
         first: place.start,
         last: place.start.saturating_add(place.size.saturating_sub(1)),
     }
 }
 
 /// The addresses of data.
-pub(crate) fn span_of(alloc: Global, map: &DataMap, data: Data) -> Result<NumberSpan, Unshown>
+pub(crate) fn span_of(alloc: Global, map: &DataMap, data: Data) -> Result<Span, Unshown>
     ensures addresses { IfOk result (AreAddresses map.now «data».entry) }
     ensures why { IfErr result IsUnrefused }
 {
@@ -125,10 +131,10 @@ pub(crate) fn span_of(alloc: Global, map: &DataMap, data: Data) -> Result<Number
         Data::Named(words) => words,
     };
     match map.named(alloc, words) {
-        Ok(NamedBytes::One(place)) => Ok(addresses_of(place)),
-        Ok(NamedBytes::Nothing) => Err(Unshown::Absent(Absent::NoData)),
-        Ok(NamedBytes::Several) => Err(Unshown::Absent(Absent::SeveralData)),
-        Err(_) => Err(no_memory()),
+        Ok(Sought::One(place)) => Ok(addresses_of(place)),
+        Ok(Sought::Nothing) => Err(Unshown::Absent(Absent::NoData)),
+        Ok(Sought::Several) => Err(Unshown::Absent(Absent::SeveralData)),
+        Err(_) => Err(Unshown::Unfit(Unfit::NoMemory)),
     }
 }
 
@@ -176,24 +182,24 @@ fn wanted_of<'a>(
     alloc: Global,
     parts: &RecordParts,
     map: &DataMap,
-    view: RecordView<'a>,
+    view: View<'a>,
 ) -> Result<Wanted<'a>, Unshown>
     ensures wanted { IfOk result (IsWanted parts.now map.now view.entry) }
     ensures why { IfErr result IsUnrefused }
 {
     match view {
-        RecordView::Write(write) => write_of(alloc, parts, map, write),
-        RecordView::Moment(at) => moment_of(parts, at),
-        RecordView::Rows => Ok(Wanted::Entries(RecordView::Rows)),
-        RecordView::Unfolded => Ok(Wanted::Entries(RecordView::Unfolded)),
-        RecordView::Object => Ok(Wanted::Entries(RecordView::Object)),
-        RecordView::Page(path) => Ok(Wanted::Entries(RecordView::Page(path))),
-        RecordView::Trace(path) => Ok(Wanted::Entries(RecordView::Trace(path))),
+        View::Write(write) => write_of(alloc, parts, map, write),
+        View::Moment(at) => moment_of(parts, at),
+        View::Rows => Ok(Wanted::Entries(View::Rows)),
+        View::Unfolded => Ok(Wanted::Entries(View::Unfolded)),
+        View::Object => Ok(Wanted::Entries(View::Object)),
+        View::Page(path) => Ok(Wanted::Entries(View::Page(path))),
+        View::Trace(path) => Ok(Wanted::Entries(View::Trace(path))),
     }
 }
 
 /// Puts a span behind the others.
-fn put(spans: &mut Vec<NumberSpan>, span: NumberSpan) -> Result<(), AllocError>
+fn put(spans: &mut Vec<Span>, span: Span) -> Result<(), AllocError>
     ensures { OnOk result (spans.new.items ≡ spans.old.items ++ span ∷ []) }
 {
     spans.push(span)?;
@@ -201,7 +207,7 @@ fn put(spans: &mut Vec<NumberSpan>, span: NumberSpan) -> Result<(), AllocError>
 }
 
 /// The addresses of each of these data, in order.
-fn spans_of(alloc: Global, map: &DataMap, all: &[Data]) -> Result<Vec<NumberSpan>, Unshown>
+fn spans_of(alloc: Global, map: &DataMap, all: &[Data]) -> Result<Vec<Span>, Unshown>
     ensures addresses { IfOk result (λ spans. AllZip (AreAddresses map.now) all.now spans.items) }
     ensures why { IfErr result IsUnrefused }
 {
@@ -213,14 +219,14 @@ fn spans_of(alloc: Global, map: &DataMap, all: &[Data]) -> Result<Vec<NumberSpan
         };
         match put(&mut spans, span) {
             Ok(()) => {}
-            Err(_) => return Err(no_memory()),
+            Err(_) => return Err(Unshown::Unfit(Unfit::NoMemory)),
         }
     }
     Ok(spans)
 }
 
 /// How entries are shown at these addresses.
-fn look_at(alloc: Global, how: &ShowLook, addrs: Vec<NumberSpan>) -> Result<Look, AllocError>
+fn look_at(alloc: Global, how: &ShowLook, addrs: Vec<Span>) -> Result<Look, AllocError>
     ensures { IfOk result (IsLookAt how.now addrs.items) }
 {
     Ok(Look {
@@ -240,7 +246,7 @@ pub(crate) fn asked_of<'a>(
     parts: &RecordParts,
     map: &DataMap,
     how: &ShowLook<'a>,
-) -> Result<LookRequest<'a>, Unshown>
+) -> Result<Asked<'a>, Unshown>
     ensures asked { IfOk result (IsAsked parts.now map.now how.now) }
     ensures why { IfErr result IsUnrefused }
 {
@@ -253,7 +259,7 @@ pub(crate) fn asked_of<'a>(
         Err(why) => return Err(why),
     };
     match look_at(alloc, how, addrs) {
-        Ok(look) => Ok(LookRequest { wanted, look }),
-        Err(_) => Err(no_memory()),
+        Ok(look) => Ok(Asked { wanted, look }),
+        Err(_) => Err(Unshown::Unfit(Unfit::NoMemory)),
     }
 }

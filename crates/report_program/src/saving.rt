@@ -39,7 +39,7 @@ pub fn is_one_place(rt: &HostRuntime, one: &str, other: &str) -> bool {
 
 /// Where a record goes.
 #[derive(Drop)]
-enum RecordTarget {
+enum Target {
     /// A file that takes the place of what has this path, once all of it is there.
     File {
         path: String,
@@ -56,7 +56,7 @@ enum RecordTarget {
 /// Where a record goes, found before there is one: all memory that writing it takes is taken then.
 #[derive(Drop)]
 pub struct SavePlace {
-    target: RecordTarget,
+    target: Target,
 }
 
 /// The place of a file at a path, if a file can be made beside it.
@@ -69,7 +69,7 @@ fn of_file(
     beside.create(rt)?;
     beside.remove(rt)?;
     Ok(SavePlace {
-        target: RecordTarget::File {
+        target: Target::File {
             path,
             beside,
             permissions,
@@ -92,7 +92,7 @@ impl SavePlace {
         if path == STANDARD {
             let path = String::from_str(rt.alloc(), STANDARD_OUTPUT)?;
             return Ok(SavePlace {
-                target: RecordTarget::Stream { path },
+                target: Target::Stream { path },
             });
         }
         let found = match fs::metadata(rt, path) {
@@ -108,7 +108,7 @@ impl SavePlace {
         if !found.is_file() {
             let path = String::from_str(rt.alloc(), path)?;
             return Ok(SavePlace {
-                target: RecordTarget::Stream { path },
+                target: Target::Stream { path },
             });
         }
         OpenOptions::new().write(true).open(rt, path)?;
@@ -118,7 +118,7 @@ impl SavePlace {
 
     /// Whether it is no file, and takes what is written as it is written.
     pub(crate) fn is_stream(&self) -> bool {
-        matches!(self.target, RecordTarget::Stream { .. })
+        matches!(self.target, Target::Stream { .. })
     }
 }
 
@@ -126,7 +126,7 @@ impl SavePlace {
 #[derive(Drop)]
 pub struct SavedFile<'a> {
     rt: &'a HostRuntime,
-    target: Option<RecordTarget>,
+    target: Option<Target>,
     file: Option<File>,
 }
 
@@ -148,8 +148,8 @@ impl<'a> SavedFile<'a> {
     /// Makes the file, or opens what is there.
     fn open(&mut self) -> io::Result<File> {
         match &mut self.target {
-            Some(RecordTarget::File { beside, .. }) => beside.create(self.rt),
-            Some(RecordTarget::Stream { path }) => {
+            Some(Target::File { beside, .. }) => beside.create(self.rt),
+            Some(Target::Stream { path }) => {
                 OpenOptions::new().append(true).open(self.rt, path.as_str())
             }
             None => Err(Error::from(ErrorKind::NotFound)),
@@ -165,7 +165,7 @@ impl<'a> SavedFile<'a> {
         let (
             Some(file),
             Some(
-                RecordTarget::File {
+                Target::File {
                     path,
                     beside,
                     permissions,
@@ -197,7 +197,7 @@ impl<'a> SavedFile<'a> {
     /// Takes away what was written of a record that isn't all there.
     pub fn give_up(self) {
         let SavedFile { rt, target, file } = self;
-        if let (Some(_), Some(RecordTarget::File { beside, .. })) = (file, target) {
+        if let (Some(_), Some(Target::File { beside, .. })) = (file, target) {
             let _ = beside.remove(rt);
         }
     }

@@ -1,12 +1,12 @@
 //! Records that are refused.
 
-use interp_trait::Turn;
+use crate::refused::{Instead, Misfit};
 use replay_text::{EventWords, RecordFault};
 use show_text::Plain;
 use std::alloc::AllocError;
 
 /// Adds a line of a record, by its number, from 1 on.
-fn add_text(out: &mut String, saved: &[u8], number: usize) -> Result<(), AllocError> {
+fn add_line(out: &mut String, saved: &[u8], number: usize) -> Result<(), AllocError> {
     let at = number.saturating_sub(1);
     let Some(line) = saved.split(|byte| *byte == b'\n').nth(at) else {
         return Ok(());
@@ -67,12 +67,12 @@ pub(crate) fn add_unread(
 ) -> Result<(), AllocError> {
     match fault {
         RecordFault::Header(number) => {
-            add_text(out, saved, number)?;
+            add_line(out, saved, number)?;
             let words = header_words(saved, number);
             write!(out, "{words}\n")
         }
         RecordFault::Unreadable(number) => {
-            add_text(out, saved, number)?;
+            add_line(out, saved, number)?;
             out.push_str(
                 "it is no line that may stand there: an entry, an end, the pages or finish, with one spelling each\n",
             )
@@ -84,27 +84,16 @@ pub(crate) fn add_unread(
     }
 }
 
-/// The thread of a line that doesn't fit.
-#[derive(Clone, Copy)]
-pub struct UnfitThread<'a> {
-    pub number: u32,
-    /// What it comes to in place of the line, where that is known.
-    pub turn: Option<Turn>,
-    /// Where it stands behind its last entry, as it is printed.
-    pub spot: &'a str,
-}
-
-/// Adds why a line of a record, by its number from 1 on, is of no run of the module, with what its thread does in place of
-/// it, where that is known.
-pub fn add_misfit(
+/// Adds why a line of a record is of no run of the module.
+pub(crate) fn add_misfit(
     out: &mut String,
     saved: &[u8],
     number: usize,
-    thread: Option<UnfitThread>,
+    misfit: Option<Misfit>,
 ) -> Result<(), AllocError> {
-    add_text(out, saved, number)?;
-    if let Some(thread) = thread {
-        add_instead(out, thread)?;
+    add_line(out, saved, number)?;
+    if let Some(misfit) = misfit {
+        add_instead(out, misfit)?;
     }
     out.push_str(
         "no run of this module goes on so: is the record of another module, or of another build of it?\n",
@@ -112,17 +101,22 @@ pub fn add_misfit(
 }
 
 /// Adds what a thread does in place of the record's line, and where it stands.
-fn add_instead(out: &mut String, thread: UnfitThread) -> Result<(), AllocError> {
-    let UnfitThread { number, turn, spot } = thread;
-    match turn {
-        Some(Turn::Wants(event)) => {
+fn add_instead(out: &mut String, misfit: Misfit) -> Result<(), AllocError> {
+    let thread = misfit.thread;
+    match misfit.instead {
+        Some(Instead::Wants(event)) => {
             let words = EventWords(event);
-            write!(out, "t{number} would do {words}\n")?;
+            write!(out, "t{thread} would do {words}\n")?;
         }
-        Some(Turn::Awaits) => write!(out, "t{number} waits for an answer\n")?,
-        Some(Turn::Ended(outcome)) => write!(out, "t{number} has ended: {outcome}\n")?,
-        Some(Turn::Moved) | None => {}
+        Some(Instead::Awaits) => write!(out, "t{thread} waits for an answer\n")?,
+        Some(Instead::Ended(outcome)) => write!(out, "t{thread} has ended: {outcome}\n")?,
+        None => {}
     }
-    let spot = Plain(spot);
-    write!(out, "t{number} stands at {spot} before it\n")
+    match misfit.spot {
+        Some(spot) => {
+            let spot = Plain(spot);
+            write!(out, "t{thread} stands at {spot} before it\n")
+        }
+        None => Ok(()),
+    }
 }

@@ -1,10 +1,10 @@
+mod Searched
 mod Sure
+mod Growing
 pub mod Printed
 pub mod DrawnRaces
 pub mod Wholly
 pub mod Counted
 pub mod Sought
 pub mod Pairs
-pub mod Keeping
-mod Meeting
 mod Looking

@@ -1,22 +1,23 @@
--- What a first look at all runs says of races.
-use Rattle.std.proofs.Common.{◌≡◌, ◌∙◌, Bool, true, false, List, refl, sym, ap, subst, true≢false}
+-- What a first look at all runs says of races, and what is told of them where there is none.
+use Rattle.std.proofs.Common.{◌≡◌, ◌∙◌, Bool, true, false, List, [], refl, sym, ap, subst, true≢false}
 use Rattle.spawn_host.specs.Requests.{Requested}
 use Rattle.search_endings.specs.Endings.{Ending}
 use Rattle.search_finds.specs.Finds.{IsLookedFor}
 use Rattle.search_modules.specs.Endings.{HasSought}
 use Rattle.search_modules.specs.Races.{NeverRaces}
-use Rattle.search_race_free.specs.declared.race.ThreadRace.{ThreadRace}
+use Rattle.search_race_free.specs.declared.race.Race.{Race}
 use Rattle.search_reach.specs.declared.ending.Ended.{Ended}
 use Rattle.search_reach.specs.declared.search.Verdict.{Verdict}
 use Rattle.search_reach.specs.declared.search.Verdict.TheVariants as verdicts
 use Rattle.selection.specs.declared.sought.Sought.{Sought}
 use Rattle.report_command.specs.declared.search.Search.{Search}
+use Rattle.report_jobs.specs.Prints.{WriterChange}
 use Rattle.report_searches.specs.Early.{SaysSought, ends_early}
-use Rattle.report_searches.specs.Racing.{IsAsked, IsFreelyComplete, IsKnownOf, IsWhole, racing_by}
+use Rattle.report_searches.specs.Racing.{IsAsked, IsFreelyComplete, IsKnownOf, IsWhole, TellsOfRacing, racing_by}
 use Rattle.report_searches.specs.declared.whole.Racing.TheVariants.{Never, Found, Unknown}
 
 -- where every order isn't wanted, races are asked for
-pub asked_found : (s : Search) (r : ThreadRace) → s.every_order ≡ false → IsAsked s (Found r)
+pub asked_found : (s : Search) (r : Race) → s.every_order ≡ false → IsAsked s (Found r)
 asked_found s r every = ((λ yes. absurd (true≢false (sym yes ∙ every))), (λ is. absurd cc))
 
 pub asked_unknown : (s : Search) → s.every_order ≡ false → IsAsked s Unknown
@@ -51,13 +52,14 @@ whole_by q s all complete known every sought = record {
   sought = sought;
 }
 
--- no race is found by a verdict
-pub unfound_by : (v : Verdict) (r : ThreadRace) → racing_by v ≡ Found r → ⊥
-unfound_by verdicts.All r is = absurd cc
-unfound_by verdicts.TooMany r is = absurd cc
-unfound_by verdicts.CannotTell r is = absurd cc
-unfound_by verdicts.Told r is = absurd cc
-unfound_by verdicts.Sought r is = absurd cc
+-- nothing is told where no race is known
+pub untold_by : (q : Requested) (s : Search) (v : Verdict) (save : WriterChange) → save.new ≡ save.old
+    → TellsOfRacing q s (racing_by v) [] save
+untold_by q s verdicts.All save same = (refl, same)
+untold_by q s verdicts.TooMany save same = (refl, same)
+untold_by q s verdicts.CannotTell save same = (refl, same)
+untold_by q s verdicts.Told save same = (refl, same)
+untold_by q s verdicts.Sought save same = (refl, same)
 
 -- at which endings a search ends
 pub sought_as : (s : Search) (sought : Sought) (wanted : Bool) (verdict : Verdict) (endings : List Ending) → sought ≡ s.sought → wanted ≡ ends_early s

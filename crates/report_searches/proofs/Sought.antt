@@ -1,12 +1,12 @@
 -- A run that never ends and is known is looked for.
 use Rattle.std.proofs.Common.{◌≡◌, Option, Some, None, inl, inr, refl}
-use Rattle.selection.specs.declared.sought.SearchTarget.{SearchTarget}
+use Rattle.selection.specs.declared.sought.Target.{Target}
 use Rattle.search_reach.specs.declared.liveness.Liveness.{Liveness}
 use Rattle.report_searches.specs.declared.all.EndlessRun.{EndlessRun}
 use Rattle.report_searches.specs.declared.all.EndlessRun.TheVariants.{ToNoEnd, Round}
 use Rattle.report_searches.specs.Endless.{FindsEndless, IsAlike, IsKnown}
 
-pub known_is_sought : (t : SearchTarget) (o : Option Liveness) (run : EndlessRun) → IsKnown t o run → FindsEndless t
+pub known_is_sought : (t : Target) (o : Option Liveness) (run : EndlessRun) → IsKnown t o run → FindsEndless t
 known_is_sought t o (ToNoEnd path) (l, is, known) = inl known.0.0
 known_is_sought t o (Round path round) (l, is, known) = inr known.2.0
 

@@ -1,6 +1,6 @@
--- What is found of all runs and their races, and kept: the parts put together.
-use Rattle.std.proofs.Common.{ℕ, ◌≡◌, ◌≤◌, ◌∙◌, ◌&&◌, not, Bool, true, false, List, Option, inl, inr, refl, sym, subst, true≢false}
-use Rattle.std.specs.Prelude.{is_some}
+-- What is found of all runs and their races, kept and printed: the parts put together.
+use Rattle.std.proofs.Common.{ℕ, ◌≡◌, ◌≤◌, ◌∙◌, ◌&&◌, not, Bool, true, false, List, Option, inl, inr, refl, sym, subst, true≢false, arith}
+use Rattle.std.specs.Prelude.{IfOk, Result, Ok, Err, is_some}
 use Rattle.std.proofs.lemmas.Bool.{and_left, and_right, not_from_true}
 use Rattle.types.specs.declared.parts.Parts.{Parts}
 use Rattle.spawn_host.specs.Requests.{Requested}
@@ -11,16 +11,21 @@ use Rattle.report_jobs.specs.Asked.{IsAskedBy}
 use Rattle.report_jobs.specs.Prints.{WriterChange, change}
 use Rattle.report_searches.specs.Prints.{IsStatusOf, stops_behind}
 use Rattle.report_searches.specs.Racing.{IsAsked, IsKnownOf, IsWhole, allows, keeps_race}
-use Rattle.report_searches.specs.Searches.{Finds, IsRaceKept, IsSureToEnd, IsWellAt, KeepsNoneOrRace}
+use Rattle.report_searches.specs.Searches.{Finds, IsRaceKept, IsSureToEnd, IsWellAt, KeepsNoneOrEndless, KeepsNoneOrFind, KeepsNoneOrRace}
 use Rattle.report_searches.specs.declared.whole.Racing.{Racing}
 use Rattle.report_searches.specs.declared.whole.Racing.TheVariants.{Unasked, Never, Found, Unknown}
-use Rattle.report_searches.specs.declared.whole.WholeSearch.{WholeSearch}
+use Rattle.report_searches.specs.declared.whole.Whole.{Whole}
 use Rattle.report_searches.proofs.Sure.{every_by, can_by, sure_by}
 
 -- one of two that isn't so
 pub and_none : (x : Bool) {y : Bool} → y ≡ false → (x && y) ≡ false
 and_none true none = none
 and_none false none = refl
+
+-- both of an answer
+pub if_both : {T E : Type 0} (r : Result T E) (P Q R : T → Type 0) → ((x : T) → P x → Q x → R x) → IfOk r P → IfOk r Q → IfOk r R
+if_both (Ok x) P Q R f p q = f x p q
+if_both (Err e) P Q R f p q = tt
 
 -- where all may be well with races that aren't allowed, no run has one
 pub never_by : (q : Requested) (s : Search) (allow : Bool) (racing : Racing) → IsKnownOf q racing → IsAsked s racing
@@ -32,7 +37,7 @@ never_by q s false (Found r) known asked allowed never every = absurd (true≢fa
 never_by q s false Unknown known asked allowed never every = absurd (true≢false (sym allowed))
 
 -- what status 0 says
-pub well_by : (q : Requested) (s : Search) → IsAskedBy s.call q → (w : WholeSearch) → IsWhole q s w → (status : ℕ) → IsStatusOf s w status
+pub well_by : (q : Requested) (s : Search) → IsAskedBy s.call q → (w : Whole) → IsWhole q s w → (status : ℕ) → IsStatusOf s w status
     → IsWellAt q.parts s status
 well_by q s asked w whole status is all zero =
     let dump = s.sought.dump in
@@ -70,3 +75,15 @@ module _ (m : Parts) (s : Search) (a b c : Option (List ℕ)) (status : ℕ) whe
   finds_all true is unkept quiet kept found few =
       finds_race (quiet (and_right s.sought.stops (not s.races) (not_from_true s.races is))) kept few
   finds_all false is unkept quiet kept found few = finds_behind (unkept (and_left s.races (is_some s.save) is)) found
+
+-- a run was found, or none
+pub finds_none : (m : Parts) (s : Search) (save : WriterChange) (status : ℕ) → status ≤ 1 → save.new ≡ save.old → Finds m s save status
+finds_none m s save status few same = inl (few, same)
+
+pub finds_found : (m : Parts) (s : Search) (save : WriterChange) → KeepsNoneOrFind m s save → Finds m s save 1
+finds_found m s save (inl same) = inl (omega arith, same)
+finds_found m s save (inr kept) = inr (inl (refl, inl kept))
+
+pub finds_endless : (m : Parts) (s : Search) (save : WriterChange) → KeepsNoneOrEndless m s save → Finds m s save 1
+finds_endless m s save (inl same) = inl (omega arith, same)
+finds_endless m s save (inr kept) = inr (inl (refl, inr kept))

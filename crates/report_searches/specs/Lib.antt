@@ -5,5 +5,4 @@ pub mod Endless
 pub mod Searches
 pub mod Racing
 pub mod Prints
-pub mod Found
 pub mod DrawnRaces

@@ -1,12 +1,10 @@
 -- What is known of the races of all runs of a call, and what is told of one.
-use Rattle.std.specs.Prelude.{ℕ, ◌≡◌, ◌↔◌, ◌&&◌, Bool, true, false, Option, None, List, [], ◌++◌, codes, is_some}
+use Rattle.std.specs.Prelude.{ℕ, ◌≡◌, ◌⊎◌, ◌↔◌, ◌&&◌, Bool, true, false, Option, None, List, [], ◌++◌, codes, is_some}
 use Rattle.std.specs.Fmt.{decimal}
-use Rattle.std.specs.Io.KnownBytes.{Appends}
-use Rattle.types.specs.declared.parts.Parts.{Parts}
 use Rattle.spawn_host.specs.Requests.{Requested}
 use Rattle.search_reach.specs.declared.ending.Ended.{Ended}
-use Rattle.search_reach.specs.declared.search.SearchOrder.{SearchOrder}
-use Rattle.search_reach.specs.declared.search.SearchOrder.TheVariants as orders
+use Rattle.search_reach.specs.declared.search.Order.{Order}
+use Rattle.search_reach.specs.declared.search.Order.TheVariants as orders
 use Rattle.search_reach.specs.declared.search.Verdict.{Verdict}
 use Rattle.search_reach.specs.declared.search.Verdict.TheVariants as verdicts
 use Rattle.search_endings.specs.Endings.{Ending}
@@ -17,16 +15,11 @@ use Rattle.search_finds.specs.Finds.{IsFind}
 use Rattle.report_command.specs.declared.search.Search.{Search}
 use Rattle.report_jobs.specs.Prints.{WriterChange, KeepsRecord}
 use Rattle.report_looks.specs.Raced.{SaysPair}
-use Rattle.report_looks.specs.Sighted.{CanBeTold, IsFirstRace}
-use Rattle.search_race_free.specs.declared.race.ThreadRace.{ThreadRace}
-use Rattle.report_searches.specs.declared.raced.Raced.{Raced}
-use Rattle.report_searches.specs.declared.raced.Raced.TheVariants as raced
-use Rattle.report_searches.specs.declared.raced.RacyRun.{RacyRun}
 use Rattle.report_searches.specs.Early.{SaysSought}
 use Rattle.report_searches.specs.Searches.{FindsEvery, FindsNoOther, IsCompleteOf}
 use Rattle.report_searches.specs.declared.whole.Racing.{Racing}
 use Rattle.report_searches.specs.declared.whole.Racing.TheVariants.{Unasked, Never, Found, Unknown}
-use Rattle.report_searches.specs.declared.whole.WholeSearch.{WholeSearch}
+use Rattle.report_searches.specs.declared.whole.Whole.{Whole}
 use Rattle.report_searches.specs.declared.whole.FirstLook.{FirstLook}
 use Rattle.report_searches.specs.declared.whole.FirstLook.TheVariants as looks
 
@@ -42,7 +35,7 @@ abbrev pub IsAsked : Search → Racing → Type 0
 IsAsked s racing = (s.every_order ≡ true) ↔ (racing ≡ Unasked)
 
 -- In which order the states are gone on from.
-abbrev pub order_by : Bool → SearchOrder
+abbrev pub order_by : Bool → Order
 order_by true = orders.Depth
 order_by false = orders.Breadth
 
@@ -69,7 +62,7 @@ IsCompleteBy q dump false all = IsCompleteOf q dump all
 
 -- What is found of all runs, and of their races: where the first search met all, that there are none. Where a search ends
 -- at what is looked for, its verdict says whether it did.
-pub record IsWhole (q : Requested) (s : Search) (w : WholeSearch) : Type 0 where
+pub record IsWhole (q : Requested) (s : Search) (w : Whole) : Type 0 where
   pub complete : IsCompleteBy q s.sought.dump w.is_free w.all
   pub known : IsKnownOf q w.racing
   pub asked : IsAsked s w.racing
@@ -103,43 +96,20 @@ abbrev pub threads_line : ℕ → ℕ → List ℕ
 threads_line one other =
     codes "race: t" ++ decimal one ++ codes " and t" ++ decimal other ++ codes "; no run was made for it\n"
 
--- What is told of a race: of a run that was made, or of the threads alone.
-abbrev pub IsRacyRun : Parts → RacyRun → Type 0
-IsRacyRun m run = IsFirstRace m run.made.record run.race
+-- A run by the call in which two accesses race is told of; or the threads alone, of which no run with a race was made.
+pub record TellsOfRace (q : Requested) (s : Search) (text : List ℕ) (save : WriterChange) : Type 0 where
+  pub made : MadeRun
+  pub find : IsFind q s.sought.limit made
+  pub pair : SaysPair q.parts made.record text
+  pub kept : KeepsRecord (keeps_race s) save made.record
 
-abbrev pub IsRacedIn : Parts → Raced → Type 0
-IsRacedIn m (raced.Run run) = IsRacyRun m run
-IsRacedIn m (raced.Threads r) = Unit {0}
-IsRacedIn m raced.Untold = Unit {0}
+pub record TellsOfThreads (one other : ℕ) (text : List ℕ) (save : WriterChange) : Type 0 where
+  pub text_is : text ≡ threads_line one other
+  pub kept : save.new ≡ save.old
 
--- It can be told.
-abbrev pub CanTell : Raced → Type 0
-CanTell (raced.Run run) = CanBeTold run.made.record run.race
-CanTell (raced.Threads r) = Unit {0}
-CanTell raced.Untold = Unit {0}
-
-abbrev pub found : ThreadRace → Racing
-found r = Found r
-
--- Of a race that is known a run by the call that has one is told, or the threads, and else nothing.
-abbrev pub IsRacedOf : Requested → Search → Racing → Raced → Type 0
-IsRacedOf q s racing (raced.Run run) = ((r : ThreadRace) × (racing ≡ Found r)) × IsFind q s.sought.limit run.made
-    × IsRacyRun q.parts run
-IsRacedOf q s racing (raced.Threads r) = racing ≡ Found r
-IsRacedOf q s racing raced.Untold = (r : ThreadRace) → racing ≡ Found r → ⊥
-
--- Its lines: the race of the run in the words of `races`, or the threads alone.
-abbrev pub SaysRaced : Parts → Raced → List ℕ → Type 0
-SaysRaced m (raced.Run run) text = SaysPair m run.made.record text
-SaysRaced m (raced.Threads r) text = text ≡ threads_line r.one r.other
-SaysRaced m raced.Untold text = text ≡ []
-
--- The record of the run was written, where it is looked for and a place is given.
-abbrev pub KeepsRaced : Search → Raced → WriterChange → Type 0
-KeepsRaced s (raced.Run run) save = KeepsRecord (keeps_race s) save run.made.record
-KeepsRaced s (raced.Threads r) save = save.new ≡ save.old
-KeepsRaced s raced.Untold save = save.new ≡ save.old
-
--- A text that says so was written behind what stood there.
-abbrev pub Tells : WriterChange → (List ℕ → Type 0) → Type 0
-Tells out Says = (text : List ℕ) × Appends out.old out.new text × Says text
+-- Where no race was found nothing is told.
+abbrev pub TellsOfRacing : Requested → Search → Racing → List ℕ → WriterChange → Type 0
+TellsOfRacing q s Unasked text save = (text ≡ []) × (save.new ≡ save.old)
+TellsOfRacing q s Never text save = (text ≡ []) × (save.new ≡ save.old)
+TellsOfRacing q s (Found r) text save = TellsOfRace q s text save ⊎ TellsOfThreads r.one r.other text save
+TellsOfRacing q s Unknown text save = (text ≡ []) × (save.new ≡ save.old)

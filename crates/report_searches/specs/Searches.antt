@@ -26,7 +26,7 @@ use Rattle.report_jobs.specs.Arguments.{AreSpelled, texts_in}
 use Rattle.report_jobs.specs.Prints.{WriterChange, KeepsRecord}
 use Rattle.report_searches.specs.Complete.{all_end_well}
 use Rattle.report_searches.specs.Endless.{FindsEndless}
-use Rattle.search_races.specs.Races.{SaysOfRun}
+use Rattle.report_looks.specs.Raced.{SaysRaceIn}
 use Rattle.report_jobs.specs.declared.running.Trouble.{Trouble}
 use Rattle.report_jobs.specs.declared.running.Trouble.TheVariants as troubles
 
@@ -72,7 +72,7 @@ pub record IsRaceKept (m : Parts) (s : Search) (save : WriterChange) : Type 0 wh
   pub end : EndState
   pub run : IsRunOf m record_is end
   pub of_call : IsOfCall m s.call.invoke.now args s.call.fuel s.sought.limit record_is
-  pub races : SaysOfRun m record_is true
+  pub races : SaysRaceIn m record_is
   pub kept : KeepsRecord (is_some s.save) save record_is
 
 abbrev pub KeepsNoneOrRace : Parts → Search → WriterChange → Type 0

@@ -11,12 +11,12 @@ use std::thread::{self, Threads};
 /// What is searched: as is asked for, and the bytes of the module, which have the names of functions and the lines of
 /// source.
 #[derive(Clone, Copy)]
-pub struct SearchRequest<'a> {
+pub struct Asked<'a> {
     pub search: &'a Search<'a>,
     pub bytes: &'a [u8],
 }
 
-impl<'a> SearchRequest<'a> {
+impl<'a> Asked<'a> {
     /// The bytes, with the module's own names.
     pub fn code(self) -> CodeBytes<'a> {
         CodeBytes {

@@ -1,4 +1,4 @@
-//! The lines of what was found of all runs, and whether all of it is well.
+//! The lines of a search through every order of entries, and whether all of it is well.
 ghost use Rattle.std.specs.Prelude.{◌≡◌, ◌↔◌, true, All, length};
 ghost use Rattle.replay_forms.specs.Texts.{Wrote};
 ghost use Rattle.search_finds.specs.Finds.{IsLookedFor};
@@ -169,7 +169,7 @@ fn write_unknown_unless_sought<W: Write>(
 }
 
 /// A line for each ending, whether these are all, how far it came, what is known of races, and what never ends.
-pub fn write_complete<W: Write>(
+pub(crate) fn write_complete<W: Write>(
     out: &mut W,
     all: &Complete,
     most: u32,
@@ -221,7 +221,7 @@ fn is_sure(all: &Complete) -> bool
 
 /// Whether the endings are all, there is one, in each all threads ended well, every state can end, and every fair run
 /// does. Where no run ends there is no ending.
-pub(crate) fn are_well(all: &Complete, sought: &Sought) -> bool
+pub fn are_well(all: &Complete, sought: &Sought) -> bool
     requires { All (λ e. IsLookedFor sought.now e → ⊥) all.now.endings.keys }
     ensures { (result ≡ true) ↔ AreAllWell sought.now all.now }
 {

@@ -1,46 +1,39 @@
-//! A race that a search found: the run that comes to it, and its lines.
-ghost use Rattle.std.specs.Prelude.{◌≡◌, ℕ, List, false, IfOk, IfErr};
-ghost use Rattle.types.specs.declared.parts.Parts.{Parts};
+//! A race that a search found: the run that comes to it, and what is told of that.
+ghost use Rattle.std.specs.Prelude.{◌≡◌, false, IfOk, IfErr};
 ghost use Rattle.replay_forms.specs.Texts.{Wrote};
-ghost use Rattle.search_finds.specs.Judged.{IsFindBy};
+ghost use Rattle.report_jobs.specs.Asked.{IsAskedBy};
 ghost use Rattle.report_jobs.specs.Prints.{changed};
-ghost use Rattle.report_searches.specs.DrawnRaces.{HasRacy, SaysRaceOf};
+ghost use Rattle.report_jobs.specs.Silence.{Stays};
+ghost use Rattle.report_searches.specs.Prints.{Tells};
 ghost use Rattle.report_searches.specs.Racing as specified;
-ghost use Rattle.report_searches.specs.Racing.{CanTell, IsRacedIn, IsRacedOf, SaysRaced, Tells, threads_line};
-ghost use Rattle.report_searches.specs.Searches.{IsOfSystem};
+ghost use Rattle.report_looks.specs.Raced.{WritesPair};
+ghost use Rattle.report_searches.specs.Racing.{TellsOfRacing, threads_line};
+ghost use Rattle.report_searches.specs.Searches.{IsOfSystem, KeepsNoneOrRace};
+ghost use Rattle.report_searches.specs.declared.whole.Racing.TheVariants as racings;
 
-use crate::asked::{SearchRequest, no_memory};
-use crate::found::shrunk_if;
-use crate::smaller::smaller_racy;
+use crate::asked::{Asked, no_memory};
 use crate::whole::{FirstLook, Racing};
-use report_command::Sought;
-use report_jobs::Trouble;
-use report_json::Shrunk;
-use report_looks::{FirstRace, first_race};
-use search_finds::{Hears, NumberedRun, run_round, size_of};
-use search_modules::{ThreadRace, race_choices};
-use search_scheduled::MadeRun;
+use race_history::is_history;
+use replay_text::Record;
+use report_command::{Search, Sought};
+use report_jobs::{Trouble, keep};
+use report_looks::CodeBytes;
+use search_finds::run_round;
+use search_modules::{Race, race_choices};
+use search_races::watched;
+use show_races::{races_shown, write_first};
+use show_rows::{CodeMap, Shown, Story};
 use show_text::Unwritten;
 use spawn_host::Request;
 use std::alloc::Global;
 use std::io::{self, Write};
+use validate_module::ValidModule;
 
-/// A run that was made, and its first race.
-#[derive(Drop)]
-pub struct RacyRun<'m, 'n> {
-    pub made: MadeRun,
-    pub race: FirstRace<'m, 'n>,
-}
-
-/// What is told of a race of all runs.
-#[derive(Drop)]
-pub enum Raced<'m, 'n> {
-    /// None is known.
-    Untold,
-    /// These threads race in some run; none was made in which they do.
-    Threads(ThreadRace),
-    /// A run that has one.
-    Run(RacyRun<'m, 'n>),
+/// Whether the record of a run with a race is kept.
+pub fn keeps_race(search: &Search) -> bool
+    ensures { result ≡ specified.keeps_race search.now }
+{
+    search.races && search.save.is_some()
 }
 
 /// What a race that wasn't written is.
@@ -53,126 +46,130 @@ pub fn trouble_of(unwritten: Unwritten) -> Trouble
     }
 }
 
-/// The run that comes to a race of these threads; or the threads, where it has none.
-fn run_of_race<'a>(
+/// Writes the line of two threads that race in a run that wasn't made.
+fn write_threads<W: Write>(out: &mut W, race: Race) -> io::Result<()>
+    ensures { Wrote W.contents out.old out.new result (threads_line race.one race.other) }
+{
+    let Race { one, other } = race;
+    write!(out, "race: t{one} and t{other}; no run was made for it\n")
+}
+
+/// Tells the first race of a recorded run, if it has one, and answers whether it has.
+pub(crate) fn write_pair<W: Write>(
     alloc: Global,
-    request: &'a Request,
-    asked: SearchRequest<'a>,
-    race: ThreadRace,
+    module: &ValidModule,
+    record: &Record,
+    code: CodeBytes,
+    out: &mut W,
+) -> Result<bool, Unwritten>
+    ensures { IfOk result (WritesPair «module».now.parts «record».now
+        (changed W.contents out.old out.new)) }
+{
+    let Ok(rows) = watched(alloc, module, record) else {
+        return Err(Unwritten::NoMemory);
+    };
+    let code = CodeMap::read(alloc, module.parts(), code.module, code.names)?;
+    let shown = Shown {
+        record: record.parts(),
+        rows: rows.as_slice(),
+        code: &code,
+    };
+    let log = shown.record.log.as_slice();
+    if !is_history(log) {
+        return Err(Unwritten::NoMemory);
+    }
+    let story = Story::new(alloc, log)?;
+    let races = races_shown(alloc, shown, &story, 1)?;
+    write_first(alloc, shown, &story, &races, out)
+}
+
+/// Makes the run that comes to a race, tells of it, and keeps its record where it is looked for; where the run has none,
+/// tells of the threads.
+fn tell_found<W: Write, S: Write>(
+    alloc: Global,
+    request: &Request,
+    asked: Asked,
+    race: Race,
     way: &[usize],
-) -> Result<Raced<'a, 'a>, Trouble>
-    ensures raced { IfOk result
-        (IsRacedOf request.now asked.entry.search.now (specified.found race)) }
+    out: &mut W,
+    save: &mut S,
+) -> Result<(), Trouble>
+    requires asked { IsAskedBy asked.search.now.call request.now }
+    ensures tells { IfOk result (λ _. Tells (changed W.contents out.old out.new)
+        (λ text. TellsOfRacing request.now asked.entry.search.now (racings.Found race) text
+        (changed S.contents save.old save.new))) }
+    ensures kept { IfOk result
+        (λ _. KeepsNoneOrRace request.now.parts asked.entry.search.now (changed S.contents save.old save.new)) }
+    ensures unwanted { specified.keeps_race asked.entry.search.now ≡ false → Stays save.old save.new }
     ensures trouble { IfErr result IsOfSystem }
 {
-    let Sought { limit, dump, .. } = asked.search.sought;
+    let search = asked.search;
+    let Sought { limit, dump, .. } = search.sought;
     let choices = race_choices(alloc, request, dump as usize, way)?;
     let made = match run_round(alloc, request, limit, choices.as_slice(), &[]) {
         Ok(made) => made,
         Err(fault) => return Err(no_memory(fault)),
     };
-    match first_race(alloc, request.module(), &made.record, asked.code()) {
-        Ok(Some(race)) => Ok(Raced::Run(RacyRun { made, race })),
-        Ok(None) => Ok(Raced::Threads(race)),
-        Err(unwritten) => Err(trouble_of(unwritten)),
+    let is_told = match write_pair(alloc, request.module(), &made.record, asked.code(), out) {
+        Ok(is_told) => is_told,
+        Err(unwritten) => return Err(trouble_of(unwritten)),
+    };
+    if !is_told {
+        write_threads(out, race)?;
+        return Ok(());
     }
+    keep(&made.record, keeps_race(search), save)
 }
 
-/// What is told of a race that is known.
-fn raced_by<'a>(
+/// Tells of a race, where one is known.
+fn tell_racing<W: Write, S: Write>(
     alloc: Global,
-    request: &'a Request,
-    asked: SearchRequest<'a>,
+    request: &Request,
+    asked: Asked,
     racing: Racing,
     way: &[usize],
-) -> Result<Raced<'a, 'a>, Trouble>
-    ensures raced { IfOk result (IsRacedOf request.now asked.entry.search.now racing) }
+    out: &mut W,
+    save: &mut S,
+) -> Result<(), Trouble>
+    requires asked { IsAskedBy asked.search.now.call request.now }
+    ensures tells { IfOk result (λ _. Tells (changed W.contents out.old out.new)
+        (λ text. TellsOfRacing request.now asked.entry.search.now racing text
+        (changed S.contents save.old save.new))) }
+    ensures kept { IfOk result
+        (λ _. KeepsNoneOrRace request.now.parts asked.entry.search.now (changed S.contents save.old save.new)) }
+    ensures unwanted { specified.keeps_race asked.entry.search.now ≡ false → Stays save.old save.new }
     ensures trouble { IfErr result IsOfSystem }
 {
     match racing {
-        Racing::Found(race) => run_of_race(alloc, request, asked, race, way),
-        Racing::Unasked | Racing::Never | Racing::Unknown => Ok(Raced::Untold),
+        Racing::Found(race) => tell_found(alloc, request, asked, race, way, out, save),
+        Racing::Unasked => Ok(()),
+        Racing::Never => Ok(()),
+        Racing::Unknown => Ok(()),
     }
 }
 
-/// What is told of the race that a first look at all runs found, if it found one.
-pub fn raced_of<'a>(
+/// Tells of the race that a first look at all runs found, if it found one.
+pub(crate) fn tell_race<W: Write, S: Write>(
     alloc: Global,
-    request: &'a Request,
-    asked: SearchRequest<'a>,
+    request: &Request,
+    asked: Asked,
     look: &FirstLook,
-) -> Result<Raced<'a, 'a>, Trouble>
-    ensures raced { IfOk result
-        (IsRacedOf request.now asked.entry.search.now (specified.racing_in look.now)) }
+    out: &mut W,
+    save: &mut S,
+) -> Result<(), Trouble>
+    requires asked { IsAskedBy asked.search.now.call request.now }
+    ensures tells { IfOk result (λ _. Tells (changed W.contents out.old out.new)
+        (λ text. TellsOfRacing request.now asked.entry.search.now (specified.racing_in look.now) text
+        (changed S.contents save.old save.new))) }
+    ensures kept { IfOk result
+        (λ _. KeepsNoneOrRace request.now.parts asked.entry.search.now (changed S.contents save.old save.new)) }
+    ensures unwanted { specified.keeps_race asked.entry.search.now ≡ false → Stays save.old save.new }
     ensures trouble { IfErr result IsOfSystem }
 {
     match look {
-        FirstLook::Done(_) => Ok(Raced::Untold),
+        FirstLook::Done(_) => Ok(()),
         FirstLook::Open { racing, way } => {
-            raced_by(alloc, request, asked, *racing, way.as_slice())
+            tell_racing(alloc, request, asked, *racing, way.as_slice(), out, save)
         }
-    }
-}
-
-/// A run with a race that was found: its number, the sizes of one that was shrunk, and the run.
-#[derive(Drop)]
-pub struct KeptRace<'m, 'n> {
-    pub run: u64,
-    pub shrunk: Option<Shrunk>,
-    pub racy: RacyRun<'m, 'n>,
-}
-
-/// The run with a race that was found, or where that is asked for a smaller one that has one too.
-pub fn kept_race<'a, F: Hears>(
-    alloc: Global,
-    request: &'a Request,
-    asked: SearchRequest<'a>,
-    found: NumberedRun,
-    follower: &mut F,
-) -> Result<KeptRace<'a, 'a>, Trouble>
-    requires { IsFindBy (SaysRaceOf request.now) request.now asked.search.now.sought.limit found.made }
-    ensures has { IfOk result (HasRacy request.now asked.entry.search.now found.run found.made) }
-    ensures trouble { IfErr result IsOfSystem }
-{
-    let NumberedRun { run, made } = found;
-    let was = size_of(&made.record);
-    let made = smaller_racy(alloc, request, asked.search, made, follower)?;
-    let is = size_of(&made.record);
-    match first_race(alloc, request.module(), &made.record, asked.code()) {
-        Ok(Some(race)) => Ok(KeptRace {
-            run,
-            shrunk: shrunk_if(asked.search.shrink, was, is),
-            racy: RacyRun { made, race },
-        }),
-        Ok(None) => Err(Trouble::NoMemory),
-        Err(unwritten) => Err(trouble_of(unwritten)),
-    }
-}
-
-/// Writes the line of two threads that race in a run that wasn't made.
-fn write_threads<W: Write>(out: &mut W, race: ThreadRace) -> io::Result<()>
-    ensures { Wrote W.contents out.old out.new result (threads_line race.one race.other) }
-{
-    let ThreadRace { one, other } = race;
-    write!(out, "race: t{one} and t{other}; no run was made for it\n")
-}
-
-/// Writes the lines of a race of all runs, where one is told.
-pub fn write_raced<W: Write>(alloc: Global, raced: &Raced, out: &mut W) -> Result<(), Trouble>
-    requires { CanTell raced.now }
-    ensures tells { (m : Parts) → IsRacedIn m raced.now
-        → IfOk result (λ _. Tells (changed W.contents out.old out.new) (SaysRaced m raced.now)) }
-    ensures trouble { IfErr result IsOfSystem }
-{
-    match raced {
-        Raced::Run(run) => match run.race.write(alloc, &run.made.record, out) {
-            Ok(()) => Ok(()),
-            Err(unwritten) => Err(trouble_of(unwritten)),
-        },
-        Raced::Threads(race) => {
-            write_threads(out, *race)?;
-            Ok(())
-        }
-        Raced::Untold => Ok(()),
     }
 }

@@ -10,7 +10,7 @@ use crate::complete::has_ended_well;
 use report_command::Sought;
 use report_lines::{Often, write_cut, write_met, write_unseen};
 use search_endings::Ending;
-use search_finds::{EndingTable, Met, is_looked_for};
+use search_finds::{Met, Table, is_looked_for};
 use std::alloc::{AllocError, Global};
 use std::io::{self, Write};
 use types::{Outcome, Stop};
@@ -29,7 +29,7 @@ fn write_row<W: Write>(out: &mut W, sought: &Sought, runs: u64, met: &Met) -> io
 }
 
 /// The table of the endings, in the order of their first runs.
-pub fn write_table<W: Write>(out: &mut W, sought: &Sought, table: &EndingTable) -> io::Result<()>
+pub(crate) fn write_table<W: Write>(out: &mut W, sought: &Sought, table: &Table) -> io::Result<()>
     ensures { Wrote W.contents out.old out.new result (table_lines sought.now table.now) }
 {
     let rows = table.met.as_slice();
@@ -40,7 +40,7 @@ pub fn write_table<W: Write>(out: &mut W, sought: &Sought, table: &EndingTable) 
 }
 
 /// Whether a run was made, in each ending of the table all threads ended well, and none is looked for.
-fn is_all_well(alloc: Global, sought: &Sought, table: &EndingTable) -> Result<bool, AllocError>
+fn is_all_well(alloc: Global, sought: &Sought, table: &Table) -> Result<bool, AllocError>
     ensures { IfOk result (λ is. (is ≡ true) ↔ IsAllWell sought.now table.now) }
 {
     if table.runs == 0 {
@@ -58,7 +58,7 @@ fn is_all_well(alloc: Global, sought: &Sought, table: &EndingTable) -> Result<bo
 ///
 /// # Errors
 /// Where memory is refused.
-pub fn status_of_none(alloc: Global, sought: &Sought, table: &EndingTable) -> Result<u8, AllocError>
+pub fn status_of_none(alloc: Global, sought: &Sought, table: &Table) -> Result<u8, AllocError>
     ensures well { IfOk result (λ status. (status ≡ 0) ↔ IsAllWell sought.now table.now) }
     ensures statuses { IfOk result (λ status. status ≤ 1) }
 {
@@ -86,14 +86,14 @@ fn is_cut(ending: &Ending) -> bool
 }
 
 /// The runs of a table are counted in 64 bits. It does nothing else.
-fn show_runs_fit(table: &EndingTable)
+fn show_runs_fit(table: &Table)
     ensures { table.now.runs < 2 ^ 64 }
 {
     let _runs = table.runs;
 }
 
 /// How many runs of a table were cut.
-fn cut_of(table: &EndingTable) -> u64
+fn cut_of(table: &Table) -> u64
     requires { cut_in table.now < 2 ^ 64 }
     ensures { result ≡ cut_in table.now }
 {
@@ -107,7 +107,7 @@ fn cut_of(table: &EndingTable) -> u64
 }
 
 /// How many runs of a table were cut, of those that were made.
-pub fn cut_in_all(table: &EndingTable) -> u64
+pub fn cut_in_all(table: &Table) -> u64
     requires { cut_in table.now ≤ table.now.runs }
     ensures { result ≡ cut_in table.now }
 {
@@ -116,7 +116,7 @@ pub fn cut_in_all(table: &EndingTable) -> u64
 }
 
 /// The line of runs that were cut at the end of their log, where there are some.
-pub fn write_cut_of<W: Write>(out: &mut W, sought: &Sought, table: &EndingTable) -> io::Result<()>
+pub(crate) fn write_cut_of<W: Write>(out: &mut W, sought: &Sought, table: &Table) -> io::Result<()>
     requires { cut_in table.now ≤ table.now.runs }
     ensures { Wrote W.contents out.old out.new result (cut_line (cut_in table.now) sought.now.limit) }
 {
@@ -125,14 +125,14 @@ pub fn write_cut_of<W: Write>(out: &mut W, sought: &Sought, table: &EndingTable)
 }
 
 /// How many endings of a table were met in one run alone.
-pub fn singles_of(table: &EndingTable) -> usize
+pub fn singles_of(table: &Table) -> usize
     ensures { result ≡ singles_in table.now }
 {
     table.met.iter().filter(|met| met.times == 1).count()
 }
 
 /// How many endings of a table were met first in the last half of its runs.
-pub fn late_of(sought: &Sought, table: &EndingTable) -> usize
+pub fn late_of(sought: &Sought, table: &Table) -> usize
     ensures { result ≡ late_in sought.now table.now }
 {
     let half = table.runs / 2;
@@ -150,7 +150,7 @@ pub fn late_of(sought: &Sought, table: &EndingTable) -> usize
 pub(crate) fn write_unseen_of<W: Write>(
     out: &mut W,
     sought: &Sought,
-    table: &EndingTable,
+    table: &Table,
 ) -> io::Result<()>
     ensures { Wrote W.contents out.old out.new result (unseen_text sought.now table.now) }
 {

@@ -17,8 +17,8 @@ use crate::early::early_of;
 use report_command::Search;
 use report_jobs::Trouble;
 use search_endings::Ending;
-use search_modules::{Hands, RaceFree, ThreadRace, all_endings, race_free_endings};
-use search_reach::{Follows, SearchOrder, Verdict};
+use search_modules::{Hands, Race, RaceFree, all_endings, race_free_endings};
+use search_reach::{Follows, Order, Verdict};
 use spawn_host::Request;
 use std::alloc::Global;
 use std::thread::Threads;
@@ -31,7 +31,7 @@ pub enum Racing {
     /// None has one.
     Never,
     /// These threads race in some run.
-    Found(ThreadRace),
+    Found(Race),
     /// Whether they race isn't known.
     Unknown,
 }
@@ -64,7 +64,7 @@ impl Racing {
 
 /// What was found of all runs.
 #[derive(Drop)]
-pub struct WholeSearch {
+pub struct Whole {
     pub all: Complete,
     pub racing: Racing,
     /// Whether threads made plain accesses at once: then those aren't among the choices of its paths.
@@ -93,13 +93,13 @@ fn racing_by(verdict: Verdict) -> Racing
 }
 
 /// In which order the states are gone on from.
-fn order_of(search: &Search) -> SearchOrder
+fn order_of(search: &Search) -> Order
     ensures { result ≡ specified.order_by search.now.deep }
 {
     if search.deep {
-        SearchOrder::Depth
+        Order::Depth
     } else {
-        SearchOrder::Breadth
+        Order::Breadth
     }
 }
 
@@ -202,7 +202,7 @@ pub fn whole_of<F: Follows>(
     most: u32,
     look: FirstLook,
     follower: &mut F,
-) -> Result<WholeSearch, Trouble>
+) -> Result<Whole, Trouble>
     requires { IsLooked request.now search.now look }
     ensures whole { IfOk result (IsWhole request.now search.now) }
     ensures racing { IfOk result (λ w. w.racing ≡ specified.racing_in look) }
@@ -211,7 +211,7 @@ pub fn whole_of<F: Follows>(
     match look {
         FirstLook::Done(all) => {
             let racing = racing_by(all.verdict);
-            Ok(WholeSearch {
+            Ok(Whole {
                 all,
                 racing,
                 is_free: true,
@@ -219,7 +219,7 @@ pub fn whole_of<F: Follows>(
         }
         FirstLook::Open { racing, .. } => {
             let all = all_of(alloc, request, search, most, follower)?;
-            Ok(WholeSearch {
+            Ok(Whole {
                 all,
                 racing,
                 is_free: false,

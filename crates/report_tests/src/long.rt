@@ -4,7 +4,7 @@ ghost use Rattle.std.specs.Prelude.{◌≤◌};
 ghost use Rattle.types.specs.declared.limits.TheConstants.{MOST_FUEL};
 
 use report_command::{CallWords, EndLook, RunJob};
-use report_jobs::{Streams, replay_saved, run, status_of};
+use report_jobs::{Streams, replay_saved, run};
 use std::alloc::Global;
 use std::io::{self, Write};
 use std::test::Fail;
@@ -30,7 +30,7 @@ fn replays_a_million_entries(rt: HostRuntime) -> Result<(), Fail> {
     let module = ENDLESS.bytes(rt.alloc())?;
     let record = long_record(rt.alloc(), "wathread-record 1\n")?;
     let (mut out, mut err) = (Vec::new(rt.alloc()), Vec::new(rt.alloc()));
-    let ended = replay_saved(
+    let status = replay_saved(
         rt.alloc(),
         &module,
         &record,
@@ -38,7 +38,7 @@ fn replays_a_million_entries(rt: HostRuntime) -> Result<(), Fail> {
         &mut out,
         &mut err,
     );
-    assert!(rt; out.as_slice() == FULL && err.is_empty() && status_of(&ended) == 1);
+    assert!(rt; out.as_slice() == FULL && err.is_empty() && status == 1);
     Ok(())
 }
 
@@ -77,9 +77,9 @@ fn records_a_million_entries(rt: HostRuntime) -> Result<(), Fail> {
         memory: Vec::new(rt.alloc()),
     };
     let job = filling(rt.alloc());
-    let ended = run(&rt, rt.alloc(), &job, &module, b"", &mut streams);
+    let status = run(&rt, rt.alloc(), &job, &module, b"", &mut streams);
     let Streams { out, err, save, .. } = streams;
-    assert!(rt; out.as_slice() == FULL && err.is_empty() && status_of(&ended) == 1);
+    assert!(rt; out.as_slice() == FULL && err.is_empty() && status == 1);
     assert!(rt; save == wanted);
     Ok(())
 }

@@ -4,7 +4,7 @@ ghost use Rattle.std.specs.Prelude.{◌≤◌, IfOk};
 ghost use Rattle.types.specs.declared.limits.TheConstants.{MOST_FUEL};
 
 use report_command::{CallWords, EndLook, RunJob};
-use report_jobs::{Streams, replay_saved, run, status_of};
+use report_jobs::{Streams, replay_saved, run};
 use std::alloc::{AllocError, Global};
 use std::sync::Wait;
 use std::test::Fail;
@@ -82,9 +82,9 @@ fn counted<R: Threads + Wait + Sync>(
         memory: Vec::new(alloc),
     };
     let job = job_of(alloc, count, on_words).ok()?;
-    let ended = run(rt, alloc, &job, COUNTDOWN, b"", &mut streams);
+    let status = run(rt, alloc, &job, COUNTDOWN, b"", &mut streams);
     let Streams { out, err, save, .. } = streams;
-    if out.as_slice() == count.out && err.is_empty() && status_of(&ended) == count.status {
+    if out.as_slice() == count.out && err.is_empty() && status == count.status {
         Some(save)
     } else {
         None
@@ -94,7 +94,7 @@ fn counted<R: Threads + Wait + Sync>(
 /// Whether the record is replayed to the same lines.
 fn is_replayed(alloc: Global, count: &Count, record: &[u8]) -> bool {
     let (mut out, mut err) = (Vec::new(alloc), Vec::new(alloc));
-    let ended = replay_saved(
+    let status = replay_saved(
         alloc,
         COUNTDOWN,
         record,
@@ -102,7 +102,7 @@ fn is_replayed(alloc: Global, count: &Count, record: &[u8]) -> bool {
         &mut out,
         &mut err,
     );
-    out.as_slice() == count.out && err.is_empty() && status_of(&ended) == count.status
+    out.as_slice() == count.out && err.is_empty() && status == count.status
 }
 
 #[test]

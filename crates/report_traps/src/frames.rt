@@ -11,7 +11,7 @@ const KEPT: usize = 16;
 
 /// A function that was under way.
 #[derive(Drop)]
-struct HeardFrame {
+struct Frame {
     /// The function of the module itself, from 1 on; 0 where nothing was heard.
     function: AtomicU64,
     /// The number of an instruction in its flat code.
@@ -22,14 +22,14 @@ struct HeardFrame {
 /// it lets each thread through, and hears where it trapped.
 #[derive(Drop)]
 pub struct Frames {
-    frames: Vec<HeardFrame>,
+    frames: Vec<Frame>,
 }
 
 /// Room for the functions of all threads.
-fn room(alloc: Global) -> Result<Vec<HeardFrame>, AllocError> {
+fn room(alloc: Global) -> Result<Vec<Frame>, AllocError> {
     let mut frames = Vec::with_capacity(alloc, MOST_THREADS * KEPT)?;
     for _ in 0..MOST_THREADS * KEPT {
-        frames.push(HeardFrame {
+        frames.push(Frame {
             function: AtomicU64::new(0),
             instr: AtomicU64::new(0),
         })?;
@@ -48,7 +48,7 @@ impl Frames {
     }
 
     /// That of a thread at a depth, if it is kept.
-    fn frame(&self, thread: usize, depth: usize) -> Option<&HeardFrame> {
+    fn frame(&self, thread: usize, depth: usize) -> Option<&Frame> {
         if depth >= KEPT {
             return None;
         }

@@ -2,7 +2,7 @@
 
 use crate::frames::Frames;
 use crate::site::Site;
-use report_json::{Offset, PlaceObject, SourceObject};
+use report_json::{Offset, Place, Source};
 use show_rows::{CodeMap, Spot};
 use std::alloc::{AllocError, Global};
 use types::Parts;
@@ -15,17 +15,17 @@ pub struct Traps<'m, 'n> {
 }
 
 /// A place, as an object has it.
-fn place_of(spot: Spot<'_>) -> PlaceObject<'_> {
+fn place_of(spot: Spot<'_>) -> Place<'_> {
     let Spot {
         name,
         offset,
         source,
         text: _,
     } = spot;
-    PlaceObject {
+    Place {
         function: name,
         offset: offset.map(Offset),
-        source: source.map(|(file, line)| SourceObject { file, line }),
+        source: source.map(|(file, line)| Source { file, line }),
     }
 }
 
@@ -53,7 +53,7 @@ impl<'m, 'n> Traps<'m, 'n> {
     }
 
     /// Where a thread trapped, as an object has it, if it did.
-    pub fn place(&self, thread: usize) -> Option<PlaceObject<'_>> {
+    pub fn place(&self, thread: usize) -> Option<Place<'_>> {
         match self.frames.place(thread, 0) {
             Some(place) => Some(place_of(self.code.spot(place))),
             None => None,

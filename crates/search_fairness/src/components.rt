@@ -20,13 +20,13 @@ const NONE: u32 = u32::MAX;
 
 /// A state on the search's path, and where in the groups the next of its moves stands.
 #[derive(Clone, Copy)]
-struct PathState {
+struct Call {
     state: u32,
     at: usize,
 }
 
 #[derive(Drop)]
-struct ComponentSearch {
+struct Search {
     /// When each state was met, from 1 on, or 0.
     met: Vec<u32>,
     /// How many were.
@@ -35,17 +35,17 @@ struct ComponentSearch {
     low: Vec<u32>,
     /// The states whose components are not closed.
     open: Vec<u32>,
-    path: Vec<PathState>,
+    path: Vec<Call>,
     found: Components,
 }
 
-impl ComponentSearch {
+impl Search {
     fn visit(&mut self, state: u32, at: usize) -> Result<(), AllocError> {
         self.count = self.count.wrapping_add(1);
         put_at(&mut self.met, state as usize, self.count);
         put_at(&mut self.low, state as usize, self.count);
         self.open.push(state)?;
-        self.path.push(PathState { state, at })?;
+        self.path.push(Call { state, at })?;
         Ok(())
     }
 
@@ -106,7 +106,7 @@ impl ComponentSearch {
             self.go_back(call.state)?;
             return Ok(true);
         }
-        self.path.push(PathState {
+        self.path.push(Call {
             state: call.state,
             at: call.at.saturating_add(1),
         })?;
@@ -123,7 +123,7 @@ pub fn find_components(
     graph: &Graph,
     out: &Grouped,
 ) -> Result<Components, AllocError> {
-    let mut search = ComponentSearch {
+    let mut search = Search {
         met: vec![in alloc; 0u32; graph.states]?,
         count: 0,
         low: vec![in alloc; 0u32; graph.states]?,

@@ -1,6 +1,4 @@
 //! Which thread leaves a component. It is proved to be safe and to end.
-ghost use Rattle.std.specs.Prelude.{◌↔◌, ◌≡◌, ◌≤◌, IsTrue, length};
-
 use crate::components::Components;
 use search_graph::{Graph, Grouped, number_at, put_at};
 use std::alloc::{AllocError, Global};
@@ -98,13 +96,6 @@ pub fn members_of(found: &Components, component: u32) -> &[u32] {
     }
 }
 
-/// Whether a component is one state alone, with no moves from `start` on before `end`.
-fn is_still(members: &[u32], start: usize, end: usize) -> bool
-    ensures { IsTrue result ↔ ((length members.now ≡ 1) × (end ≤ start)) }
-{
-    start >= end && members.len() == 1
-}
-
 /// A thread that has a move at each state of the component, and none inside of it; any thread where no state has moves.
 pub fn mover_of(
     graph: &Graph,
@@ -120,7 +111,7 @@ pub fn mover_of(
     };
     let start = out.start(*first);
     let end = out.end(*first);
-    if is_still(members, start, end) {
+    if start >= end && members.len() == 1 {
         return Some(0);
     }
     for k in start..end {

@@ -3,4 +3,3 @@ mod InRow
 mod Led
 mod Pieces
 pub mod Noting
-mod Smaller

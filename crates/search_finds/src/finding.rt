@@ -9,14 +9,14 @@ ghost use Rattle.search_finds.specs.Searching.{IsMadeIn, IsMetIn, IsFoundIn, Are
 ghost use Rattle.search_finds.specs.Searching.{AreSparesIn, first_of};
 ghost use Rattle.search_finds.specs.Halts.{IfFound};
 
-use crate::ahead::RunsAhead;
+use crate::ahead::Ahead;
 use crate::hears::Hears;
 use crate::judging::{EndsSo, Judges};
 use crate::search::{JudgedEnding, RunMaker};
-use crate::{EndingTable, ending_of};
+use crate::{Table, ending_of};
 use search_reach::Wish;
 use search_scheduled::{MadeRun, SearchFault, Spares, run_along, run_with_spares};
-use search_strategies::{Along, Drawn, EndWatch, Watched};
+use search_strategies::{Along, Drawn, Watch, Watched};
 use selection::{Sought, Way};
 use spawn_host::Request;
 use std::alloc::Global;
@@ -27,7 +27,7 @@ const PIECE: u64 = 128;
 
 /// A run that was found, and its number.
 #[derive(Drop)]
-pub struct NumberedRun {
+pub struct Found {
     pub run: u64,
     pub made: MadeRun,
 }
@@ -36,7 +36,7 @@ pub struct NumberedRun {
 #[derive(Drop)]
 pub enum Halt {
     /// The last that was noted is the one that is looked for.
-    Found(NumberedRun),
+    Found(Found),
     /// All were made, and none was found.
     AllMade,
     /// The follower told it to end, and none was found.
@@ -46,22 +46,22 @@ pub enum Halt {
 /// The endings that were met, and why no further run was made.
 #[derive(Drop)]
 pub struct SearchResult {
-    pub table: EndingTable,
+    pub table: Table,
     pub halt: Halt,
 }
 
 /// Who makes runs: so many threads, each of which gives a run up where that is to be seen, and asks of each run that it
 /// made whether it is looked for.
-struct FindingCrew<'a, 'w, 'j, R, W, J> {
+struct Crew<'a, 'w, 'j, R, W, J> {
     rt: &'a R,
     jobs: usize,
     watch: &'w W,
     judge: &'j J,
 }
 
-impl<R, W, J> Drop for FindingCrew<'_, '_, '_, R, W, J> {
+impl<R, W, J> Drop for Crew<'_, '_, '_, R, W, J> {
     fn drop(self) {
-        let FindingCrew {
+        let Crew {
             rt: _,
             jobs: _,
             watch: _,
@@ -71,7 +71,7 @@ impl<R, W, J> Drop for FindingCrew<'_, '_, '_, R, W, J> {
 }
 
 /// How many entries the run has in which a thread goes on as long as it can, 1 to 1,000,000.
-fn plain_entries<W: EndWatch>(
+fn plain_entries<W: Watch>(
     alloc: Global,
     request: &Request,
     limit: u32,
@@ -87,7 +87,7 @@ fn plain_entries<W: EndWatch>(
 }
 
 /// Among how many entries the points lie at which priorities change: those of that run, where a way has such points.
-fn entries_of<W: EndWatch>(
+fn entries_of<W: Watch>(
     alloc: Global,
     request: &Request,
     sought: &Sought,
@@ -129,13 +129,11 @@ fn entries_unless_told<F: Hears>(
 }
 
 impl<'m, 'a> RunMaker<'m, 'a> {
-    /// Makes the run of this number, with the threads that the runs before it didn't start. Where that is asked for, it is
-    /// heard where threads stand.
-    fn run<W: EndWatch>(
+    /// Makes the run of this number, with the threads that the runs before it didn't start.
+    fn run<W: Watch>(
         &self,
         alloc: Global,
         watch: &W,
-        hears: bool,
         run: u64,
         spares: &mut Spares<'m>,
     ) -> Result<MadeRun, SearchFault>
@@ -151,7 +149,7 @@ impl<'m, 'a> RunMaker<'m, 'a> {
         } = *self.sought;
         let drawn = Drawn::new(way, seed, run, self.entries);
         let mut watched = Watched::new(drawn, watch);
-        run_with_spares(alloc, self.request, limit, hears, &mut watched, spares)
+        run_with_spares(alloc, self.request, limit, &mut watched, spares)
     }
 
     /// The ending of a run, and whether it is looked for.
@@ -163,17 +161,17 @@ impl<'m, 'a> RunMaker<'m, 'a> {
         made: &MadeRun,
     ) -> Result<JudgedEnding, SearchFault>
         requires { IsMadeIn self.now run made.now }
-        ensures { IfOk result (IsMetIn (J.judges judge.now self.now.request.now) self.now run) }
+        ensures { IfOk result (IsMetIn (J.judges judge.now) self.now run) }
     {
         let _ = run;
         let ending = ending_of(alloc, &made.end, self.sought.dump)?;
-        let is_sought = judge.is_sought(alloc, self.request, made)?;
+        let is_sought = judge.is_sought(alloc, made)?;
         Ok(JudgedEnding { ending, is_sought })
     }
 
     /// The ending of the run of this number, with the threads that the runs before it didn't start; none where it was
     /// given up.
-    fn ending<W: EndWatch, J: Judges>(
+    fn ending<W: Watch, J: Judges>(
         &self,
         alloc: Global,
         watch: &W,
@@ -182,10 +180,10 @@ impl<'m, 'a> RunMaker<'m, 'a> {
         spares: &mut Spares<'m>,
     ) -> Result<Option<JudgedEnding>, SearchFault>
         requires { AreSparesIn self.now spares.old }
-        ensures met { IfOk result (λ ending. IfSome ending (IsMetIn (J.judges judge.now self.now.request.now) self.now run)) }
+        ensures met { IfOk result (λ ending. IfSome ending (IsMetIn (J.judges judge.now) self.now run)) }
         ensures spares { IfOk result (λ ending. OnSome ending (AreSparesIn self.now spares.new)) }
     {
-        let made = match self.run(alloc, watch, judge.hears(), run, spares) {
+        let made = match self.run(alloc, watch, run, spares) {
             Ok(made) => made,
             Err(SearchFault::GivenUp) => return Ok(None),
             Err(fault) => return Err(fault),
@@ -195,11 +193,11 @@ impl<'m, 'a> RunMaker<'m, 'a> {
     }
 
     /// Makes the run of this number, with threads of its own.
-    fn run_anew(&self, alloc: Global, hears: bool, run: u64) -> Result<MadeRun, SearchFault>
+    fn run_anew(&self, alloc: Global, run: u64) -> Result<MadeRun, SearchFault>
         ensures { IfOk result (IsMadeIn self.now run) }
     {
         let mut spares = Spares::new(alloc);
-        self.run(alloc, &(), hears, run, &mut spares)
+        self.run(alloc, &(), run, &mut spares)
     }
 
     /// The ending of the run of this number, with threads of its own.
@@ -209,9 +207,9 @@ impl<'m, 'a> RunMaker<'m, 'a> {
         judge: &J,
         run: u64,
     ) -> Result<JudgedEnding, SearchFault>
-        ensures { IfOk result (IsMetIn (J.judges judge.now self.now.request.now) self.now run) }
+        ensures { IfOk result (IsMetIn (J.judges judge.now) self.now run) }
     {
-        let made = self.run_anew(alloc, judge.hears(), run)?;
+        let made = self.run_anew(alloc, run)?;
         self.judged(alloc, judge, run, &made)
     }
 
@@ -219,26 +217,21 @@ impl<'m, 'a> RunMaker<'m, 'a> {
     ///
     /// # Errors
     /// `NoEnd` where it isn't looked for now, which none is.
-    fn found<J: Judges>(
-        &self,
-        alloc: Global,
-        judge: &J,
-        run: u64,
-    ) -> Result<NumberedRun, SearchFault>
-        ensures found { IfOk result (λ found. IsFoundIn (J.judges judge.now self.now.request.now) self.now found.made) }
+    fn found<J: Judges>(&self, alloc: Global, judge: &J, run: u64) -> Result<Found, SearchFault>
+        ensures found { IfOk result (λ found. IsFoundIn (J.judges judge.now) self.now found.made) }
         ensures drawn { IfOk result (λ found. IsMadeIn self.now run found.made) }
         ensures number { IfOk result (λ found. found.run ≡ run) }
     {
-        let made = self.run_anew(alloc, judge.hears(), run)?;
-        if judge.is_sought(alloc, self.request, &made)? {
-            Ok(NumberedRun { run, made })
+        let made = self.run_anew(alloc, run)?;
+        if judge.is_sought(alloc, &made)? {
+            Ok(Found { run, made })
         } else {
             Err(SearchFault::NoEnd)
         }
     }
 
     /// The endings of runs in a row, the last first: of all of them, or where one is given up of those before it.
-    fn endings<W: EndWatch, J: Judges>(
+    fn endings<W: Watch, J: Judges>(
         &self,
         alloc: Global,
         watch: &W,
@@ -247,7 +240,7 @@ impl<'m, 'a> RunMaker<'m, 'a> {
         count: usize,
     ) -> Result<Vec<JudgedEnding>, SearchFault>
         requires { from + count < 2 ^ 64 }
-        ensures { IfOk result (λ endings. AreMetIn (J.judges judge.now self.now.request.now) self.now from endings.items) }
+        ensures { IfOk result (λ endings. AreMetIn (J.judges judge.now) self.now from endings.items) }
     {
         let mut endings = Vec::new(alloc);
         let mut spares = Spares::new(alloc);
@@ -270,8 +263,8 @@ impl<'m, 'a> RunMaker<'m, 'a> {
         made: usize,
         wanted: u64,
     )
-        requires { AreMetIn (J.judges judge.now self.now.request.now) self.now (first + wanted) endings.old.items }
-        ensures { AreMetIn (J.judges judge.now self.now.request.now) self.now (first + made) endings.new.items }
+        requires { AreMetIn (J.judges judge.now) self.now (first + wanted) endings.old.items }
+        ensures { AreMetIn (J.judges judge.now) self.now (first + made) endings.new.items }
     {
         let _ = judge;
         if made as u64 != wanted {
@@ -281,16 +274,16 @@ impl<'m, 'a> RunMaker<'m, 'a> {
 
     /// The endings of the runs that a job makes ahead, the last first: of all of them, or where one is given up of those
     /// before it.
-    fn endings_of<W: EndWatch, J: Judges>(
+    fn endings_of<W: Watch, J: Judges>(
         &self,
         alloc: Global,
         watch: &W,
         judge: &J,
-        ahead: RunsAhead,
+        ahead: Ahead,
         job: usize,
     ) -> Result<Vec<JudgedEnding>, SearchFault>
         requires { job + 1 < 2 ^ 64 }
-        ensures { IfOk result (λ endings. AreMetIn (J.judges judge.now self.now.request.now) self.now (first_of ahead job) endings.items) }
+        ensures { IfOk result (λ endings. AreMetIn (J.judges judge.now) self.now (first_of ahead job) endings.items) }
     {
         let wanted = ahead.wanted(job) as usize;
         self.endings(alloc, watch, judge, ahead.first(job), wanted)
@@ -303,16 +296,16 @@ impl<'m, 'a> RunMaker<'m, 'a> {
         judge: &J,
         endings: &mut Vec<JudgedEnding>,
         pieces: &mut Vec<Result<Vec<JudgedEnding>, SearchFault>>,
-        ahead: RunsAhead,
+        ahead: Ahead,
         job: usize,
     ) -> Result<(), SearchFault>
         requires last { length pieces.old.items ≡ job + 1 }
         requires room { job + 1 < 2 ^ 64 }
-        requires endings { AreMetIn (J.judges judge.now self.now.request.now) self.now (first_of ahead (job + 1)) endings.old.items }
-        requires pieces { ArePiecesIn (J.judges judge.now self.now.request.now) self.now ahead pieces.old.items }
+        requires endings { AreMetIn (J.judges judge.now) self.now (first_of ahead (job + 1)) endings.old.items }
+        requires pieces { ArePiecesIn (J.judges judge.now) self.now ahead pieces.old.items }
         ensures last { OnOk result (length pieces.new.items ≡ job) }
-        ensures endings { OnOk result (AreMetIn (J.judges judge.now self.now.request.now) self.now (first_of ahead job) endings.new.items) }
-        ensures pieces { OnOk result (ArePiecesIn (J.judges judge.now self.now.request.now) self.now ahead pieces.new.items) }
+        ensures endings { OnOk result (AreMetIn (J.judges judge.now) self.now (first_of ahead job) endings.new.items) }
+        ensures pieces { OnOk result (ArePiecesIn (J.judges judge.now) self.now ahead pieces.new.items) }
     {
         let Some(piece) = pieces.pop() else {
             return Ok(());
@@ -325,13 +318,13 @@ impl<'m, 'a> RunMaker<'m, 'a> {
     }
 
     /// The endings of runs that are made ahead, the last first, up to one that is given up.
-    fn endings_by<R: Threads + Sync, W: EndWatch + Sync, J: Judges + Sync>(
+    fn endings_by<R: Threads + Sync, W: Watch + Sync, J: Judges + Sync>(
         &self,
         alloc: Global,
-        crew: &FindingCrew<R, W, J>,
-        ahead: RunsAhead,
+        crew: &Crew<R, W, J>,
+        ahead: Ahead,
     ) -> Result<Vec<JudgedEnding>, SearchFault>
-        ensures { IfOk result (λ endings. AreMetIn (J.judges crew.now.judge.now self.now.request.now) self.now ahead.from endings.items) }
+        ensures { IfOk result (λ endings. AreMetIn (J.judges crew.now.judge.now) self.now ahead.from endings.items) }
     {
         let (rt, jobs, watch, judge) = (crew.rt, crew.jobs, crew.watch, crew.judge);
         let mut pieces = map_indices(
@@ -340,7 +333,7 @@ impl<'m, 'a> RunMaker<'m, 'a> {
             jobs,
             &|job: usize| -> Result<Vec<JudgedEnding>, SearchFault>
                 requires { job + 1 < 2 ^ 64 }
-                ensures { IfOk result (λ endings. AreMetIn (J.judges judge.entry.now self.entry.now.request.now) self.entry.now
+                ensures { IfOk result (λ endings. AreMetIn (J.judges judge.entry.now) self.entry.now
                     (first_of ahead job) endings.items) }
             { self.endings_of(alloc, watch, judge, ahead, job) },
         )?;
@@ -353,18 +346,18 @@ impl<'m, 'a> RunMaker<'m, 'a> {
 
     /// The ending of the run of this number, with which `left` runs are left: one that was made ahead, or it is made,
     /// and others after it, the more the more were made before. None where it was given up.
-    fn next_ending<R: Threads + Sync, W: EndWatch + Sync, J: Judges + Sync>(
+    fn next_ending<R: Threads + Sync, W: Watch + Sync, J: Judges + Sync>(
         &self,
         alloc: Global,
-        crew: &FindingCrew<R, W, J>,
+        crew: &Crew<R, W, J>,
         run: u64,
         left: u64,
         ahead: &mut Vec<JudgedEnding>,
     ) -> Result<Option<JudgedEnding>, SearchFault>
         requires room { run + left < 2 ^ 64 }
-        requires ahead { AreMetIn (J.judges crew.now.judge.now self.now.request.now) self.now run ahead.old.items }
-        ensures met { IfOk result (λ ending. IfSome ending (IsMetIn (J.judges crew.now.judge.now self.now.request.now) self.now run)) }
-        ensures ahead { OnOk result (AreMetIn (J.judges crew.now.judge.now self.now.request.now) self.now (run + 1) ahead.new.items) }
+        requires ahead { AreMetIn (J.judges crew.now.judge.now) self.now run ahead.old.items }
+        ensures met { IfOk result (λ ending. IfSome ending (IsMetIn (J.judges crew.now.judge.now) self.now run)) }
+        ensures ahead { OnOk result (AreMetIn (J.judges crew.now.judge.now) self.now (run + 1) ahead.new.items) }
     {
         if let Some(ending) = ahead.pop() {
             return Ok(Some(ending));
@@ -372,7 +365,7 @@ impl<'m, 'a> RunMaker<'m, 'a> {
         let made = run.saturating_sub(self.sought.from);
         let share = made / (crew.jobs as u64).max(1);
         let piece = (share / 2).saturating_add(1).min(PIECE);
-        let more = RunsAhead {
+        let more = Ahead {
             from: run,
             count: left,
             piece,
@@ -386,16 +379,16 @@ impl<'m, 'a> RunMaker<'m, 'a> {
     fn noted_next<R: Threads + Sync, F: Hears, J: Judges + Sync>(
         &self,
         alloc: Global,
-        crew: &FindingCrew<R, F::Watch, J>,
+        crew: &Crew<R, F::Watch, J>,
         run: u64,
         left: u64,
         ahead: &mut Vec<JudgedEnding>,
         follower: &mut F,
     ) -> Result<Option<JudgedEnding>, SearchFault>
         requires room { run + left < 2 ^ 64 }
-        requires ahead { AreMetIn (J.judges crew.now.judge.now self.now.request.now) self.now run ahead.old.items }
-        ensures met { IfOk result (λ ending. IfSome ending (IsMetIn (J.judges crew.now.judge.now self.now.request.now) self.now run)) }
-        ensures ahead { OnOk result (AreMetIn (J.judges crew.now.judge.now self.now.request.now) self.now (run + 1) ahead.new.items) }
+        requires ahead { AreMetIn (J.judges crew.now.judge.now) self.now run ahead.old.items }
+        ensures met { IfOk result (λ ending. IfSome ending (IsMetIn (J.judges crew.now.judge.now) self.now run)) }
+        ensures ahead { OnOk result (AreMetIn (J.judges crew.now.judge.now) self.now (run + 1) ahead.new.items) }
         ensures told { IfOk result (λ ending. IfNone ending (F.wish follower.new ≡ Wish.End)) }
     {
         if let Some(ending) = self.next_ending(alloc, crew, run, left, ahead)? {
@@ -413,16 +406,16 @@ impl<'m, 'a> RunMaker<'m, 'a> {
     fn first<R: Threads + Sync, F: Hears, J: Judges + Sync>(
         &self,
         alloc: Global,
-        crew: &FindingCrew<R, F::Watch, J>,
+        crew: &Crew<R, F::Watch, J>,
         follower: &mut F,
     ) -> Result<SearchResult, SearchFault>
         requires few { self.now.sought.now.from + self.now.sought.now.runs < 2 ^ 64 }
         requires points { HasPointsAmong self.now.request.now self.now.sought.now.limit self.now.sought.now.way
             self.now.entries }
-        ensures noted { IfOk result (λ s. AreNotedBy (IsPassed (J.judges crew.now.judge.now self.now.request.now) self.now.sought.now s.halt)
+        ensures noted { IfOk result (λ s. AreNotedBy (IsPassed (J.judges crew.now.judge.now) self.now.sought.now s.halt)
             self.now.request.now self.now.sought.now s.table) }
         ensures found { IfOk result (λ s. IfFound s.halt
-            (λ f. IsFoundIn (J.judges crew.now.judge.now self.now.request.now) self.now f.made)) }
+            (λ f. IsFoundIn (J.judges crew.now.judge.now) self.now f.made)) }
         ensures drawn { IfOk result (λ s. IfFound s.halt (λ f. IsMadeIn self.now f.run f.made)) }
         ensures number { IfOk result
             (λ s. IfFound s.halt (λ f. f.run + 1 ≡ self.now.sought.now.from + s.table.runs)) }
@@ -431,7 +424,7 @@ impl<'m, 'a> RunMaker<'m, 'a> {
         ensures told { IfOk result (λ s. s.halt ≡ Halt.Told → F.wish follower.new ≡ Wish.End) }
     {
         let sought = self.sought;
-        let mut table = EndingTable::new(alloc);
+        let mut table = Table::new(alloc);
         let mut ahead = Vec::new(alloc);
         let end = sought.from + sought.runs;
         for run in sought.from..end {
@@ -482,10 +475,10 @@ pub fn first_judged<R: Threads + Sync, F: Hears, J: Judges + Sync>(
     follower: &mut F,
 ) -> Result<SearchResult, SearchFault>
     requires { sought.now.from + sought.now.runs < 2 ^ 64 }
-    ensures noted { IfOk result (λ s. AreNotedBy (IsPassed (J.judges judge.now request.now) sought.now s.halt) request.now sought.now
+    ensures noted { IfOk result (λ s. AreNotedBy (IsPassed (J.judges judge.now) sought.now s.halt) request.now sought.now
         s.table) }
     ensures found { IfOk result (λ s. IfFound s.halt
-        (λ f. IsFindBy (J.judges judge.now request.now) request.now sought.now.limit f.made)) }
+        (λ f. IsFindBy (J.judges judge.now) request.now sought.now.limit f.made)) }
     ensures drawn { IfOk result (λ s. IfFound s.halt (λ f. IsRunOfNumber request.now sought.now f.run f.made)) }
     ensures number { IfOk result (λ s. IfFound s.halt (λ f. f.run + 1 ≡ sought.now.from + s.table.runs)) }
     ensures stops { IfOk result (λ s. IfFound s.halt (λ f. IsTrue sought.now.stops)) }
@@ -495,7 +488,7 @@ pub fn first_judged<R: Threads + Sync, F: Hears, J: Judges + Sync>(
     let watch = follower.watch();
     let told = entries_unless_told(alloc, request, sought, &watch, follower)?;
     let Some(entries) = told else {
-        let table = EndingTable::new(alloc);
+        let table = Table::new(alloc);
         let halt = Halt::Told;
         return Ok(SearchResult { table, halt });
     };
@@ -504,7 +497,7 @@ pub fn first_judged<R: Threads + Sync, F: Hears, J: Judges + Sync>(
         sought,
         entries,
     };
-    let crew = FindingCrew {
+    let crew = Crew {
         rt,
         jobs,
         watch: &watch,
@@ -565,5 +558,5 @@ pub fn run_of_number(
         sought,
         entries,
     };
-    maker.run_anew(alloc, false, run)
+    maker.run_anew(alloc, run)
 }

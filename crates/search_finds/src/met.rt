@@ -15,7 +15,7 @@ pub struct Met {
 
 /// The endings that were met, in the order of their first runs.
 #[derive(Debug, Drop)]
-pub struct EndingTable {
+pub struct Table {
     pub met: Vec<Met>,
     /// How many runs were made.
     pub runs: u64,

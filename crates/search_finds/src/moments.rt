@@ -14,7 +14,7 @@ use waiters::KeptQueue;
 
 /// Before an event of a run.
 #[derive(Clone, Copy)]
-pub(crate) struct BeforeEvent {
+pub(crate) struct Moment {
     /// Who makes the event.
     pub thread: u32,
     /// The number of the memory, the queue and all threads.
@@ -105,7 +105,7 @@ pub(crate) struct Moments<'a> {
     before: u64,
     /// What each thread has changed of it.
     changed: [u64; MOST_THREADS],
-    pub seen: Vec<BeforeEvent>,
+    pub seen: Vec<Moment>,
     /// Whether memory was refused for any of this.
     pub is_short: bool,
 }
@@ -175,11 +175,11 @@ impl<'a> Moments<'a> {
     }
 
     /// The moment before the next event of a thread.
-    fn moment(&self, thread: u32) -> BeforeEvent {
+    fn moment(&self, thread: u32) -> Moment {
         let n = thread as usize;
         let number = self.threads.get(n).copied().unwrap_or(0);
         let changed = self.changed.get(n).copied().unwrap_or(0);
-        BeforeEvent {
+        Moment {
             thread,
             run: mixed(self.shared(), self.all),
             own: mixed(number, changed),

@@ -1,6 +1,6 @@
 //! What of a run lies between two moments in which it is the same.
 
-use crate::moments::{BeforeEvent, Moments};
+use crate::moments::{Moment, Moments};
 use replay::{ReplayFault, replay_watched};
 use search_scheduled::{MadeRun, SearchFault};
 use std::alloc::{AllocError, Global};
@@ -16,7 +16,7 @@ pub(crate) fn moments_of(
     alloc: Global,
     module: &ValidModule,
     made: &MadeRun,
-) -> Result<Vec<BeforeEvent>, SearchFault> {
+) -> Result<Vec<Moment>, SearchFault> {
     let mut units = 0u64;
     for thread in made.end.threads.iter() {
         units = units.saturating_add(thread.spent);
@@ -63,7 +63,7 @@ fn without_rounds(alloc: Global, moments: &[Numbered]) -> Result<Vec<Numbered>, 
 /// The threads of the moments at these places, in order.
 fn threads_at(
     alloc: Global,
-    moments: &[BeforeEvent],
+    moments: &[Moment],
     kept: &[Numbered],
 ) -> Result<Vec<u32>, AllocError> {
     let mut places = Vec::with_capacity(alloc, kept.len())?;
@@ -81,10 +81,7 @@ fn threads_at(
 }
 
 /// The threads of a run's events in order, without what lies between two moments in which all is the same.
-pub(crate) fn without_repeats(
-    alloc: Global,
-    moments: &[BeforeEvent],
-) -> Result<Vec<u32>, AllocError> {
+pub(crate) fn without_repeats(alloc: Global, moments: &[Moment]) -> Result<Vec<u32>, AllocError> {
     let mut all = Vec::with_capacity(alloc, moments.len())?;
     for (place, moment) in moments.iter().enumerate() {
         let number = moment.run;
@@ -95,11 +92,7 @@ pub(crate) fn without_repeats(
 }
 
 /// The moments of one thread.
-fn moments_by(
-    alloc: Global,
-    moments: &[BeforeEvent],
-    thread: u32,
-) -> Result<Vec<Numbered>, AllocError> {
+fn moments_by(alloc: Global, moments: &[Moment], thread: u32) -> Result<Vec<Numbered>, AllocError> {
     let mut own = Vec::new(alloc);
     for (place, moment) in moments.iter().enumerate() {
         if moment.thread == thread {
@@ -114,7 +107,7 @@ fn moments_by(
 /// same and has changed the same.
 pub(crate) fn without_own_repeats(
     alloc: Global,
-    moments: &[BeforeEvent],
+    moments: &[Moment],
 ) -> Result<Vec<u32>, AllocError> {
     let mut kept = Vec::new(alloc);
     for thread in 0..MOST_THREADS as u32 {

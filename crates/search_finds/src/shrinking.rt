@@ -12,8 +12,8 @@ use crate::rounds::{moments_of, without_own_repeats, without_repeats};
 use crate::size::{schedule_of, size_of};
 use crate::spins::without_spins;
 use search_reach::Wish;
-use search_scheduled::{MadeRun, SearchFault, Spares, run_with_spares};
-use search_strategies::{Along, EndWatch, Watched};
+use search_scheduled::{MadeRun, SearchFault, run_along};
+use search_strategies::{Along, Watch, Watched};
 use spawn_host::Request;
 use std::alloc::{AllocError, Global};
 
@@ -58,7 +58,7 @@ fn without(alloc: Global, schedule: &[u32], cut: Cut) -> Result<Vec<u32>, AllocE
 }
 
 /// Makes the run along a schedule: it is given where it is smaller than another and is looked for.
-fn tried<W: EndWatch, J: Judges>(
+fn tried<W: Watch, J: Judges>(
     alloc: Global,
     request: &Request,
     limit: u32,
@@ -67,26 +67,16 @@ fn tried<W: EndWatch, J: Judges>(
     best: &MadeRun,
     schedule: &[u32],
 ) -> Result<Option<MadeRun>, SearchFault>
-    ensures find { IfOk result (λ o. IfSome o (IsFindBy (J.judges judge.now request.now) request.now limit)) }
+    ensures find { IfOk result (λ o. IfSome o (IsFindBy (J.judges judge.now) request.now limit)) }
     ensures smaller { IfOk result (λ o. IfSome o (λ m. IsSmaller (size_in m.record) (size_in best.now.record))) }
 {
     let mut along = Watched::new(Along::new(schedule), watch);
-    let mut spares = Spares::new(alloc);
-    let made = match run_with_spares(
-        alloc,
-        request,
-        limit,
-        judge.hears(),
-        &mut along,
-        &mut spares,
-    ) {
+    let made = match run_along(alloc, request, limit, &mut along) {
         Ok(made) => made,
         Err(SearchFault::GivenUp) => return Ok(None),
         Err(fault) => return Err(fault),
     };
-    if size_of(&made.record).is_below(size_of(&best.record))
-        && judge.is_sought(alloc, request, &made)?
-    {
+    if size_of(&made.record).is_below(size_of(&best.record)) && judge.is_sought(alloc, &made)? {
         return Ok(Some(made));
     }
     Ok(None)
@@ -94,7 +84,7 @@ fn tried<W: EndWatch, J: Judges>(
 
 /// The run along a schedule, where it is smaller than another and is looked for, and else that; and whether it is
 /// smaller.
-fn better<W: EndWatch, J: Judges>(
+fn better<W: Watch, J: Judges>(
     alloc: Global,
     request: &Request,
     limit: u32,
@@ -103,8 +93,8 @@ fn better<W: EndWatch, J: Judges>(
     best: MadeRun,
     schedule: &[u32],
 ) -> Result<(MadeRun, bool), SearchFault>
-    requires { IsFindBy (J.judges judge.now request.now) request.now limit best }
-    ensures run { IfOk result (λ r. IsFindBy (J.judges judge.now request.now) request.now limit r.0) }
+    requires { IsFindBy (J.judges judge.now) request.now limit best }
+    ensures run { IfOk result (λ r. IsFindBy (J.judges judge.now) request.now limit r.0) }
     ensures size { IfOk result (λ r. IsNoLarger (size_in r.0.record) (size_in best.record)) }
     ensures smaller { IfOk result (λ r. r.1 ≡ true → IsSmaller (size_in r.0.record) (size_in best.record)) }
     ensures kept { IfOk result (λ r. r.1 ≡ false → r.0 ≡ best) }
@@ -128,7 +118,7 @@ fn stretches_of(alloc: Global, made: &MadeRun) -> Result<usize, AllocError> {
 
 /// Of a run a smaller one that is looked for too, without what lies between two moments in which all is the same, or all
 /// that is one thread's; and without rounds in which a thread saw what it saw in the round before.
-fn without_waits<W: EndWatch, J: Judges>(
+fn without_waits<W: Watch, J: Judges>(
     alloc: Global,
     request: &Request,
     limit: u32,
@@ -136,8 +126,8 @@ fn without_waits<W: EndWatch, J: Judges>(
     watch: &W,
     made: MadeRun,
 ) -> Result<MadeRun, SearchFault>
-    requires { IsFindBy (J.judges judge.now request.now) request.now limit made }
-    ensures run { IfOk result (IsFindBy (J.judges judge.now request.now) request.now limit) }
+    requires { IsFindBy (J.judges judge.now) request.now limit made }
+    ensures run { IfOk result (IsFindBy (J.judges judge.now) request.now limit) }
     ensures size { IfOk result (λ small. IsNoLarger (size_in small.record) (size_in made.record)) }
 {
     let short = without_repeats(alloc, &moments_of(alloc, request.module(), &made)?)?;
@@ -163,8 +153,8 @@ pub fn shrunk_by<F: Hears, J: Judges>(
     made: MadeRun,
     follower: &mut F,
 ) -> Result<MadeRun, SearchFault>
-    requires { IsFindBy (J.judges judge.now request.now) request.now limit made }
-    ensures run { IfOk result (IsFindBy (J.judges judge.now request.now) request.now limit) }
+    requires { IsFindBy (J.judges judge.now) request.now limit made }
+    ensures run { IfOk result (IsFindBy (J.judges judge.now) request.now limit) }
     ensures size { IfOk result (λ small. IsNoLarger (size_in small.record) (size_in made.record)) }
 {
     follower.found(&made.record);

@@ -2,16 +2,16 @@
 ghost use Rattle.std.specs.Prelude.{◌≡◌, ◌<◌, ◌^◌, ◌-◌, IfOk, IfErr, MatchOption, []};
 ghost use Rattle.search_finds.specs.Tables.{IsNewTo, HasRowAt, IsNoted, IsMetAgain};
 
-use crate::met::{EndingTable, Met};
+use crate::met::{Met, Table};
 use search_endings::Ending;
 use std::alloc::{AllocError, Global};
 
-impl EndingTable {
+impl Table {
     /// Before the first run.
-    pub fn new(alloc: Global) -> EndingTable
+    pub fn new(alloc: Global) -> Table
         ensures { (result.runs ≡ 0) × (result.met.items ≡ []) }
     {
-        EndingTable {
+        Table {
             met: Vec::new(alloc),
             runs: 0,
         }

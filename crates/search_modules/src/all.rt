@@ -11,7 +11,7 @@ ghost use Rattle.search_modules.specs.Ways.{HasWaysOf};
 
 use crate::calling::searched;
 use search_endings::Ending;
-use search_reach::{Ended, Follows, SearchOrder, Seeks};
+use search_reach::{Ended, Follows, Order, Seeks};
 use search_settled::search_all;
 use spawn_host::Request;
 use std::alloc::{AllocError, Global};
@@ -46,7 +46,7 @@ use std::alloc::{AllocError, Global};
 pub fn all_endings<Q: Seeks<Ending>, F: Follows>(
     alloc: Global,
     request: &Request,
-    order: SearchOrder,
+    order: Order,
     most_states: u32,
     dump: usize,
     sought: &Q,

@@ -14,9 +14,9 @@ use crate::called::Searched;
 use crate::calling::searched;
 use search_endings::Ending;
 use search_race_free::{
-    MakesAhead, RaceFree, all_choices, race_choices as choices_to_race, search_race_free,
+    Crew, RaceFree, all_choices, race_choices as choices_to_race, search_race_free,
 };
-use search_reach::{Follows, SearchOrder, Seeks};
+use search_reach::{Follows, Order, Seeks};
 use spawn_host::Request;
 use std::alloc::{AllocError, Global};
 
@@ -39,11 +39,11 @@ const MOST_PLAIN: u32 = 10_000;
 ///
 /// # Errors
 /// Where memory is refused.
-pub fn race_free_endings<'m, C: MakesAhead<Searched<'m>>, Q: Seeks<Ending>, F: Follows>(
+pub fn race_free_endings<'m, C: Crew<Searched<'m>>, Q: Seeks<Ending>, F: Follows>(
     alloc: Global,
     request: &Request<'m, '_>,
     crew: &C,
-    order: SearchOrder,
+    order: Order,
     most_states: u32,
     dump: usize,
     sought: &Q,

@@ -12,16 +12,16 @@ use crate::plain::is_plain;
 use crate::shared::{Common, HashedThread};
 use crate::wants::wanted;
 use search_memory::{Changes, holds};
-use search_settled::NextAccess;
+use search_settled::Access;
 use std::alloc::{AllocError, Global};
 use types::{Event, Question};
 use validate_module::ValidModule;
 
 /// No byte.
-fn no_bytes() -> NextAccess
+fn no_bytes() -> Access
     ensures { result ≡ no_bytes }
 {
-    NextAccess {
+    Access {
         plain: false,
         writes: false,
         addr: 0,
@@ -37,18 +37,11 @@ fn ends_by(addr: u64, width: u8, end: u64) -> bool
 }
 
 /// A load or a store, whose whole access ends at `reach`, in a memory of so many bytes.
-fn load_or_store(
-    len: u64,
-    plain: bool,
-    writes: bool,
-    addr: u64,
-    width: u8,
-    reach: u64,
-) -> NextAccess
+fn load_or_store(len: u64, plain: bool, writes: bool, addr: u64, width: u8, reach: u64) -> Access
     ensures { (m : Memory) → length m.bytes ≡ len → result ≡ in_bounds m plain writes addr width reach }
 {
     if reach <= len {
-        NextAccess {
+        Access {
             plain: plain && ends_by(addr, width, reach),
             writes,
             addr,
@@ -60,11 +53,11 @@ fn load_or_store(
 }
 
 /// An atomic access in a memory of so many bytes.
-fn atomic(len: u64, writes: bool, addr: u64, width: u8) -> NextAccess
+fn atomic(len: u64, writes: bool, addr: u64, width: u8) -> Access
     ensures { (m : Memory) → length m.bytes ≡ len → result ≡ in_bounds m false writes addr width (addr + width) }
 {
     if ends_by(addr, width, len) {
-        NextAccess {
+        Access {
             plain: false,
             writes,
             addr,
@@ -76,7 +69,7 @@ fn atomic(len: u64, writes: bool, addr: u64, width: u8) -> NextAccess
 }
 
 /// A compare-exchange: it writes where what it expects is there.
-fn exchange(opening: &[u8], memory: &Changes, addr: u64, width: u8, expected: u64) -> NextAccess
+fn exchange(opening: &[u8], memory: &Changes, addr: u64, width: u8, expected: u64) -> Access
     requires { width ≤ 8 }
     ensures { result ≡ in_bounds (memory_of opening.now memory.now) false
         (loaded (memory_of opening.now memory.now) addr width == expected) addr width (addr + width) }
@@ -86,7 +79,7 @@ fn exchange(opening: &[u8], memory: &Changes, addr: u64, width: u8, expected: u6
 }
 
 /// What a question does with a memory of so many bytes: a wait reads.
-fn asked(len: u64, question: Question) -> NextAccess
+fn asked(len: u64, question: Question) -> Access
     ensures { (m : Memory) (plain : Bool) → length m.bytes ≡ len → result ≡ access_by m plain (Ask question) }
 {
     match question {
@@ -96,7 +89,7 @@ fn asked(len: u64, question: Question) -> NextAccess
 }
 
 /// What an event does with the memory, by an instruction that is a load or a store, or by an atomic one.
-fn access_by(opening: &[u8], memory: &Changes, plain: bool, event: &Event) -> NextAccess
+fn access_by(opening: &[u8], memory: &Changes, plain: bool, event: &Event) -> Access
     requires { IsEvent event.now }
     ensures { result ≡ access_by (memory_of opening.now memory.now) plain event.now }
 {
@@ -134,7 +127,7 @@ pub fn next_access(
     shared: &Common,
     thread: &HashedThread,
     n: usize,
-) -> Result<Option<NextAccess>, AllocError>
+) -> Result<Option<Access>, AllocError>
     requires { IsInCall valid.now opening.now shared.now thread.now.standing n }
     ensures { IfOk result (IsAccessIn valid.now opening.now shared.now thread.now.standing n) }
 {

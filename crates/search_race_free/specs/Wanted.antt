@@ -4,11 +4,11 @@ use Rattle.std.specs.Prelude.{ℕ, ◌≡◌, ◌≢◌, true, false, Option, So
 use Rattle.schedule.specs.System.{Want, Want.Turns, Want.Calls, Want.Awaits, Want.Gone, Kind.Turn, System, State}
 use Rattle.schedule.specs.Scheduled.{after_mark}
 use Rattle.search_settled.specs.Settled.{IsReached}
-use Rattle.search_settled.specs.declared.access.NextAccess.{NextAccess}
+use Rattle.search_settled.specs.declared.access.Access.{Access}
 use Rattle.search_settled.specs.Accesses.{IsPlain, Conflict}
 
 -- A turn of a thread's own touches nothing.
-abbrev pub own_turn : NextAccess
+abbrev pub own_turn : Access
 own_turn = record { plain = true; writes = false; addr = 0; width = 0 }
 
 module _ {X T E V A : Type 0} (s : System X T E V A) where
@@ -25,15 +25,15 @@ module _ {X T E V A : Type 0} (s : System X T E V A) where
     pub starts : (m : ℕ) → s.starts (s.after x n e) u f m ≡ s.starts x u f m
 
 -- `accesses x t e`: what thread t does with the memory by its event e, where x is shared.
-module _ {X T E V A : Type 0} (s : System X T E V A) (accesses : X → T → E → NextAccess) where
-  abbrev pub access_by : X → T → Want E → Option NextAccess
+module _ {X T E V A : Type 0} (s : System X T E V A) (accesses : X → T → E → Access) where
+  abbrev pub access_by : X → T → Want E → Option Access
   access_by x t Turns = Some own_turn
   access_by x t (Calls e) = Some (accesses x t e)
   access_by x t Awaits = None
   access_by x t Gone = None
 
   -- What thread n does next, if it can go on.
-  abbrev pub next_access : State X T → ℕ → Option NextAccess
+  abbrev pub next_access : State X T → ℕ → Option Access
   next_access w n = access_by w.shared (w.threads n) (s.wants (w.threads n))
 
   module _ (first : State X T) where

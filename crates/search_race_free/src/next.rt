@@ -3,23 +3,23 @@ ghost use Rattle.std.specs.Prelude.{◌<◌, IfOk, length};
 ghost use Rattle.search_race_free.specs.Reduced.{HasReduced};
 ghost use Rattle.search_race_free.specs.Search.{AreWanted, IsKnown, IsCame, IsCameFirst, HasOneMore};
 
-use crate::alone::{Arrival, wanted};
+use crate::alone::{Came, wanted};
 use crate::onward::{advance, next_of};
 use crate::touches::first_race;
 use crate::{Accesses, Owning};
-use search_reach::NextState;
-use search_settled::{NextAccess, RestingState};
+use search_reach::Next;
+use search_settled::{Access, Flat};
 use std::alloc::{AllocError, Global};
 
 /// Where all threads come to rest in the beginning, where no thread is in another's way.
 pub(crate) fn first_state<M: Accesses>(
     alloc: Global,
     system: &M,
-) -> Result<Arrival<Owning<RestingState<M::Shared, M::Thread>>>, AllocError>
+) -> Result<Came<Owning<Flat<M::Shared, M::Thread>>>, AllocError>
     ensures { IfOk result (IsCameFirst (M.threads system.now) (M.stuck system.now)) }
 {
     let Some(flat) = system.first(alloc)? else {
-        return Ok(Arrival::Unknown);
+        return Ok(Came::Unknown);
     };
     let at = Owning {
         flat,
@@ -27,8 +27,8 @@ pub(crate) fn first_state<M: Accesses>(
     };
     let next = wanted(alloc, system, &at.flat)?;
     match first_race(next.as_slice(), at.owned.as_slice()) {
-        Some(race) => Ok(Arrival::Races(race)),
-        None => Ok(Arrival::To(at)),
+        Some(race) => Ok(Came::Races(race)),
+        None => Ok(Came::To(at)),
     }
 }
 
@@ -36,12 +36,12 @@ pub(crate) fn first_state<M: Accesses>(
 fn put_next<M: Accesses>(
     alloc: Global,
     system: &M,
-    from: &Owning<RestingState<M::Shared, M::Thread>>,
-    before: &[Option<NextAccess>],
+    from: &Owning<Flat<M::Shared, M::Thread>>,
+    before: &[Option<Access>],
     n: usize,
     most: u32,
-    all: &mut Vec<NextState<Owning<RestingState<M::Shared, M::Thread>>>>,
-) -> Result<Arrival<()>, AllocError>
+    all: &mut Vec<Next<Owning<Flat<M::Shared, M::Thread>>>>,
+) -> Result<Came<()>, AllocError>
     requires known { IsKnown (M.threads system.now) from.now }
     requires before { AreWanted (M.threads system.now) from.now.flat before.now }
     requires there { n < length from.now.flat.threads.items }
@@ -49,18 +49,18 @@ fn put_next<M: Accesses>(
         (λ _. HasOneMore (M.threads system.now) from.now n all.old.items all.new.items)) }
 {
     let Some(access) = next_of(before, n) else {
-        return Ok(Arrival::To(()));
+        return Ok(Came::To(()));
     };
     match advance(alloc, system, from, before, n, access, most)? {
-        Arrival::To(state) => {
-            all.push(NextState {
+        Came::To(state) => {
+            all.push(Next {
                 thread: n as u32,
                 state,
             })?;
-            Ok(Arrival::To(()))
+            Ok(Came::To(()))
         }
-        Arrival::Races(race) => Ok(Arrival::Races(race)),
-        Arrival::Unknown => Ok(Arrival::Unknown),
+        Came::Races(race) => Ok(Came::Races(race)),
+        Came::Unknown => Ok(Came::Unknown),
     }
 }
 
@@ -68,9 +68,9 @@ fn put_next<M: Accesses>(
 pub(crate) fn next_states<M: Accesses>(
     alloc: Global,
     system: &M,
-    from: &Owning<RestingState<M::Shared, M::Thread>>,
+    from: &Owning<Flat<M::Shared, M::Thread>>,
     most: u32,
-) -> Result<Arrival<Vec<NextState<Owning<RestingState<M::Shared, M::Thread>>>>>, AllocError>
+) -> Result<Came<Vec<Next<Owning<Flat<M::Shared, M::Thread>>>>>, AllocError>
     requires { IsKnown (M.threads system.now) from.now }
     ensures { IfOk result (IsCame (M.threads system.now) (M.stuck system.now) from.now.flat
         (λ v. HasReduced (M.threads system.now) from.now v.items)) }
@@ -80,10 +80,10 @@ pub(crate) fn next_states<M: Accesses>(
     let mut all = Vec::new(alloc);
     for n in 0..count {
         match put_next(alloc, system, from, before.as_slice(), n, most, &mut all)? {
-            Arrival::To(()) => {}
-            Arrival::Races(race) => return Ok(Arrival::Races(race)),
-            Arrival::Unknown => return Ok(Arrival::Unknown),
+            Came::To(()) => {}
+            Came::Races(race) => return Ok(Came::Races(race)),
+            Came::Unknown => return Ok(Came::Unknown),
         }
     }
-    Ok(Arrival::To(all))
+    Ok(Came::To(all))
 }

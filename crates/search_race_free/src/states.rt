@@ -12,35 +12,33 @@ ghost use Rattle.search_race_free.specs.Same.{owning_eq};
 ghost use Rattle.search_race_free.specs.Met.{HasOwning};
 ghost use Rattle.search_race_free.specs.Ahead.{ComesOfPlace, IsAhead};
 
-use crate::ahead::{Ahead, AheadTables, MakesAhead, MetStates};
-use crate::alone::Arrival;
-use crate::met::{StateTable, held_row, held_rows, state_at};
+use crate::ahead::{Ahead, Crew, Met, Tables};
+use crate::alone::Came;
+use crate::met::{Table, held_row, held_rows, state_at};
 use crate::next::{first_state, next_states};
-use crate::{Accesses, Owning, ThreadRace};
+use crate::{Accesses, Owning, Race};
 use search_graph::Move;
-use search_reach::{
-    Ended, Follows, Meets, NextState, Reached, SearchOrder, Seeks, Verdict, conclude, reach,
-};
-use search_settled::{RestingState, put_rows, threads_of};
-use search_table::{StateParts, States};
+use search_reach::{Ended, Follows, Meets, Next, Order, Reached, Seeks, Verdict, conclude, reach};
+use search_settled::{Flat, put_rows, threads_of};
+use search_table::{Parts, States};
 use std::alloc::{AllocError, Global};
 use std::hash::Hash;
 
 /// The turns of threads that do not race, in any order.
 #[derive(Drop)]
-struct RaceFreeTurns<'s, M: Accesses, C: MakesAhead<M>> {
+struct RaceFreeTurns<'s, M: Accesses, C: Crew<M>> {
     system: &'s M,
     crew: &'s C,
     most_plain: u32,
     ghost ready: { ∥ C.ready crew.now ∥₁ },
 }
 
-impl<M: Accesses, C: MakesAhead<M>> RaceFreeTurns<'_, M, C> {
+impl<M: Accesses, C: Crew<M>> RaceFreeTurns<'_, M, C> {
     /// What comes of some states from this place on; or of none, where memory for that is refused.
     fn ahead_from(
         &self,
         alloc: Global,
-        table: &StateTable<M::Shared, M::Thread>,
+        table: &Table<M::Shared, M::Thread>,
         at: usize,
     ) -> Ahead<M::Shared, M::Thread>
         requires { HasSound (reduced M.Moves self.now.system.now) (HasOwning table.now) }
@@ -59,9 +57,9 @@ impl<M: Accesses, C: MakesAhead<M>> RaceFreeTurns<'_, M, C> {
     fn came(
         &self,
         alloc: Global,
-        tables: &mut AheadTables<M::Shared, M::Thread>,
+        tables: &mut Tables<M::Shared, M::Thread>,
         at: usize,
-    ) -> Result<Arrival<Vec<NextState<Owning<RestingState<M::Shared, M::Thread>>>>>, AllocError>
+    ) -> Result<Came<Vec<Next<Owning<Flat<M::Shared, M::Thread>>>>>, AllocError>
         requires at { HasMetAt (reduced M.Moves self.now.system.now) (HasOwning tables.old.met) at }
         requires sound { HasSound (reduced M.Moves self.now.system.now) (HasOwning tables.old.met) }
         requires ahead { IsAhead (M.threads self.now.system.now) (M.stuck self.now.system.now)
@@ -79,7 +77,7 @@ impl<M: Accesses, C: MakesAhead<M>> RaceFreeTurns<'_, M, C> {
         if let Some(came) = tables.ahead.take(at) {
             return Ok(came);
         }
-        let met = MetStates {
+        let met = Met {
             system: self.system,
             table: &tables.met,
             most_plain: self.most_plain,
@@ -89,20 +87,20 @@ impl<M: Accesses, C: MakesAhead<M>> RaceFreeTurns<'_, M, C> {
     }
 }
 
-impl<M: Accesses, C: MakesAhead<M>> Meets for RaceFreeTurns<'_, M, C> {
+impl<M: Accesses, C: Crew<M>> Meets for RaceFreeTurns<'_, M, C> {
     ghost use Rattle.schedule.specs.System.{State as SystemState};
-    ghost use Rattle.search_settled.specs.declared.flat.RestingState.{RestingState as StateAtRest};
+    ghost use Rattle.search_settled.specs.declared.flat.Flat.{Flat as FlatState};
     ghost use Rattle.search_settled.specs.Same.{flat_alike};
     ghost use Rattle.search_race_free.specs.declared.owning.Owning.{Owning as OwningState};
     ghost use Rattle.search_race_free.specs.Turns.{reduced};
     ghost use Rattle.search_race_free.specs.Same.{owning_eq, owning_eq_back, owning_alike};
     ghost use Rattle.search_race_free.specs.Ahead.{HasAhead};
 
-    type Table = AheadTables<M::Shared, M::Thread>;
+    type Table = Tables<M::Shared, M::Thread>;
 
     type Ending = M::Ending;
 
-    ghost State = { OwningState (StateAtRest M.Shared M.Thread) };
+    ghost State = { OwningState (FlatState M.Shared M.Thread) };
 
     ghost World = { SystemState M.X M.T };
 
@@ -117,17 +115,17 @@ impl<M: Accesses, C: MakesAhead<M>> Meets for RaceFreeTurns<'_, M, C> {
 
     ghost symmetric = { λ t. owning_eq_back M.Shared.eq M.Thread.eq M.Shared.Eq.laws M.Thread.Eq.laws };
 
-    fn table(&self, alloc: Global) -> AheadTables<M::Shared, M::Thread> {
-        AheadTables {
-            met: StateTable {
-                parts: StateParts::new(alloc),
+    fn table(&self, alloc: Global) -> Tables<M::Shared, M::Thread> {
+        Tables {
+            met: Table {
+                parts: Parts::new(alloc),
                 states: States::new(alloc),
             },
             ahead: Ahead::new(alloc),
         }
     }
 
-    fn count(&self, tables: &AheadTables<M::Shared, M::Thread>) -> usize {
+    fn count(&self, tables: &Tables<M::Shared, M::Thread>) -> usize {
         // No two parts are equal, as they say where they are asked for their number.
         let _ = tables.met.parts.len();
         tables.met.states.len()
@@ -136,41 +134,41 @@ impl<M: Accesses, C: MakesAhead<M>> Meets for RaceFreeTurns<'_, M, C> {
     fn first(
         &self,
         alloc: Global,
-        tables: &mut AheadTables<M::Shared, M::Thread>,
+        tables: &mut Tables<M::Shared, M::Thread>,
     ) -> Result<bool, AllocError> {
         match first_state(alloc, self.system)? {
-            Arrival::To(state) => {
+            Came::To(state) => {
                 let row = held_row(alloc, &mut tables.met.parts, state)?;
                 tables.met.states.put(row.as_slice())?;
                 Ok(true)
             }
-            Arrival::Races(_) => Ok(false),
-            Arrival::Unknown => Ok(false),
+            Came::Races(_) => Ok(false),
+            Came::Unknown => Ok(false),
         }
     }
 
     fn next(
         &self,
         alloc: Global,
-        tables: &mut AheadTables<M::Shared, M::Thread>,
+        tables: &mut Tables<M::Shared, M::Thread>,
         at: u32,
         moves: &mut Vec<Move>,
     ) -> Result<bool, AllocError> {
         match self.came(alloc, tables, at as usize)? {
-            Arrival::To(next) => {
+            Came::To(next) => {
                 let rows = held_rows(alloc, &mut tables.met.parts, next)?;
                 put_rows(&tables.met.parts, &mut tables.met.states, moves, at, rows)?;
                 Ok(true)
             }
-            Arrival::Races(_) => Ok(false),
-            Arrival::Unknown => Ok(false),
+            Came::Races(_) => Ok(false),
+            Came::Unknown => Ok(false),
         }
     }
 
     fn ending(
         &self,
         alloc: Global,
-        tables: &AheadTables<M::Shared, M::Thread>,
+        tables: &Tables<M::Shared, M::Thread>,
         at: usize,
     ) -> Result<Option<M::Ending>, AllocError> {
         let Some(row) = tables.met.states.row(at) else {
@@ -193,7 +191,7 @@ pub struct RaceFree<E: Eq + Hash> {
     /// The endings of the states that it met.
     pub ended: Ended<E>,
     /// Two threads that race, where it came to that.
-    pub race: Option<ThreadRace>,
+    pub race: Option<Race>,
     /// The threads whose turns lead to a state from which one more leads to the race. No clause says that they do: they
     /// are a hint for `race_choices`.
     pub way: Vec<usize>,
@@ -202,7 +200,7 @@ pub struct RaceFree<E: Eq + Hash> {
 /// A race, and the place among the states that were met of the one from which a turn leads to it.
 #[derive(Clone, Copy)]
 struct RaceBehind {
-    race: ThreadRace,
+    race: Race,
     place: usize,
 }
 
@@ -210,7 +208,7 @@ struct RaceBehind {
 fn race_among<M: Accesses>(
     alloc: Global,
     system: &M,
-    table: &StateTable<M::Shared, M::Thread>,
+    table: &Table<M::Shared, M::Thread>,
     from: usize,
     most_plain: u32,
 ) -> Result<Option<RaceBehind>, AllocError>
@@ -219,7 +217,7 @@ fn race_among<M: Accesses>(
 {
     for place in from..table.states.len() {
         if let Some(state) = state_at(alloc, system, table, place)? {
-            if let Arrival::Races(race) = next_states(alloc, system, &state, most_plain)? {
+            if let Came::Races(race) = next_states(alloc, system, &state, most_plain)? {
                 return Ok(Some(RaceBehind { race, place }));
             }
         }
@@ -232,9 +230,9 @@ fn race_at_first<M: Accesses>(alloc: Global, system: &M) -> Result<Option<RaceBe
     ensures { IfOk result (λ o. IfSome o (λ r. IsRaceOf M.Moves system.now r.race)) }
 {
     match first_state(alloc, system)? {
-        Arrival::Races(race) => Ok(Some(RaceBehind { race, place: 0 })),
-        Arrival::To(_) => Ok(None),
-        Arrival::Unknown => Ok(None),
+        Came::Races(race) => Ok(Some(RaceBehind { race, place: 0 })),
+        Came::To(_) => Ok(None),
+        Came::Unknown => Ok(None),
     }
 }
 
@@ -242,7 +240,7 @@ fn race_at_first<M: Accesses>(alloc: Global, system: &M) -> Result<Option<RaceBe
 fn race_in<M: Accesses>(
     alloc: Global,
     system: &M,
-    reached: &Reached<AheadTables<M::Shared, M::Thread>>,
+    reached: &Reached<Tables<M::Shared, M::Thread>>,
     most_plain: u32,
 ) -> Result<Option<RaceBehind>, AllocError>
     requires { HasSound (reduced M.Moves system.now) (HasOwning reached.now.table.met) }
@@ -288,7 +286,7 @@ fn way_behind(
 }
 
 /// Who races there.
-fn racing(behind: Option<RaceBehind>) -> Option<ThreadRace>
+fn racing(behind: Option<RaceBehind>) -> Option<Race>
     ensures { result ≡ option_map (λ b. b.race) behind }
 {
     match behind {
@@ -308,11 +306,11 @@ fn racing(behind: Option<RaceBehind>) -> Option<ThreadRace>
 ///
 /// # Errors
 /// Where memory is refused.
-pub fn search_race_free<M: Accesses, C: MakesAhead<M>, Q: Seeks<M::Ending>, F: Follows>(
+pub fn search_race_free<M: Accesses, C: Crew<M>, Q: Seeks<M::Ending>, F: Follows>(
     alloc: Global,
     system: &M,
     crew: &C,
-    order: SearchOrder,
+    order: Order,
     most: u32,
     most_plain: u32,
     sought: &Q,

@@ -2,16 +2,16 @@
 ghost use Rattle.std.specs.Prelude.{IfOk, IfSome};
 ghost use Rattle.search_race_free.specs.Search.{IsOwned};
 
-use crate::alone::{Arrival, PlainTurn, after_event, turn_alone, wanted};
+use crate::alone::{Alone, Came, after_event, turn_alone, wanted};
 use crate::next::first_state;
 use crate::onward::{advance, is_free, next_of};
 use crate::touches::{first_race, of_others};
 use crate::{Accesses, Owning};
-use search_settled::{NextAccess, RestingState};
+use search_settled::{Access, Flat};
 use std::alloc::{AllocError, Global};
 
 /// Which of the threads that can go on thread n is.
-fn choice_of(wanted: &[Option<NextAccess>], n: usize) -> usize {
+fn choice_of(wanted: &[Option<Access>], n: usize) -> usize {
     let mut choice: usize = 0;
     for m in 0..wanted.len() {
         if m < n && wanted[m].is_some() {
@@ -22,7 +22,7 @@ fn choice_of(wanted: &[Option<NextAccess>], n: usize) -> usize {
 }
 
 /// The thread that is this one of those that can go on.
-fn thread_of(wanted: &[Option<NextAccess>], choice: usize) -> usize {
+fn thread_of(wanted: &[Option<Access>], choice: usize) -> usize {
     let mut left = choice;
     for m in 0..wanted.len() {
         if wanted[m].is_some() {
@@ -39,10 +39,10 @@ fn thread_of(wanted: &[Option<NextAccess>], choice: usize) -> usize {
 fn note_turn<M: Accesses>(
     alloc: Global,
     system: &M,
-    from: &Owning<RestingState<M::Shared, M::Thread>>,
+    from: &Owning<Flat<M::Shared, M::Thread>>,
     n: usize,
     choices: &mut Vec<usize>,
-) -> Result<Option<Owning<RestingState<M::Shared, M::Thread>>>, AllocError>
+) -> Result<Option<Owning<Flat<M::Shared, M::Thread>>>, AllocError>
     requires { IsOwned (M.threads system.now) from.now }
     ensures { IfOk result (λ o. IfSome o (IsOwned (M.threads system.now))) }
 {
@@ -62,11 +62,11 @@ fn note_turn<M: Accesses>(
 fn note_alone<M: Accesses>(
     alloc: Global,
     system: &M,
-    from: Owning<RestingState<M::Shared, M::Thread>>,
+    from: Owning<Flat<M::Shared, M::Thread>>,
     m: usize,
     most: u32,
     choices: &mut Vec<usize>,
-) -> Result<Option<Owning<RestingState<M::Shared, M::Thread>>>, AllocError>
+) -> Result<Option<Owning<Flat<M::Shared, M::Thread>>>, AllocError>
     requires { IsOwned (M.threads system.now) from }
     ensures { IfOk result (λ o. IfSome o (IsOwned (M.threads system.now))) }
 {
@@ -75,16 +75,16 @@ fn note_alone<M: Accesses>(
     let mut at = from;
     for _ in 0..most {
         match turn_alone(alloc, system, at, m)? {
-            PlainTurn::GoesOn(next) => {
+            Alone::GoesOn(next) => {
                 choices.push(choice)?;
                 at = next;
             }
-            PlainTurn::Stops(last) => return Ok(Some(last)),
-            PlainTurn::Races(_) => {
+            Alone::Stops(last) => return Ok(Some(last)),
+            Alone::Races(_) => {
                 choices.push(choice)?;
                 return Ok(None);
             }
-            PlainTurn::Unknown => return Ok(None),
+            Alone::Unknown => return Ok(None),
         }
     }
     Ok(Some(at))
@@ -94,11 +94,11 @@ fn note_alone<M: Accesses>(
 fn note_onward<M: Accesses>(
     alloc: Global,
     system: &M,
-    from: &Owning<RestingState<M::Shared, M::Thread>>,
+    from: &Owning<Flat<M::Shared, M::Thread>>,
     n: usize,
     most: u32,
     choices: &mut Vec<usize>,
-) -> Result<Option<Owning<RestingState<M::Shared, M::Thread>>>, AllocError>
+) -> Result<Option<Owning<Flat<M::Shared, M::Thread>>>, AllocError>
     requires { IsOwned (M.threads system.now) from.now }
     ensures { IfOk result (λ o. IfSome o (IsOwned (M.threads system.now))) }
 {
@@ -123,7 +123,7 @@ fn note_onward<M: Accesses>(
 fn chosen_in<M: Accesses>(
     alloc: Global,
     system: &M,
-    at: &Owning<RestingState<M::Shared, M::Thread>>,
+    at: &Owning<Flat<M::Shared, M::Thread>>,
     choice: usize,
 ) -> Result<usize, AllocError>
     requires { IsOwned (M.threads system.now) at.now }
@@ -144,7 +144,7 @@ pub fn all_choices<M: Accesses>(
     choices: &[usize],
 ) -> Result<Vec<usize>, AllocError> {
     let mut all = Vec::new(alloc);
-    let Arrival::To(first) = first_state(alloc, system)? else {
+    let Came::To(first) = first_state(alloc, system)? else {
         return Ok(all);
     };
     let mut at = first;
@@ -162,7 +162,7 @@ pub fn all_choices<M: Accesses>(
 fn turns_to_race<M: Accesses>(
     alloc: Global,
     system: &M,
-    from: &Owning<RestingState<M::Shared, M::Thread>>,
+    from: &Owning<Flat<M::Shared, M::Thread>>,
     n: usize,
     most: u32,
 ) -> Result<bool, AllocError>
@@ -173,9 +173,9 @@ fn turns_to_race<M: Accesses>(
         return Ok(false);
     };
     match advance(alloc, system, from, before.as_slice(), n, access, most)? {
-        Arrival::Races(_) => Ok(true),
-        Arrival::To(_) => Ok(false),
-        Arrival::Unknown => Ok(false),
+        Came::Races(_) => Ok(true),
+        Came::To(_) => Ok(false),
+        Came::Unknown => Ok(false),
     }
 }
 
@@ -183,7 +183,7 @@ fn turns_to_race<M: Accesses>(
 fn racing_turn<M: Accesses>(
     alloc: Global,
     system: &M,
-    from: &Owning<RestingState<M::Shared, M::Thread>>,
+    from: &Owning<Flat<M::Shared, M::Thread>>,
     most: u32,
 ) -> Result<Option<usize>, AllocError>
     requires { IsOwned (M.threads system.now) from.now }
@@ -200,7 +200,7 @@ fn racing_turn<M: Accesses>(
 fn note_meeting<M: Accesses>(
     alloc: Global,
     system: &M,
-    from: &Owning<RestingState<M::Shared, M::Thread>>,
+    from: &Owning<Flat<M::Shared, M::Thread>>,
     choices: &mut Vec<usize>,
 ) -> Result<(), AllocError>
     requires { IsOwned (M.threads system.now) from.now }
@@ -219,7 +219,7 @@ fn note_meeting<M: Accesses>(
 fn note_race<M: Accesses>(
     alloc: Global,
     system: &M,
-    from: &Owning<RestingState<M::Shared, M::Thread>>,
+    from: &Owning<Flat<M::Shared, M::Thread>>,
     most: u32,
     choices: &mut Vec<usize>,
 ) -> Result<(), AllocError>
@@ -246,7 +246,7 @@ pub fn race_choices<M: Accesses>(
     way: &[usize],
 ) -> Result<Vec<usize>, AllocError> {
     let mut all = Vec::new(alloc);
-    let Arrival::To(first) = first_state(alloc, system)? else {
+    let Came::To(first) = first_state(alloc, system)? else {
         return Ok(all);
     };
     let mut at = first;

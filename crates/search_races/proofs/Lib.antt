@@ -1,5 +1,1 @@
 pub mod Told
-pub mod Pulled
-pub mod Stood
-pub mod Heard
-pub mod Alike

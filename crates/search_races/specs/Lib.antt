@@ -1,3 +1,2 @@
 pub mod Rows
 pub mod Races
-pub mod Heard

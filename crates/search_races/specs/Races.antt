@@ -5,7 +5,7 @@ use Rattle.types.specs.declared.event.Entry.{Entry}
 use Rattle.replay_text.specs.declared.parts.RecordParts.{RecordParts}
 use Rattle.spawn_host.specs.declared.end.EndState.{EndState}
 use Rattle.replay.specs.Runs.{IsRunOf}
-use Rattle.race_history.specs.declared.access.AccessKind.{AccessKind}
+use Rattle.race_history.specs.declared.access.Kind.{Kind}
 use Rattle.race_history.specs.declared.race.Race.{Race}
 use Rattle.race_history.specs.Races.{IsLastRace}
 use Rattle.show_rows.specs.declared.rows.Row.{Row}
@@ -13,7 +13,7 @@ use Rattle.show_races.specs.Told.{HasNoRace}
 use Rattle.search_races.specs.Rows.{AreRowsOf, kinds_of}
 
 -- Whether there are races, as an answer says.
-abbrev pub Says : List Entry → List AccessKind → Bool → Type 0
+abbrev pub Says : List Entry → List Kind → Bool → Type 0
 Says log kinds true = (r : Race) × IsLastRace log kinds r
 Says log kinds false = HasNoRace log kinds
 

@@ -4,7 +4,7 @@ use Rattle.types.specs.declared.parts.Parts.{Parts}
 use Rattle.replay_text.specs.declared.parts.RecordParts.{RecordParts}
 use Rattle.spawn_host.specs.declared.end.EndState.{EndState}
 use Rattle.replay.specs.Watching.{SeesReplay}
-use Rattle.race_history.specs.declared.access.AccessKind.{AccessKind}
+use Rattle.race_history.specs.declared.access.Kind.{Kind}
 use Rattle.show_rows.specs.declared.rows.Row.{Row}
 use Rattle.show_rows.specs.declared.rows.Rows.{Rows}
 use Rattle.show_rows.specs.Rows.{RowsSee}
@@ -20,5 +20,5 @@ pub record AreRowsOf (m : Parts) (r : RecordParts) (end : EndState) (rows : List
   pub filled : last.rows.items ≡ rows
 
 -- The kinds of its entries, by the instructions where their threads stand.
-abbrev pub kinds_of : Parts → RecordParts → List (Option Row) → List AccessKind
+abbrev pub kinds_of : Parts → RecordParts → List (Option Row) → List Kind
 kinds_of m r rows = kinds_in m rows (length r.log)

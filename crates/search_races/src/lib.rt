@@ -1,10 +1,9 @@
-//! Which runs have a race, for searches that look for one.
+//! Which recorded runs have a race, for searches that look for one.
 //!
 //! Proved: `has_race` answers of a recorded run whether two of its accesses race, by where its threads stand in a replay
-//! of it. `RaceJudge` answers the same of a run that was made, and replays nothing: where threads were heard to stand
-//! while the run was made, a replay of its record sees them stand (proofs/Heard.antt).
+//! of it.
 //!
-//! - `rows_seen` has the rows of a record's entries, or why it has none; `watched` has the fault alone.
+//! - `watched` has the rows of a record's entries.
 //! - `RaceJudge` looks for a run with a race (`search_finds::Judges`).
 #![tactic(auto)]
 
@@ -12,4 +11,4 @@ mod judge;
 mod rows;
 
 pub use judge::{RaceJudge, has_race};
-pub use rows::{Unseen, rows_seen, watched};
+pub use rows::watched;

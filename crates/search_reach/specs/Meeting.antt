@@ -4,7 +4,7 @@ use Rattle.std.proofs.Common.{◌∙◌}
 use Rattle.std.specs.Cmp.{IsEquivalence}
 use Rattle.std.specs.List.{slice_get, AllZip}
 use Rattle.search_graph.specs.declared.graph.Move.{Move}
-use Rattle.search_reach.specs.declared.explores.NextState.{NextState}
+use Rattle.search_reach.specs.declared.explores.Next.{Next}
 use Rattle.search_reach.specs.declared.follows.Wish.{Wish}
 use Rattle.search_reach.specs.declared.search.Verdict.{Verdict}
 use Rattle.search_reach.specs.Search.{StepSystem, IsAll, IsSound, CanGetStuck, IsFirst, IsMet, AreNext, IsMarkedSo, AllEnds, AreEnds, AreEndsOf}
@@ -37,7 +37,7 @@ module _ {S W E : Type 0} (k : StepSystem S W E) (has : List S → Type 0) where
   module _ (eq : S → S → Bool) where
     -- It has the next states of s, and the moves to them were noted.
     pub record GoesOn (ks : List S) (at : ℕ) (s : S) (before after : List Move) : Type 0 where
-      pub next : List (NextState S)
+      pub next : List (Next S)
       pub are : AreNext k s next
       pub states : List S
       pub held : has states

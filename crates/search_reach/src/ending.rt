@@ -13,10 +13,8 @@ ghost use Rattle.search_reach.specs.Ways.{AreNumbered};
 
 use crate::liveness::judged;
 use crate::path::{paths_to, ways_in};
-use crate::plain::ValueSystem;
-use crate::{
-    Exploration, Explores, Follows, Liveness, Meets, Reached, SearchOrder, Seeks, Verdict, reach,
-};
+use crate::plain::Plain;
+use crate::{Explores, Follows, Found, Liveness, Meets, Order, Reached, Seeks, Verdict, reach};
 use indexmap::IndexSet;
 use search_graph::Graph;
 use std::alloc::{AllocError, Global};
@@ -175,7 +173,7 @@ pub fn endings_of<T: Explores, Q: Seeks<T::Ending>, F: Follows>(
     system: &T,
     most: u32,
     sought: &Q,
-    found: Exploration<T::State>,
+    found: Found<T::State>,
     follower: &mut F,
 ) -> Result<Ended<T::Ending>, AllocError>
     requires found { IsSearched (T.system system.now) most (F.wish follower.old) found }
@@ -197,8 +195,8 @@ pub fn endings_of<T: Explores, Q: Seeks<T::Ending>, F: Follows>(
         Obeys before (F.wish follower.old) (F.told_at follower.old) found.verdict (index_set_len found.met))
         (F.wish follower.new) (F.told_at follower.new) r.verdict r.states) }
 {
-    let plain = ValueSystem { system };
-    let Exploration {
+    let plain = Plain { system };
+    let Found {
         met,
         moves,
         verdict,
@@ -220,7 +218,7 @@ pub fn endings_of<T: Explores, Q: Seeks<T::Ending>, F: Follows>(
 pub fn all_endings<T: Meets, Q: Seeks<T::Ending>, F: Follows>(
     alloc: Global,
     system: &T,
-    order: SearchOrder,
+    order: Order,
     most: u32,
     sought: &Q,
     follower: &mut F,

@@ -11,7 +11,7 @@ ghost use Rattle.search_reach.specs.Stack.{IsOpened};
 ghost use Rattle.search_reach.specs.Told.{Obeys, OfCount};
 ghost use Rattle.search_reach.specs.Ways.{AreNumbered};
 
-use crate::plain::ValueSystem;
+use crate::plain::Plain;
 use crate::seeking::has_sought;
 use crate::{Explores, Follows, Meets, Seeks, Wish};
 use indexmap::IndexSet;
@@ -21,21 +21,21 @@ use std::hash::Hash;
 
 /// In which order a search goes on from the states that it met.
 #[derive(Clone, Copy, PartialEq, Eq, Debug)]
-pub enum SearchOrder {
+pub enum Order {
     /// As they were met: those that come by fewer moves before the others.
     Breadth,
     /// From the one that was met last of those that it hasn't gone on from.
     Depth,
 }
 
-impl SearchOrder {
+impl Order {
     /// How many levels are said to be complete, where so many are: none are counted depth first.
     fn levels(self, complete: u32) -> Option<u32>
         ensures { result ≡ levels_by self complete }
     {
         match self {
-            SearchOrder::Breadth => Some(complete),
-            SearchOrder::Depth => None,
+            Order::Breadth => Some(complete),
+            Order::Depth => None,
         }
     }
 }
@@ -57,7 +57,7 @@ pub enum Verdict {
 
 /// What a search found.
 #[derive(Drop)]
-pub struct Exploration<S: Eq + Hash> {
+pub struct Found<S: Eq + Hash> {
     /// The states that it met, each once, in the order of their meeting.
     pub met: IndexSet<S>,
     /// The moves from each state that it went on from, in the order of its next states. A state's number is its place
@@ -73,7 +73,7 @@ pub struct Exploration<S: Eq + Hash> {
 #[derive(Drop)]
 pub struct Reached<T> {
     pub table: T,
-    /// As in `Exploration`.
+    /// As in `Found`.
     pub moves: Vec<Move>,
     pub verdict: Verdict,
     pub levels: Option<u32>,
@@ -217,7 +217,7 @@ fn explore_deep<T: Meets, Q: Seeks<T::Ending>, F: Follows>(
 pub fn reach<T: Meets, Q: Seeks<T::Ending>, F: Follows>(
     alloc: Global,
     system: &T,
-    order: SearchOrder,
+    order: Order,
     most: u32,
     sought: &Q,
     follower: &mut F,
@@ -249,10 +249,10 @@ pub fn reach<T: Meets, Q: Seeks<T::Ending>, F: Follows>(
         });
     }
     let (verdict, levels, last) = match order {
-        SearchOrder::Breadth => explore(
+        Order::Breadth => explore(
             alloc, system, most, sought, follower, &mut table, &mut moves,
         )?,
-        SearchOrder::Depth => explore_deep(
+        Order::Depth => explore_deep(
             alloc, system, most, sought, follower, &mut table, &mut moves,
         )?,
     };
@@ -269,11 +269,11 @@ pub fn reach<T: Meets, Q: Seeks<T::Ending>, F: Follows>(
 pub fn reach_all<T: Explores, Q: Seeks<T::Ending>, F: Follows>(
     alloc: Global,
     system: &T,
-    order: SearchOrder,
+    order: Order,
     most: u32,
     sought: &Q,
     follower: &mut F,
-) -> Result<Exploration<T::State>, AllocError>
+) -> Result<Found<T::State>, AllocError>
     ensures found { IfOk result (IsSearched (T.system system.now) most (F.wish follower.new)) }
     ensures whole { IfOk result (λ f. IsWhole (T.system system.now) T.State.eq f.met.keys f.moves.items f.verdict) }
     ensures moved { IfOk result (λ f. AreNumbered f.verdict (index_set_len f.met)
@@ -284,9 +284,9 @@ pub fn reach_all<T: Explores, Q: Seeks<T::Ending>, F: Follows>(
     ensures obeys { IfOk result (λ f.
         Obeys (F.wish follower.old) (F.wish follower.new) (F.told_at follower.new) f.verdict (index_set_len f.met)) }
 {
-    let plain = ValueSystem { system };
+    let plain = Plain { system };
     let reached = reach(alloc, &plain, order, most, sought, follower)?;
-    Ok(Exploration {
+    Ok(Found {
         met: reached.table,
         moves: reached.moves,
         verdict: reached.verdict,

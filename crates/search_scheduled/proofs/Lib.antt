@@ -10,4 +10,3 @@ pub mod Answers
 pub mod Parts
 pub mod Ready
 pub mod Nowhere
-pub mod Listening

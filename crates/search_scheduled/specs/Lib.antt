@@ -5,4 +5,3 @@ pub mod Courses
 pub mod Led
 pub mod Faults
 pub mod Nowhere
-pub mod Heard

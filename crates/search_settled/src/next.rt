@@ -1,7 +1,7 @@
 //! The next states: of each thread that wants an event, what comes of it.
 ghost use Rattle.std.specs.Prelude.{◌≡◌, ◌+◌, ◌^◌, ◌<◌, List, [], ◌∷◌, ◌++◌, length, slice_get, slice_set, true, false, Some, None, IfOk, IfSome, OnOk};
 ghost use Rattle.search_table.specs.Tables.{AreThreads, Grows};
-ghost use Rattle.search_settled.specs.declared.flat.RestingState.{RestingState as StateAtRest};
+ghost use Rattle.search_settled.specs.declared.flat.Flat.{Flat as FlatState};
 ghost use Rattle.search_settled.specs.Next.{IsStuckAfter};
 ghost use Rattle.search_settled.specs.Known.{
   AreKnown,
@@ -24,10 +24,10 @@ ghost use Rattle.search_settled.specs.Flat.{
   IsStuckByMove,
 };
 
-use crate::met::{MetParts, NextRow, QuietTurn, recall};
-use crate::turns::{EventOutcome, made_by};
-use crate::{Moves, RestingState};
-use search_table::StateParts;
+use crate::met::{Met, NextRow, Turn, recall};
+use crate::turns::{Made, made_by};
+use crate::{Flat, Moves};
+use search_table::Parts;
 use std::alloc::{AllocError, Global};
 use std::hash::Hash;
 
@@ -97,7 +97,7 @@ fn number_at(numbers: &[u32], n: usize) -> u32
 pub fn threads_of<M: Moves, S: Eq + Hash + Drop>(
     alloc: Global,
     system: &M,
-    parts: &StateParts<S, M::Thread>,
+    parts: &Parts<S, M::Thread>,
     numbers: &[u32],
 ) -> Result<Vec<M::Thread>, AllocError>
     ensures { IfOk result (λ v. (xs : List M.Thread) → AreThreads parts.now numbers.now xs → v.items ≡ xs) }
@@ -119,13 +119,13 @@ pub fn threads_of<M: Moves, S: Eq + Hash + Drop>(
 /// Where memory is refused, or there are too many parts.
 pub fn row_of<S: Eq + Hash + Drop, T: Eq + Hash + Drop>(
     alloc: Global,
-    parts: &mut StateParts<S, T>,
-    flat: RestingState<S, T>,
+    parts: &mut Parts<S, T>,
+    flat: Flat<S, T>,
 ) -> Result<Vec<u32>, AllocError>
     ensures grows { OnOk result (Grows parts.old parts.new) }
     ensures row { IfOk result (λ row. IsRowOfEqual S.eq T.eq parts.new flat row.items) }
 {
-    let RestingState { shared, threads } = flat;
+    let Flat { shared, threads } = flat;
     let mut row = Vec::with_capacity(alloc, threads.len().saturating_add(1))?;
     let first = parts.put_shared(shared)?;
     row.push(first)?;
@@ -140,7 +140,7 @@ pub fn row_of<S: Eq + Hash + Drop, T: Eq + Hash + Drop>(
 fn row_after<M: Moves>(
     alloc: Global,
     system: &M,
-    parts: &mut StateParts<M::Shared, M::Thread>,
+    parts: &mut Parts<M::Shared, M::Thread>,
     numbers: &[u32],
     n: usize,
     shared: M::Shared,
@@ -161,7 +161,7 @@ fn row_after<M: Moves>(
     let row = row_of(
         alloc,
         parts,
-        RestingState {
+        Flat {
             shared,
             threads: rested,
         },
@@ -211,24 +211,24 @@ struct ThreadOf {
 fn put_turn<M: Moves>(
     alloc: Global,
     system: &M,
-    parts: &StateParts<M::Shared, M::Thread>,
+    parts: &Parts<M::Shared, M::Thread>,
     threads: &[u32],
     of: ThreadOf,
-    turn: QuietTurn,
+    turn: Turn,
     all: &mut Vec<NextRow>,
 ) -> Result<(), AllocError>
-    requires at { (c : StateAtRest M.Shared M.Thread)
+    requires at { (c : FlatState M.Shared M.Thread)
         × IsThreadAt (M.threads system.now) parts.now (of.shared ∷ threads.now) of.thread of.n c }
     requires turn { OfNumbers (M.threads system.now) parts.now of.shared of.thread
         (λ g h. IsTurn (M.threads system.now) parts.now g h of.n turn) }
-    ensures { OnOk result ((c : StateAtRest M.Shared M.Thread)
+    ensures { OnOk result ((c : FlatState M.Shared M.Thread)
         → IsThreadAt (M.threads system.now) parts.now (of.shared ∷ threads.now) of.thread of.n c
         → AreNextBelow (M.threads system.now) parts.now c of.n all.old.items
         → AreNextBelow (M.threads system.now) parts.now c (of.n + 1) all.new.items) }
 {
     match turn {
-        QuietTurn::Still => Ok(()),
-        QuietTurn::Alone { shared, thread } => {
+        Turn::Still => Ok(()),
+        Turn::Alone { shared, thread } => {
             let next = row_alone(alloc, threads, of.n, shared, thread)?;
             put(all, of.n, next)?;
             Ok(())
@@ -240,31 +240,31 @@ fn put_turn<M: Moves>(
 fn put_anew<M: Moves>(
     alloc: Global,
     system: &M,
-    met: &mut MetParts<M::Shared, M::Thread>,
+    met: &mut Met<M::Shared, M::Thread>,
     threads: &[u32],
     of: ThreadOf,
     all: &mut Vec<NextRow>,
 ) -> Result<bool, AllocError>
     requires known { AreKnown (M.threads system.now) met.old }
-    requires at { (c : StateAtRest M.Shared M.Thread)
+    requires at { (c : FlatState M.Shared M.Thread)
         × IsThreadAt (M.threads system.now) met.old.parts (of.shared ∷ threads.now) of.thread of.n c }
     ensures grows { OnOk result (Grows met.old.parts met.new.parts) }
     ensures known { OnOk result (AreKnown (M.threads system.now) met.new) }
-    ensures next { IfOk result (λ told. told ≡ true → (c : StateAtRest M.Shared M.Thread)
+    ensures next { IfOk result (λ told. told ≡ true → (c : FlatState M.Shared M.Thread)
         → IsThreadAt (M.threads system.now) met.old.parts (of.shared ∷ threads.now) of.thread of.n c
         → AreNextBelow (M.threads system.now) met.old.parts c of.n all.old.items
         → AreNextBelow (M.threads system.now) met.new.parts c (of.n + 1) all.new.items) }
-    ensures gives_up { IfOk result (λ told. told ≡ false → (c : StateAtRest M.Shared M.Thread)
+    ensures gives_up { IfOk result (λ told. told ≡ false → (c : FlatState M.Shared M.Thread)
         → IsThreadAt (M.threads system.now) met.old.parts (of.shared ∷ threads.now) of.thread of.n c
         → IsStuckAfter (M.threads system.now) (M.stuck system.now) c) }
 {
     let turn = made_by(alloc, system, met, of.shared, of.thread, of.n)?;
     match turn {
-        EventOutcome::Told(turn) => {
+        Made::Told(turn) => {
             put_turn(alloc, system, &met.parts, threads, of, turn, all)?;
             Ok(true)
         }
-        EventOutcome::Heard(shared, made) => {
+        Made::Heard(shared, made) => {
             let parts = &mut met.parts;
             let Some(next) = row_after(alloc, system, parts, threads, of.n, shared, &made)? else {
                 return Ok(false);
@@ -272,7 +272,7 @@ fn put_anew<M: Moves>(
             put(all, of.n, next)?;
             Ok(true)
         }
-        EventOutcome::Unknown => Ok(false),
+        Made::Unknown => Ok(false),
     }
 }
 
@@ -281,21 +281,21 @@ fn put_anew<M: Moves>(
 fn put_next<M: Moves>(
     alloc: Global,
     system: &M,
-    met: &mut MetParts<M::Shared, M::Thread>,
+    met: &mut Met<M::Shared, M::Thread>,
     threads: &[u32],
     of: ThreadOf,
     all: &mut Vec<NextRow>,
 ) -> Result<bool, AllocError>
     requires known { AreKnown (M.threads system.now) met.old }
-    requires at { (c : StateAtRest M.Shared M.Thread)
+    requires at { (c : FlatState M.Shared M.Thread)
         × IsThreadAt (M.threads system.now) met.old.parts (of.shared ∷ threads.now) of.thread of.n c }
     ensures grows { OnOk result (Grows met.old.parts met.new.parts) }
     ensures known { OnOk result (AreKnown (M.threads system.now) met.new) }
-    ensures next { IfOk result (λ told. told ≡ true → (c : StateAtRest M.Shared M.Thread)
+    ensures next { IfOk result (λ told. told ≡ true → (c : FlatState M.Shared M.Thread)
         → IsThreadAt (M.threads system.now) met.old.parts (of.shared ∷ threads.now) of.thread of.n c
         → AreNextBelow (M.threads system.now) met.old.parts c of.n all.old.items
         → AreNextBelow (M.threads system.now) met.new.parts c (of.n + 1) all.new.items) }
-    ensures gives_up { IfOk result (λ told. told ≡ false → (c : StateAtRest M.Shared M.Thread)
+    ensures gives_up { IfOk result (λ told. told ≡ false → (c : FlatState M.Shared M.Thread)
         → IsThreadAt (M.threads system.now) met.old.parts (of.shared ∷ threads.now) of.thread of.n c
         → IsStuckAfter (M.threads system.now) (M.stuck system.now) c) }
 {
@@ -311,7 +311,7 @@ fn put_next<M: Moves>(
 pub(crate) fn next_rows<M: Moves>(
     alloc: Global,
     system: &M,
-    met: &mut MetParts<M::Shared, M::Thread>,
+    met: &mut Met<M::Shared, M::Thread>,
     shared: u32,
     threads: &[u32],
 ) -> Result<Option<Vec<NextRow>>, AllocError>

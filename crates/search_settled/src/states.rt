@@ -13,11 +13,11 @@ ghost use Rattle.search_settled.specs.Same.{flat_eq};
 ghost use Rattle.search_settled.specs.Known.{PutsRows};
 
 use crate::Moves;
-use crate::met::{MetParts, NextRow, Tables, make_room};
+use crate::met::{Met, NextRow, Tables, make_room};
 use crate::next::{next_rows, row_of, threads_of};
 use search_graph::Move;
-use search_reach::{Ended, Follows, Meets, SearchOrder, Seeks, all_endings};
-use search_table::{StateParts, States};
+use search_reach::{Ended, Follows, Meets, Order, Seeks, all_endings};
+use search_table::{Parts, States};
 use std::alloc::{AllocError, Global};
 use std::hash::Hash;
 
@@ -33,7 +33,7 @@ struct Turns<'s, M> {
 /// # Errors
 /// Where memory is refused.
 pub fn put_rows<S: Eq + Hash + Drop, T: Eq + Hash + Drop>(
-    parts: &StateParts<S, T>,
+    parts: &Parts<S, T>,
     states: &mut States,
     moves: &mut Vec<Move>,
     at: u32,
@@ -56,7 +56,7 @@ pub fn put_rows<S: Eq + Hash + Drop, T: Eq + Hash + Drop>(
 
 impl<M: Moves> Meets for Turns<'_, M> {
     ghost use Rattle.schedule.specs.System.{State as SystemState};
-    ghost use Rattle.search_settled.specs.declared.flat.RestingState.{RestingState as StateAtRest};
+    ghost use Rattle.search_settled.specs.declared.flat.Flat.{Flat as FlatState};
     ghost use Rattle.search_settled.specs.Known.{HasStates};
     ghost use Rattle.search_settled.specs.Turns.{turns};
     ghost use Rattle.search_settled.specs.Same.{flat_eq, flat_eq_back, flat_alike, stands_alike};
@@ -65,7 +65,7 @@ impl<M: Moves> Meets for Turns<'_, M> {
 
     type Ending = M::Ending;
 
-    ghost State = { StateAtRest M.Shared M.Thread };
+    ghost State = { FlatState M.Shared M.Thread };
 
     ghost World = { SystemState M.X M.T };
 
@@ -83,8 +83,8 @@ impl<M: Moves> Meets for Turns<'_, M> {
 
     fn table(&self, alloc: Global) -> Tables<M::Shared, M::Thread> {
         Tables {
-            met: MetParts {
-                parts: StateParts::new(alloc),
+            met: Met {
+                parts: Parts::new(alloc),
                 known: Vec::new(alloc),
             },
             states: States::new(alloc),
@@ -160,7 +160,7 @@ impl<M: Moves> Meets for Turns<'_, M> {
 pub fn search_all<M: Moves, Q: Seeks<M::Ending>, F: Follows>(
     alloc: Global,
     system: &M,
-    order: SearchOrder,
+    order: Order,
     most: u32,
     sought: &Q,
     follower: &mut F,

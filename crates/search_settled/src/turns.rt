@@ -1,20 +1,20 @@
 //! The turn of a thread, by the numbers of a table.
 ghost use Rattle.std.specs.Prelude.{◌≡◌, ◌≢◌, ◌<◌, ◌≤◌, true, false, IfOk, OnOk};
 ghost use Rattle.search_table.specs.Tables.{Grows};
-ghost use Rattle.search_settled.specs.declared.turns.EventOutcome.TheVariants.{Unknown};
+ghost use Rattle.search_settled.specs.declared.turns.Made.TheVariants.{Unknown};
 ghost use Rattle.search_settled.specs.Known.{AreKnown, AreOfThread, OfNumbers, IsMade, IsLostBy};
 ghost use Rattle.search_settled.specs.Alone.{IsUnheard};
 ghost use Rattle.search_settled.specs.Flat.{ComesAfter};
 
 use crate::Moves;
-use crate::met::{Known, MetParts, QuietTurn, note};
+use crate::met::{Known, Met, Turn, note};
 use std::alloc::{AllocError, Global};
 
 /// What comes of the event that a thread wants.
 #[derive(Drop)]
-pub(crate) enum EventOutcome<S, E> {
+pub(crate) enum Made<S, E> {
     /// Its turn.
-    Told(QuietTurn),
+    Told(Turn),
     /// Others hear of it: what is shared after it, and what it makes.
     Heard(S, E),
     /// That can't be told.
@@ -59,11 +59,11 @@ fn is_quiet<M: Moves>(
 fn made_anew<M: Moves>(
     alloc: Global,
     system: &M,
-    met: &mut MetParts<M::Shared, M::Thread>,
+    met: &mut Met<M::Shared, M::Thread>,
     shared: u32,
     thread: u32,
     n: usize,
-) -> Result<EventOutcome<M::Shared, M::Effect>, AllocError>
+) -> Result<Made<M::Shared, M::Effect>, AllocError>
     requires known { AreKnown (M.threads system.now) met.old }
     requires of { AreOfThread (M.threads system.now) met.old.parts shared thread n }
     requires few { n < (M.threads system.now).most }
@@ -75,35 +75,35 @@ fn made_anew<M: Moves>(
         (IsLostBy (M.threads system.now) (M.stuck system.now) n)) }
 {
     let Some(old) = met.parts.shared.get_index(shared as usize) else {
-        return Ok(EventOutcome::Unknown);
+        return Ok(Made::Unknown);
     };
     let Some(own) = met.parts.threads.get_index(thread as usize) else {
-        return Ok(EventOutcome::Unknown);
+        return Ok(Made::Unknown);
     };
     let count = system.started(old);
     let Some((new, made)) = system.event(alloc, old, own, n)? else {
-        return Ok(EventOutcome::Told(QuietTurn::Still));
+        return Ok(Made::Told(Turn::Still));
     };
     if !is_quiet(system, &new, &made, n, count) {
-        return Ok(EventOutcome::Heard(new, made));
+        return Ok(Made::Heard(new, made));
     }
     let Some(rested) = system.after(alloc, &made, n, own, n)? else {
-        return Ok(EventOutcome::Unknown);
+        return Ok(Made::Unknown);
     };
     let shared = met.parts.put_shared(new)?;
     let thread = met.parts.put_thread(rested)?;
-    Ok(EventOutcome::Told(QuietTurn::Alone { shared, thread }))
+    Ok(Made::Told(Turn::Alone { shared, thread }))
 }
 
 /// What comes of the event that thread n wants, which was not known, and is noted if nobody else hears of it.
 pub(crate) fn made_by<M: Moves>(
     alloc: Global,
     system: &M,
-    met: &mut MetParts<M::Shared, M::Thread>,
+    met: &mut Met<M::Shared, M::Thread>,
     shared: u32,
     thread: u32,
     n: usize,
-) -> Result<EventOutcome<M::Shared, M::Effect>, AllocError>
+) -> Result<Made<M::Shared, M::Effect>, AllocError>
     requires known { AreKnown (M.threads system.now) met.old }
     requires of { AreOfThread (M.threads system.now) met.old.parts shared thread n }
     requires few { n < (M.threads system.now).most }
@@ -115,7 +115,7 @@ pub(crate) fn made_by<M: Moves>(
         (IsLostBy (M.threads system.now) (M.stuck system.now) n)) }
 {
     let made = made_anew(alloc, system, met, shared, thread, n)?;
-    if let EventOutcome::Told(turn) = made {
+    if let Made::Told(turn) = made {
         let n = n as u32;
         let new = Known {
             shared,

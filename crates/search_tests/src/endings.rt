@@ -5,7 +5,7 @@ use crate::runs::{FUEL, LIMIT, Trouble, WAYS, ending_drawn, load, run};
 use interp_trait::OpenGate;
 use report_runs::record_run;
 use search_endings::Ending;
-use search_finds::{EndingTable, ending_of, has_line_with};
+use search_finds::{Table, ending_of, has_line_with};
 use search_strategies::Along;
 use selection::Way;
 use spawn_host::Call;
@@ -25,8 +25,8 @@ fn endings_of(
     args: &[Value],
     way: Way,
     runs: u64,
-) -> Result<EndingTable, Trouble> {
-    let mut table = EndingTable::new(alloc);
+) -> Result<Table, Trouble> {
+    let mut table = Table::new(alloc);
     for number in 0..runs {
         let ending = ending_drawn(alloc, valid, args, way, 1, number)?;
         if table.runs < 1000 {
@@ -37,7 +37,7 @@ fn endings_of(
 }
 
 /// In how many runs the threads ended so, with this byte at 0.
-fn times_of(table: &EndingTable, outcomes: &[Outcome], byte: u8) -> u64 {
+fn times_of(table: &Table, outcomes: &[Outcome], byte: u8) -> u64 {
     let mut times = 0u64;
     for met in table.met.iter() {
         if met.ending.outcomes() == outcomes && met.ending.bytes().first() == Some(&byte) {
@@ -51,13 +51,13 @@ fn times_of(table: &EndingTable, outcomes: &[Outcome], byte: u8) -> u64 {
 static UPDATES: [(u32, u8); 3] = [(1, 2), (2, 2), (1, 1)];
 
 /// Whether thread 0 answers so and this byte is stored in some run.
-fn has_update(table: &EndingTable, answer: u32, byte: u8) -> bool {
+fn has_update(table: &Table, answer: u32, byte: u8) -> bool {
     let ends = [Outcome::Done(Some(Value::I32(answer))), Outcome::Done(None)];
     times_of(table, &ends, byte) > 0
 }
 
 /// Whether each of these endings was met, and no other.
-fn has_updates(table: &EndingTable, updates: &[(u32, u8)]) -> bool {
+fn has_updates(table: &Table, updates: &[(u32, u8)]) -> bool {
     table.met.len() == updates.len()
         && updates
             .iter()
@@ -87,7 +87,7 @@ fn is_met<R: Threads + Wait + Sync>(
     rt: &R,
     alloc: Global,
     valid: &ValidModule,
-    table: &EndingTable,
+    table: &Table,
 ) -> Result<bool, Trouble> {
     let call = Call {
         name: "f",

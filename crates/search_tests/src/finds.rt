@@ -7,10 +7,10 @@ use crate::modules::LOST_UPDATE;
 use crate::runs::{FUEL, LIMIT, Trouble, load};
 use replay::replay;
 use search_finds::{
-    EndingTable, Halt, Met, SearchResult, Size, first_found, have_one_ending, shrunk, size_of,
+    Halt, Met, SearchResult, Size, Table, first_found, have_one_ending, shrunk, size_of,
 };
 use search_scheduled::MadeRun;
-use selection::{Find, SearchTarget, Sought, Way};
+use selection::{Find, Sought, Target, Way};
 use spawn_host::{Call, EndState, Request};
 use std::alloc::Global;
 use std::process::Abort;
@@ -106,7 +106,7 @@ fn sought_by(wish: &Wish) -> Sought<'static> {
         runs: wish.runs,
         limit: LIMIT,
         dump: 4,
-        target: SearchTarget {
+        target: Target {
             find: wish.find,
             expect: wish.expect,
         },
@@ -142,7 +142,7 @@ fn are_one_row(one: &Met, other: &Met) -> bool {
     one.times == other.times && one.first == other.first && one.ending == other.ending
 }
 
-fn are_one_table(one: &EndingTable, other: &EndingTable) -> bool {
+fn are_one_table(one: &Table, other: &Table) -> bool {
     one.runs == other.runs
         && one.met.len() == other.met.len()
         && one

@@ -4,8 +4,8 @@ use crate::modules::LOST_UPDATE;
 use crate::runs::{FUEL, LIMIT, Trouble, load};
 use search_finds::{Halt, Hears, SearchResult, Size, first_found};
 use search_reach::{Follows, Wish};
-use search_strategies::EndWatch;
-use selection::{Find, SearchTarget, Sought, Way};
+use search_strategies::Watch;
+use selection::{Find, Sought, Target, Way};
 use spawn_host::{Call, Request};
 use std::alloc::Global;
 use std::test::Fail;
@@ -41,7 +41,7 @@ impl Follows for Few {
 #[derive(Drop)]
 struct Over;
 
-impl EndWatch for Over {
+impl Watch for Over {
     fn is_over(&self) -> bool {
         true
     }
@@ -83,7 +83,7 @@ fn told<R: Threads + Sync>(
         runs: 1000,
         limit: LIMIT,
         dump: 4,
-        target: SearchTarget {
+        target: Target {
             find: Find::Words(words),
             expect: None,
         },

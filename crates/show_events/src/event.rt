@@ -33,13 +33,13 @@ pub(crate) struct EntryEvent<'a> {
 
 /// The front of an entry: its words, as JSON has them, its number in the log, and how long it is.
 #[derive(Clone, Copy)]
-struct EventFront<'a> {
+struct Named<'a> {
     words: &'a str,
     at: u64,
     length: u64,
 }
 
-impl fmt::Display for EventFront<'_> {
+impl fmt::Display for Named<'_> {
     ghost use Rattle.std.specs.Prelude.{Some};
     ghost use Rattle.show_events.specs.Events.{named_json};
 
@@ -88,7 +88,7 @@ pub(crate) fn entry_event(alloc: Global, event: EntryEvent) -> Result<String, Al
 {
     let words = quoted(alloc, event.words)?;
     let place = quoted(alloc, event.place)?;
-    let named = EventFront {
+    let named = Named {
         words: words.as_str(),
         at: event.at,
         length: event.length,

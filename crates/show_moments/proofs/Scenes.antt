@@ -10,7 +10,7 @@ use Rattle.show_rows.specs.Entries.{IsEntryText}
 use Rattle.show_moments.specs.declared.standing.ThreadSnapshot.{ThreadSnapshot}
 use Rattle.show_moments.specs.declared.standing.OpenFunction.{OpenFunction}
 use Rattle.show_moments.specs.Opened.{IsOpenFunction}
-use Rattle.dwarf_frames.specs.declared.frames.CallFrame.{CallFrame}
+use Rattle.dwarf_frames.specs.declared.frames.Frame.{Frame}
 use Rattle.dwarf_frames.specs.declared.values.FrameValue.{FrameValue}
 use Rattle.show_rows.specs.Spots.{named_offset}
 use Rattle.show_moments.specs.Scenes.{Seen, AddsFunction, AddsFunctions, AddsOpened, AddsOther, AddsRace, AddsRaces}
@@ -41,7 +41,7 @@ pub function_adds : (s : Seen) (standing : ThreadSnapshot) (number : ℕ) (o : O
     → IsOpenFunction standing number o → AddsOpened s o a b → AddsFunction s standing number a b
 function_adds s standing number o a b opened adds = (o, opened, adds)
 
-pub opened_adds : (s : Seen) (o : OpenFunction) (frame : CallFrame) (values : List FrameValue) (text : List ℕ) (a b c : Option (List ℕ))
+pub opened_adds : (s : Seen) (o : OpenFunction) (frame : Frame) (values : List FrameValue) (text : List ℕ) (a b c : Option (List ℕ))
     → frame.offset ≡ named_offset s.shown.code.now o.place → IsFunctionText s o frame text → Appends a b text
     → values ≡ frame.values.items → AddsValues s o values b c → AddsOpened s o a c
 opened_adds s o frame values text a b c there says adds same all = record {

@@ -6,7 +6,7 @@ use Rattle.std.specs.Io.KnownBytes.{Appends, Keeps}
 use Rattle.types.specs.declared.event.Entry.{Entry}
 use Rattle.types.specs.declared.limits.TheConstants.{MOST_THREADS}
 use Rattle.race_history.specs.declared.race.Race.{Race}
-use Rattle.selection.specs.declared.choice.NumberSpan.{NumberSpan}
+use Rattle.selection.specs.declared.choice.Span.{Span}
 use Rattle.show_named.specs.LastTexts.{SaysLast}
 use Rattle.show_named.specs.declared.lasts.Act.TheVariants as acts
 use Rattle.show_text.specs.declared.words.Words.{Words}
@@ -55,13 +55,13 @@ thread_comes s thread b log at d next old told behind new is there same within c
     spawned s thread b log (Some at) old new is there same comes
     (get_or log at d, stands log s.shown.record.now.log at d same within, next, says, told, behind, wrote, last, adds)
 
-pub last_none : (s : Seen) (o : Option NumberSpan) (a : Option (List ℕ)) → o ≡ None → AddsLast s o a a
-last_none s o a is = subst (λ (x : Option NumberSpan). AddsLast s x a a) (sym is) refl
+pub last_none : (s : Seen) (o : Option Span) (a : Option (List ℕ)) → o ≡ None → AddsLast s o a a
+last_none s o a is = subst (λ (x : Option Span). AddsLast s x a a) (sym is) refl
 
-pub last_some : (s : Seen) (o : Option NumberSpan) (addrs : NumberSpan) (text : List ℕ) (a b : Option (List ℕ)) → o ≡ Some addrs
+pub last_some : (s : Seen) (o : Option Span) (addrs : Span) (text : List ℕ) (a b : Option (List ℕ)) → o ≡ Some addrs
     → SaysLast s.shown s.map s.story s.moment.at (acts.Write addrs) (codes "nobody") text
     → Appends a b (codes "    last write there: " ++ (text ++ codes "\n")) → AddsLast s o a b
-last_some s o addrs text a b is says wrote = subst (λ (x : Option NumberSpan). AddsLast s x a b) (sym is) (text, says, wrote)
+last_some s o addrs text a b is says wrote = subst (λ (x : Option Span). AddsLast s x a b) (sym is) (text, says, wrote)
 
 pub standing_none : (s : Seen) (o : Option ThreadSnapshot) (a : Option (List ℕ)) → None ≡ o → AddsStanding s o a a
 standing_none s o a is = subst (λ (x : Option ThreadSnapshot). AddsStanding s x a a) is refl

@@ -15,7 +15,7 @@ use Rattle.types.specs.declared.parts.Parts.{Parts}
 use Rattle.types.specs.declared.value.ValType.{ValType}
 use Rattle.waiters.specs.declared.kept.KeptQueue.{KeptQueue}
 use Rattle.race_history.specs.declared.race.Race.{Race}
-use Rattle.selection.specs.declared.choice.NumberSpan.{NumberSpan}
+use Rattle.selection.specs.declared.choice.Span.{Span}
 use Rattle.selection.specs.Choices.{touched}
 use Rattle.validate.specs.Operands.{OwnOperandsAt}
 use Rattle.validate_module.specs.Own.{FindsLocals}
@@ -33,8 +33,8 @@ use Rattle.show_rows.specs.declared.around.Around.{Around}
 use Rattle.show_rows.specs.declared.code.CodeMap.{CodeMap}
 use Rattle.interp.specs.declared.place.CodePlace.{CodePlace}
 use Rattle.dwarf_units.specs.Spans.{holds}
-use Rattle.dwarf_frames.specs.declared.frames.CallFrame.{CallFrame}
-use Rattle.dwarf_frames.specs.declared.kinds.ValueKind.{ValueKind}
+use Rattle.dwarf_frames.specs.declared.frames.Frame.{Frame}
+use Rattle.dwarf_frames.specs.declared.kinds.Kind.{Kind}
 use Rattle.dwarf_frames.specs.declared.values.FrameValue.{FrameValue}
 use Rattle.show_text.specs.Plain.{plain_text}
 use Rattle.show_named.specs.declared.data_map.DataMap.{DataMap}
@@ -128,7 +128,7 @@ types_of None = []
 types_of (Some types) = types.items
 
 -- Words behind a name stand there where they are asked for, or no functions are known.
-abbrev pub listing_text : Seen → CallFrame → List ℕ → List ℕ → List ValType → List ℕ
+abbrev pub listing_text : Seen → Frame → List ℕ → List ℕ → List ValType → List ℕ
 listing_text s frame name words types = cond (s.raw || not frame.is_known) (listed_text name words types) []
 
 -- The lines of source around a place.
@@ -137,7 +137,7 @@ around_of code place = lines_around code.sources.files.items (range_at code plac
 
 -- An open function: where it is, and its locals and operands, each as a value of its type; and the lines of source around
 -- it.
-pub record IsFunctionText (s : Seen) (o : OpenFunction) (frame : CallFrame) (text : List ℕ) : Type 0 where
+pub record IsFunctionText (s : Seen) (o : OpenFunction) (frame : Frame) (text : List ℕ) : Type 0 where
   pub spot : Spot
   pub spot_is : IsSpotOf s.shown.code.now o.place spot
   pub locals : Option (Vec ValType)
@@ -150,13 +150,13 @@ pub record IsFunctionText (s : Seen) (o : OpenFunction) (frame : CallFrame) (tex
       ++ (codes "\n" ++ around_text (around_of s.shown.code.now o.place)))))
 
 -- The name of the static data to which a pointer points, if it does.
-pub record NamesTarget (map : DataMap) (kind : ValueKind) (number : ℕ) (text : List ℕ) : Type 0 where
+pub record NamesTarget (map : DataMap) (kind : Kind) (number : ℕ) (text : List ℕ) : Type 0 where
   pub points : is_pointer kind ≡ true
   pub within : IsSome (find (holds number) map.spans.items.items)
   pub name : List ℕ
   pub words : text ≡ codes " <" ++ (plain_text name ++ codes ">")
 
-abbrev pub IsTargetText : Seen → ValueKind → ℕ → List ℕ → Type 0
+abbrev pub IsTargetText : Seen → Kind → ℕ → List ℕ → Type 0
 IsTargetText s kind number text = (text ≡ []) ⊎ NamesTarget s.map kind number text
 
 -- A value, if it is a number in its frame: its type and name, the number, and to what it points.
@@ -188,7 +188,7 @@ AddsValues s o (v ∷ values) old new =
 
 -- What is written is an open function, with the values that the debug section has of the place where it is.
 pub record AddsOpened (s : Seen) (o : OpenFunction) (old new : Option (List ℕ)) : Type 0 where
-  pub frame : CallFrame
+  pub frame : Frame
   pub there : frame.offset ≡ named_offset s.shown.code.now o.place
   pub text : List ℕ
   pub says : IsFunctionText s o frame text
@@ -211,12 +211,12 @@ abbrev pub depth : ThreadSnapshot → ℕ
 depth standing = min (length standing.callers.items + 1) (2 ^ 64 - 1)
 
 -- Of an answer it is the question that comes to bytes.
-abbrev pub touched_at : Seen → ℕ → Option NumberSpan
+abbrev pub touched_at : Seen → ℕ → Option Span
 touched_at s at = option_and_then (λ made. touched made.event)
     (slice_get s.shown.record.now.log (made_at (context_at s.story at) at))
 
 -- Who wrote these bytes last before the moment is written, if there are some.
-abbrev pub AddsLast : Seen → Option NumberSpan → Option (List ℕ) → Option (List ℕ) → Type 0
+abbrev pub AddsLast : Seen → Option Span → Option (List ℕ) → Option (List ℕ) → Type 0
 AddsLast s None old new = new ≡ old
 AddsLast s (Some addrs) old new = (text : List ℕ)
     × SaysLast s.shown s.map s.story s.moment.at (acts.Write addrs) (codes "nobody") text

@@ -8,8 +8,8 @@ use Rattle.dwarf_units.specs.declared.locations.Base.TheVariants as base
 use Rattle.dwarf_units.specs.declared.locations.Location.{Location}
 use Rattle.dwarf_units.specs.declared.locations.Location.TheVariants as location
 use Rattle.dwarf_frames.specs.declared.frames.Chain.{Chain}
-use Rattle.dwarf_frames.specs.declared.kinds.ValueKind.{ValueKind}
-use Rattle.dwarf_frames.specs.declared.kinds.ValueKind.TheVariants as kind
+use Rattle.dwarf_frames.specs.declared.kinds.Kind.{Kind}
+use Rattle.dwarf_frames.specs.declared.kinds.Kind.TheVariants as kind
 use Rattle.dwarf_frames.specs.declared.values.FrameValue.{FrameValue}
 use Rattle.show_text.specs.Plain.{plain_text}
 use Rattle.show_rows.specs.Rows.{number_in}
@@ -66,15 +66,15 @@ signed_text number (Some sign) =
 abbrev pub number_text : FrameNumber → List ℕ
 number_text t = signed_text t.number (sign_of t)
 
-abbrev pub is_signed : ValueKind → Bool
+abbrev pub is_signed : Kind → Bool
 is_signed kind.Signed = true
 is_signed _ = false
 
-abbrev pub is_pointer : ValueKind → Bool
+abbrev pub is_pointer : Kind → Bool
 is_pointer kind.Pointer = true
 is_pointer _ = false
 
-abbrev pub has_parts : ValueKind → Bool
+abbrev pub has_parts : Kind → Bool
 has_parts kind.Parts = true
 has_parts _ = false
 

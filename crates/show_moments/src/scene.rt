@@ -14,10 +14,10 @@ use crate::moment::Moment;
 use crate::standing::{OpenFunction, ThreadSnapshot};
 use crate::texts::{dump_text, listed_text, queue_text};
 use crate::values::{FrameNumber, FrameSpot, has_parts, is_pointer, is_signed, number_of};
-use dwarf_frames::{CallFrame, FrameValue};
+use dwarf_frames::{Frame, FrameValue};
 use interp::CodePlace;
 use race_history::Race;
-use selection::{NumberSpan, touched};
+use selection::{Span, touched};
 use shared_memory::Sleeper;
 use show_named::{Act, DataMap, last_text};
 use show_rows::{Shown, Story, entry_text};
@@ -191,7 +191,7 @@ impl Scene<'_, '_, '_, '_, '_, '_, '_, '_, '_, '_, '_> {
     }
 
     /// The addresses of the bytes to which an entry comes, or to which the question came that it answers.
-    fn touched_at(&self, at: usize) -> Option<NumberSpan>
+    fn touched_at(&self, at: usize) -> Option<Span>
         ensures { result ≡ specified.touched_at (specified.seen self.now) at }
     {
         let made = match self.story.context_at(at) {
@@ -303,7 +303,7 @@ impl Scene<'_, '_, '_, '_, '_, '_, '_, '_, '_, '_, '_> {
 
     /// An open function. What it called has taken operands from the top, so that there may be fewer than before the
     /// call.
-    fn function_text(&self, opened: OpenFunction, frame: &CallFrame) -> Result<String, AllocError>
+    fn function_text(&self, opened: OpenFunction, frame: &Frame) -> Result<String, AllocError>
         ensures { IfOk result
             (λ text. IsFunctionText (specified.seen self.now) opened.entry frame.now (string_bytes text)) }
     {

@@ -4,7 +4,7 @@ ghost use Rattle.std.specs.Prelude.{◌≡◌, ◌<◌, ◌^◌};
 ghost use Rattle.show_moments.specs.Values as specified;
 
 use crate::standing::OpenFunction;
-use dwarf_frames::{Chain, FrameValue, ValueKind};
+use dwarf_frames::{Chain, FrameValue, Kind};
 use dwarf_units::{Base, Location};
 use show_rows::{Spot, number_in};
 use show_text::Plain;
@@ -123,24 +123,24 @@ impl fmt::Display for FrameNumber {
 }
 
 /// Whether the bytes of a value are read as a number with a sign.
-pub(crate) fn is_signed(kind: ValueKind) -> bool
+pub(crate) fn is_signed(kind: Kind) -> bool
     ensures { result ≡ specified.is_signed kind }
 {
-    matches!(kind, ValueKind::Signed)
+    matches!(kind, Kind::Signed)
 }
 
 /// Whether they are an address.
-pub(crate) fn is_pointer(kind: ValueKind) -> bool
+pub(crate) fn is_pointer(kind: Kind) -> bool
     ensures { result ≡ specified.is_pointer kind }
 {
-    matches!(kind, ValueKind::Pointer)
+    matches!(kind, Kind::Pointer)
 }
 
 /// Whether it has parts of its own.
-pub(crate) fn has_parts(kind: ValueKind) -> bool
+pub(crate) fn has_parts(kind: Kind) -> bool
     ensures { result ≡ specified.has_parts kind }
 {
-    matches!(kind, ValueKind::Parts)
+    matches!(kind, Kind::Parts)
 }
 
 /// A place in the code, with the calls whose functions were put in their places there.

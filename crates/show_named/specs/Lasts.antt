@@ -5,15 +5,15 @@ use Rattle.types.specs.declared.event.Entry.{Entry}
 use Rattle.types.specs.declared.event.Event.TheVariants.{Ask}
 use Rattle.types.specs.declared.event.Question.TheVariants.{Notify}
 use Rattle.race_history.specs.Accesses.{access_of, is_out_of_bounds, HasByte}
-use Rattle.race_history.specs.declared.access.ThreadAccess.{ThreadAccess}
-use Rattle.race_history.specs.declared.access.AccessKind.TheVariants.{Plain}
-use Rattle.selection.specs.declared.choice.NumberSpan.{NumberSpan}
+use Rattle.race_history.specs.declared.access.Access.{Access}
+use Rattle.race_history.specs.declared.access.Kind.TheVariants.{Plain}
+use Rattle.selection.specs.declared.choice.Span.{Span}
 use Rattle.show_named.specs.declared.lasts.Act.{Act}
 use Rattle.show_named.specs.declared.lasts.Act.TheVariants as acts
 
 -- The entry writes a byte at one of these addresses. Whether its access is plain or atomic makes no difference to that.
-pub record Writes (addrs : NumberSpan) (e : Entry) : Type 0 where
-  pub access : ThreadAccess
+pub record Writes (addrs : Span) (e : Entry) : Type 0 where
+  pub access : Access
   pub is : access_of e Plain ≡ Some access
   pub writes : access.writes ≡ true
   pub byte : ℕ

@@ -4,8 +4,8 @@ ghost use Rattle.dwarf_data.specs.Within.{NamesWithin};
 ghost use Rattle.dwarf_units.specs.Spans.{holds};
 ghost use Rattle.show_named.specs.Names.{IsDataText};
 
-use dwarf_data::{NamedBytes, name_at, place_of, read_data};
-use dwarf_frames::{CallFrame, read_frame, read_functions};
+use dwarf_data::{Sought, name_at, place_of, read_data};
+use dwarf_frames::{Frame, read_frame, read_functions};
 use dwarf_lines::DebugSections;
 use dwarf_units::{InfoSections, Spans, Units, read_units};
 use selection::touched;
@@ -67,7 +67,7 @@ impl<'n> DataMap<'n> {
     }
 
     /// What is said of a frame whose function is at an offset of the code.
-    pub fn frame(&self, alloc: Global, offset: Option<usize>) -> Result<CallFrame, AllocError>
+    pub fn frame(&self, alloc: Global, offset: Option<usize>) -> Result<Frame, AllocError>
         ensures { IfOk result (λ frame. frame.offset ≡ offset) }
     {
         read_frame(alloc, &self.units, self.lines, &self.functions, offset)
@@ -103,7 +103,7 @@ impl<'n> DataMap<'n> {
     }
 
     /// The bytes of data that words name, as `slots[3].item`.
-    pub fn named(&self, alloc: Global, words: &str) -> Result<NamedBytes, AllocError>
+    pub fn named(&self, alloc: Global, words: &str) -> Result<Sought, AllocError>
         ensures { IfOk result (NamesWithin self.now.spans.items.items) }
     {
         self.units.allow(self.steps);

@@ -6,7 +6,7 @@ ghost use Rattle.show_named.specs.LastTexts.{SaysLast, WritesLast, unwritten_tex
 use crate::data_map::DataMap;
 use crate::lasts::{Act, last_of};
 use crate::rows::named_text;
-use selection::NumberSpan;
+use selection::Span;
 use show_rows::{Shown, Story};
 use show_text::Unwritten;
 use std::alloc::{AllocError, Global};
@@ -37,7 +37,7 @@ pub fn last_text(
 
 /// Addresses: one, or the first and the last.
 #[derive(Clone, Copy)]
-struct Addresses(NumberSpan);
+struct Addresses(Span);
 
 impl fmt::Display for Addresses {
     ghost use Rattle.std.specs.Prelude.{Some};
@@ -46,7 +46,7 @@ impl fmt::Display for Addresses {
     ghost output = { λ a. Some (addresses_text a.0) };
 
     fn fmt<W: fmt::Write>(&self, f: &mut Formatter<W>) -> fmt::Result {
-        let NumberSpan { first, last } = self.0;
+        let Span { first, last } = self.0;
         if first == last {
             write!(f, "{first}")
         } else {
@@ -56,7 +56,7 @@ impl fmt::Display for Addresses {
 }
 
 /// What is said where none writes there.
-fn unwritten(alloc: Global, addrs: NumberSpan) -> Result<String, AllocError>
+fn unwritten(alloc: Global, addrs: Span) -> Result<String, AllocError>
     ensures { IfOk result (λ text. string_bytes text ≡ unwritten_text addrs) }
 {
     let addresses = Addresses(addrs);
@@ -77,7 +77,7 @@ pub fn write_last<W: Write>(
     map: &DataMap,
     story: &Story,
     before: usize,
-    addrs: NumberSpan,
+    addrs: Span,
     out: &mut W,
 ) -> Result<(), Unwritten>
     ensures { OnOk result (WritesLast shown.entry map.now story.now before addrs (W.contents out.old) (W.contents out.new)) }

@@ -2,26 +2,26 @@
 ghost use Rattle.std.specs.Prelude.{◌≡◌, ◌↔◌, true, None, IfSome};
 ghost use Rattle.show_named.specs.Lasts.{Does, HasNone, IsLast, Notifies, Writes};
 
-use race_history::{AccessKind, access_of};
-use selection::NumberSpan;
+use race_history::{Kind, access_of};
+use selection::Span;
 use types::{Entry, Event, Question, Reply};
 
 /// What an entry does that is sought.
 #[derive(Clone, Copy, PartialEq, Eq, Debug)]
 pub enum Act {
     /// It writes a byte at one of these addresses.
-    Write(NumberSpan),
+    Write(Span),
     /// It does so, and is of another thread than this one.
-    OtherWrite(NumberSpan, usize),
+    OtherWrite(Span, usize),
     /// It notifies those that wait at this address.
     Notify(u64),
 }
 
 /// Whether an entry writes a byte at one of these addresses.
-fn writes(entry: &Entry, addrs: NumberSpan) -> bool
+fn writes(entry: &Entry, addrs: Span) -> bool
     ensures { (result ≡ true) ↔ Writes addrs entry.now }
 {
-    let Some(access) = access_of(entry, AccessKind::Plain) else {
+    let Some(access) = access_of(entry, Kind::Plain) else {
         return false;
     };
     let low = addrs.first.max(access.addr);

@@ -12,7 +12,7 @@ mod kinds;
 mod release;
 mod writing;
 
-pub use found::{RecordRaces, races_shown, racing_pairs};
+pub use found::{Races, races_shown, racing_pairs};
 pub use kinds::kinds_of;
 pub use release::next_atomic_write;
 pub use writing::{write_first, write_races};

@@ -6,7 +6,7 @@ use crate::made::{module_of, record_of, rows_of};
 use dwarf_lines::{SourceFile, Sources};
 use interp::CodePlace;
 use replay_text::Record;
-use selection::{Choice, Color, Look, NumberSpan};
+use selection::{Choice, Color, Look, Span};
 use show_rows::{CodeMap, Row, Shown, write_rows};
 use std::alloc::Global;
 use std::process::Abort;
@@ -21,9 +21,9 @@ struct Listing {
     record: &'static [u8],
     /// Files of source that are at hand: what each is called, and its text.
     sources: &'static [(&'static str, &'static str)],
-    lines: &'static [NumberSpan],
+    lines: &'static [Span],
     threads: &'static [u32],
-    addrs: &'static [NumberSpan],
+    addrs: &'static [Span],
     width: usize,
     color: Color,
     text: &'static str,
@@ -59,16 +59,13 @@ static LISTINGS: [Listing; 9] = [
     },
     // on several lines, and at several addresses
     Listing {
-        lines: &[
-            NumberSpan { first: 6, last: 8 },
-            NumberSpan { first: 9, last: 9 },
-        ],
+        lines: &[Span { first: 6, last: 8 }, Span { first: 9, last: 9 }],
         addrs: &[
-            NumberSpan {
+            Span {
                 first: 100,
                 last: 200,
             },
-            NumberSpan { first: 8, last: 8 },
+            Span { first: 8, last: 8 },
         ],
         text: "\
             \x20     8                              t1 sleeps on 8 while 0                     sleep?+0x8\n\
@@ -106,8 +103,8 @@ static LISTINGS: [Listing; 9] = [
     },
     // of some addresses and some lines, in colors
     Listing {
-        lines: &[NumberSpan { first: 8, last: 11 }],
-        addrs: &[NumberSpan { first: 0, last: 8 }],
+        lines: &[Span { first: 8, last: 11 }],
+        addrs: &[Span { first: 0, last: 8 }],
         width: 90,
         color: Color::Always,
         text: "\

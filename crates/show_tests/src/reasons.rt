@@ -1,17 +1,16 @@
 //! Lines that explain a refusal, by hand.
 
 use crate::asserts::same_text;
-use interp_trait::Turn;
-use replay_text::{RecordFault, read_record};
-use report_command::CallWords;
-use report_jobs::{Advised, Done, JobResult, Refused, Undone, load, load_checked, of_refusal};
-use report_reasons::{JobInputs, UnfitThread, add_misfit, explain};
-use spawn_host::CallFault;
+use binary::read;
+use binary_wire::ReadFault;
+use replay_text::read_record;
+use report_reasons::{Instead, Misfit, Refused, explain};
 use std::alloc::Global;
 use std::process::Abort;
 use std::test::Fail;
 use test_modules::TELLING;
-use types::{Event, Outcome, RmwOp, Stop, Trap};
+use types::{Event, Outcome, Parts, RmwOp, Stop};
+use validate::validate;
 
 /// Bytes, and the lines that are said of them.
 struct Case {
@@ -102,38 +101,39 @@ static MODULES: [Case; 14] = [
     },
 ];
 
-/// What is said of what came of a job that was given these bytes, behind a line that was there before.
-fn said_of(alloc: Global, ended: &JobResult, given: JobInputs) -> Result<String, Fail> {
+/// Adds the lines on bytes that are refused as a module.
+fn explain_module(alloc: Global, out: &mut String, bytes: &[u8]) -> Result<(), Fail> {
+    match read(alloc, bytes) {
+        Err(ReadFault::Malformed { kind, offset }) => {
+            let refused = Refused::Bytes {
+                bytes,
+                kind,
+                offset,
+            };
+            explain(alloc, out, &refused)?;
+        }
+        Err(fault) => return Err(fault.into()),
+        Ok(module) => {
+            if let Err(fault) = validate(alloc, module) {
+                explain(alloc, out, &Refused::Module(bytes, fault))?;
+            }
+        }
+    }
+    Ok(())
+}
+
+/// What is said of bytes that are refused as a module, behind a line that was there before.
+fn said_of_module(alloc: Global, bytes: &[u8]) -> Result<String, Fail> {
     let mut lines = String::new(alloc);
     lines.push_str("before\n")?;
-    explain(alloc, &mut lines, ended, given)?;
-    match lines.strip_prefix("before\n") {
-        Some(said) => Ok(String::from_str(alloc, said)?),
-        None => Err("the line before is gone".into()),
-    }
-}
-
-/// A job that was given this module, and nothing else.
-fn of_module(bytes: &[u8]) -> JobInputs<'_> {
-    JobInputs {
-        module: bytes,
-        saved: &[],
-        call: None,
-    }
-}
-
-/// What is said of bytes that are refused as a module.
-fn said_of_module(alloc: Global, bytes: &[u8]) -> Result<String, Fail> {
-    match load_checked(alloc, bytes) {
-        Err(refusal) => said_of(alloc, &Err(of_refusal(refusal)), of_module(bytes)),
-        Ok(_) => Err("a valid module".into()),
-    }
+    explain_module(alloc, &mut lines, bytes)?;
+    Ok(lines)
 }
 
 fn check_modules<R: Abort>(rt: &R, alloc: Global, cases: &[Case]) -> Result<(), Fail> {
     for case in cases {
         let lines = said_of_module(alloc, case.bytes)?;
-        same_text(rt, &lines, case.lines);
+        same_text(rt, lines.strip_prefix("before\n").unwrap_or(""), case.lines);
     }
     Ok(())
 }
@@ -175,20 +175,19 @@ static TEXTS: [Case; 6] = [
     },
 ];
 
+/// What is said of a refusal.
+fn said_of(alloc: Global, refused: &Refused) -> Result<String, Fail> {
+    let mut lines = String::new(alloc);
+    explain(alloc, &mut lines, refused)?;
+    Ok(lines)
+}
+
 /// What is said of bytes that are refused as a record.
 fn said_of_text(alloc: Global, bytes: &[u8]) -> Result<String, Fail> {
-    let refused = match read_record(alloc, bytes) {
-        Err(RecordFault::Header(line)) => Refused::Header(line),
-        Err(RecordFault::Unreadable(line)) => Refused::Unreadable(line),
-        Err(RecordFault::EndMissing) => Refused::EndMissing,
-        _ => return Err("a record".into()),
-    };
-    let given = JobInputs {
-        module: &[],
-        saved: bytes,
-        call: None,
-    };
-    said_of(alloc, &Err(Undone::Refused(refused)), given)
+    match read_record(alloc, bytes) {
+        Err(fault) => said_of(alloc, &Refused::Text(bytes, fault)),
+        Ok(_) => Err("a record".into()),
+    }
 }
 
 fn check_texts<R: Abort>(rt: &R, alloc: Global, cases: &[Case]) -> Result<(), Fail> {
@@ -209,17 +208,17 @@ const LOG: &[u8] =
 /// A line of `LOG` that doesn't fit, and the lines that are said of it.
 struct Unfit {
     number: usize,
-    thread: Option<UnfitThread<'static>>,
+    misfit: Option<Misfit<'static>>,
     lines: &'static str,
 }
 
 static UNFIT: [Unfit; 4] = [
     Unfit {
         number: 6,
-        thread: Some(UnfitThread {
-            number: 4,
-            turn: None,
-            spot: "lock+0x9",
+        misfit: Some(Misfit {
+            thread: 4,
+            instead: None,
+            spot: Some("lock+0x9"),
         }),
         lines: "line 6: the record has t4 cmpxchg 1024 4 0 1 = 0\n\
             t4 stands at lock+0x9 before it\n\
@@ -227,15 +226,15 @@ static UNFIT: [Unfit; 4] = [
     },
     Unfit {
         number: 6,
-        thread: Some(UnfitThread {
-            number: 4,
-            turn: Some(Turn::Wants(Event::Rmw {
+        misfit: Some(Misfit {
+            thread: 4,
+            instead: Some(Instead::Wants(Event::Rmw {
                 op: RmwOp::Xchg,
                 addr: 1024,
                 width: 4,
                 value: 2,
             })),
-            spot: "lock+0x9 lock.c:7",
+            spot: Some("lock+0x9 lock.c:7"),
         }),
         lines: "line 6: the record has t4 cmpxchg 1024 4 0 1 = 0\n\
             t4 would do rmw xchg 1024 4 2\n\
@@ -244,28 +243,30 @@ static UNFIT: [Unfit; 4] = [
     },
     Unfit {
         number: 6,
-        thread: Some(UnfitThread {
-            number: 4,
-            turn: Some(Turn::Ended(Outcome::Stop(Stop::OutOfFuel))),
-            spot: "lock+0x9",
+        misfit: Some(Misfit {
+            thread: 4,
+            instead: Some(Instead::Ended(Outcome::Stop(Stop::OutOfFuel))),
+            spot: None,
         }),
         lines: "line 6: the record has t4 cmpxchg 1024 4 0 1 = 0\n\
             t4 has ended: stop out of fuel\n\
-            t4 stands at lock+0x9 before it\n\
             no run of this module goes on so: is the record of another module, or of another build of it?\n",
     },
     Unfit {
         number: 9,
-        thread: None,
+        misfit: None,
         lines: "no run of this module goes on so: is the record of another module, or of another build of it?\n",
     },
 ];
 
 fn check_lines<R: Abort>(rt: &R, alloc: Global, saved: &[u8], cases: &[Unfit]) -> Result<(), Fail> {
     for unfit in cases {
-        let mut lines = String::new(alloc);
-        add_misfit(&mut lines, saved, unfit.number, unfit.thread)?;
-        same_text(rt, &lines, unfit.lines);
+        let refused = Refused::Line {
+            saved,
+            number: unfit.number,
+            misfit: unfit.misfit,
+        };
+        same_text(rt, &said_of(alloc, &refused)?, unfit.lines);
     }
     Ok(())
 }
@@ -275,40 +276,24 @@ fn lines_that_do_not_fit_are_explained(rt: HostRuntime) -> Result<(), Fail> {
     check_lines(&rt, rt.alloc(), LOG, &UNFIT)
 }
 
-/// How threads ended, and the lines that are said of that.
-static ENDS: [(&[Outcome], &str); 3] = [
+/// What a run printed, and the lines that are said of it.
+static ENDS: [(&str, &str); 3] = [
     (
-        &[Outcome::Done(None), Outcome::Stop(Stop::RecordFull)],
+        "thread 0: ok\nthread 1: stop record full\npages 1\n",
         "the record took no further entry: --limit takes up to 1000000, and --memory words has no limit and keeps no \
             record\n",
     ),
     (
-        &[
-            Outcome::Trap(Trap::UnalignedAtomic),
-            Outcome::Stop(Stop::AsleepForGood),
-        ],
+        "thread 0: stop asleep for good\nthread 1: trap unaligned atomic\npages 1\n",
         "a thread sleeps where nobody is left to wake it: `show` has the line on which it fell asleep\n\
             an atomic access wants an address that its width divides\n",
     ),
-    (&[Outcome::Done(None)], ""),
+    ("thread 0: ok\npages 1\n", ""),
 ];
 
-/// What is said of a job whose threads ended so.
-fn said_of_ends(alloc: Global, outcomes: &[Outcome]) -> Result<String, Fail> {
-    let mut advised = Advised::none();
-    for outcome in outcomes {
-        advised.note(*outcome);
-    }
-    let done = Done {
-        advised,
-        ..Done::with(1)
-    };
-    said_of(alloc, &Ok(done), of_module(&[]))
-}
-
-fn check_ends<R: Abort>(rt: &R, alloc: Global, cases: &[(&[Outcome], &str)]) -> Result<(), Fail> {
-    for (outcomes, wanted) in cases {
-        same_text(rt, &said_of_ends(alloc, outcomes)?, wanted);
+fn check_ends<R: Abort>(rt: &R, alloc: Global, cases: &[(&str, &str)]) -> Result<(), Fail> {
+    for (printed, wanted) in cases {
+        same_text(rt, &said_of(alloc, &Refused::Ends(printed))?, wanted);
     }
     Ok(())
 }
@@ -345,33 +330,20 @@ static CALLS: [Call; 3] = [
     },
 ];
 
-/// What is said of a call that a module hasn't.
-fn said_of_call(alloc: Global, bytes: &[u8], call: &Call) -> Result<String, Fail> {
-    let words = CallWords {
-        invoke: call.name,
-        args: Vec::from_slice(alloc, call.args)?,
-        fuel: 1,
-    };
-    let refused = Refused::Call {
-        fault: CallFault::WrongArguments,
-        module: load(alloc, bytes)?,
-    };
-    let given = JobInputs {
-        module: bytes,
-        saved: &[],
-        call: Some(&words),
-    };
-    said_of(alloc, &Err(Undone::Refused(refused)), given)
-}
-
-fn check_calls<R: Abort>(rt: &R, alloc: Global, bytes: &[u8], calls: &[Call]) -> Result<(), Fail> {
+fn check_calls<R: Abort>(rt: &R, alloc: Global, parts: &Parts, calls: &[Call]) -> Result<(), Fail> {
     for call in calls {
-        same_text(rt, &said_of_call(alloc, bytes, call)?, call.lines);
+        let refused = Refused::Call {
+            parts,
+            name: call.name,
+            args: call.args,
+        };
+        same_text(rt, &said_of(alloc, &refused)?, call.lines);
     }
     Ok(())
 }
 
 #[test]
 fn calls_are_explained(rt: HostRuntime) -> Result<(), Fail> {
-    check_calls(&rt, rt.alloc(), TELLING, &CALLS)
+    let module = read(rt.alloc(), TELLING)?;
+    check_calls(&rt, rt.alloc(), module.parts(), &CALLS)
 }

@@ -113,7 +113,7 @@ impl Sheet {
             thread,
             words,
         };
-        let place = PlaceText {
+        let place = Place {
             is_colored,
             gap: at.gap,
             place,
@@ -190,13 +190,13 @@ impl fmt::Display for Said<'_> {
 
 /// The place behind the words, where it is known.
 #[derive(Clone, Copy)]
-struct PlaceText<'a> {
+struct Place<'a> {
     is_colored: bool,
     gap: usize,
     place: &'a str,
 }
 
-impl fmt::Display for PlaceText<'_> {
+impl fmt::Display for Place<'_> {
     ghost use Rattle.std.specs.Prelude.{Some};
     ghost use Rattle.show_text.specs.Rows.{place_text};
 

@@ -56,7 +56,7 @@ impl fmt::Display for Words<'_> {
                 width,
                 value,
             } => {
-                let (name, bits, sign) = (op_name(op), AccessBits(width), op_sign(op));
+                let (name, bits, sign) = (op_name(op), Bits(width), op_sign(op));
                 let got = Number(reply);
                 write!(f, "{name}{bits} {addr} {sign}{value} = {got}")
             }
@@ -66,7 +66,7 @@ impl fmt::Display for Words<'_> {
                 expected,
                 replacement,
             } => {
-                let bits = AccessBits(width);
+                let bits = Bits(width);
                 write!(f, "cmpxchg{bits} {addr} {expected} -> {replacement}")?;
                 write_exchanged(f, reply, expected)
             }
@@ -177,9 +177,9 @@ impl fmt::Display for Grown {
 
 /// How many bits are accessed, where they aren't 32.
 #[derive(Clone, Copy)]
-struct AccessBits(u8);
+struct Bits(u8);
 
-impl fmt::Display for AccessBits {
+impl fmt::Display for Bits {
     ghost use Rattle.std.specs.Prelude.{Some};
     ghost use Rattle.show_text.specs.Words.{bits_text};
 

@@ -5,7 +5,7 @@ use Rattle.types.specs.declared.event.Entry.{Entry}
 use Rattle.types.specs.declared.outcome.Outcome.TheVariants as outcomes
 use Rattle.types.specs.declared.outcome.Stop.{Stop}
 use Rattle.types.specs.declared.outcome.ThreadReport.{ThreadReport}
-use Rattle.selection.specs.declared.choice.NumberSpan.{NumberSpan}
+use Rattle.selection.specs.declared.choice.Span.{Span}
 use Rattle.show_named.specs.declared.lasts.Act.TheVariants as acts
 use Rattle.show_waits.specs.declared.stands.Stand.{Stand}
 use Rattle.show_named.specs.Lasts.{IsLast}
@@ -19,7 +19,7 @@ pub record IsStopped (ends : List ThreadReport) (n : ℕ) : Type 0 where
   pub is : report.outcome ≡ outcomes.Stop stop
 
 -- The thread stands at other bytes than these.
-pub record StandsElsewhere (m : ℕ) (log : List Entry) (addrs : NumberSpan) : Type 0 where
+pub record StandsElsewhere (m : ℕ) (log : List Entry) (addrs : Span) : Type 0 where
   pub stand : Stand
   pub is : IsStand m log stand
   pub apart : stand.addrs ≢ addrs

@@ -8,7 +8,7 @@ use Rattle.types.specs.declared.outcome.Outcome.{Outcome}
 use Rattle.types.specs.declared.outcome.Outcome.TheVariants as outcomes
 use Rattle.types.specs.declared.outcome.ThreadReport.{ThreadReport}
 use Rattle.types.specs.Outcomes.{outcome_text}
-use Rattle.selection.specs.declared.choice.NumberSpan.{NumberSpan}
+use Rattle.selection.specs.declared.choice.Span.{Span}
 use Rattle.show_rows.specs.declared.listing.Shown.{Shown}
 use Rattle.show_rows.specs.declared.listing.Story.{Story}
 use Rattle.show_rows.specs.Listing.{line_at}
@@ -25,20 +25,19 @@ abbrev pub times_text : ℕ → List ℕ
 times_text n = if n == 1 then codes "once" else decimal n ++ codes " times"
 
 -- The last write at these addresses is the thread's own.
-pub record IsOwn (log : List Entry) (n : ℕ) (addrs : NumberSpan) : Type 0 where
+pub record IsOwn (log : List Entry) (n : ℕ) (addrs : Span) : Type 0 where
   pub place : ℕ
   pub last : IsLast (acts.Write addrs) log (length log) place
   pub own : last.entry.thread ≡ n
 
 -- There it is told who was the last one of the others.
-pub record SaysLastOther (shown : Shown) (map : DataMap) (story : Story) (n : ℕ) (addrs : NumberSpan)
-    (text : List ℕ) : Type 0 where
+pub record SaysLastOther (shown : Shown) (map : DataMap) (story : Story) (n : ℕ) (addrs : Span) (text : List ℕ) : Type 0 where
   pub own : IsOwn shown.record.now.log n addrs
   pub other : List ℕ
   pub other_is : SaysLast shown map story (length shown.record.now.log) (acts.OtherWrite addrs n) (codes "nobody") other
   pub words : text ≡ codes "  last write there of another thread: " ++ (other ++ codes "\n")
 
-abbrev pub SaysOther : Shown → DataMap → Story → ℕ → NumberSpan → List ℕ → Type 0
+abbrev pub SaysOther : Shown → DataMap → Story → ℕ → Span → List ℕ → Type 0
 SaysOther shown map story n addrs text = SaysLastOther shown map story n addrs text
     ⊎ ((IsOwn shown.record.now.log n addrs → ⊥) × (text ≡ []))
 

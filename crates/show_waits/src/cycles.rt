@@ -3,7 +3,7 @@ ghost use Rattle.std.specs.Prelude.{◌≡◌, ◌↔◌, ℕ, true, List, IfOk,
 ghost use Rattle.show_waits.specs.Cycles.{AreWaits, IsCycle, IsStopped, IsWait, StandsElsewhere, wait_in};
 
 use crate::stands::{is_same, stand_of};
-use selection::NumberSpan;
+use selection::Span;
 use show_named::{Act, last_of};
 use std::alloc::{AllocError, Global};
 use types::{Entry, Outcome, ThreadReport};
@@ -19,7 +19,7 @@ fn is_stopped(ends: &[ThreadReport], n: usize) -> bool
 }
 
 /// Whether a thread stands at other bytes than these.
-fn stands_elsewhere(log: &[Entry], m: usize, addrs: NumberSpan) -> bool
+fn stands_elsewhere(log: &[Entry], m: usize, addrs: Span) -> bool
     ensures { (result ≡ true) ↔ StandsElsewhere m log.now addrs }
 {
     match stand_of(log, m) {

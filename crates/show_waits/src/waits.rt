@@ -5,7 +5,7 @@ ghost use Rattle.show_waits.specs.Waits.{IsOwn, SaysNowhere, SaysOther, SaysStan
 
 use crate::cycle_texts::write_cycles;
 use crate::stands::{Stand, stand_of};
-use selection::NumberSpan;
+use selection::Span;
 use show_named::{Act, DataMap, last_of, last_text, named_text};
 use show_rows::{Shown, Story};
 use show_text::Unwritten;
@@ -35,7 +35,7 @@ impl fmt::Display for Times {
 }
 
 /// Whether the last write at these addresses is a thread's own.
-fn is_own(log: &[Entry], n: usize, addrs: NumberSpan) -> bool
+fn is_own(log: &[Entry], n: usize, addrs: Span) -> bool
     ensures { (result ≡ true) ↔ IsOwn log.now n addrs }
 {
     match last_of(log, log.len(), Act::Write(addrs)) {
@@ -51,7 +51,7 @@ fn other_text(
     map: &DataMap,
     story: &Story,
     n: usize,
-    addrs: NumberSpan,
+    addrs: Span,
 ) -> Result<String, AllocError>
     ensures { IfOk result (λ text. SaysOther shown.entry map.now story.now n addrs (string_bytes text)) }
 {

@@ -5,7 +5,7 @@ use report_command::Search;
 use report_program::keep_early;
 use search_finds::{Hears, Size};
 use search_reach::{Follows, Wish};
-use search_strategies::EndWatch;
+use search_strategies::Watch;
 use std::fs;
 use std::io::IsTerminal;
 use std::time::{Duration, Instant};
@@ -24,12 +24,12 @@ struct Until<'a> {
 
 /// Whether it is to end, to be asked from any thread.
 #[derive(Drop)]
-pub(crate) struct EndSignal<'a> {
+pub(crate) struct Bell<'a> {
     rt: &'a HostRuntime,
     until: Until<'a>,
 }
 
-impl EndSignal<'_> {
+impl Bell<'_> {
     /// Whether so much time has passed.
     fn is_late(&self) -> bool {
         let Some((began, most)) = self.until.time else {
@@ -42,7 +42,7 @@ impl EndSignal<'_> {
     }
 }
 
-impl EndWatch for EndSignal<'_> {
+impl Watch for Bell<'_> {
     fn is_over(&self) -> bool {
         self.is_late()
             || self
@@ -56,7 +56,7 @@ impl EndWatch for EndSignal<'_> {
 /// in a second, and how many endings it met. Where a path is given, it ends once there is a file with it, and where a
 /// time is given, once that has passed.
 #[derive(Drop)]
-pub(crate) struct SearchProgress<'a> {
+pub(crate) struct Progress<'a> {
     rt: &'a HostRuntime,
     /// When the search began and when it was last time for a line and a look; none where there is neither.
     times: Option<(Instant, Instant)>,
@@ -87,9 +87,9 @@ fn resident(rt: &HostRuntime) -> Option<u64> {
     Some(pages / 256)
 }
 
-impl<'a> SearchProgress<'a> {
+impl<'a> Progress<'a> {
     /// No line is written yet, and none ever where standard error is no terminal.
-    pub(crate) fn new(rt: &'a HostRuntime, search: Option<&Search<'a>>) -> SearchProgress<'a> {
+    pub(crate) fn new(rt: &'a HostRuntime, search: Option<&Search<'a>>) -> Progress<'a> {
         let is_shown = rt.stderr().is_terminal();
         let now = match search {
             Some(_) => Instant::now(rt).ok(),
@@ -101,7 +101,7 @@ impl<'a> SearchProgress<'a> {
             _ => None,
         };
         let shrink = search.map_or(0, |search| search.shrink_time);
-        SearchProgress {
+        Progress {
             rt,
             times: now.map(|now| (now, now)),
             until: Until {
@@ -129,8 +129,8 @@ impl<'a> SearchProgress<'a> {
     }
 
     /// What says whether it is to end.
-    fn bell(&self) -> EndSignal<'a> {
-        EndSignal {
+    fn bell(&self) -> Bell<'a> {
+        Bell {
             rt: self.rt,
             until: self.until,
         }
@@ -156,7 +156,7 @@ impl<'a> SearchProgress<'a> {
     }
 }
 
-impl Follows for SearchProgress<'_> {
+impl Follows for Progress<'_> {
     ghost wish = { λ p. p.wish };
 
     ghost told_at = { λ p. p.told_at };
@@ -199,10 +199,10 @@ impl Follows for SearchProgress<'_> {
     }
 }
 
-impl<'a> Hears for SearchProgress<'a> {
-    type Watch = EndSignal<'a>;
+impl<'a> Hears for Progress<'a> {
+    type Watch = Bell<'a>;
 
-    fn watch(&self) -> EndSignal<'a> {
+    fn watch(&self) -> Bell<'a> {
         self.bell()
     }
 

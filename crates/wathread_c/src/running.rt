@@ -6,7 +6,7 @@ ghost use Rattle.search_endings.specs.Ends.{status_of};
 ghost use Rattle.wathread_c.specs.Answers.{no_answer};
 ghost use Rattle.wathread_c.specs.Calls.{KeepsRun, Runs, RunsNamed};
 
-use crate::answer::{CallAnswer, put};
+use crate::answer::{Answer, put};
 use crate::given::{Options, Word, values_of};
 use host_calls::run_of;
 use replay_text::write_record;
@@ -30,7 +30,7 @@ fn status_of(reports: &[ThreadReport]) -> u32
 }
 
 /// Puts the record of a run into a buffer, and answers its status.
-fn keep(alloc: Global, made: &MadeRun, record: &mut [u8], answer: &mut CallAnswer) -> u32
+fn keep(alloc: Global, made: &MadeRun, record: &mut [u8], answer: &mut Answer) -> u32
     ensures { KeepsRun made.now answer.old record.old record.new answer.new result }
 {
     let mut text = Vec::new(alloc);
@@ -53,7 +53,7 @@ fn run_named(
     args: &[Word],
     options: &Options,
     record: &mut [u8],
-    answer: &mut CallAnswer,
+    answer: &mut Answer,
 ) -> u32
     requires { answer.old ≡ no_answer }
     ensures { RunsNamed «module».now name.now args.now options.now record.old record.new answer.new result }
@@ -78,11 +78,11 @@ pub extern "C" fn wathread_run(
     args: &[Word],
     options: &Options,
     record: &mut [u8],
-    answer: &mut CallAnswer,
+    answer: &mut Answer,
 ) -> u32
     ensures { Runs «module».now name.now args.now options.now record.old record.new answer.new result }
 {
-    *answer = CallAnswer::none();
+    *answer = Answer::none();
     match str::from_utf8(name) {
         Ok(name) => run_named(alloc, module, name, args, options, record, answer),
         Err(_) => 3,

@@ -3,7 +3,7 @@ ghost use Rattle.std.specs.Prelude.{◌≡◌};
 ghost use Rattle.wathread_c.specs.Answers.{no_answer};
 ghost use Rattle.wathread_c.specs.Calls.{Searches, SearchesNamed};
 
-use crate::answer::CallAnswer;
+use crate::answer::Answer;
 use crate::given::{Options, Word, values_of};
 use crate::objects::{refuse, search_line, tell};
 use host_calls::{HostFault, endings_of};
@@ -21,7 +21,7 @@ fn search_named(
     args: &[Word],
     options: &Options,
     text: &mut [u8],
-    answer: &mut CallAnswer,
+    answer: &mut Answer,
 ) -> u32
     requires { answer.old ≡ no_answer }
     ensures { SearchesNamed «module».now name.now args.now options.now text.old text.new answer.new result }
@@ -47,11 +47,11 @@ pub extern "C" fn wathread_search(
     args: &[Word],
     options: &Options,
     text: &mut [u8],
-    answer: &mut CallAnswer,
+    answer: &mut Answer,
 ) -> u32
     ensures { Searches «module».now name.now args.now options.now text.old text.new answer.new result }
 {
-    *answer = CallAnswer::none();
+    *answer = Answer::none();
     match str::from_utf8(name) {
         Ok(name) => search_named(alloc, module, name, args, options, text, answer),
         Err(_) => refuse(alloc, NO_NAME, text, answer),

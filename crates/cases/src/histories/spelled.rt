@@ -1,5 +1,5 @@
 //! Histories as texts.
-use race_history::AccessKind;
+use race_history::Kind;
 use std::alloc::{AllocError, Global};
 use types::{Answer, Entry, Event, Question, Reply, RmwOp};
 
@@ -7,7 +7,7 @@ use types::{Answer, Entry, Event, Question, Reply, RmwOp};
 #[derive(Drop)]
 pub(crate) struct Spelled {
     pub(crate) log: Vec<Entry>,
-    pub(crate) kinds: Vec<AccessKind>,
+    pub(crate) kinds: Vec<Kind>,
 }
 
 /// The digit at a place of a word, 0 behind its end.
@@ -112,9 +112,9 @@ pub(crate) fn history_of(alloc: Global, text: &str) -> Result<Spelled, AllocErro
             reply,
         })?;
         all.kinds.push(if *letter < b'a' {
-            AccessKind::Atomic
+            Kind::Atomic
         } else {
-            AccessKind::Plain
+            Kind::Plain
         })?;
     }
     Ok(all)

@@ -5,7 +5,7 @@ use crate::runs::{LIMIT, load};
 use search_endings::Ending;
 use search_finds::run_to;
 use search_modules::all_endings;
-use search_reach::{Ended, SearchOrder, Seeks, Verdict};
+use search_reach::{Ended, Order, Seeks, Verdict};
 use spawn_host::Request;
 use std::alloc::{AllocError, Global};
 use std::process::Abort;
@@ -35,7 +35,7 @@ fn check_deep<R: Abort>(
     valid: &ValidModule,
     gone: &Gone,
 ) -> Result<(), Fail> {
-    let deep = gone_in(alloc, valid, gone, SearchOrder::Depth, MOST)?;
+    let deep = gone_in(alloc, valid, gone, Order::Depth, MOST)?;
     let broad = gone_through(alloc, valid, gone, MOST)?;
     assert_eq!(rt; deep.verdict, Verdict::All);
     assert_eq!(rt; deep.states, gone.states as usize);
@@ -62,7 +62,7 @@ fn the_bound_is_kept_depth_first(rt: HostRuntime) -> Result<(), Fail> {
     for gone in MODULES.as_slice() {
         let valid = load(rt.alloc(), gone.module)?;
         let most = gone.states.saturating_sub(1);
-        let few = gone_in(rt.alloc(), &valid, gone, SearchOrder::Depth, most)?;
+        let few = gone_in(rt.alloc(), &valid, gone, Order::Depth, most)?;
         assert_eq!(rt; few.verdict, Verdict::TooMany);
     }
     Ok(())
@@ -92,7 +92,7 @@ fn until_one_ends<R: Abort>(
     alloc: Global,
     valid: &ValidModule,
     gone: &Gone,
-    order: SearchOrder,
+    order: Order,
 ) -> Result<usize, Fail> {
     let request = Request::new(valid, call_of(gone))?;
     let found = all_endings(alloc, &request, order, MOST, DUMP as usize, &Any, &mut ())?;
@@ -106,8 +106,8 @@ fn until_one_ends<R: Abort>(
 fn depth_first_an_ending_is_met_early(rt: HostRuntime) -> Result<(), Fail> {
     for gone in MODULES.as_slice() {
         let valid = load(rt.alloc(), gone.module)?;
-        let deep = until_one_ends(&rt, rt.alloc(), &valid, gone, SearchOrder::Depth)?;
-        let broad = until_one_ends(&rt, rt.alloc(), &valid, gone, SearchOrder::Breadth)?;
+        let deep = until_one_ends(&rt, rt.alloc(), &valid, gone, Order::Depth)?;
+        let broad = until_one_ends(&rt, rt.alloc(), &valid, gone, Order::Breadth)?;
         assert!(rt; deep < broad);
     }
     Ok(())

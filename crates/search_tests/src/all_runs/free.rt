@@ -5,7 +5,7 @@ use crate::runs::{LIMIT, load};
 use search_endings::Ending;
 use search_finds::run_to;
 use search_modules::{Alone, RaceFree, race_free_endings, turn_choices};
-use search_reach::{Ended, SearchOrder, Verdict};
+use search_reach::{Ended, Order, Verdict};
 use spawn_host::Request;
 use std::alloc::Global;
 use std::process::Abort;
@@ -38,7 +38,7 @@ fn gone_freely(
     alloc: Global,
     valid: &ValidModule,
     gone: &Gone,
-    order: SearchOrder,
+    order: Order,
 ) -> Result<RaceFree<Ending>, Fail> {
     let request = Request::new(valid, call_of(gone))?;
     Ok(race_free_endings(
@@ -88,7 +88,7 @@ fn check_free<R: Abort>(
     gone: &Gone,
     expected: &Expected,
 ) -> Result<(), Fail> {
-    let free = gone_freely(alloc, valid, gone, SearchOrder::Breadth)?;
+    let free = gone_freely(alloc, valid, gone, Order::Breadth)?;
     match expected {
         Expected::Race(one, other) => {
             assert_eq!(rt; free.ended.verdict, Verdict::CannotTell);
@@ -142,8 +142,8 @@ fn check_deep<R: Abort>(
     valid: &ValidModule,
     gone: &Gone,
 ) -> Result<(), Fail> {
-    let deep = gone_freely(alloc, valid, gone, SearchOrder::Depth)?;
-    let broad = gone_freely(alloc, valid, gone, SearchOrder::Breadth)?;
+    let deep = gone_freely(alloc, valid, gone, Order::Depth)?;
+    let broad = gone_freely(alloc, valid, gone, Order::Breadth)?;
     assert_eq!(rt; deep.ended.verdict, broad.ended.verdict);
     assert_eq!(rt; deep.race.is_some(), broad.race.is_some());
     if deep.race.is_none() {

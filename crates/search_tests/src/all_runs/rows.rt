@@ -7,7 +7,7 @@ use crate::all_runs::examples::{BROKEN, EXCHANGE, MUTEX, PETERSON, SEQLOCK, TICK
 use crate::runs::FUEL;
 use search_endings::Ending;
 use search_modules::all_endings;
-use search_reach::{Ended, SearchOrder};
+use search_reach::{Ended, Order};
 use spawn_host::{Call, Request};
 use std::alloc::Global;
 use std::test::Fail;
@@ -139,7 +139,7 @@ pub(crate) fn gone_through(
     gone: &Gone,
     most: u32,
 ) -> Result<Ended<Ending>, Fail> {
-    gone_in(alloc, valid, gone, SearchOrder::Breadth, most)
+    gone_in(alloc, valid, gone, Order::Breadth, most)
 }
 
 /// In this order of its states.
@@ -147,7 +147,7 @@ pub(crate) fn gone_in(
     alloc: Global,
     valid: &ValidModule,
     gone: &Gone,
-    order: SearchOrder,
+    order: Order,
     most: u32,
 ) -> Result<Ended<Ending>, Fail> {
     let request = Request::new(valid, call_of(gone))?;

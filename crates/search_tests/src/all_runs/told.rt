@@ -3,7 +3,7 @@
 use crate::all_runs::rows::{DUMP, Gone, MODULES, MOST, call_of};
 use crate::runs::load;
 use search_modules::all_endings;
-use search_reach::{Follows, SearchOrder, Verdict, Wish};
+use search_reach::{Follows, Order, Verdict, Wish};
 use spawn_host::Request;
 use std::alloc::Global;
 use std::process::Abort;
@@ -41,12 +41,7 @@ impl Follows for Few {
 }
 
 /// It meets some more than those behind which it is told to end, and not all.
-fn check_told<R: Abort>(
-    rt: &R,
-    alloc: Global,
-    gone: &Gone,
-    order: SearchOrder,
-) -> Result<(), Fail> {
+fn check_told<R: Abort>(rt: &R, alloc: Global, gone: &Gone, order: Order) -> Result<(), Fail> {
     let valid = load(alloc, gone.module)?;
     let mut few = Few {
         most: 10,
@@ -64,8 +59,8 @@ fn check_told<R: Abort>(
 #[test]
 fn a_search_ends_where_it_is_told_to(rt: HostRuntime) -> Result<(), Fail> {
     for gone in MODULES.as_slice() {
-        check_told(&rt, rt.alloc(), gone, SearchOrder::Breadth)?;
-        check_told(&rt, rt.alloc(), gone, SearchOrder::Depth)?;
+        check_told(&rt, rt.alloc(), gone, Order::Breadth)?;
+        check_told(&rt, rt.alloc(), gone, Order::Depth)?;
     }
     Ok(())
 }

@@ -6,9 +6,7 @@ use Rattle.report_jobs.specs.Arguments.{texts_in}
 use Rattle.report_jobs.specs.Prints.{changed}
 use Rattle.report_jobs.specs.Troubles.{IsTroubleOf}
 use Rattle.report_jobs.specs.declared.running.Trouble.{Trouble}
-use Rattle.report_jobs.specs.declared.undone.Done.{Done}
-use Rattle.report.specs.Searched.{IsDrawn, IsDrawnForRaces, IsPrintedOf}
-use Rattle.report.specs.Told.{TellsAll, TellsDrawn, TellsDrawnRaces}
+use Rattle.report.specs.Searched.{AllIn, DrawnIn, DrawnRacesIn, IsDrawn, IsDrawnForRaces, IsPrintedOf}
 use Rattle.report_searches.specs.Searches.{Finds, IsOfSystem, IsWellAt}
 use Rattle.report.proofs.Asking.{of_system}
 use Rattle.report.proofs.searching.search_module.Goals as goal
@@ -17,13 +15,13 @@ pub returns-in-Some-clause-finds : goal.returns-in-Some-clause-finds
 returns-in-Some-clause-finds g c =
     let s = c.args.asked.search.now in
     let save = changed g.S.Write.contents c.args.save.now c.search_orders.new.save in
-    subst (λ (m : Parts). IfOk c.search_orders.result (λ done. Finds m s save done.status)) c.request_of-request.ensures.parts
+    subst (λ (m : Parts). IfOk c.search_orders.result (Finds m s save)) c.request_of-request.ensures.parts
     c.search_orders.ensures.finds
 
 pub returns-in-Some-clause-well : goal.returns-in-Some-clause-well
 returns-in-Some-clause-well g c =
     let s = c.args.asked.search.now in
-    subst (λ (m : Parts). IfOk c.search_orders.result (λ done. IsWellAt m s done.status)) c.request_of-request.ensures.parts
+    subst (λ (m : Parts). IfOk c.search_orders.result (IsWellAt m s)) c.request_of-request.ensures.parts
     c.search_orders.ensures.well
 
 pub returns-in-Some-clause-trouble : goal.returns-in-Some-clause-trouble
@@ -37,12 +35,12 @@ pub returns-clause-finds : goal.returns-clause-finds
 returns-clause-finds g c =
     let s = c.args.asked.search.now in
     let save = changed g.S.Write.contents c.args.save.now c.search_runs.new.save in
-    subst (λ (m : Parts). IfOk c.search_runs.result (λ done. Finds m s save done.status)) c.request_of-request.ensures.parts c.search_runs.ensures.finds
+    subst (λ (m : Parts). IfOk c.search_runs.result (Finds m s save)) c.request_of-request.ensures.parts c.search_runs.ensures.finds
 
 -- what is so of the request's module is so of the module
-of_parts : (b : Bool) (t : Result Done Trouble) (r m : Parts) (Is : Parts → Done → Type 0) (Said : Done → Type 0) (races : Bool) → r ≡ m
-    → ((done : Done) → (races ≡ b → Is m done) → Said done) → (races ≡ b → IfOk t (Is r)) → IfOk t Said
-of_parts b (Ok done) r m Is Said races same f is = f done (λ yes. subst (λ (p : Parts). Is p done) same (is yes))
+of_parts : (b : Bool) (t : Result ℕ Trouble) (r m : Parts) (Is : Parts → ℕ → Type 0) (Said : ℕ → Type 0) (races : Bool) → r ≡ m
+    → ((status : ℕ) → (races ≡ b → Is m status) → Said status) → (races ≡ b → IfOk t (Is r)) → IfOk t Said
+of_parts b (Ok status) r m Is Said races same f is = f status (λ yes. subst (λ (p : Parts). Is p status) same (is yes))
 of_parts b (Err e) r m Is Said races same f is = tt
 
 pub returns-clause-drawn : goal.returns-clause-drawn
@@ -51,9 +49,8 @@ returns-clause-drawn g c =
     let s = c.args.asked.search.now in
     let out = changed g.W.Write.contents c.args.out.now c.search_runs.new.out in
     let save = changed g.S.Write.contents c.args.save.now c.search_runs.new.save in
-    of_parts false c.search_runs.result c.request_of-request.result.parts m (λ p done. TellsDrawn p s out save done.status)
-    (λ done. IsDrawn m s out save done.status) s.races
-    c.request_of-request.ensures.parts (λ done is _ no. is no) c.search_runs.ensures.prints
+    of_parts false c.search_runs.result c.request_of-request.result.parts m (λ p. DrawnIn s.form p s out save) (IsDrawn m s out save) s.races
+    c.request_of-request.ensures.parts (λ status is _ no. is no) c.search_runs.ensures.prints
 
 pub returns-clause-drawn_races : goal.returns-clause-drawn_races
 returns-clause-drawn_races g c =
@@ -61,9 +58,8 @@ returns-clause-drawn_races g c =
     let s = c.args.asked.search.now in
     let out = changed g.W.Write.contents c.args.out.now c.search_runs.new.out in
     let save = changed g.S.Write.contents c.args.save.now c.search_runs.new.save in
-    of_parts true c.search_runs.result c.request_of-request.result.parts m (λ p done. TellsDrawnRaces p s out save done.status)
-    (λ done. IsDrawnForRaces m s out save done.status) s.races
-    c.request_of-request.ensures.parts (λ done is _ yes. is yes) c.search_runs.ensures.races
+    of_parts true c.search_runs.result c.request_of-request.result.parts m (λ p. DrawnRacesIn s.form p s out save) (IsDrawnForRaces m s out save) s.races
+    c.request_of-request.ensures.parts (λ status is _ yes. is yes) c.search_runs.ensures.races
 
 pub returns-clause-trouble : goal.returns-clause-trouble
 returns-clause-trouble g c =
@@ -79,8 +75,7 @@ returns-in-Some-clause-prints g c =
     let s = c.args.asked.search.now in
     let out = changed g.W.Write.contents c.args.out.now c.search_orders.new.out in
     let save = changed g.S.Write.contents c.args.save.now c.search_orders.new.save in
-    IfOk-weaker c.search_orders.result (λ done. TellsAll r s c.in-Some.most out save done.status)
-    (λ done. IsPrintedOf m s out save done.status)
-    (λ done so most is. subst (λ (n : ℕ). TellsAll m s n out save done.status) (cc (sym c.in-Some.is ∙ is))
-    (subst (λ (p : Parts). TellsAll p s c.in-Some.most out save done.status) c.request_of-request.ensures.parts so))
-    c.search_orders.ensures.tells
+    IfOk-weaker c.search_orders.result (AllIn s.form r s c.in-Some.most out save) (IsPrintedOf m s out save)
+    (λ status so most is. subst (λ (n : ℕ). AllIn s.form m s n out save status) (cc (sym c.in-Some.is ∙ is))
+    (subst (λ (p : Parts). AllIn s.form p s c.in-Some.most out save status) c.request_of-request.ensures.parts so))
+    c.search_orders.ensures.prints

@@ -1,105 +1,24 @@
-use Rattle.std.proofs.Common.{rules, ◌≡◌, ◌∙◌, refl, sym, ap, subst}
-use Rattle.std.specs.Prelude.{is_some}
-use Rattle.std.proofs.lemmas.Result.{err_from_is_err_and}
-use Rattle.report_jobs.specs.Prints.{change}
-use Rattle.report_searches.specs.Racing.{IsRacedOf}
-use Rattle.report_searches.specs.declared.whole.Racing.{Racing}
-use Rattle.report_searches.proofs.Keeping.{found_can, found_kept, quiet_by}
-use Rattle.report_searches.proofs.Pairs.{can_tell, raced_in, raced_kept}
-use Rattle.report_searches.proofs.Wholly.{finds_all, well_by}
-use Rattle.report.proofs.AllTold.{all_told}
+use Rattle.std.proofs.Common.{sym, subst}
+use Rattle.std.specs.Prelude.{IfOk}
+use Rattle.report_command.specs.declared.form.Form.{Form}
+use Rattle.report_jobs.specs.Prints.{changed}
+use Rattle.report.specs.Searched.{AllIn}
 use Rattle.report.proofs.searching.search_orders.Goals as goal
 
-pub end_orders-requires : goal.end_orders-requires
-end_orders-requires g c =
-    can_tell c.args.request.now c.args.orders.now.asked.search.now _ c.in_ok-raced.raced c.in_ok-raced.ensures.raced
-
-pub kept_if_found-requires : goal.kept_if_found-requires
-kept_if_found-requires g c = (
-  search rules,
-  found_can c.args.request.now c.args.orders.now.asked.search.now c.in_ok-whole.whole c.in_ok-behind.behind.found c.in_ok-behind.ensures.has,
-)
-
-pub returns-clause-finds : goal.returns-clause-finds
-returns-clause-finds g c =
+pub returns-in-Lines-clause-prints : goal.returns-in-Lines-clause-prints
+returns-in-Lines-clause-prints g c =
     let q = c.args.request.now in
-    let s = c.args.orders.now.asked.search.now in
-    let saved = g.S.Write.contents in
-    let a = saved c.args.save.now in
-    let b = saved c.race_told.new.save in
-    let last = saved c.end_orders.new.save in
-    let w = c.in_ok-whole.whole in
-    let behind = c.in_ok-behind.behind in
-    let has = c.in_ok-behind.ensures.has in
-    let is_kept = c.in_ok-kept.ensures.kept in
-    let kept = c.in_ok-end_orders.ensures.kept in
-    let few = c.in_ok-behind.ensures.status.statuses in
-    let unkept = c.race_told.ensures.unkept in
-    finds_all q.parts s a b last behind.status s.races refl (λ no. ap saved (unkept no))
-    (quiet_by q s w behind.found c.in_ok-kept.kept (change b last) has is_kept kept)
-    (raced_kept q s c.requires.asked _ c.in_ok-raced.raced c.in_ok-raced.ensures.raced (change a b) c.in_ok-raced.ensures.kept
-    (λ no. ap saved (unkept no)))
-    (found_kept q s c.requires.asked (change b last) w behind.status few behind.found c.in_ok-kept.kept (ap is_some c.requires.every_order)
-    c.in_ok-behind.ensures.one has is_kept kept) few
+    let s = c.args.asked.search.now in
+    let out = changed g.W.Write.contents c.args.out.now c.search_all_orders.new.out in
+    let save = changed g.S.Write.contents c.args.save.now c.search_all_orders.new.save in
+    subst (λ (form : Form). IfOk c.search_all_orders.result (AllIn form q.parts s c.args.most out save)) (sym c.in-Lines.is)
+    c.search_all_orders.ensures.prints
 
-pub returns-clause-tells : goal.returns-clause-tells
-returns-clause-tells g c =
+pub returns-in-Json-clause-prints : goal.returns-in-Json-clause-prints
+returns-in-Json-clause-prints g c =
     let q = c.args.request.now in
-    let s = c.args.orders.now.asked.search.now in
-    let saved = g.S.Write.contents in
-    let contents = g.W.Write.contents in
-    let w = c.in_ok-whole.whole in
-    let raced = c.in_ok-raced.raced in
-    let is_raced = c.in_ok-raced.ensures.raced in
-    let race = raced_in q s _ raced is_raced in
-    let found = c.in_ok-behind.behind.found in
-    record {
-      request = q;
-      parts_are = refl;
-      asked = c.requires.asked;
-      told = _;
-      most_is = refl;
-      status_told = refl;
-      dump_is = refl;
-      is_whole = c.in_ok-whole.ensures.whole;
-      is_raced = subst (λ (racing : Racing). IsRacedOf q s racing raced) (sym c.in_ok-whole.ensures.racing) is_raced;
-      found = found;
-      has = c.in_ok-behind.ensures.has;
-      is_kept = c.in_ok-kept.ensures.kept;
-      between = saved c.race_told.new.save;
-      keeps_race = c.in_ok-raced.ensures.kept;
-      keeps_found = c.in_ok-end_orders.ensures.kept;
-      tells = all_told s.form q.parts _ found (contents c.args.out.now) (contents c.race_told.new.out) (contents c.tell_whole.new.out)
-          (contents c.tell_if_found.new.out) (contents c.end_orders.new.out) c.in_ok-raced.ensures.tells
-          c.in_ok-tell_whole.ensures.tells c.in_ok-tell_if_found.ensures.tells (c.in_ok-end_orders.ensures.tells q.parts race);
-      status_is = c.in_ok-behind.ensures.status;
-    }
-
-pub returns-clause-well : goal.returns-clause-well
-returns-clause-well g c =
-    well_by c.args.request.now c.args.orders.now.asked.search.now c.requires.asked c.in_ok-whole.whole c.in_ok-whole.ensures.whole
-    c.in_ok-behind.behind.status c.in_ok-behind.ensures.status
-
-pub returns-clause-unwanted : goal.returns-clause-unwanted
-returns-clause-unwanted g c none =
-    c.end_orders.ensures.unwanted none ∙ c.race_told.ensures.unwanted none
-
-pub returns-in_err-behind-clause-trouble : goal.returns-in_err-behind-clause-trouble
-returns-in_err-behind-clause-trouble g c =
-    let p = err_from_is_err_and c.from_residual-in_err-behind.result c.from_residual-in_err-behind.ensures.1 in
-    rw (p.1, p.2) c.in_err-behind.ensures.trouble
-
-pub returns-in_err-tell_if_found-clause-trouble : goal.returns-in_err-tell_if_found-clause-trouble
-returns-in_err-tell_if_found-clause-trouble g c =
-    let p = err_from_is_err_and c.from_residual-in_err-tell_if_found.result c.from_residual-in_err-tell_if_found.ensures.1 in
-    rw (p.1, p.2) c.in_err-tell_if_found.ensures.trouble
-
-pub returns-in_err-kept-clause-trouble : goal.returns-in_err-kept-clause-trouble
-returns-in_err-kept-clause-trouble g c =
-    let p = err_from_is_err_and c.from_residual-in_err-kept.result c.from_residual-in_err-kept.ensures.1 in
-    rw (p.1, p.2) c.in_err-kept.ensures.trouble
-
-pub returns-in_err-end_orders-clause-trouble : goal.returns-in_err-end_orders-clause-trouble
-returns-in_err-end_orders-clause-trouble g c =
-    let p = err_from_is_err_and c.from_residual-in_err-end_orders.result c.from_residual-in_err-end_orders.ensures.1 in
-    rw (p.1, p.2) c.in_err-end_orders.ensures.trouble
+    let s = c.args.asked.search.now in
+    let out = changed g.W.Write.contents c.args.out.now c.write_all_orders.new.out in
+    let save = changed g.S.Write.contents c.args.save.now c.write_all_orders.new.save in
+    subst (λ (form : Form). IfOk c.write_all_orders.result (AllIn form q.parts s c.args.most out save)) (sym c.in-Json.is)
+    c.write_all_orders.ensures.writes

@@ -1,4 +1,4 @@
-use Rattle.std.proofs.Common.{◌≡◌, ◌∙◌, sym, subst}
+use Rattle.std.proofs.Common.{◌≡◌, sym, subst}
 use Rattle.report_jobs.specs.Jobs.{IsUnfit}
 use Rattle.report_jobs.specs.Silence.{LeavesOut}
 use Rattle.report_jobs.specs.declared.replaying.Unfit.{Unfit}
@@ -22,9 +22,9 @@ returns-clause-unfit g c = λ saved text.
 pub returns-in-Ok-clause-unfit : goal.returns-in-Ok-clause-unfit
 returns-in-Ok-clause-unfit g c = λ saved text.
     let m = c.args.module.now.parts in
-    subst (IsUnfit m saved) (sym (c.alone.ensures ∙ c.unprinted.ensures)) (unwritten_unfit m saved c.in-Err-print_end.unwritten)
+    subst (IsUnfit m saved) (sym c.unprinted.ensures) (unwritten_unfit m saved c.in-Err-print_end.unwritten)
 
 pub returns-in-Ok-clause-silent : goal.returns-in-Ok-clause-silent
 returns-in-Ok-clause-silent g c =
-    subst (λ (e : Unfit). LeavesOut e (c.print_end.new.out ≡ c.args.out.now)) (sym (c.alone.ensures ∙ c.unprinted.ensures))
+    subst (λ (e : Unfit). LeavesOut e (c.print_end.new.out ≡ c.args.out.now)) (sym c.unprinted.ensures)
     (unwritten_out _ _ c.in-Err-print_end.unwritten c.in-Err-print_end.ensures.left)

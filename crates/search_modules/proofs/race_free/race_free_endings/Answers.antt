@@ -34,8 +34,7 @@ returns-clause-ways g c =
 
 pub returns-clause-count : goal.returns-clause-count
 returns-clause-count g c =
-    IfOk-weaker c.search_race_free.result _ _ (λ free count. counted_by is_same_owned (λ s. StandsBefore (threads s))
-    (λ s w. IsStuck s w ⊎ SomeRace (threads s))
+    IfOk-weaker c.search_race_free.result _ _ (λ free count. counted_by is_same_owned (λ s. StandsBefore (threads s)) (λ s w. IsStuck s w ⊎ SomeRace (threads s))
     c.in_ok-searched.searched c.args.request.now free.ended.states c.in_ok-searched.ensures.call count)
     c.search_race_free.ensures.count
 

@@ -25,10 +25,7 @@ returns-clause-rests c = λ b z e after.
     let w = c.args.valid.now in
     let n = c.args.n in
     let taken = (system_of b).takes (z.threads n) (reply_by z.shared n e) in
-    let copy : IsRested w b c.in_ok-copy.field-0 (z.threads c.args.m) = record {
-      stands = c.in_ok-copy.ensures w (z.threads c.args.m) after.rested.stands;
-      rests = after.rested.rests;
-    } in
+    let copy : IsRested w b c.in_ok-copy.field-0 (z.threads c.args.m) = record { stands = c.in_ok-copy.ensures w (z.threads c.args.m) after.rested.stands; rests = after.rested.rests } in
     subst (λ v. RestsAt w b v c.in_ok-copy.field-0) (sym (put-other z.threads n taken c.args.m (λ same. c.if-n-m.false (sym same))))
     (at_rest w b c.in_ok-copy.field-0 (z.threads c.args.m) copy)
 

@@ -75,8 +75,7 @@ returns-in_default-2-clause-gives_up c _ = λ b z e after.
     let begins : begun_at b z.shared e m ≡ Some (spawned_in b.worker g.id g.arg) =
     subst (λ k. begun_at b z.shared e k ≡ Some (spawned_in b.worker g.id g.arg)) c.if-begun-m.true (is_started b z.shared e g by) in
     elim (c.in_ok-first.ensures.gives_up c.in_default-2.is b after.of after.workers) [
-      | inl turns ↦ inl (subst (λ o. MakesTurns (system_of b) patience (or_started (started_without o) (hears_any (system_of b) v (answer_by z.shared n e m))))
-          (sym begins) turns)
+      | inl turns ↦ inl (subst (λ o. MakesTurns (system_of b) patience (or_started (started_without o) (hears_any (system_of b) v (answer_by z.shared n e m)))) (sym begins) turns)
       | inr unknown ↦ inr (
         unknown,
         g.arg,
@@ -115,8 +114,7 @@ returns-in_default-4-clause-gives_up c _ = λ b z e after.
     λ a is. awaits b z after.reached n e after.calls m a (sym due_same ∙ is) in
     let turns = c.in_ok-after.ensures.gives_up c.in_default-4.is b at.rested after.of (rested_so w b c.in-Some-3.own v at)
     (λ a is. subst (λ (u : Walker). (system_of b).wants u ≡ Awaits) (stays b v at.rested at.settles (wants a is)) (wants a is)) in
-    let told = subst (λ o. MakesTurns (system_of b) patience (hears_any (system_of b) v o)) due_same
-    (joined_turns w b v c.in-Some-3.own at c.due.result wants turns) in
+    let told = subst (λ o. MakesTurns (system_of b) patience (hears_any (system_of b) v o)) due_same (joined_turns w b v c.in-Some-3.own at c.due.result wants turns) in
     let others : (g : Begun) → begun_in z.shared.queue e ≡ Some g → g.id ≢ m =
     λ g is. elim c.match-made.branch [
       | in-Some+else-begun-m k ↦ (let x = k.in-Some.is in let y = after.makes.begun in let f = k.if-begun-m.false in

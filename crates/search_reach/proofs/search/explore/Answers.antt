@@ -1,7 +1,6 @@
 use Rattle.std.proofs.Common.{ℕ, ◌<◌, arith, sym, refl, ◌∙◌, rules}
 use Rattle.search_reach.proofs.Moving.{unique}
-use Rattle.search_reach.proofs.Meeting.{met-at, going-first, going-more, going-sought, going-told, gone-through}
-use Rattle.search_reach.proofs.Meeting.{sound-after, reached-all, reached-many, reached-stuck}
+use Rattle.search_reach.proofs.Meeting.{met-at, going-first, going-more, going-sought, going-told, gone-through, sound-after, reached-all, reached-many, reached-stuck}
 use Rattle.search_reach.proofs.search.explore.Goals as goal
 
 pub loop-at-init : goal.loop-at-init
@@ -90,8 +89,7 @@ loop-at-preserved g c =
           c.loop-at.moves.items c.loop-at.levels c.loop-at.invariant.going c.count-met.result c.count-met.ensures.len (g.T.Meets.holds m c.next.new.table)
           c.next.new.moves.items (omega arith) (c.in_ok-next.ensures.next c.if-not-branch.false) c.count-known.result c.count-known.ensures.len
           (g.met.T.Meets.alike m) c.behind-levels.result c.behind-levels.ensures
-          (λ ks held. unique (g.T.Meets.equal m) (g.met.T.Meets.symmetric m) ks (c.count-known.ensures.distinct ks held)) _ c.if-branch.false
-          c.in_ok-has_sought.ensures;
+          (λ ks held. unique (g.T.Meets.equal m) (g.met.T.Meets.symmetric m) ks (c.count-known.ensures.distinct ks held)) _ c.if-branch.false c.in_ok-has_sought.ensures;
       wished = λ b n. search rules;
     }
 

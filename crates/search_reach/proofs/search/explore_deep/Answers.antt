@@ -23,8 +23,7 @@ returns-in_default-clause-reached g c =
     let has = g.T.Meets.holds m c.loop-at.table in
     let sought = g.Q.Seeks.sought c.args.sought.now in
     let so = c.loop-at.invariant.deep in
-    let all = deep-all k eq has sought c.loop-at.stack.items c.loop-at.gone c.loop-at.moves.items so
-    (omega (arith, (c.in_default.ensures.cases).0, c.loop-at.stack.ok)) (omega arith) in
+    let all = deep-all k eq has sought c.loop-at.stack.items c.loop-at.gone c.loop-at.moves.items so (omega (arith, (c.in_default.ensures.cases).0, c.loop-at.stack.ok)) (omega arith) in
     reached-all k eq has sought (Off c.loop-at.stack.items) c.loop-at.moves.items so.standing c.args.most _ _ tt all.0 all.1 (g.met.T.Meets.alike m)
 
 pub next-requires-clause-at : goal.next-requires-clause-at

@@ -15,24 +15,19 @@ made_by-requires-clause-of g c =
 pub made_by-requires-clause-few : goal.made_by-requires-clause-few
 made_by-requires-clause-few g c =
     let at = c.requires.at in
-    low-at (g.M.Moves.threads c.args.system.now) (g.met.M.Moves.bounded c.args.system.now) c.args.met.now.parts c.args.of.shared c.args.threads.now
-    c.args.of.thread c.args.of.n at.0 at.1
+    low-at (g.M.Moves.threads c.args.system.now) (g.met.M.Moves.bounded c.args.system.now) c.args.met.now.parts c.args.of.shared c.args.threads.now c.args.of.thread c.args.of.n at.0 at.1
 
 pub put_turn-requires-clause-at : goal.put_turn-requires-clause-at
 put_turn-requires-clause-at g c =
     let k = g.M.Moves.threads c.args.system.now in
-    let at = c.requires.at in (
-      at.0,
-      at-grows k c.args.met.now.parts c.made_by.new.met.parts c.in_ok-turn.ensures.grows c.args.of.shared c.args.threads.now c.args.of.thread
-          c.args.of.n at.0 at.1,
-    )
+    let at = c.requires.at in
+    (at.0, at-grows k c.args.met.now.parts c.made_by.new.met.parts c.in_ok-turn.ensures.grows c.args.of.shared c.args.threads.now c.args.of.thread c.args.of.n at.0 at.1)
 
 pub put_turn-requires-clause-turn : goal.put_turn-requires-clause-turn
 put_turn-requires-clause-turn g c =
     let k = g.M.Moves.threads c.args.system.now in
     let at = c.requires.at in
-    told-of k c.args.met.now.parts c.made_by.new.met.parts c.in_ok-turn.ensures.grows c.args.of.shared c.args.threads.now c.args.of.thread c.args.of.n at.0 at.1
-    c.in_ok-turn.turn
+    told-of k c.args.met.now.parts c.made_by.new.met.parts c.in_ok-turn.ensures.grows c.args.of.shared c.args.threads.now c.args.of.thread c.args.of.n at.0 at.1 c.in_ok-turn.turn
     c.in-Told.turn c.in-Told.is c.in_ok-turn.ensures.made
 
 pub returns-in_ok-put_turn-in-Told-clause-next : goal.returns-in_ok-put_turn-in-Told-clause-next
@@ -49,23 +44,20 @@ returns-in_ok-put-in-Heard-clause-next g c _ flat at so =
     let k = g.M.Moves.threads c.args.system.now in
     let u = c.made_by.new.met.parts in
     let v = c.row_after.new.parts in
-    let heard = heard-of k c.args.met.now.parts u c.args.of.shared c.args.of.thread c.args.of.n c.in_ok-turn.turn c.in-Heard.shared c.in-Heard.made
-    c.in-Heard.is
+    let heard = heard-of k c.args.met.now.parts u c.args.of.shared c.args.of.thread c.args.of.n c.in_ok-turn.turn c.in-Heard.shared c.in-Heard.made c.in-Heard.is
     c.in_ok-turn.ensures.made in
     subst (AreNextBelow k v flat (c.args.of.n + 1)) (sym c.in_ok-put-in-Heard.ensures)
     (more-heard k (g.met.M.Moves.tame c.args.system.now) (g.met.M.Moves.bounded c.args.system.now)
     c.args.met.now.parts u v c.in_ok-turn.ensures.grows c.in_ok-next-in-Heard.ensures.grows
     c.args.of.shared c.args.threads.now c.args.of.thread c.args.of.n flat at c.args.all.now.items so g.M.Shared.PartialEq.eq g.M.Thread.PartialEq.eq
-    (g.met.M.Moves.same_shared c.args.system.now) (g.met.M.Moves.same_thread c.args.system.now) c.in-Heard.shared c.in-Heard.made
-    (record { thread = c.args.of.n; row = c.in-Some.next }) refl
+    (g.met.M.Moves.same_shared c.args.system.now) (g.met.M.Moves.same_thread c.args.system.now) c.in-Heard.shared c.in-Heard.made (record { thread = c.args.of.n; row = c.in-Some.next }) refl
     (heard flat.shared at.thread_is at.of.0 at.thread_at)
     (if-some-at _ _ _ c.in-Some.is c.in_ok-next-in-Heard.ensures.row flat.threads.items
     (threads-grow c.args.met.now.parts u c.in_ok-turn.ensures.grows c.args.threads.now flat.threads.items at.of.1)))
 
 pub returns-in-Unknown-clause-gives_up : goal.returns-in-Unknown-clause-gives_up
 returns-in-Unknown-clause-gives_up g c _ flat at =
-    stuck-lost (g.M.Moves.threads c.args.system.now) (g.M.Moves.stuck c.args.system.now) c.args.met.now.parts c.args.of.shared c.args.threads.now
-    c.args.of.thread c.args.of.n flat at
+    stuck-lost (g.M.Moves.threads c.args.system.now) (g.M.Moves.stuck c.args.system.now) c.args.met.now.parts c.args.of.shared c.args.threads.now c.args.of.thread c.args.of.n flat at
     (c.in_ok-turn.ensures.gives_up c.in-Unknown.is)
 
 pub row_after-requires : goal.row_after-requires

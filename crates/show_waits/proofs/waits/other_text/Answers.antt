@@ -19,8 +19,7 @@ returns c =
     inl (record {
       own = subst (λ (l : List Entry). IsOwn l c.args.n c.args.addrs) c.as_slice-log.ensures (c.is_own.ensures.0 own);
       other = string_bytes c.in_ok-other.other;
-      other_is = subst (λ (l : List Entry). SaysLast c.args.shown c.args.map.now c.args.story.now (length l) (acts.OtherWrite c.args.addrs c.args.n)
-          (codes "nobody") (string_bytes c.in_ok-other.other))
+      other_is = subst (λ (l : List Entry). SaysLast c.args.shown c.args.map.now c.args.story.now (length l) (acts.OtherWrite c.args.addrs c.args.n) (codes "nobody") (string_bytes c.in_ok-other.other))
           c.as_slice-log.ensures c.in_ok-other.ensures;
       words = c.in_ok-text.ensures.ok;
     })

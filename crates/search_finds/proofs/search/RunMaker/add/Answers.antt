@@ -11,7 +11,7 @@ len_is v = omega (arith, v.ok)
 
 pub drop_later-requires : goal.drop_later-requires
 drop_later-requires g c =
-    let says = g.J.Judges.judges c.args.judge.now c.args.self.now.request.now in
+    let says = g.J.Judges.judges c.args.judge.now in
     let s = c.args.self.now in
     let a = c.args.ahead in
     let first = c.first-first.ensures in
@@ -21,7 +21,7 @@ drop_later-requires g c =
 
 pub returns-clause-endings : goal.returns-clause-endings
 returns-clause-endings g c =
-    let says = g.J.Judges.judges c.args.judge.now c.args.self.now.request.now in
+    let says = g.J.Judges.judges c.args.judge.now in
     let s = c.args.self.now in
     let a = c.args.ahead in
     let q = s.request.now in
@@ -38,11 +38,9 @@ returns-clause-endings g c =
 
 pub returns-clause-pieces : goal.returns-clause-pieces
 returns-clause-pieces g c =
-    pieces_left (g.J.Judges.judges c.args.judge.now c.args.self.now.request.now) c.args.self.now c.args.ahead _ _ _ _ c.pop.ensures.items c.in-Some.is
-    c.requires.pieces
+    pieces_left (g.J.Judges.judges c.args.judge.now) c.args.self.now c.args.ahead _ _ _ _ c.pop.ensures.items c.in-Some.is c.requires.pieces
 
 pub returns-clause-last : goal.returns-clause-last
 returns-clause-last g c =
-    let fewer = one_fewer (g.J.Judges.judges c.args.judge.now c.args.self.now.request.now) c.args.self.now c.args.ahead _ _ _ _ c.pop.ensures.items
-    c.in-Some.is in
+    let fewer = one_fewer (g.J.Judges.judges c.args.judge.now) c.args.self.now c.args.ahead _ _ _ _ c.pop.ensures.items c.in-Some.is in
     let all = c.requires.last in omega (arith, fewer, all)

@@ -4,5 +4,5 @@ use Rattle.search_finds.proofs.search.RunMaker.endings_by.Given as goal
 
 abbrev pub invariant-loop-job : goal.invariant-loop-job
 invariant-loop-job g l = (length l.pieces.items ≡ l.job)
-    × AreMetIn (g.J.Judges.judges l.judge l.self.request.now) l.self (first_of l.ahead l.job) l.endings.items
-    × ArePiecesIn (g.J.Judges.judges l.judge l.self.request.now) l.self l.ahead l.pieces.items
+    × AreMetIn (g.J.Judges.judges l.judge) l.self (first_of l.ahead l.job) l.endings.items
+    × ArePiecesIn (g.J.Judges.judges l.judge) l.self l.ahead l.pieces.items

@@ -9,7 +9,7 @@ use Rattle.search_finds.proofs.search.RunMaker.first.Goals.{else-is_sought-via-t
 
 pub loop-run-init : goal.loop-run-init
 loop-run-init g c =
-    let says = g.J.Judges.judges c.args.crew.now.judge.now c.args.self.now.request.now in
+    let says = g.J.Judges.judges c.args.crew.now.judge.now in
     let q = c.args.self.now.request.now in
     let s = c.args.self.now.sought.now in
     let new = c.new-table.ensures in
@@ -26,7 +26,7 @@ passed Says made stops false none given says = says
 
 pub returns-then-sought-clause-noted : goal.returns-then-sought-clause-noted
 returns-then-sought-clause-noted g c =
-    let says = g.J.Judges.judges c.args.crew.now.judge.now c.args.self.now.request.now in
+    let says = g.J.Judges.judges c.args.crew.now.judge.now in
     let q = c.args.self.now.request.now in
     let s = c.args.self.now.sought.now in
     let run = c.loop-run.run in
@@ -40,7 +40,7 @@ returns-then-sought-clause-noted g c =
 
 pub returns-in-End-clause-noted : goal.returns-in-End-clause-noted
 returns-in-End-clause-noted g c =
-    let says = g.J.Judges.judges c.args.crew.now.judge.now c.args.self.now.request.now in
+    let says = g.J.Judges.judges c.args.crew.now.judge.now in
     let q = c.args.self.now.request.now in
     let s = c.args.self.now.sought.now in
     let run = c.loop-run.run in
@@ -54,7 +54,7 @@ returns-in-End-clause-noted g c =
 
 pub loop-run-preserved : goal.loop-run-preserved
 loop-run-preserved g c =
-    let says = g.J.Judges.judges c.args.crew.now.judge.now c.args.self.now.request.now in
+    let says = g.J.Judges.judges c.args.crew.now.judge.now in
     let q = c.args.self.now.request.now in
     let s = c.args.self.now.sought.now in
     let run = c.loop-run.run in

@@ -5,19 +5,19 @@ use Rattle.search_finds.proofs.search.RunMaker.next_ending.Goals as goal
 pub returns-in-Some-clause-met : goal.returns-in-Some-clause-met
 returns-in-Some-clause-met g c =
     let s = c.args.self.now in
-    let says = g.J.Judges.judges c.args.crew.now.judge.now c.args.self.now.request.now in
+    let says = g.J.Judges.judges c.args.crew.now.judge.now in
     (popped says s.request.now s.sought.now s.entries c.args.run _ _ _ _ c.pop.ensures.items c.in-Some.is c.requires.ahead).1
 
 pub returns-in-Some-clause-ahead : goal.returns-in-Some-clause-ahead
 returns-in-Some-clause-ahead g c =
     let s = c.args.self.now in
-    let says = g.J.Judges.judges c.args.crew.now.judge.now c.args.self.now.request.now in
+    let says = g.J.Judges.judges c.args.crew.now.judge.now in
     (popped says s.request.now s.sought.now s.entries c.args.run _ _ _ _ c.pop.ensures.items c.in-Some.is c.requires.ahead).0
 
 pub returns-clause-met : goal.returns-clause-met
 returns-clause-met g c =
     let s = c.args.self.now in
-    let says = g.J.Judges.judges c.args.crew.now.judge.now c.args.self.now.request.now in
+    let says = g.J.Judges.judges c.args.crew.now.judge.now in
     let left = c.pop-2.new.self in
     (popped_if says s.request.now s.sought.now s.entries c.args.run _ left.items c.pop-2.result c.pop-2.ensures.items
     (λ none. let h = rw none at c.pop-2.ensures.cases in omega (arith, h, left.ok)) c.in_ok-ahead.ensures).1
@@ -25,7 +25,7 @@ returns-clause-met g c =
 pub returns-clause-ahead : goal.returns-clause-ahead
 returns-clause-ahead g c =
     let s = c.args.self.now in
-    let says = g.J.Judges.judges c.args.crew.now.judge.now c.args.self.now.request.now in
+    let says = g.J.Judges.judges c.args.crew.now.judge.now in
     let left = c.pop-2.new.self in
     (popped_if says s.request.now s.sought.now s.entries c.args.run _ left.items c.pop-2.result c.pop-2.ensures.items
     (λ none. let h = rw none at c.pop-2.ensures.cases in omega (arith, h, left.ok)) c.in_ok-ahead.ensures).0

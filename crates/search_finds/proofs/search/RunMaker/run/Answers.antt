@@ -14,12 +14,11 @@ returns-clause-made g c =
     let q = s.request.now in
     let limit = s.sought.now.limit in
     let after = c.run_with_spares.new.strategy in
-    if_all c.run_with_spares.result _ _ _ _ (IsMadeIn s c.args.run) (λ made header run heard led. record {
-      find = record { run = run; of_call = header; heard = heard };
+    if_all c.run_with_spares.result _ _ _ (IsMadeIn s c.args.run) (λ made header run led. record {
+      find = record { run = run; of_call = header };
       last = after.strategy;
       led = subst (λ (d : Drawn). IsLedRun (ChoosesBy drawn_choice) (λ before entry then. then ≡ drawn_heard before entry.event) q limit d
           after.strategy made.«record») (c.new-watched.ensures ∙ c.new-drawn.ensures)
           (run_by_part _ _ (ChoosesBy drawn_choice) (λ before entry then. then ≡ drawn_heard before entry.event) (λ w. w.strategy)
           (λ p ready place p' h. named_by _ place h) (λ p e p' h. h) q limit c.new-watched.result after made.«record» led);
-    }) c.run_with_spares.ensures.header c.run_with_spares.ensures.run c.run_with_spares.ensures.heard
-    c.run_with_spares.ensures.led
+    }) c.run_with_spares.ensures.header c.run_with_spares.ensures.run c.run_with_spares.ensures.led
