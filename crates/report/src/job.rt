@@ -165,9 +165,9 @@ where
         search: &*asked,
     };
     match search_module(rt, alloc, request, streams, follower) {
-        Ok(status) => Ok(Done {
+        Ok(done) => Ok(Done {
             is_bare: is_bare(&valid, asked),
-            ..Done::with(status)
+            ..done
         }),
         Err(trouble) => Err(of_trouble(trouble, valid, asked.save, None)),
     }

@@ -24,11 +24,12 @@ use crate::objects::ObjectTeller;
 use crate::raced::{Raced, kept_race, raced_of};
 use crate::table::{DrawnTable, NoneFound, status_of_none};
 use crate::telling::{Conclusion, News, Teller, ToldSearch};
-use crate::whole::{FirstLook, first_look, whole_of};
+use crate::whole::{FirstLook, WholeSearch, first_look, whole_of};
 use report_command::{Form, Search};
-use report_jobs::{Streams, Trouble, args_of, keep, request_of};
+use report_jobs::{Advised, Done, Streams, Trouble, args_of, keep, request_of};
 use report_json::{FoundAs, RunRaces};
-use search_finds::{Crew, Halt, Hears, SearchResult, first_found, first_judged};
+use search_endings::Ending;
+use search_finds::{Crew, EndingTable, Halt, Hears, SearchResult, first_found, first_judged};
 use search_modules::Hands;
 use search_races::RaceJudge;
 use std::alloc::Global;
@@ -41,6 +42,31 @@ use std::thread::{self, Threads};
 struct Orders<'a, R> {
     hands: Hands<'a, R>,
     most: u32,
+}
+
+/// Notes what is advised of threads that ended so.
+fn advise(advised: &mut Advised, ending: &Ending) {
+    for outcome in ending.outcomes() {
+        advised.note(*outcome);
+    }
+}
+
+/// What is advised of the endings of all runs.
+fn advised_of(whole: &WholeSearch) -> Advised {
+    let mut advised = Advised::none();
+    for ending in whole.all.endings.as_slice() {
+        advise(&mut advised, ending);
+    }
+    advised
+}
+
+/// What is advised of the endings of drawn runs.
+fn advised_of_table(table: &EndingTable) -> Advised {
+    let mut advised = Advised::none();
+    for met in table.met.as_slice() {
+        advise(&mut advised, &met.ending);
+    }
+    advised
 }
 
 /// The race that a first look at all runs found, if it found one, once it is told, and the record of it kept, where one is
@@ -101,15 +127,16 @@ fn search_orders<'a, T: Teller, R: Threads + Sync, W: Write, E, S: Write, F: Hea
     orders: &Orders<R>,
     streams: &mut Streams<W, E, S>,
     follower: &mut F,
-) -> Result<u8, Trouble>
+) -> Result<Done, Trouble>
     requires form { T.form ≡ call.search.now.form }
     requires asked { IsAskedBy call.search.now.call call.request.now }
     requires every_order { call.search.now.all ≡ Some orders.now.most }
-    ensures finds { IfOk result (Finds call.entry.request.now.parts call.entry.search.now
-        (changed S.contents streams.old.save streams.new.save)) }
-    ensures tells { IfOk result (TellsAll call.entry.request.now.parts call.entry.search.now orders.now.most
-        (changed W.contents streams.old.out streams.new.out) (changed S.contents streams.old.save streams.new.save)) }
-    ensures well { IfOk result (IsWellAt call.entry.request.now.parts call.entry.search.now) }
+    ensures finds { IfOk result (λ done. Finds call.entry.request.now.parts call.entry.search.now
+        (changed S.contents streams.old.save streams.new.save) done.status) }
+    ensures tells { IfOk result (λ done. TellsAll call.entry.request.now.parts call.entry.search.now orders.now.most
+        (changed W.contents streams.old.out streams.new.out) (changed S.contents streams.old.save streams.new.save)
+        done.status) }
+    ensures well { IfOk result (λ done. IsWellAt call.entry.request.now.parts call.entry.search.now done.status) }
     ensures others { LeavesOthers call.entry.search.now streams.old streams.new }
     ensures trouble { IfErr result IsOfSystem }
 {
@@ -134,7 +161,11 @@ fn search_orders<'a, T: Teller, R: Threads + Sync, W: Write, E, S: Write, F: Hea
         dump: search.sought.dump,
     };
     end_orders(alloc, teller, search, told, out, save)?;
-    Ok(behind.status)
+    Ok(Done {
+        status: behind.status,
+        advised: advised_of(&whole),
+        is_bare: false,
+    })
 }
 
 /// Tells that none of drawn runs was found, and answers the status: 0 where all is well, and else 1.
@@ -145,11 +176,11 @@ fn end_without<T: Teller, W: Write>(
     races: Option<RunRaces<'static>>,
     halt: &Halt,
     out: &mut W,
-) -> Result<u8, Trouble>
+) -> Result<Done, Trouble>
     requires { cut_in drawn.table.now ≤ drawn.table.now.runs }
-    ensures tells { IfOk result (λ status. TellsNoneFound T.form drawn.entry races.entry halt.now status
+    ensures tells { IfOk result (λ done. TellsNoneFound T.form drawn.entry races.entry halt.now done.status
         (changed W.contents out.old out.new)) }
-    ensures status { IfOk result (IsStatusOfTable drawn.entry.sought.now drawn.entry.table.now) }
+    ensures status { IfOk result (λ done. IsStatusOfTable drawn.entry.sought.now drawn.entry.table.now done.status) }
     ensures trouble { IfErr result IsOfSystem }
 {
     let status = status_of_none(alloc, drawn)?;
@@ -159,7 +190,11 @@ fn end_without<T: Teller, W: Write>(
         status,
     };
     teller.conclude(alloc, Conclusion::None(drawn, none), out)?;
-    Ok(status)
+    Ok(Done {
+        status,
+        advised: advised_of_table(drawn.table),
+        is_bare: false,
+    })
 }
 
 /// Makes the runs that a search asks for, tells the table of their endings, and the run that was found, or that none was;
@@ -172,14 +207,15 @@ fn search_for_endings<T: Teller, R: Threads + Sync, W: Write, E, S: Write, F: He
     hands: &Hands<R>,
     streams: &mut Streams<W, E, S>,
     follower: &mut F,
-) -> Result<u8, Trouble>
+) -> Result<Done, Trouble>
     requires form { T.form ≡ call.search.now.form }
     requires range { IsSearchInRange call.search.now }
     requires asked { IsAskedBy call.search.now.call call.request.now }
-    ensures finds { IfOk result (Finds call.entry.request.now.parts call.entry.search.now
-        (changed S.contents streams.old.save streams.new.save)) }
-    ensures tells { IfOk result (TellsDrawn call.entry.request.now.parts call.entry.search.now
-        (changed W.contents streams.old.out streams.new.out) (changed S.contents streams.old.save streams.new.save)) }
+    ensures finds { IfOk result (λ done. Finds call.entry.request.now.parts call.entry.search.now
+        (changed S.contents streams.old.save streams.new.save) done.status) }
+    ensures tells { IfOk result (λ done. TellsDrawn call.entry.request.now.parts call.entry.search.now
+        (changed W.contents streams.old.out streams.new.out) (changed S.contents streams.old.save streams.new.save)
+        done.status) }
     ensures others { LeavesOthers call.entry.search.now streams.old streams.new }
     ensures trouble { IfErr result IsOfSystem }
 {
@@ -213,7 +249,11 @@ fn search_for_endings<T: Teller, R: Threads + Sync, W: Write, E, S: Write, F: He
             let kept = kept_of(alloc, call, run, follower)?;
             teller.conclude(alloc, Conclusion::Last(drawn, &kept), out)?;
             keep_made(search, &kept.made, save)?;
-            Ok(1)
+            Ok(Done {
+                status: 1,
+                advised: advised_of_table(&table),
+                is_bare: false,
+            })
         }
         halt => end_without(alloc, teller, drawn, None, &halt, out),
     }
@@ -227,15 +267,16 @@ fn search_for_races<T: Teller, R: Threads + Sync, W: Write, E, S: Write, F: Hear
     hands: &Hands<R>,
     streams: &mut Streams<W, E, S>,
     follower: &mut F,
-) -> Result<u8, Trouble>
+) -> Result<Done, Trouble>
     requires form { T.form ≡ call.search.now.form }
     requires range { IsSearchInRange call.search.now }
     requires asked { IsAskedBy call.search.now.call call.request.now }
     requires races { call.search.now.races ≡ true }
-    ensures finds { IfOk result (Finds call.entry.request.now.parts call.entry.search.now
-        (changed S.contents streams.old.save streams.new.save)) }
-    ensures tells { IfOk result (TellsDrawnRaces call.entry.request.now.parts call.entry.search.now
-        (changed W.contents streams.old.out streams.new.out) (changed S.contents streams.old.save streams.new.save)) }
+    ensures finds { IfOk result (λ done. Finds call.entry.request.now.parts call.entry.search.now
+        (changed S.contents streams.old.save streams.new.save) done.status) }
+    ensures tells { IfOk result (λ done. TellsDrawnRaces call.entry.request.now.parts call.entry.search.now
+        (changed W.contents streams.old.out streams.new.out) (changed S.contents streams.old.save streams.new.save)
+        done.status) }
     ensures others { LeavesOthers call.entry.search.now streams.old streams.new }
     ensures trouble { IfErr result IsOfSystem }
 {
@@ -265,7 +306,11 @@ fn search_for_races<T: Teller, R: Threads + Sync, W: Write, E, S: Write, F: Hear
             let kept = kept_race(alloc, call, found, follower)?;
             teller.conclude(alloc, Conclusion::Racy(drawn, &kept), out)?;
             keep(&kept.racy.made.record, search.save.is_some(), save)?;
-            Ok(1)
+            Ok(Done {
+                status: 1,
+                advised: advised_of_table(&table),
+                is_bare: false,
+            })
         }
         halt => {
             let races = Some(RunRaces::Unknown);
@@ -283,12 +328,13 @@ fn search_call<T: Teller, R: Threads + Sync, W: Write, E, S: Write, F: Hears>(
     call: SearchedCall,
     streams: &mut Streams<W, E, S>,
     follower: &mut F,
-) -> Result<u8, Trouble>
+) -> Result<Done, Trouble>
     requires form { T.form ≡ call.search.now.form }
     requires range { IsSearchInRange call.search.now }
     requires asked { IsAskedBy call.search.now.call call.request.now }
-    ensures searched { IfOk result (IsSearched call.entry.request.now.parts call.entry.search.now
-        (changed W.contents streams.old.out streams.new.out) (changed S.contents streams.old.save streams.new.save)) }
+    ensures searched { IfOk result (λ done. IsSearched call.entry.request.now.parts call.entry.search.now
+        (changed W.contents streams.old.out streams.new.out) (changed S.contents streams.old.save streams.new.save)
+        done.status) }
     ensures others { LeavesOthers call.entry.search.now streams.old streams.new }
     ensures trouble { IfErr result IsOfSystem }
 {
@@ -324,10 +370,11 @@ pub fn search_module<R: Threads + Sync, W: Write, E, S: Write, F: Hears>(
     asked: SearchRequest,
     streams: &mut Streams<W, E, S>,
     follower: &mut F,
-) -> Result<u8, Trouble>
+) -> Result<Done, Trouble>
     requires { IsSearchInRange asked.search.now }
-    ensures searched { IfOk result (IsSearched asked.entry.«module».now.parts asked.entry.search.now
-        (changed W.contents streams.old.out streams.new.out) (changed S.contents streams.old.save streams.new.save)) }
+    ensures searched { IfOk result (λ done. IsSearched asked.entry.«module».now.parts asked.entry.search.now
+        (changed W.contents streams.old.out streams.new.out) (changed S.contents streams.old.save streams.new.save)
+        done.status) }
     ensures trouble { IfErr result (IsTroubleOf asked.entry.«module».now.parts asked.entry.search.now.call) }
     ensures silent { IfErr result (λ e. IfRefusedCall e
         (Stays streams.old.out streams.new.out × Stays streams.old.save streams.new.save)) }

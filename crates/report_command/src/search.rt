@@ -188,13 +188,18 @@ fn sought_of<'a>(
         return Err(CommandRefusal::Conflict(Misuse::ShrinksRace));
     }
     let target = target_of(alloc, matches)?;
+    let seed = SEED.long(matches)?;
+    let from = FROM.long(matches)?;
+    let runs = RUNS.long(matches)?;
+    let limit = LIMIT.number(matches)?;
+    let dump = DUMP.number(matches)?;
     Ok(Sought {
         way,
-        seed: SEED.long(matches)?,
-        from: FROM.long(matches)?,
-        runs: RUNS.long(matches)?,
-        limit: LIMIT.number(matches)?,
-        dump: DUMP.number(matches)?,
+        seed,
+        from,
+        runs,
+        limit,
+        dump,
         target,
         stops: stops(matches, shrink, races),
     })

@@ -159,15 +159,16 @@ impl<W: EndWatch + Sync, J: Judges + Sync> Finder<'_, '_, '_, '_, W, J> {
     }
 }
 
-/// Makes the runs of a call that is requested in the order of their numbers, by a crew, and notes the ending of each; up
-/// to the first that is looked for, where the search stops there, or behind which the follower tells it to end. Of each run the judge says whether it is looked for. Run number I of a seed is the same run, whoever makes it,
-/// and so is what is found, which is made once more by itself. The follower hears of each how many were made, with how
-/// many endings; and where a run is given up since there is something to be seen, it is asked.
+/// Makes the runs of a call that is requested in the order of their numbers, by a crew, and notes the ending of each;
+/// up to the first that is looked for, where the search stops there, or behind which the follower tells it to end. Of
+/// each run the judge says whether it is looked for. Run number I of a seed is the same run, whoever makes it, and so
+/// is what is found, which is made once more by itself. The follower hears of each how many were made, with how many
+/// endings; and where a run is given up since there is something to be seen, it is asked.
 ///
 /// The table has the endings of the runs of these numbers, in a row from the first on, each noted. What is found, where
 /// the search stops at a find, is the last of them: the judge says of it that it is looked for, and of those before it
-/// that they aren't. Where nothing is found, all runs were made, or the follower's last wish is that it ends; and where the search stops, none of those
-/// that were made is looked for.
+/// that they aren't. Where nothing is found, all runs were made, or the follower's last wish is that it ends; and where
+/// the search stops, none of those that were made is looked for.
 ///
 /// # Errors
 /// As of `run_along`.

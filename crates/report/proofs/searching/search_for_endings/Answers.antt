@@ -1,6 +1,7 @@
 use Rattle.std.proofs.Common.{rules, None, refl, inl, inr, subst}
 use Rattle.report_command.specs.declared.form.Form.{Form}
 use Rattle.report_jobs.specs.Prints.{change, changed}
+use Rattle.report_jobs.specs.declared.undone.Done.{Done}
 use Rattle.report.specs.Drawn.{behind_text}
 use Rattle.report.specs.Telling.{EndsNone, was_told}
 use Rattle.report.specs.Told.{IsStatusOfTable, LastIn, NoneIn, TellsDrawn}
@@ -79,9 +80,9 @@ returns-in_default-clause-tells g c =
     let headed = contents c.tell.new.out in
     let after = contents c.end_without.new.out in
     let save = changed g.S.Write.contents c.args.streams.now.save c.args.streams.now.save in
-    if_both c.end_without.result (λ status. EndsNone form s.sought table is_told None text status (change headed after))
-    (IsStatusOfTable s.sought table) (TellsDrawn q.parts s (change before after) save)
-    (λ status rest is. record {
+    if_both c.end_without.result (λ (done : Done). EndsNone form s.sought table is_told None text done.status (change headed after))
+    (λ (done : Done). IsStatusOfTable s.sought table done.status) (λ (done : Done). TellsDrawn q.parts s (change before after) save done.status)
+    (λ done rest is. record {
       request = q;
       parts_are = refl;
       asked = c.requires.asked;
@@ -91,8 +92,8 @@ returns-in_default-clause-tells g c =
         is_told = is_told;
         all_made = λ untold. c.in-Ok.ensures.all_made (all_made_by halt c.in_default.not-Found untold);
         none = λ untold stops. c.in-Ok.ensures.none (all_made_by halt c.in_default.not-Found untold) stops;
-        tells = subst (λ (f : Form). NoneIn f s.sought table is_told None text status (change before after)) c.requires.form
-            (none_told form s.sought table is_told None text status before headed after (c.in_ok-tell.ensures.tells q.parts tt) rest);
+        tells = subst (λ (f : Form). NoneIn f s.sought table is_told None text done.status (change before after)) c.requires.form
+            (none_told form s.sought table is_told None text done.status before headed after (c.in_ok-tell.ensures.tells q.parts tt) rest);
         status_is = is;
         kept = refl;
       });

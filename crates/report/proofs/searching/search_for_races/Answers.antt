@@ -2,6 +2,7 @@ use Rattle.std.proofs.Common.{rules, Some, arith, refl, inl, inr, subst}
 use Rattle.report_command.specs.declared.form.Form.{Form}
 use Rattle.search_finds.proofs.Noting.{plainly_noted}
 use Rattle.report_jobs.specs.Prints.{change, changed}
+use Rattle.report_jobs.specs.declared.undone.Done.{Done}
 use Rattle.report_json.specs.declared.raced.RunRaces.TheVariants as said
 use Rattle.report.specs.DrawnRaces.{raceless_text}
 use Rattle.report.specs.Telling.{EndsNone, was_told}
@@ -96,9 +97,9 @@ returns-in_default-clause-tells g c =
     let after = contents c.end_without.new.out in
     let save = changed g.S.Write.contents c.args.streams.now.save c.args.streams.now.save in
     let noted = c.in-Ok.ensures.noted in
-    if_both c.end_without.result (λ status. EndsNone form s.sought table is_told races text status (change headed after))
-    (IsStatusOfTable s.sought table) (TellsDrawnRaces q.parts s (change before after) save)
-    (λ status rest is. record {
+    if_both c.end_without.result (λ (done : Done). EndsNone form s.sought table is_told races text done.status (change headed after))
+    (λ (done : Done). IsStatusOfTable s.sought table done.status) (λ (done : Done). TellsDrawnRaces q.parts s (change before after) save done.status)
+    (λ done rest is. record {
       request = q;
       parts_are = refl;
       asked = c.requires.asked;
@@ -108,8 +109,8 @@ returns-in_default-clause-tells g c =
         is_told = is_told;
         all_made = λ untold. c.in-Ok.ensures.all_made (all_made_by halt c.in_default.not-Found untold);
         none = none_races q s.sought table halt c.in_default.not-Found noted;
-        tells = subst (λ (f : Form). NoneIn f s.sought table is_told races text status (change before after)) c.requires.form
-            (none_told form s.sought table is_told races text status before headed after (c.in_ok-tell.ensures.tells q.parts tt) rest);
+        tells = subst (λ (f : Form). NoneIn f s.sought table is_told races text done.status (change before after)) c.requires.form
+            (none_told form s.sought table is_told races text done.status before headed after (c.in_ok-tell.ensures.tells q.parts tt) rest);
         status_is = is;
         kept = refl;
       });
