@@ -23,7 +23,7 @@ use Rattle.show_text.specs.Woken.{AreWakes, woken_in}
 use Rattle.show_text.specs.Words.{words_text}
 use Rattle.show_text.specs.Rows.{RowText, AddsRow}
 use Rattle.show_rows.specs.declared.rows.Row.{Row}
-use Rattle.show_rows.specs.declared.spot.Spot.{Spot}
+use Rattle.show_spots.specs.declared.spot.Spot.{Spot}
 use Rattle.show_rows.specs.declared.code.CodeMap.{CodeMap}
 use Rattle.show_rows.specs.declared.listing.Shown.{Shown}
 use Rattle.show_rows.specs.declared.listing.Story.{Story}
