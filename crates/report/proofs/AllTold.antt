@@ -12,7 +12,6 @@ use Rattle.report_command.specs.declared.form.Form.{Form}
 use Rattle.report_command.specs.declared.form.Form.TheVariants.{Lines, Json}
 use Rattle.report_command.specs.declared.search.Search.{Search}
 use Rattle.report_jobs.specs.Prints.{WriterChange, change}
-use Rattle.report_jobs.specs.declared.undone.Done.{Done}
 use Rattle.report_json.specs.declared.raced.RunRaces.{RunRaces}
 use Rattle.report_lines.specs.Found.{found_run_line}
 use Rattle.report.specs.Complete.{complete_lines}
@@ -41,23 +40,19 @@ all_made_by halts.AllMade unfound untold = refl
 all_made_by halts.Told unfound untold = absurd (true≢false untold)
 
 -- what comes of a search, of every order or of drawn runs
-module _ {E : Type 0} (m : Parts) (s : Search) (out save : WriterChange) where
-  pub orders_searched : (r : Result Done E) (most : ℕ) → s.all ≡ Some most → IfOk r (λ done. Finds m s save done.status)
-      → IfOk r (λ done. TellsAll m s most out save done.status) → IfOk r (λ done. IsWellAt m s done.status)
-      → IfOk r (λ done. IsSearched m s out save done.status)
-  orders_searched (Err e) most all finds tells well = tt
-  orders_searched (Ok done) most all finds tells well = record {
+module _ (m : Parts) (s : Search) (out save : WriterChange) (status : ℕ) where
+  pub orders_searched : (most : ℕ) → s.all ≡ Some most → Finds m s save status → TellsAll m s most out save status → IsWellAt m s status
+      → IsSearched m s out save status
+  orders_searched most all finds tells well = record {
     finds = finds;
     well = well;
     drawn = λ none. absurd cc;
     drawn_races = λ none. absurd cc;
-    prints = λ n is. subst (λ (k : ℕ). TellsAll m s k out save done.status) (cc (sym all ∙ is)) tells;
+    prints = λ n is. subst (λ (k : ℕ). TellsAll m s k out save status) (cc (sym all ∙ is)) tells;
   }
 
-  pub endings_searched : (r : Result Done E) → s.all ≡ None → s.races ≡ false → IfOk r (λ done. Finds m s save done.status)
-      → IfOk r (λ done. TellsDrawn m s out save done.status) → IfOk r (λ done. IsSearched m s out save done.status)
-  endings_searched (Err e) none races finds tells = tt
-  endings_searched (Ok done) none races finds tells = record {
+  pub endings_searched : s.all ≡ None → s.races ≡ false → Finds m s save status → TellsDrawn m s out save status → IsSearched m s out save status
+  endings_searched none races finds tells = record {
     finds = finds;
     well = λ all. absurd cc;
     drawn = λ _ _. tells;
@@ -65,10 +60,8 @@ module _ {E : Type 0} (m : Parts) (s : Search) (out save : WriterChange) where
     prints = λ n is. absurd (cc (sym none ∙ is));
   }
 
-  pub races_searched : (r : Result Done E) → s.all ≡ None → s.races ≡ true → IfOk r (λ done. Finds m s save done.status)
-      → IfOk r (λ done. TellsDrawnRaces m s out save done.status) → IfOk r (λ done. IsSearched m s out save done.status)
-  races_searched (Err e) none races finds tells = tt
-  races_searched (Ok done) none races finds tells = record {
+  pub races_searched : s.all ≡ None → s.races ≡ true → Finds m s save status → TellsDrawnRaces m s out save status → IsSearched m s out save status
+  races_searched none races finds tells = record {
     finds = finds;
     well = λ all. absurd cc;
     drawn = λ _ is. absurd (true≢false (sym races ∙ is));

@@ -1,5 +1,5 @@
 //! Searches by the program: what comes of one is decided here, and told by `telling` in the form that is asked for.
-ghost use Rattle.std.specs.Prelude.{◌≡◌, ◌≤◌, IfOk, IfErr, Some, true, false, is_some};
+ghost use Rattle.std.specs.Prelude.{◌≡◌, ◌≤◌, IfOk, IfErr, None, Some, true, false, is_some};
 ghost use Rattle.types.specs.declared.parts.Parts.{Parts};
 ghost use Rattle.report_command.specs.Searches.{IsSearchInRange};
 ghost use Rattle.report_jobs.specs.Asked.{IsAskedBy};
@@ -10,10 +10,10 @@ ghost use Rattle.report.specs.Drawn.{cut_in};
 ghost use Rattle.report.specs.Found.{KeepsFound};
 ghost use Rattle.report.specs.Racing.{CanTell, IsRacedIn, IsRacedOf, KeepsRaced, SaysRaced, keeps_race, racing_in};
 ghost use Rattle.report.specs.Searched.{IsSearched};
-ghost use Rattle.report.specs.Searches.{Finds, IsOfSystem, IsWellAt};
+ghost use Rattle.report.specs.Searches.{IsOfSystem};
 ghost use Rattle.report.specs.Silent.{IfRefusedCall, LeavesOthers};
 ghost use Rattle.report.specs.Telling.{EndsAll, InLines, TellsNoneFound};
-ghost use Rattle.report.specs.Told.{IsStatusOfTable, TellsAll, TellsDrawn, TellsDrawnRaces};
+ghost use Rattle.report.specs.Told.{IsStatusOfTable};
 
 use crate::asked::{SearchRequest, SearchedCall};
 use crate::found::{
@@ -131,12 +131,9 @@ fn search_orders<'a, T: Teller, R: Threads + Sync, W: Write, E, S: Write, F: Hea
     requires form { T.form ≡ call.search.now.form }
     requires asked { IsAskedBy call.search.now.call call.request.now }
     requires every_order { call.search.now.all ≡ Some orders.now.most }
-    ensures finds { IfOk result (λ done. Finds call.entry.request.now.parts call.entry.search.now
-        (changed S.contents streams.old.save streams.new.save) done.status) }
-    ensures tells { IfOk result (λ done. TellsAll call.entry.request.now.parts call.entry.search.now orders.now.most
+    ensures searched { IfOk result (λ done. IsSearched call.entry.request.now.parts call.entry.search.now
         (changed W.contents streams.old.out streams.new.out) (changed S.contents streams.old.save streams.new.save)
         done.status) }
-    ensures well { IfOk result (λ done. IsWellAt call.entry.request.now.parts call.entry.search.now done.status) }
     ensures others { LeavesOthers call.entry.search.now streams.old streams.new }
     ensures trouble { IfErr result IsOfSystem }
 {
@@ -211,9 +208,9 @@ fn search_for_endings<T: Teller, R: Threads + Sync, W: Write, E, S: Write, F: He
     requires form { T.form ≡ call.search.now.form }
     requires range { IsSearchInRange call.search.now }
     requires asked { IsAskedBy call.search.now.call call.request.now }
-    ensures finds { IfOk result (λ done. Finds call.entry.request.now.parts call.entry.search.now
-        (changed S.contents streams.old.save streams.new.save) done.status) }
-    ensures tells { IfOk result (λ done. TellsDrawn call.entry.request.now.parts call.entry.search.now
+    requires drawn { call.search.now.all ≡ None }
+    requires raceless { call.search.now.races ≡ false }
+    ensures searched { IfOk result (λ done. IsSearched call.entry.request.now.parts call.entry.search.now
         (changed W.contents streams.old.out streams.new.out) (changed S.contents streams.old.save streams.new.save)
         done.status) }
     ensures others { LeavesOthers call.entry.search.now streams.old streams.new }
@@ -271,10 +268,9 @@ fn search_for_races<T: Teller, R: Threads + Sync, W: Write, E, S: Write, F: Hear
     requires form { T.form ≡ call.search.now.form }
     requires range { IsSearchInRange call.search.now }
     requires asked { IsAskedBy call.search.now.call call.request.now }
+    requires drawn { call.search.now.all ≡ None }
     requires races { call.search.now.races ≡ true }
-    ensures finds { IfOk result (λ done. Finds call.entry.request.now.parts call.entry.search.now
-        (changed S.contents streams.old.save streams.new.save) done.status) }
-    ensures tells { IfOk result (λ done. TellsDrawnRaces call.entry.request.now.parts call.entry.search.now
+    ensures searched { IfOk result (λ done. IsSearched call.entry.request.now.parts call.entry.search.now
         (changed W.contents streams.old.out streams.new.out) (changed S.contents streams.old.save streams.new.save)
         done.status) }
     ensures others { LeavesOthers call.entry.search.now streams.old streams.new }

@@ -9,7 +9,7 @@ use Rattle.search_scheduled.specs.declared.fault.SearchFault.{SearchFault}
 use Rattle.search_scheduled.specs.declared.running.MadeRun.{MadeRun}
 use Rattle.search_finds.specs.declared.ahead.RunsAhead.{RunsAhead}
 use Rattle.search_finds.specs.declared.search.JudgedEnding.{JudgedEnding}
-use Rattle.search_finds.specs.declared.search.RunMaker.{RunMaker}
+use Rattle.search_finds.specs.declared.maker.RunMaker.{RunMaker}
 use Rattle.search_finds.specs.Searching.{AreMetIn, ArePiecesIn, first_of}
 
 -- one job more makes as many again

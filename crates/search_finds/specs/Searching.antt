@@ -7,7 +7,7 @@ use Rattle.search_scheduled.specs.declared.fault.SearchFault.{SearchFault}
 use Rattle.search_scheduled.specs.declared.threads.Spares.{Spares}
 use Rattle.search_finds.specs.declared.ahead.RunsAhead.{RunsAhead}
 use Rattle.search_finds.specs.declared.search.JudgedEnding.{JudgedEnding}
-use Rattle.search_finds.specs.declared.search.RunMaker.{RunMaker}
+use Rattle.search_finds.specs.declared.maker.RunMaker.{RunMaker}
 use Rattle.search_finds.specs.Drawing.{AreOfRunsBack, IsDrawnAmong, IsEndingAmong}
 use Rattle.search_finds.specs.Judged.{IsFindBy}
 use Rattle.search_finds.specs.Shares.{first_behind}

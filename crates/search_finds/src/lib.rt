@@ -30,6 +30,7 @@ mod following;
 mod hears;
 mod judging;
 mod leading;
+mod maker;
 mod met;
 mod moments;
 mod rounds;

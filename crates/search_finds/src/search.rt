@@ -1,12 +1,12 @@
-//! What is searched.
-ghost use Rattle.std.specs.Prelude.{◌<◌, IfOk, OnOk};
+//! Runs of a search, and their endings.
+ghost use Rattle.std.specs.Prelude.{IfOk, OnOk};
 ghost use Rattle.search_finds.specs.Searching.{AreSparesIn, IsMadeIn};
 
+use crate::maker::RunMaker;
 use search_endings::Ending;
 use search_scheduled::{MadeRun, SearchFault, Spares, run_with_spares};
 use search_strategies::{Drawn, EndWatch, Watched};
 use selection::Sought;
-use spawn_host::Request;
 use std::alloc::Global;
 
 /// The ending of a run, and whether the run is looked for.
@@ -14,16 +14,6 @@ use std::alloc::Global;
 pub(crate) struct JudgedEnding {
     pub(crate) ending: Ending,
     pub(crate) is_sought: bool,
-}
-
-/// The call of a module's function, and what is looked for among the runs by that call.
-#[derive(Clone, Copy)]
-pub(crate) struct RunMaker<'m, 'a> {
-    pub(crate) request: &'a Request<'m, 'a>,
-    pub(crate) sought: &'a Sought<'a>,
-    /// Among how many entries the points lie at which priorities change.
-    pub(crate) entries: u32,
-    ghost some: { 0 < entries },
 }
 
 impl<'m> RunMaker<'m, '_> {

@@ -4,10 +4,12 @@ use Rattle.report_jobs.specs.Prints.{change, changed}
 use Rattle.report_jobs.specs.declared.undone.Done.{Done}
 use Rattle.report.specs.Drawn.{behind_text}
 use Rattle.report.specs.Telling.{EndsNone, was_told}
+use Rattle.report.specs.Searched.{IsSearched}
+use Rattle.report.specs.Searches.{Finds}
 use Rattle.report.specs.Told.{IsStatusOfTable, LastIn, NoneIn, TellsDrawn}
 use Rattle.report.proofs.Counted.{cut_within}
 use Rattle.report.proofs.Keeping.{run_is_kept}
-use Rattle.report.proofs.AllTold.{all_made_by, if_both, last_told, none_told}
+use Rattle.report.proofs.AllTold.{all_made_by, endings_searched, if_both, last_told, none_told}
 use Rattle.report.proofs.searching.search_for_endings.Goals as goal
 
 pub tell-requires : goal.tell-requires
@@ -22,18 +24,8 @@ end_without-requires g c = cut_within c.args.call.request.now c.args.call.search
 pub kept_of-requires : goal.kept_of-requires
 kept_of-requires g c = let found = rw c.in-Found.is at c.in-Ok.ensures.found in (search rules, found.0)
 
-pub returns-in-Found-clause-finds : goal.returns-in-Found-clause-finds
-returns-in-Found-clause-finds g c =
-    let found = rw c.in-Found.is at c.in-Ok.ensures.found in
-    let save = changed g.S.Write.contents c.args.streams.now.save c.keep_made.new.save in
-    inr (inl (
-      refl,
-      inl (run_is_kept c.args.call.request.now c.args.call.search.now c.requires.asked save c.in-Found.found.made c.in_ok-kept-in-Found.kept found.1
-          c.in_ok-kept-in-Found.ensures.kept.kept c.in_ok-keep_made-in-Found.ensures.kept),
-    ))
-
-pub returns-in-Found-clause-tells : goal.returns-in-Found-clause-tells
-returns-in-Found-clause-tells g c =
+pub returns-in-Found-clause-searched : goal.returns-in-Found-clause-searched
+returns-in-Found-clause-searched g c =
     let contents = g.W.Write.contents in
     let q = c.args.call.request.now in
     let s = c.args.call.search.now in
@@ -41,7 +33,14 @@ returns-in-Found-clause-tells g c =
     let found = rw c.in-Found.is at c.in-Ok.ensures.found in
     let run = c.in-Found.found.run in
     let k = c.in_ok-kept-in-Found.kept in
-    record {
+    let out = changed contents c.args.streams.now.out c.conclude.new.out in
+    let save = changed g.S.Write.contents c.args.streams.now.save c.keep_made.new.save in
+    let finds : Finds q.parts s save 1 = inr (inl (
+          refl,
+          inl (run_is_kept c.args.call.request.now c.args.call.search.now c.requires.asked save c.in-Found.found.made c.in_ok-kept-in-Found.kept found.1
+              c.in_ok-kept-in-Found.ensures.kept.kept c.in_ok-keep_made-in-Found.ensures.kept),
+        )) in
+    let tells : TellsDrawn q.parts s out save 1 = record {
       request = q;
       parts_are = refl;
       asked = c.requires.asked;
@@ -64,10 +63,11 @@ returns-in-Found-clause-tells g c =
           kept = c.in_ok-keep_made-in-Found.ensures.kept;
         },
       );
-    }
+    } in
+    endings_searched q.parts s out save 1 c.requires.drawn c.requires.raceless finds tells
 
-pub returns-in_default-clause-tells : goal.returns-in_default-clause-tells
-returns-in_default-clause-tells g c =
+pub returns-in_default-clause-searched : goal.returns-in_default-clause-searched
+returns-in_default-clause-searched g c =
     let contents = g.W.Write.contents in
     let form = g.T.Teller.form in
     let q = c.args.call.request.now in
@@ -81,8 +81,8 @@ returns-in_default-clause-tells g c =
     let after = contents c.end_without.new.out in
     let save = changed g.S.Write.contents c.args.streams.now.save c.args.streams.now.save in
     if_both c.end_without.result (λ (done : Done). EndsNone form s.sought table is_told None text done.status (change headed after))
-    (λ (done : Done). IsStatusOfTable s.sought table done.status) (λ (done : Done). TellsDrawn q.parts s (change before after) save done.status)
-    (λ done rest is. record {
+    (λ (done : Done). IsStatusOfTable s.sought table done.status) (λ (done : Done). IsSearched q.parts s (change before after) save done.status)
+    (λ done rest is. endings_searched q.parts s (change before after) save done.status c.requires.drawn c.requires.raceless (inl (is.statuses, refl)) (record {
       request = q;
       parts_are = refl;
       asked = c.requires.asked;
@@ -97,5 +97,5 @@ returns-in_default-clause-tells g c =
         status_is = is;
         kept = refl;
       });
-    })
+    }))
     c.end_without.ensures.tells c.end_without.ensures.status

@@ -6,10 +6,12 @@ use Rattle.report_jobs.specs.declared.undone.Done.{Done}
 use Rattle.report_json.specs.declared.raced.RunRaces.TheVariants as said
 use Rattle.report.specs.DrawnRaces.{raceless_text}
 use Rattle.report.specs.Telling.{EndsNone, was_told}
+use Rattle.report.specs.Searched.{IsSearched}
+use Rattle.report.specs.Searches.{Finds}
 use Rattle.report.specs.Told.{IsStatusOfTable, NoneIn, RacyIn, TellsDrawnRaces}
 use Rattle.report.proofs.Counted.{cut_within}
 use Rattle.report.proofs.DrawnRaces.{none_races, race_is_kept}
-use Rattle.report.proofs.AllTold.{all_made_by, if_both, none_told, racy_told}
+use Rattle.report.proofs.AllTold.{all_made_by, races_searched, if_both, none_told, racy_told}
 use Rattle.report.proofs.searching.search_for_races.Goals as goal
 
 pub tell-requires : goal.tell-requires
@@ -33,20 +35,8 @@ end_without-requires g c =
 pub kept_race-requires : goal.kept_race-requires
 kept_race-requires g c = (search rules, rw c.in-Found.is at c.in-Ok.ensures.found)
 
-pub returns-in-Found-clause-finds : goal.returns-in-Found-clause-finds
-returns-in-Found-clause-finds g c =
-    let q = c.args.call.request.now in
-    let s = c.args.call.search.now in
-    let k = c.in_ok-kept-in-Found.kept in
-    let save = changed g.S.Write.contents c.args.streams.now.save c.keep.new.save in
-    let find = c.in_ok-kept-in-Found.ensures.has.find in
-    inr (inr (
-      omega arith,
-      race_is_kept q s c.requires.asked k.racy.made find.0 find.1 save c.in_ok-keep-in-Found.ensures.kept c.requires.races,
-    ))
-
-pub returns-in-Found-clause-tells : goal.returns-in-Found-clause-tells
-returns-in-Found-clause-tells g c =
+pub returns-in-Found-clause-searched : goal.returns-in-Found-clause-searched
+returns-in-Found-clause-searched g c =
     let contents = g.W.Write.contents in
     let q = c.args.call.request.now in
     let s = c.args.call.search.now in
@@ -55,7 +45,14 @@ returns-in-Found-clause-tells g c =
     let noted = rw c.in-Found.is at c.in-Ok.ensures.noted in
     let run = c.in-Found.found.run in
     let k = c.in_ok-kept-in-Found.kept in
-    record {
+    let out = changed contents c.args.streams.now.out c.conclude.new.out in
+    let save = changed g.S.Write.contents c.args.streams.now.save c.keep.new.save in
+    let find = c.in_ok-kept-in-Found.ensures.has.find in
+    let finds : Finds q.parts s save 1 = inr (inr (
+          omega arith,
+          race_is_kept q s c.requires.asked k.racy.made find.0 find.1 save c.in_ok-keep-in-Found.ensures.kept c.requires.races,
+        )) in
+    let tells : TellsDrawnRaces q.parts s out save 1 = record {
       request = q;
       parts_are = refl;
       asked = c.requires.asked;
@@ -79,10 +76,11 @@ returns-in-Found-clause-tells g c =
           kept = c.in_ok-keep-in-Found.ensures.kept;
         },
       );
-    }
+    } in
+    races_searched q.parts s out save 1 c.requires.drawn c.requires.races finds tells
 
-pub returns-in_default-clause-tells : goal.returns-in_default-clause-tells
-returns-in_default-clause-tells g c =
+pub returns-in_default-clause-searched : goal.returns-in_default-clause-searched
+returns-in_default-clause-searched g c =
     let contents = g.W.Write.contents in
     let form = g.T.Teller.form in
     let q = c.args.call.request.now in
@@ -98,8 +96,8 @@ returns-in_default-clause-tells g c =
     let save = changed g.S.Write.contents c.args.streams.now.save c.args.streams.now.save in
     let noted = c.in-Ok.ensures.noted in
     if_both c.end_without.result (λ (done : Done). EndsNone form s.sought table is_told races text done.status (change headed after))
-    (λ (done : Done). IsStatusOfTable s.sought table done.status) (λ (done : Done). TellsDrawnRaces q.parts s (change before after) save done.status)
-    (λ done rest is. record {
+    (λ (done : Done). IsStatusOfTable s.sought table done.status) (λ (done : Done). IsSearched q.parts s (change before after) save done.status)
+    (λ done rest is. races_searched q.parts s (change before after) save done.status c.requires.drawn c.requires.races (inl (is.statuses, refl)) (record {
       request = q;
       parts_are = refl;
       asked = c.requires.asked;
@@ -114,5 +112,5 @@ returns-in_default-clause-tells g c =
         status_is = is;
         kept = refl;
       });
-    })
+    }))
     c.end_without.ensures.tells c.end_without.ensures.status

@@ -39,6 +39,20 @@ told-requires c =
           subst (λ (u : Walker). (system_of b).wants u ≡ Awaits) (stays b v at.rested at.settles wants) wants,
     )
 
+pub returns-then-begun-m-clause-rests : goal.returns-then-begun-m-clause-rests
+returns-then-begun-m-clause-rests c = λ b z e after.
+    let n = c.args.event.now.n in
+    let m = c.args.m in
+    let w = c.args.valid.now in
+    let g = c.in-Some.begun in
+    let v : Walker = put z.threads n ((system_of b).takes (z.threads n) (reply_by z.shared n e)) m in
+    let by : begun_in z.shared.queue e ≡ Some g = sym after.makes.begun ∙ c.in-Some.is in
+    let begins : begun_at b z.shared e m ≡ Some (spawned_in b.worker g.id g.arg) =
+    subst (λ k. begun_at b z.shared e k ≡ Some (spawned_in b.worker g.id g.arg)) c.if-begun-m.true (is_started b z.shared e g by) in
+    let rested = rw c.in-Some-2.is at c.in_ok-first.ensures.rests in
+    subst (λ o. RestsAt w b (or_started (started_without o) (hears_any (system_of b) v (answer_by z.shared n e m))) c.in-Some-2.first) (sym begins)
+    (rested b after.of after.workers)
+
 pub returns-clause-rests : goal.returns-clause-rests
 returns-clause-rests c = λ b z e after.
     let n = c.args.event.now.n in
