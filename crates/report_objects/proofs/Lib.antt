@@ -1,3 +1,3 @@
 mod ObjectRows
-mod Objects
+mod ObjectParts
 pub mod RacePairs

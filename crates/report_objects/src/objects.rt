@@ -86,11 +86,11 @@ pub(crate) fn named_row<'a>(
 }
 
 /// Writes the rows of the entries at these places.
-fn write_places<W: Write>(
+fn write_places<'a, W: Write>(
     alloc: Global,
-    shown: &Shown,
+    shown: &'a Shown,
     map: &DataMap,
-    story: &Story,
+    story: &'a Story,
     places: &[usize],
     out: &mut W,
 ) -> Result<(), Unwritten>

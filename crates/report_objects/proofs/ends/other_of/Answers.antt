@@ -1,6 +1,6 @@
 use Rattle.std.proofs.Common.{refl}
 use Rattle.show_moments.specs.Scenes.{seen}
-use Rattle.report_objects.proofs.Objects.{no_other, some_other}
+use Rattle.report_objects.proofs.ObjectParts.{no_other, some_other}
 use Rattle.report_objects.proofs.ends.other_of.Goals as goal
 
 pub returns-then-not-wait : goal.returns-then-not-wait

@@ -1,7 +1,7 @@
 use Rattle.std.proofs.Common.{◌∙◌, ap}
 use Rattle.show_moments.specs.Scenes.{seen}
 use Rattle.show_moments.specs.Texts.{dump_text}
-use Rattle.report_objects.proofs.Objects.{lines_of}
+use Rattle.report_objects.proofs.ObjectParts.{lines_of}
 use Rattle.report_objects.proofs.ends.write_lines.Goals as goal
 
 pub returns : goal.returns

@@ -8,7 +8,7 @@ use Rattle.show_moments.specs.Scenes.{seen_by}
 use Rattle.show_moments.specs.declared.told.ToldThread.{ToldThread}
 use Rattle.show_rows.specs.Listing.{IsStoryOf}
 use Rattle.report_objects.specs.Scenes.{AreRows, IsThreadObject}
-use Rattle.report_objects.proofs.Objects.{others_within}
+use Rattle.report_objects.proofs.ObjectParts.{others_within}
 use Rattle.report_objects.proofs.scenes.write_scene.Goals as goal
 
 pub rows_in-requires : goal.rows_in-requires

@@ -1,6 +1,6 @@
 use Rattle.std.proofs.Common.{◌≡◌, ◌<◌, ◌+◌, ℕ, List, length, subst, sym, arith, rules, take}
 use Rattle.report_reasons.specs.Lines.{IsLine}
-use Rattle.report_reasons.proofs.Lines.{IsBehind, behind, first, last}
+use Rattle.report_reasons.proofs.LineTexts.{IsBehind, behind, first, last}
 use Rattle.report_reasons.proofs.lines.line_of.Goals as goal
 
 pub returns-then-end-rest : goal.returns-then-end-rest

@@ -1,5 +1,5 @@
 use Rattle.std.proofs.Common.{◌≡◌, ◌≤◌, ℕ}
-use Rattle.report_reasons.proofs.Lines.{IsBehind}
+use Rattle.report_reasons.proofs.LineTexts.{IsBehind}
 use Rattle.report_reasons.proofs.lines.line_of.Given as goal
 
 -- Before each round the rest begins with the line of this number.

@@ -17,7 +17,7 @@ drop_later-requires g c =
     let first = c.first-first.ensures in
     let wanted = c.wanted-wanted.ensures in
     let next : first_of a (c.args.job + 1) ≡ c.first-first.result + c.wanted-wanted.result = omega (arith, first, wanted) in
-    subst (λ (k : ℕ). AreMetIn says s k c.args.endings.now.items) next c.requires.endings
+    (c.type_bounds.sync-W, (c.type_bounds.sync-J, subst (λ (k : ℕ). AreMetIn says s k c.args.endings.now.items) next c.requires.endings))
 
 pub returns-clause-endings : goal.returns-clause-endings
 returns-clause-endings g c =

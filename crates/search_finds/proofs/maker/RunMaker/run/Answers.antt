@@ -6,7 +6,7 @@ use Rattle.search_scheduled.specs.Led.{IsLedRun}
 use Rattle.search_scheduled.proofs.Parts.{run_by_part}
 use Rattle.search_finds.specs.Searching.{IsMadeIn}
 use Rattle.search_finds.proofs.Led.{if_all, named_by}
-use Rattle.search_finds.proofs.search.RunMaker.run.Goals as goal
+use Rattle.search_finds.proofs.maker.RunMaker.run.Goals as goal
 
 pub returns-clause-made : goal.returns-clause-made
 returns-clause-made g c =
