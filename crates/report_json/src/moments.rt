@@ -147,20 +147,20 @@ impl ToJson for MemoryBytes<'_> {
 
 /// What threads and memory are like before an entry.
 #[derive(Drop)]
-pub struct MomentShown<'a> {
+pub struct MomentShown<'t, 'a> {
     /// The line that this entry has, or would have behind the last one.
     pub line: u64,
     /// Those that were spawned, from thread 0 on.
-    pub threads: &'a [MomentThread<'a>],
+    pub threads: &'t [MomentThread<'a>],
     /// The entries with which this one races.
-    pub races: &'a [NamedRow<'a>],
+    pub races: &'t [NamedRow<'a>],
     /// Who sleeps, who has slept longest first.
-    pub asleep: &'a [Sleeper],
+    pub asleep: &'t [Sleeper],
     /// The bytes that are wanted.
-    pub memory: Option<MemoryBytes<'a>>,
+    pub memory: Option<MemoryBytes<'t>>,
 }
 
-impl ToJson for MomentShown<'_> {
+impl ToJson for MomentShown<'_, '_> {
     ghost json = { moment_json };
 
     fn send<S: Serializer>(&self, alloc: Global, out: &mut S) -> Result<(), S::Error> {
@@ -240,15 +240,15 @@ impl ToJson for Vec<usize> {
 
 /// How the threads of a run ended.
 #[derive(Drop)]
-pub struct EndShown<'a> {
+pub struct EndShown<'t, 'a> {
     /// From thread 0 on.
-    pub threads: &'a [EndedThread<'a>],
+    pub threads: &'t [EndedThread<'a>],
     /// Threads that wait for one another, each for the next, and the last for the first.
-    pub cycles: &'a [Vec<usize>],
-    pub memory: Option<MemoryBytes<'a>>,
+    pub cycles: &'t [Vec<usize>],
+    pub memory: Option<MemoryBytes<'t>>,
 }
 
-impl ToJson for EndShown<'_> {
+impl ToJson for EndShown<'_, '_> {
     ghost json = { end_json };
 
     fn send<S: Serializer>(&self, alloc: Global, out: &mut S) -> Result<(), S::Error> {

@@ -2,6 +2,7 @@
 use Rattle.std.specs.Prelude.{ℕ, ◌≡◌, Bool, true, false, List, ◌++◌, codes, flat_map}
 use Rattle.std.specs.Prelude.{Option, Some, None, option_and_then}
 use Rattle.std.specs.Fmt.{decimal}
+use Rattle.std.specs.Global.{Vec}
 use Rattle.std.specs.List.{AllZip, enumerate_from, slice_get}
 use Rattle.std.specs.Io.KnownBytes.{Appends}
 use Rattle.types.specs.declared.outcome.Outcome.{Outcome}
@@ -100,6 +101,15 @@ pub record IsEndedThread (s : Seen) (told : ToldEnd) (t : EndedThread) : Type 0 
 
 abbrev pub AreEndedThreads : Seen → List ToldEnd → List EndedThread → Type 0
 AreEndedThreads s ends threads = AllZip (IsEndedThread s) ends threads
+
+-- What was written is the object of these threads, of the cycles in which threads wait for one another, and of the bytes
+-- that are wanted.
+pub record WritesEndOf (s : Seen) (threads : List EndedThread) (cycles : List (Vec ℕ)) (old new : Option (List ℕ)) : Type 0 where
+  pub end : EndShown
+  pub threads_are : end.threads.now ≡ threads
+  pub cycles_are : end.cycles.now ≡ cycles
+  pub memory : IsMemoryOf s.moment end.memory
+  pub object : Appends old new (json_line (end_json end))
 
 -- The object: all of them, the cycles in which threads wait for one another, and the bytes that are wanted.
 pub record WritesEndObject (s : Seen) (ends : List ToldEnd) (old new : Option (List ℕ)) : Type 0 where

@@ -110,15 +110,29 @@ pub record IsObjectOf (s : Seen) (told : ToldMoment) (m : MomentShown) : Type 0 
   pub asleep : m.asleep.now ≡ asleep_in s.moment.queue
   pub memory : IsMemoryOf s.moment m.memory
 
--- What was written is that object.
+-- What was written is the object of these threads and rows, beside what is seen of the moment.
+pub record WritesSceneOf (s : Seen) (threads : List MomentThread) (races : List NamedRow) (old new : Option (List ℕ)) : Type 0 where
+  pub moment_is : MomentShown
+  pub line : moment_is.line ≡ line_at s.shown s.moment.at
+  pub threads_are : moment_is.threads.now ≡ threads
+  pub races_are : moment_is.races.now ≡ races
+  pub asleep : moment_is.asleep.now ≡ asleep_in s.moment.queue
+  pub memory : IsMemoryOf s.moment moment_is.memory
+  pub writes : Appends old new (json_line (moment_json moment_is))
+
+-- What was written is the object of what is told.
+pub record WritesSeen (s : Seen) (races : List Race) (old new : Option (List ℕ)) : Type 0 where
+  pub told : ToldMoment
+  pub is_told : IsTold s races told
+  pub moment_is : MomentShown
+  pub object : IsObjectOf s told moment_is
+  pub writes : Appends old new (json_line (moment_json moment_is))
+
+-- What was written is the object of the moment, by what its log tells.
 pub record WritesScene (view : MomentView) (moment : Moment) (races : List Race) (old new : Option (List ℕ)) : Type 0 where
   pub story : Story
   pub of_log : IsStoryOf view.shown.record.now.log story
-  pub told : ToldMoment
-  pub is_told : IsTold (seen_by view story moment) races told
-  pub moment_is : MomentShown
-  pub object : IsObjectOf (seen_by view story moment) told moment_is
-  pub writes : Appends old new (json_line (moment_json moment_is))
+  pub told : WritesSeen (seen_by view story moment) races old new
 
 -- What was written is the object of the last entry before a place that writes a byte at these addresses, or that none does.
 pub record WritesLastObject (shown : Shown) (map : DataMap) (story : Story) (sought : SoughtWrite)

@@ -5,7 +5,7 @@ ghost use Rattle.show_moments.specs.Scenes.{IsStanding, seen};
 ghost use Rattle.show_waits.specs.Waits.{IsToldWait};
 ghost use Rattle.report_objects.specs.Ends as specified;
 ghost use Rattle.report_objects.specs.Ends.{AreEnds, AreEndedThreads, IsEnd, IsEndedThread, IsWaitObject, IsWaitsFor, WritesEnd};
-ghost use Rattle.report_objects.specs.Ends.{WritesEndIn, WritesEndLines, WritesEndObject};
+ghost use Rattle.report_objects.specs.Ends.{WritesEndIn, WritesEndLines, WritesEndObject, WritesEndOf};
 
 use crate::objects::named_row;
 use crate::scenes::{last_row, memory_of};
@@ -178,16 +178,28 @@ fn write_object<W: Write>(scene: &Scene, ends: &[ToldEnd], out: &mut W) -> Resul
     let record = scene.view.shown.record;
     let threads = ended_threads(scene, ends)?;
     let cycles = cycles_told(scene.alloc, record.log.as_slice(), record.ends.as_slice())?;
+    write_ended(scene, threads.as_slice(), cycles.as_slice(), out)
+}
+
+/// Writes these threads and cycles as an object, with the bytes that are wanted.
+fn write_ended<'t, W: Write>(
+    scene: &'t Scene,
+    threads: &'t [EndedThread],
+    cycles: &'t [Vec<usize>],
+    out: &mut W,
+) -> Result<(), Unwritten>
+    ensures { OnOk result
+        (WritesEndOf (seen scene.now) threads.now cycles.now (W.contents out.old) (W.contents out.new)) }
+{
     let object = EndShown {
-        threads: threads.as_slice(),
-        cycles: cycles.as_slice(),
+        threads,
+        cycles,
         memory: memory_of(scene.moment),
     };
     report_json::write_end(scene.alloc, out, &object)
 }
 
 /// The threads, as the object has them.
-#[tactic(auto, using(show_rows::proofs::Zipped::zip_next))]
 fn ended_threads<'a>(
     scene: &'a Scene,
     ends: &'a [ToldEnd],

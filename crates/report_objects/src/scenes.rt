@@ -5,7 +5,7 @@ ghost use Rattle.show_races.specs.Told.{IsWithin};
 ghost use Rattle.show_moments.specs.Scenes.{seen};
 ghost use Rattle.report_objects.specs.Scenes as specified;
 ghost use Rattle.report_objects.specs.Scenes.{AreRows, IsAskedRow, IsLastRow, IsRowIfAny, IsThreadObject, IsTouchedRow};
-ghost use Rattle.report_objects.specs.Scenes.{WritesLastObject, WritesScene};
+ghost use Rattle.report_objects.specs.Scenes.{WritesLastObject, WritesScene, WritesSceneOf, WritesSeen};
 
 use crate::objects::named_row;
 use race_history::Race;
@@ -134,7 +134,6 @@ fn thread_object<'a>(scene: &'a Scene, told: &'a ToldThread) -> Result<MomentThr
 }
 
 /// The threads at a moment.
-#[tactic(auto, using(show_rows::proofs::Zipped::zip_next))]
 fn thread_objects<'a>(
     scene: &'a Scene,
     told: &'a [ToldThread],
@@ -212,17 +211,39 @@ pub fn write_scene<W: Write>(
         story: &story,
         moment,
     };
+    write_seen(&scene, races, out)
+}
+
+/// Writes what is told of a moment as an object.
+fn write_seen<W: Write>(scene: &Scene, races: &[Race], out: &mut W) -> Result<(), Unwritten>
+    requires { All (IsWithin scene.now.view.shown.record.now.log) races.now }
+    ensures { OnOk result (WritesSeen (seen scene.now) races.now (W.contents out.old) (W.contents out.new)) }
+{
     let told = scene.told(races)?;
-    let threads = thread_objects(&scene, told.threads.as_slice())?;
-    let races = rows_in(&scene, told.races.as_slice())?;
+    let threads = thread_objects(scene, told.threads.as_slice())?;
+    let rows = rows_in(scene, told.races.as_slice())?;
+    write_shown(scene, threads.as_slice(), rows.as_slice(), out)
+}
+
+/// Writes these threads and entries as the object of a moment.
+fn write_shown<'t, 'a, W: Write>(
+    scene: &'t Scene,
+    threads: &'t [MomentThread<'a>],
+    races: &'t [NamedRow<'a>],
+    out: &mut W,
+) -> Result<(), Unwritten>
+    ensures { OnOk result
+        (WritesSceneOf (seen scene.now) threads.now races.now (W.contents out.old) (W.contents out.new)) }
+{
+    let moment = scene.moment;
     let object = MomentShown {
-        line: view.shown.line_of(moment.at),
-        threads: threads.as_slice(),
-        races: races.as_slice(),
+        line: scene.view.shown.line_of(moment.at),
+        threads,
+        races,
         asleep: asleep_in(&moment.queue),
         memory: memory_of(moment),
     };
-    write_moment(alloc, out, &object)
+    write_moment(scene.alloc, out, &object)
 }
 
 /// Writes the last write that is sought as an object.
