@@ -30,7 +30,7 @@ fn write_liveness<W: Write>(out: &mut W, liveness: &Option<Liveness>) -> io::Res
     write_cannot_end(out, liveness.endless.len())?;
     match &liveness.fair_runs {
         FairRuns::AllEnd => write_fair_runs_end(out),
-        FairRuns::GoOn(cycle) => write_cycle(out, &cycle.threads, cycle.states),
+        FairRuns::GoOn(cycle) => write_cycle(out, cycle.threads.as_slice(), cycle.states),
         FairRuns::Unknown => write_unknown(out),
     }
 }

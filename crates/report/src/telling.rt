@@ -16,10 +16,10 @@ use std::io::Write;
 
 /// What is told of every order.
 #[derive(Clone, Copy)]
-pub(crate) struct ToldSearch<'a> {
-    pub whole: &'a WholeSearch,
-    pub raced: &'a Raced<'a, 'a>,
-    pub kept: &'a Option<KeptRun>,
+pub(crate) struct ToldSearch<'t, 'm> {
+    pub whole: &'t WholeSearch,
+    pub raced: &'t Raced<'m, 'm>,
+    pub kept: &'t Option<KeptRun>,
     pub most: u32,
     pub status: u8,
     pub dump: u32,
@@ -27,30 +27,30 @@ pub(crate) struct ToldSearch<'a> {
 
 /// What is known of a search before its end.
 #[derive(Clone, Copy)]
-pub(crate) enum News<'a> {
+pub(crate) enum News<'t, 'm> {
     /// Of every order: a race.
-    Race(&'a Raced<'a, 'a>),
+    Race(&'t Raced<'m, 'm>),
     /// Of every order: the endings, where so many states may be met.
-    Orders(&'a WholeSearch, u32),
+    Orders(&'t WholeSearch, u32),
     /// Of every order: as what something was found.
-    Behind(&'a Option<FoundRun>),
+    Behind(&'t Option<FoundRun>),
     /// Of drawn runs: the table of their endings.
-    Table(DrawnTable<'a>),
+    Table(DrawnTable<'t>),
     /// Of drawn runs: the number of the one that was found.
     Run(u64),
 }
 
 /// How a search ends.
 #[derive(Clone, Copy)]
-pub(crate) enum Conclusion<'a> {
+pub(crate) enum Conclusion<'t, 'm> {
     /// Every order was gone through.
-    Orders(ToldSearch<'a>),
+    Orders(ToldSearch<'t, 'm>),
     /// The last of drawn runs was found, of which this is kept.
-    Last(DrawnTable<'a>, &'a KeptRun),
+    Last(DrawnTable<'t>, &'t KeptRun),
     /// The last of drawn runs has a race.
-    Racy(DrawnTable<'a>, &'a KeptRace<'a, 'a>),
+    Racy(DrawnTable<'t>, &'t KeptRace<'m, 'm>),
     /// None of drawn runs was found.
-    None(DrawnTable<'a>, NoneFound<'a>),
+    None(DrawnTable<'t>, NoneFound<'t>),
 }
 
 /// Tells a search.

@@ -4,6 +4,7 @@ ghost use Rattle.std.specs.List.{AllZip};
 ghost use Rattle.report_command.specs.declared.limits.TheConstants.{MOST_DUMP};
 ghost use Rattle.report_command.specs.Addresses.{IsAddress, IsBytes, IsData, IsEndOf, IsMoment, IsSpan, IsSpanOf};
 ghost use Rattle.report_command.specs.Addresses.{IsStretch, IsThread};
+ghost use Rattle.report_command.specs.Found.{decimal_of};
 
 use crate::limits::{MOST_DUMP, MOST_LINE};
 use selection::NumberSpan;
@@ -67,22 +68,26 @@ fn span_in(text: &str) -> Option<NumberSpan>
     }
 }
 
+/// A number of bytes, as many as are shown at most.
+fn count_in(text: &str) -> Option<u32>
+    ensures range { IfSome result (λ count. count ≤ MOST_DUMP) }
+    ensures spelled { IfSome result (λ count. count ≡ decimal_of text.now) }
+{
+    match text.parse::<u32>() {
+        Ok(count) if count <= MOST_DUMP => Some(count),
+        _ => None,
+    }
+}
+
 /// An address and a number of bytes, of a text `A:N`.
 fn bytes_in(text: &str) -> Option<(u64, u32)>
     ensures range { IfSome result (λ bytes. bytes.1 ≤ MOST_DUMP) }
     ensures spelled { IfSome result (λ bytes. IsBytes text.now bytes.0 bytes.1) }
 {
-    let Some((addr, count)) = text.split_once(':') else {
-        return None;
-    };
-    let (Some(addr), Ok(count)) = (addr_in(addr), count.parse::<u32>()) else {
-        return None;
-    };
-    if count <= MOST_DUMP {
-        Some((addr, count))
-    } else {
-        None
-    }
+    let (addr, count) = text.split_once(':')?;
+    let addr = addr_in(addr)?;
+    let count = count_in(count)?;
+    Some((addr, count))
 }
 
 /// The addresses of so many bytes from one on, one at least.

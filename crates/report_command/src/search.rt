@@ -2,6 +2,7 @@
 ghost use Rattle.std.specs.Prelude.{◌≡◌, ◌≤◌, IfOk, IfSome, codes};
 ghost use Rattle.clap.specs.Words.{found_of};
 ghost use Rattle.report_command.specs.declared.limits.TheConstants.{MOST_STATES};
+ghost use Rattle.report_command.specs.Found.{decimal_of};
 ghost use Rattle.report_command.specs.Jobs.{IsInRange};
 ghost use Rattle.report_command.specs.Searches.{IsSoughtInRange};
 ghost use Rattle.report_command.specs.Options.{AsksAll, AsksEffort, AsksFind, AsksNamed, AsksResult, AsksSought};
@@ -69,19 +70,30 @@ impl<'a> ValueReader<'a> for WayReader {
 
     fn read(text: &'a str) -> Option<Way> {
         match text {
-            "mix" => return Some(Way::Mix),
-            "random" => return Some(Way::Random),
-            "spin" => return Some(Way::Spin),
-            _ => {}
-        }
-        let Some(depth) = text.strip_prefix("pct:") else {
-            return None;
-        };
-        match depth.parse::<u32>() {
-            Ok(depth) if depth >= 1 && depth <= MOST_DEPTH => Some(Way::Priorities(depth)),
-            _ => None,
+            "mix" => Some(Way::Mix),
+            "random" => Some(Way::Random),
+            "spin" => Some(Way::Spin),
+            _ => priorities_in(text),
         }
     }
+}
+
+/// A depth in its range.
+fn depth_in(text: &str) -> Option<u32>
+    ensures { IfSome result (λ depth. depth ≡ decimal_of text.now) }
+{
+    match text.parse::<u32>() {
+        Ok(depth) if depth >= 1 && depth <= MOST_DEPTH => Some(depth),
+        _ => None,
+    }
+}
+
+/// The strategy `pct:` with a depth.
+fn priorities_in(text: &str) -> Option<Way>
+    ensures { IfSome result (IsWay text.now) }
+{
+    let depth = depth_in(text.strip_prefix("pct:")?)?;
+    Some(Way::Priorities(depth))
 }
 
 fn way_of(matches: &ArgMatches) -> Result<Way, CommandRefusal<'static>>

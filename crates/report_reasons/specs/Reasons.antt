@@ -1,6 +1,5 @@
 -- The lines that explain what came of a job.
-use Rattle.std.specs.Prelude.{ℕ, List, ⊤}
-use Rattle.std.specs.Result.{Result}
+use Rattle.std.specs.Prelude.{ℕ, Err, List, Result, ⊤}
 use Rattle.replay_text.specs.declared.fault.RecordFault.{RecordFault}
 use Rattle.replay_text.specs.declared.fault.RecordFault.TheVariants as faults
 use Rattle.report_jobs.specs.declared.undone.Done.{Done}

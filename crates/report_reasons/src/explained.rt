@@ -47,7 +47,7 @@ pub fn explain(
     given: JobInputs,
 ) -> Result<(), AllocError>
     ensures added { IfOk result (λ _. IsAddedTo (string_bytes out.old) (string_bytes out.new)) }
-    ensures line { IfOk result (λ _. Explains ended.now given.saved.now (string_bytes out.old) (string_bytes out.new)) }
+    ensures line { IfOk result (λ _. Explains ended.now given.entry.saved.now (string_bytes out.old) (string_bytes out.new)) }
     ensures kept { IfErr result (λ _. string_bytes out.new ≡ string_bytes out.old) }
 {
     let mut lines = String::new(alloc);
@@ -61,7 +61,7 @@ fn write_lines(
     ended: &JobResult,
     given: JobInputs,
 ) -> Result<(), AllocError>
-    ensures { IfOk result (λ _. Explains ended.now given.saved.now (string_bytes out.old) (string_bytes out.new)) }
+    ensures { IfOk result (λ _. Explains ended.now given.entry.saved.now (string_bytes out.old) (string_bytes out.new)) }
 {
     match ended {
         Ok(done) => add_done(alloc, out, *done, given),
@@ -103,7 +103,7 @@ fn add_refused(
     refused: &Refused,
     given: JobInputs,
 ) -> Result<(), AllocError>
-    ensures { IfOk result (λ _. NamesLine refused.now given.saved.now (string_bytes out.old) (string_bytes out.new)) }
+    ensures { IfOk result (λ _. NamesLine refused.now given.entry.saved.now (string_bytes out.old) (string_bytes out.new)) }
 {
     let JobInputs {
         module: bytes,
@@ -127,9 +127,8 @@ fn add_refused(
         Refused::EndMissing => {
             out.push_str("the text ends before the line finish: it may be cut\n")
         }
-        Refused::Line(line, misfit) | Refused::EndLine(line, misfit) => {
-            add_line(alloc, out, given, *line, misfit)
-        }
+        Refused::Line(line, misfit) => add_line(alloc, out, given, *line, misfit),
+        Refused::EndLine(line, misfit) => add_line(alloc, out, given, *line, misfit),
         Refused::Unlaid { .. } | Refused::Absent(_) => Ok(()),
     }
 }
@@ -154,7 +153,7 @@ fn add_line(
     line: u32,
     misfit: &Misfit,
 ) -> Result<(), AllocError>
-    ensures { IfOk result (λ _. BeginsWithLine given.saved.now line (string_bytes out.old) (string_bytes out.new)) }
+    ensures { IfOk result (λ _. BeginsWithLine given.entry.saved.now line (string_bytes out.old) (string_bytes out.new)) }
 {
     let number = line as usize;
     let Some(stood) = misfit.stood else {

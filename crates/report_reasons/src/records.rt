@@ -62,6 +62,13 @@ pub(crate) fn add_unreadable(
     ensures { IfOk result (λ _. BeginsWithLine saved.now number (string_bytes out.old) (string_bytes out.new)) }
 {
     add_line(out, saved, number)?;
+    add_none_such(out)
+}
+
+/// Adds that the line is none that may stand there.
+fn add_none_such(out: &mut String) -> Result<(), AllocError>
+    ensures { IfOk result (λ _. IsAddedTo (string_bytes out.old) (string_bytes out.new)) }
+{
     out.push_str(
         "it is no line that may stand there: an entry, an end, the pages or finish, with one spelling each\n",
     )
@@ -88,6 +95,13 @@ pub fn add_misfit(
     ensures { IfOk result (λ _. BeginsWithLine saved.now number (string_bytes out.old) (string_bytes out.new)) }
 {
     add_line(out, saved, number)?;
+    add_no_run(out, thread)
+}
+
+/// Adds that no run goes on so, and what the thread of the line does in place of it, where that is known.
+fn add_no_run(out: &mut String, thread: Option<UnfitThread>) -> Result<(), AllocError>
+    ensures { IfOk result (λ _. IsAddedTo (string_bytes out.old) (string_bytes out.new)) }
+{
     if let Some(thread) = thread {
         add_instead(out, thread)?;
     }

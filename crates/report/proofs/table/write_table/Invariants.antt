@@ -6,4 +6,4 @@ use Rattle.report.proofs.table.write_table.Given as goal
 
 abbrev pub invariant-loop-met : goal.invariant-loop-met
 invariant-loop-met g l = Appends (g.W.Write.contents l.initial.out) (g.W.Write.contents l.out)
-    (flat_map (table_line l.sought l.table.runs) (take l.met-index l.rows))
+    (flat_map (table_line l.drawn.sought.now l.drawn.table.now.runs) (take l.met-index l.rows))

@@ -20,4 +20,4 @@ returns g c =
             c.in_ok-moments.ensures;
       },
       writes,
-    )) c.write_page.ensures
+    )) c.write_page.ensures.which

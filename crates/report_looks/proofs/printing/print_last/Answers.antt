@@ -11,8 +11,8 @@ returns-in-Lines g c =
     (λ writes. (story, subst (λ (l : List Entry). IsStoryOf l story) c.as_slice.ensures c.in_ok-story.ensures, writes))
     c.write_last.ensures)
 
-pub returns-in-Json : goal.returns-in-Json
-returns-in-Json g c =
+pub returns : goal.returns
+returns g c =
     let story = c.in_ok-story.story in
     rw c.in-Json.is (on_ok_weaker c.write_last_object.result
     (λ writes. (story, subst (λ (l : List Entry). IsStoryOf l story) c.as_slice.ensures c.in_ok-story.ensures, writes))

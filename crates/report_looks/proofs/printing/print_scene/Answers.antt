@@ -5,6 +5,6 @@ pub returns-in-Lines-clause-says : goal.returns-in-Lines-clause-says
 returns-in-Lines-clause-says g c =
     rw c.in-Lines.is (on_ok_weaker c.write_moment.result (λ says. (_, says)) c.write_moment.ensures.says)
 
-pub returns-in-Json-clause-says : goal.returns-in-Json-clause-says
-returns-in-Json-clause-says g c =
+pub returns-clause-says : goal.returns-clause-says
+returns-clause-says g c =
     rw c.in-Json.is (on_ok_weaker c.write_scene.result (λ says. (_, says)) c.write_scene.ensures.says)
