@@ -3,9 +3,9 @@ ghost use Rattle.std.specs.Prelude.{◌≡◌, ◌↔◌, true, All, length};
 ghost use Rattle.replay_forms.specs.Texts.{Wrote};
 ghost use Rattle.search_finds.specs.Finds.{IsLookedFor};
 ghost use Rattle.report.specs.Complete.{all_line, liveness_lines, unknown_text, verdict_line, complete_lines};
-ghost use Rattle.report.specs.Complete.{entries_line, gone_through_text, sought_line};
-ghost use Rattle.report_lines.specs.Complete.{counted};
-ghost use Rattle.report.specs.Complete.{threads_end_well, EndsForSure, IsSure, AreAllWell};
+ghost use Rattle.report.specs.Complete.{entries_line, fair_runs_line, gone_through_text, sought_line};
+ghost use Rattle.report_lines.specs.Complete.{counted, cycle_line};
+ghost use Rattle.report.specs.Complete.{all_end_well, threads_end_well, EndsForSure, IsSure, AreAllWell};
 
 use crate::whole::Racing;
 use report_command::Sought;
@@ -14,7 +14,7 @@ use report_lines::{
     write_told, write_too_many, write_unknown,
 };
 use search_endings::{Ending, is_done};
-use search_reach::{Ended, FairRuns, Liveness, Verdict};
+use search_reach::{Ended, FairCycle, FairRuns, Liveness, Verdict};
 use std::io::{self, Write};
 
 /// The endings of a call, each with a path to it, whether they are all, and what never ends.
@@ -28,11 +28,25 @@ fn write_liveness<W: Write>(out: &mut W, liveness: &Option<Liveness>) -> io::Res
         return Ok(());
     };
     write_cannot_end(out, liveness.endless.len())?;
-    match &liveness.fair_runs {
+    write_fair_runs(out, &liveness.fair_runs)
+}
+
+/// The line that says whether every fair run ends.
+fn write_fair_runs<W: Write>(out: &mut W, fair_runs: &FairRuns) -> io::Result<()>
+    ensures { Wrote W.contents out.old out.new result (fair_runs_line fair_runs.now) }
+{
+    match fair_runs {
         FairRuns::AllEnd => write_fair_runs_end(out),
-        FairRuns::GoOn(cycle) => write_cycle(out, cycle.threads.as_slice(), cycle.states),
+        FairRuns::GoOn(cycle) => write_cycle_of(out, cycle),
         FairRuns::Unknown => write_unknown(out),
     }
+}
+
+/// The line that says that this fair run goes on for ever.
+fn write_cycle_of<W: Write>(out: &mut W, cycle: &FairCycle) -> io::Result<()>
+    ensures { Wrote W.contents out.old out.new result (cycle_line cycle.now.threads.items cycle.now.states) }
+{
+    write_cycle(out, cycle.threads.as_slice(), cycle.states)
 }
 
 /// So many of a thing.
@@ -168,6 +182,13 @@ fn is_sure(all: &Complete) -> bool
     }
 }
 
+/// Whether in each of these endings all threads ended well.
+fn all_ended_well(endings: &[Ending]) -> bool
+    ensures { result ≡ all_end_well endings.now }
+{
+    endings.iter().all(|ending| has_ended_well(ending))
+}
+
 /// Whether the endings are all, there is one, in each all threads ended well, every state can end, and every fair run
 /// does. Where no run ends there is no ending.
 pub(crate) fn are_well(all: &Complete, sought: &Sought) -> bool
@@ -178,5 +199,5 @@ pub(crate) fn are_well(all: &Complete, sought: &Sought) -> bool
     if !is_sure(all) || endings.is_empty() {
         return false;
     }
-    endings.iter().all(|ending| has_ended_well(ending))
+    all_ended_well(endings)
 }

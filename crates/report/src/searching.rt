@@ -12,6 +12,7 @@ ghost use Rattle.report.specs.Racing.{CanTell, IsRacedIn, IsRacedOf, KeepsRaced,
 ghost use Rattle.report.specs.Searched.{IsSearched};
 ghost use Rattle.report.specs.Searches.{IsOfSystem};
 ghost use Rattle.report.specs.Silent.{IfRefusedCall, LeavesOthers};
+ghost use Rattle.report.specs.Telling as specified;
 ghost use Rattle.report.specs.Telling.{EndsAll, InLines, TellsNoneFound};
 ghost use Rattle.report.specs.Told.{IsStatusOfTable};
 
@@ -165,6 +166,13 @@ fn search_orders<'a, T: Teller, R: Threads + Sync, W: Write, E, S: Write, F: Hea
     })
 }
 
+/// Whether the search was told to end.
+fn was_told(halt: &Halt) -> bool
+    ensures { result ≡ specified.was_told halt.now }
+{
+    matches!(halt, Halt::Told)
+}
+
 /// Tells that none of drawn runs was found, and answers the status: 0 where all is well, and else 1.
 fn end_without<T: Teller, W: Write>(
     alloc: Global,
@@ -175,7 +183,7 @@ fn end_without<T: Teller, W: Write>(
     out: &mut W,
 ) -> Result<Done, Trouble>
     requires { cut_in drawn.table.now ≤ drawn.table.now.runs }
-    ensures tells { IfOk result (λ done. TellsNoneFound T.form drawn.entry races.entry halt.now done.status
+    ensures tells { (m : Parts) → IfOk result (λ done. TellsNoneFound T.form drawn.entry races.entry halt.now done.status
         (changed W.contents out.old out.new)) }
     ensures status { IfOk result (λ done. IsStatusOfTable drawn.entry.sought.now drawn.entry.table.now done.status) }
     ensures trouble { IfErr result IsOfSystem }
@@ -183,7 +191,7 @@ fn end_without<T: Teller, W: Write>(
     let status = status_of_none(alloc, drawn)?;
     let none = NoneFound {
         races,
-        is_told: matches!(halt, Halt::Told),
+        is_told: was_told(halt),
         status,
     };
     teller.conclude(alloc, Conclusion::None(drawn, none), out)?;

@@ -4,7 +4,7 @@ ghost use Rattle.std.specs.Prelude.{◌≡◌, ◌↔◌, ◌<◌, ◌≤◌, �
 ghost use Rattle.replay_forms.specs.Texts.{Wrote};
 ghost use Rattle.report.specs.Drawn as specified;
 ghost use Rattle.report.specs.Drawn.{cut_in, table_line, table_lines, unseen_text};
-ghost use Rattle.report.specs.DrawnRaces.{no_race_text, text_of_none};
+ghost use Rattle.report.specs.DrawnRaces.{no_race_text, stopped_text, text_of_none};
 ghost use Rattle.report.specs.Prints.{IsAllWell};
 ghost use Rattle.report.specs.Told.{IsStatusOfTable};
 
@@ -167,6 +167,17 @@ fn write_no_race<W: Write>(out: &mut W, runs: u64) -> io::Result<()>
     write!(out, "no race in {runs} runs; others may have one\n")
 }
 
+/// That the search was told to end, where it was.
+fn write_stopped_if<W: Write>(out: &mut W, drawn: DrawnTable, is_told: bool) -> io::Result<()>
+    ensures { Wrote W.contents out.old out.new result
+        (stopped_text is_told drawn.entry.sought.now drawn.entry.table.now) }
+{
+    if !is_told {
+        return Ok(());
+    }
+    write_stopped(out, drawn.table.runs, drawn.sought.runs)
+}
+
 /// What is said behind the table where nothing was found: that the search was told to end, where it was, that no run has
 /// a race, where one was looked for, and what is unseen.
 pub(crate) fn write_none<W: Write>(
@@ -177,11 +188,10 @@ pub(crate) fn write_none<W: Write>(
     ensures { Wrote W.contents out.old out.new result
         (text_of_none none.entry.races none.entry.is_told drawn.entry.sought.now drawn.entry.table.now) }
 {
-    if none.is_told {
-        write_stopped(out, drawn.table.runs, drawn.sought.runs)?;
+    write_stopped_if(out, drawn, none.is_told)?;
+    if none.races.is_none() {
+        return write_unseen_of(out, drawn);
     }
-    if none.races.is_some() {
-        write_no_race(out, drawn.table.runs)?;
-    }
+    write_no_race(out, drawn.table.runs)?;
     write_unseen_of(out, drawn)
 }

@@ -13,8 +13,8 @@ returns-in-Done-clause-raced c =
     let s = c.args.call.search.now in
     subst (λ (look : FirstLook). IsRacedOf q s (racing_in look) Untold) (sym c.in-Done.is) (λ r. unfound_by c.in-Done.field-0.verdict r)
 
-pub returns-in-Found-in-Open-clause-raced : goal.returns-in-Found-in-Open-clause-raced
-returns-in-Found-in-Open-clause-raced c =
+pub returns-in-Found-clause-raced : goal.returns-in-Found-clause-raced
+returns-in-Found-clause-raced c =
     let q = c.args.call.request.now in
     let s = c.args.call.search.now in
     subst (λ (look : FirstLook). IfOk c.run_of_race.result (IsRacedOf q s (racing_in look))) (sym c.in-Open.is)

@@ -56,9 +56,9 @@ returns-in-Found-clause-searched g c =
           sought = found.1;
           k = k;
           is_kept = c.in_ok-kept-in-Found.ensures.kept;
-          tells = subst (λ (form : Form). LastIn form s table run k _) c.requires.form (last_told g.T.Teller.form s table run k
-              (contents c.args.streams.now.out) (contents c.tell.new.out) (contents c.tell-2.new.out) (contents c.conclude.new.out)
-              (c.in_ok-tell.ensures.tells q.parts tt) (c.in_ok-tell-2-in-Found.ensures.tells q.parts tt)
+          tells = subst (λ (form : Form). LastIn form s table run k out) c.requires.form (last_told g.T.Teller.form s table run k
+              (contents c.args.streams.now.out) (contents c.tell.new.out) (contents c.tell-in-Found.new.out) (contents c.conclude.new.out)
+              (c.in_ok-tell.ensures.tells q.parts tt) (c.in_ok-tell-in-Found.ensures.tells q.parts tt)
               (c.in_ok-conclude-in-Found.ensures.tells q.parts tt));
           kept = c.in_ok-keep_made-in-Found.ensures.kept;
         },
@@ -66,8 +66,8 @@ returns-in-Found-clause-searched g c =
     } in
     endings_searched q.parts s out save 1 c.requires.drawn c.requires.raceless finds tells
 
-pub returns-in_default-clause-searched : goal.returns-in_default-clause-searched
-returns-in_default-clause-searched g c =
+pub returns-clause-searched : goal.returns-clause-searched
+returns-clause-searched g c =
     let contents = g.W.Write.contents in
     let form = g.T.Teller.form in
     let q = c.args.call.request.now in
@@ -98,4 +98,4 @@ returns-in_default-clause-searched g c =
         kept = refl;
       });
     }))
-    c.end_without.ensures.tells c.end_without.ensures.status
+    (c.end_without.ensures.tells q.parts) c.end_without.ensures.status

@@ -1,7 +1,7 @@
-use Rattle.std.proofs.Common.{rules, Some, arith, refl, inl, inr, subst}
+use Rattle.std.proofs.Common.{rules, Bool, Some, arith, refl, inl, inr, subst}
 use Rattle.report_command.specs.declared.form.Form.{Form}
 use Rattle.search_finds.proofs.Noting.{plainly_noted}
-use Rattle.report_jobs.specs.Prints.{change, changed}
+use Rattle.report_jobs.specs.Prints.{KeepsRecord, change, changed}
 use Rattle.report_jobs.specs.declared.undone.Done.{Done}
 use Rattle.report_json.specs.declared.raced.RunRaces.TheVariants as said
 use Rattle.report.specs.DrawnRaces.{raceless_text}
@@ -48,9 +48,10 @@ returns-in-Found-clause-searched g c =
     let out = changed contents c.args.streams.now.out c.conclude.new.out in
     let save = changed g.S.Write.contents c.args.streams.now.save c.keep.new.save in
     let find = c.in_ok-kept-in-Found.ensures.has.find in
+    let kept = subst (λ (is : Bool). KeepsRecord is save k.racy.made.record) c.is_some.ensures c.in_ok-keep-in-Found.ensures.kept in
     let finds : Finds q.parts s save 1 = inr (inr (
           omega arith,
-          race_is_kept q s c.requires.asked k.racy.made find.0 find.1 save c.in_ok-keep-in-Found.ensures.kept c.requires.races,
+          race_is_kept q s c.requires.asked k.racy.made find.0 find.1 save kept c.requires.races,
         )) in
     let tells : TellsDrawnRaces q.parts s out save 1 = record {
       request = q;
@@ -69,18 +70,18 @@ returns-in-Found-clause-searched g c =
           first = noted;
           k = k;
           has = c.in_ok-kept-in-Found.ensures.has;
-          tells = subst (λ (form : Form). RacyIn form q.parts s table run k _) c.requires.form (racy_told g.T.Teller.form q.parts s table run k
-              (contents c.args.streams.now.out) (contents c.tell.new.out) (contents c.tell-2.new.out) (contents c.conclude.new.out)
-              (c.in_ok-tell.ensures.tells q.parts tt) (c.in_ok-tell-2-in-Found.ensures.tells q.parts tt)
+          tells = subst (λ (form : Form). RacyIn form q.parts s table run k out) c.requires.form (racy_told g.T.Teller.form q.parts s table run k
+              (contents c.args.streams.now.out) (contents c.tell.new.out) (contents c.tell-in-Found.new.out) (contents c.conclude.new.out)
+              (c.in_ok-tell.ensures.tells q.parts tt) (c.in_ok-tell-in-Found.ensures.tells q.parts tt)
               (c.in_ok-conclude-in-Found.ensures.tells q.parts c.in_ok-kept-in-Found.ensures.has.race));
-          kept = c.in_ok-keep-in-Found.ensures.kept;
+          kept = kept;
         },
       );
     } in
     races_searched q.parts s out save 1 c.requires.drawn c.requires.races finds tells
 
-pub returns-in_default-clause-searched : goal.returns-in_default-clause-searched
-returns-in_default-clause-searched g c =
+pub returns-clause-searched : goal.returns-clause-searched
+returns-clause-searched g c =
     let contents = g.W.Write.contents in
     let form = g.T.Teller.form in
     let q = c.args.call.request.now in
@@ -113,4 +114,4 @@ returns-in_default-clause-searched g c =
         kept = refl;
       });
     }))
-    c.end_without.ensures.tells c.end_without.ensures.status
+    (c.end_without.ensures.tells q.parts) c.end_without.ensures.status

@@ -6,4 +6,4 @@ use Rattle.report.proofs.table.is_all_well.Given as goal
 
 abbrev pub invariant-loop-met : goal.invariant-loop-met
 invariant-loop-met l = (k : ℕ) → k < l.met-index → (d : Met)
-    → (threads_end_well (get_or l.table.met.items k d).ending ≡ true) × (IsLookedFor l.sought (get_or l.table.met.items k d).ending → ⊥)
+    → (threads_end_well (get_or l.drawn.table.now.met.items k d).ending ≡ true) × (IsLookedFor l.sought (get_or l.drawn.table.now.met.items k d).ending → ⊥)
