@@ -19,8 +19,8 @@ returns-clause-looked g c =
     let all = c.in_ok-free.free.ended in
     let free = c.in_ok-free.ensures in
     let none = free.none in (
-      record { every = free.found.every; can = free.found.can; count = free.count; live = free.live; unsaid = refl },
+      record { every = free.found.all; can = free.found.sound; count = free.count; live = free.live; unsaid = refl },
       known_by q all.verdict none,
       c.if-search.false,
-      sought_as s _ _ _ _ c.early_of-early.ensures.sought c.early_of-early.ensures.wanted free.seeks,
+      sought_as s _ _ _ _ c.early_of.ensures.sought c.early_of.ensures.wanted free.seeks,
     )
