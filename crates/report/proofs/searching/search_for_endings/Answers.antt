@@ -36,10 +36,10 @@ returns-in-Found-clause-searched g c =
     let out = changed contents c.args.streams.now.out c.conclude.new.out in
     let save = changed g.S.Write.contents c.args.streams.now.save c.keep_made.new.save in
     let finds : Finds q.parts s save 1 = inr (inl (
-          refl,
-          inl (run_is_kept c.args.call.request.now c.args.call.search.now c.requires.asked save c.in-Found.found.made c.in_ok-kept-in-Found.kept found.1
-              c.in_ok-kept-in-Found.ensures.kept.kept c.in_ok-keep_made-in-Found.ensures.kept),
-        )) in
+      refl,
+      inl (run_is_kept c.args.call.request.now c.args.call.search.now c.requires.asked save c.in-Found.found.made c.in_ok-kept-in-Found.kept found.1
+          c.in_ok-kept-in-Found.ensures.kept.kept c.in_ok-keep_made-in-Found.ensures.kept),
+    )) in
     let tells : TellsDrawn q.parts s out save 1 = record {
       request = q;
       parts_are = refl;

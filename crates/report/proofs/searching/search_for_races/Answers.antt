@@ -50,9 +50,9 @@ returns-in-Found-clause-searched g c =
     let find = c.in_ok-kept-in-Found.ensures.has.find in
     let kept = subst (λ (is : Bool). KeepsRecord is save k.racy.made.record) c.is_some.ensures c.in_ok-keep-in-Found.ensures.kept in
     let finds : Finds q.parts s save 1 = inr (inr (
-          omega arith,
-          race_is_kept q s c.requires.asked k.racy.made find.0 find.1 save kept c.requires.races,
-        )) in
+      omega arith,
+      race_is_kept q s c.requires.asked k.racy.made find.0 find.1 save kept c.requires.races,
+    )) in
     let tells : TellsDrawnRaces q.parts s out save 1 = record {
       request = q;
       parts_are = refl;

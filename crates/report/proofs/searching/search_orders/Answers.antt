@@ -43,10 +43,10 @@ returns-clause-searched g c =
     let few = c.in_ok-behind.ensures.status.statuses in
     let unkept = c.race_told.ensures.unkept in
     let finds = finds_all q.parts s a b last behind.status s.races refl (λ no. ap saved (unkept no))
-        (quiet_by q s w behind.found c.in_ok-kept.kept (change b last) has is_kept kept)
-        (raced_kept q s c.requires.asked _ raced is_raced (change a b) c.in_ok-raced.ensures.kept (λ no. ap saved (unkept no)))
-        (found_kept q s c.requires.asked (change b last) w behind.status few behind.found c.in_ok-kept.kept (ap is_some c.requires.every_order)
-        c.in_ok-behind.ensures.one has is_kept kept) few in
+    (quiet_by q s w behind.found c.in_ok-kept.kept (change b last) has is_kept kept)
+    (raced_kept q s c.requires.asked _ raced is_raced (change a b) c.in_ok-raced.ensures.kept (λ no. ap saved (unkept no)))
+    (found_kept q s c.requires.asked (change b last) w behind.status few behind.found c.in_ok-kept.kept (ap is_some c.requires.every_order)
+    c.in_ok-behind.ensures.one has is_kept kept) few in
     let tells : TellsAll q.parts s c.args.orders.now.most (change before after) (change a last) behind.status = record {
       request = q;
       parts_are = refl;
