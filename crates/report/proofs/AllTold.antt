@@ -25,6 +25,7 @@ use Rattle.report.specs.SearchObjects.{WritesAll, WritesKept, WritesRacy, Writes
 use Rattle.report.specs.Telling.{EndsAll, EndsKept, EndsNone, EndsRacy, InLines, head_lines, was_told}
 use Rattle.report.specs.Searched.{IsSearched}
 use Rattle.report.specs.Searches.{Finds, IsWellAt}
+use Rattle.report.specs.Rest.{RestIn}
 use Rattle.report.specs.Told.{AllIn, LastIn, NoneIn, RacyIn, TellsAll, TellsDrawn, TellsDrawnRaces}
 use Rattle.report.specs.declared.telling.ToldSearch.{ToldSearch}
 
@@ -69,22 +70,23 @@ module _ (m : Parts) (s : Search) (out save : WriterChange) (status : ℕ) where
     prints = λ n is. absurd (cc (sym none ∙ is));
   }
 
-pub all_told : (form : Form) (m : Parts) (t : ToldSearch) (found : Option FoundRun) (a b c d e : Option (List ℕ))
-    → InLines form (change a b) (SaysRaced m t.raced.now)
-    → InLines form (change b c) (λ text. text ≡ complete_lines t.most t.whole.now.racing t.whole.now.all)
-    → InLines form (change c d) (λ text. text ≡ found_lines found)
-    → EndsAll form m t (change d e) → AllIn form m t found (change a e)
-all_told Lines m t found a b c d e (race, wrote, says) (whole, wrote_whole, is_whole) (head, wrote_head, is_head) rest =
-    let all = complete_lines t.most t.whole.now.racing t.whole.now.all in
-    record {
-      race = race;
-      says = says;
-      lines = appends_then a b e race _ wrote
-          (appends_then b c e all _ (subst (λ (x : List ℕ). Appends b c x) is_whole wrote_whole)
-          (appends_then c d e (found_lines found) _ (subst (λ (x : List ℕ). Appends c d x) is_head wrote_head) rest));
-    }
-all_told Json m t found a b c d e raced whole head rest =
-    subst (λ (o : Option (List ℕ)). WritesAll m t (change o e)) (head ∙ (whole ∙ raced)) rest
+pub all_told : (form : Form) (m : Parts) (t : ToldSearch) (found : Option FoundRun) (a b c : Option (List ℕ))
+    → InLines form (change a b) (SaysRaced m t.raced.now) → RestIn form m t found (change b c) → AllIn form m t found (change a c)
+all_told Lines m t found a b c (race, wrote, says) rest = record {
+  race = race;
+  says = says;
+  lines = appends_then a b c race _ wrote rest;
+}
+all_told Json m t found a b c raced rest = subst (λ (o : Option (List ℕ)). WritesAll m t (change o c)) raced rest
+
+pub rest_told : (form : Form) (m : Parts) (t : ToldSearch) (found : Option FoundRun) (a b c d : Option (List ℕ))
+    → InLines form (change a b) (λ text. text ≡ complete_lines t.most t.whole.now.racing t.whole.now.all)
+    → InLines form (change b c) (λ text. text ≡ found_lines found) → EndsAll form m t (change c d) → RestIn form m t found (change a d)
+rest_told Lines m t found a b c d (whole, wrote, is_whole) (head, wrote_head, is_head) rest =
+    appends_then a b d (complete_lines t.most t.whole.now.racing t.whole.now.all) _
+    (subst (λ (x : List ℕ). Appends a b x) is_whole wrote)
+    (appends_then b c d (found_lines found) _ (subst (λ (x : List ℕ). Appends b c x) is_head wrote_head) rest)
+rest_told Json m t found a b c d whole head rest = subst (λ (o : Option (List ℕ)). WritesAll m t (change o d)) (head ∙ whole) rest
 
 pub last_told : (form : Form) (s : Search) (table : EndingTable) (run : ℕ) (k : KeptRun) (a b c d : Option (List ℕ))
     → InLines form (change a b) (λ text. text ≡ head_lines s.sought table) → InLines form (change b c) (λ text. text ≡ found_run_line run)

@@ -9,6 +9,7 @@ ghost use Rattle.report_jobs.specs.Troubles.{IsTroubleOf};
 ghost use Rattle.report.specs.Drawn.{cut_in};
 ghost use Rattle.report.specs.Found.{KeepsFound};
 ghost use Rattle.report.specs.Racing.{CanTell, IsRacedIn, IsRacedOf, KeepsRaced, SaysRaced, keeps_race, racing_in};
+ghost use Rattle.report.specs.Rest.{TellsRest};
 ghost use Rattle.report.specs.Searched.{IsSearched};
 ghost use Rattle.report.specs.Searches.{IsOfSystem};
 ghost use Rattle.report.specs.Silent.{IfRefusedCall, LeavesOthers};
@@ -72,24 +73,24 @@ fn advised_of_table(table: &EndingTable) -> Advised {
 
 /// The race that a first look at all runs found, if it found one, once it is told, and the record of it kept, where one is
 /// wanted.
-fn race_told<'a, T: Teller, W: Write, S: Write>(
+fn race_told<'a, T: Teller, W: Write, E, S: Write>(
     alloc: Global,
     teller: &T,
     call: SearchedCall<'a>,
     look: &FirstLook,
-    out: &mut W,
-    save: &mut S,
+    streams: &mut Streams<W, E, S>,
 ) -> Result<Raced<'a, 'a>, Trouble>
     ensures raced { IfOk result
         (IsRacedOf call.entry.request.now call.entry.search.now (racing_in look.now)) }
-    ensures tells { IfOk result (λ raced. InLines T.form (changed W.contents out.old out.new)
+    ensures tells { IfOk result (λ raced. InLines T.form (changed W.contents streams.old.out streams.new.out)
         (SaysRaced call.entry.request.now.parts raced)) }
     ensures kept { IfOk result
-        (λ raced. KeepsRaced call.entry.search.now raced (changed S.contents save.old save.new)) }
-    ensures unkept { keeps_race call.entry.search.now ≡ false → Stays save.old save.new }
-    ensures unwanted { is_some call.entry.search.now.save ≡ false → Stays save.old save.new }
+        (λ raced. KeepsRaced call.entry.search.now raced (changed S.contents streams.old.save streams.new.save)) }
+    ensures unkept { keeps_race call.entry.search.now ≡ false → Stays streams.old.save streams.new.save }
+    ensures others { LeavesOthers call.entry.search.now streams.old streams.new }
     ensures trouble { IfErr result IsOfSystem }
 {
+    let Streams { out, save, .. } = streams;
     let raced = raced_of(alloc, call, look)?;
     teller.tell(alloc, News::Race(&raced), out)?;
     keep_raced(call.search, &raced, save)?;
@@ -118,13 +119,63 @@ fn end_orders<T: Teller, W: Write, S: Write>(
     Ok(())
 }
 
-/// Goes through all runs of a call: where no threads race by the orders that matter then, and else through every order
-/// of their entries. Tells a race that it found, the endings, whether these are all, what is known of races, what never
-/// ends, and what was found; and keeps the record of that, where one is wanted. Answers the status.
-fn search_orders<'a, T: Teller, R: Threads + Sync, W: Write, E, S: Write, F: Hears>(
+/// What all orders came to: what was found of all runs, with so many states at most, and what is told of a race of one.
+#[derive(Drop)]
+pub(crate) struct Met<'m> {
+    whole: WholeSearch,
+    raced: Raced<'m, 'm>,
+    most: u32,
+}
+
+/// Tells what was found of all runs behind a race: the endings, whether these are all, what is known of races, what never
+/// ends, and what is looked for; and keeps the record of that, where one is wanted. Answers the status.
+fn tell_orders<T: Teller, W: Write, E, S: Write, F: Hears>(
     alloc: Global,
     teller: &T,
-    call: SearchedCall<'a>,
+    call: SearchedCall,
+    met: &Met,
+    streams: &mut Streams<W, E, S>,
+    follower: &mut F,
+) -> Result<Done, Trouble>
+    requires { CanTell met.now.raced }
+    ensures tells { IfOk result (λ done. TellsRest T.form call.entry.request.now call.entry.search.now met.now
+        (changed W.contents streams.old.out streams.new.out) (changed S.contents streams.old.save streams.new.save)
+        done.status) }
+    ensures others { LeavesOthers call.entry.search.now streams.old streams.new }
+    ensures trouble { IfErr result IsOfSystem }
+{
+    let Streams { out, save, .. } = streams;
+    let Met { whole, raced, most } = met;
+    let most = *most;
+    let search = call.search;
+    teller.tell(alloc, News::Orders(whole, most), out)?;
+    let behind = behind_of(alloc, call, whole)?;
+    let status = behind.status;
+    teller.tell(alloc, News::Behind(&behind.found), out)?;
+    let kept = kept_if_found(alloc, call, behind.found, follower)?;
+    let told = ToldSearch {
+        whole,
+        raced,
+        kept: &kept,
+        most,
+        status,
+        dump: search.sought.dump,
+    };
+    end_orders(alloc, teller, search, told, out, save)?;
+    Ok(Done {
+        status,
+        advised: advised_of(whole),
+        is_bare: false,
+    })
+}
+
+/// Goes through all runs of a call: where no threads race by the orders that matter then, and else through every order
+/// of their entries. Tells what that comes to, a race first, and keeps the records, where they are wanted. Answers the
+/// status.
+fn search_orders<T: Teller, R: Threads + Sync, W: Write, E, S: Write, F: Hears>(
+    alloc: Global,
+    teller: &T,
+    call: SearchedCall,
     orders: &Orders<R>,
     streams: &mut Streams<W, E, S>,
     follower: &mut F,
@@ -138,32 +189,15 @@ fn search_orders<'a, T: Teller, R: Threads + Sync, W: Write, E, S: Write, F: Hea
     ensures others { LeavesOthers call.entry.search.now streams.old streams.new }
     ensures trouble { IfErr result IsOfSystem }
 {
-    let Streams { out, save, .. } = streams;
     let Orders { hands, most } = orders;
-    let search = call.search;
-    let look = first_look(alloc, call, hands, *most, follower)?;
+    let most = *most;
+    let look = first_look(alloc, call, hands, most, follower)?;
     follower.end();
-    let raced: Raced<'a, 'a> = race_told(alloc, teller, call, &look, out, save)?;
-    let whole = whole_of(alloc, call, *most, look, follower)?;
+    let raced = race_told(alloc, teller, call, &look, streams)?;
+    let whole = whole_of(alloc, call, most, look, follower)?;
     follower.end();
-    teller.tell(alloc, News::Orders(&whole, *most), out)?;
-    let behind = behind_of(alloc, call, &whole)?;
-    teller.tell(alloc, News::Behind(&behind.found), out)?;
-    let kept = kept_if_found(alloc, call, behind.found, follower)?;
-    let told = ToldSearch {
-        whole: &whole,
-        raced: &raced,
-        kept: &kept,
-        most: *most,
-        status: behind.status,
-        dump: search.sought.dump,
-    };
-    end_orders(alloc, teller, search, told, out, save)?;
-    Ok(Done {
-        status: behind.status,
-        advised: advised_of(&whole),
-        is_bare: false,
-    })
+    let met = Met { whole, raced, most };
+    tell_orders(alloc, teller, call, &met, streams, follower)
 }
 
 /// Whether the search was told to end.

@@ -1,53 +1,26 @@
-//! An argument as a row of the table, and what the parser found of it.
+//! An argument, and what the parser found of it.
 ghost use Rattle.std.specs.Prelude.{◌≡◌, IfOk, IfSome};
 ghost use Rattle.clap.specs.Words.{found_of};
 ghost use Rattle.report_command.specs.Found.{AreRead, HasFlag, HasNumber, HasNumberIfAny, HasNumberOr, HasText};
 ghost use Rattle.report_command.specs.Found.{HasTextIfAny, HasTexts, IsReadIfAny, IsWithin, IsWord, is_given};
 
-use crate::commands::CommandName;
 use crate::kinds::ArgumentKind;
 use crate::places::{ValueReader, values_in};
 use crate::refusal::{CommandRefusal, WrongValue};
 use clap::ArgMatches;
 use std::alloc::{AllocError, Global};
 
-/// Where an argument stands among the words.
-#[derive(Clone, Copy)]
-pub(crate) enum Position {
-    /// At a place of its own, which has to be filled.
-    Own,
-    /// At the last place: all words that are left.
-    Rest,
-    /// Behind its name.
-    Option,
-    /// Behind its name, and it has to be there.
-    Required,
-}
-
 /// An argument of commands.
 #[derive(Clone, Copy)]
-pub(crate) struct CommandArgument<'r> {
+pub(crate) struct NamedArgument<'r> {
     /// What it is called. An option is written so, behind two dashes.
     pub name: &'r str,
     /// What help calls its value.
     pub value_name: &'r str,
-    /// What help says of it.
-    pub help: &'r str,
     pub kind: ArgumentKind<'r>,
-    pub position: Position,
-    /// The commands that take it.
-    pub commands: &'r [CommandName],
-    /// Its values where it isn't given.
-    pub defaults: &'r [&'r str],
-    /// The arguments that can't stand beside it.
-    pub conflicts: &'r [&'r str],
-    /// The arguments without which it can't stand.
-    pub needs: &'r [&'r str],
-    /// Whether usage and the list of options leave it out.
-    pub is_hidden: bool,
 }
 
-impl<'r> CommandArgument<'r> {
+impl<'r> NamedArgument<'r> {
     /// Whether it has no value.
     pub(crate) fn is_flag(&self) -> bool {
         matches!(self.kind, ArgumentKind::Flag)

@@ -1,7 +1,9 @@
 //! The commands, and how the parser gets them and their arguments out of tables.
 
-use crate::arguments::{CommandArgument, Position};
-use crate::options::{OF_A_RECORD, OF_A_RUN, OF_A_SEARCH, OF_A_VIEW, OF_ALL, OF_RUNS, UNTIL_HELP};
+use crate::table::{
+    CommandArgument, OF_A_RECORD, OF_A_RUN, OF_A_SEARCH, OF_A_VIEW, OF_ALL, OF_RUNS, Position,
+    UNTIL_HELP,
+};
 use clap::builder::ValueRange;
 use clap::{Arg, Command};
 use std::alloc::{AllocError, Global};
@@ -93,26 +95,27 @@ impl CommandName {
 }
 
 fn arg_of<'a>(alloc: Global, row: &CommandArgument<'static>) -> Result<Arg<'a>, AllocError> {
+    let argument = row.argument;
     let count = match row.position {
         Position::Rest => ValueRange::new(0..),
-        _ if row.is_flag() => ValueRange::EMPTY,
+        _ if argument.is_flag() => ValueRange::EMPTY,
         _ => ValueRange::SINGLE,
     };
-    let arg = Arg::new(alloc, row.name)
+    let arg = Arg::new(alloc, argument.name)
         .help(row.help)
         .hide(row.is_hidden)
-        .value_name(row.value_name)
-        .value_parser(row.kind.parser())
+        .value_name(argument.value_name)
+        .value_parser(argument.kind.parser())
         .default_values(row.defaults)
         .num_args(count)
         .required(matches!(row.position, Position::Own | Position::Required));
     let arg = match row.position {
         Position::Own => arg,
         Position::Rest => arg.allow_negative_numbers(true),
-        Position::Option | Position::Required if row.kind.is_list() => {
-            arg.long(row.name).value_delimiter(',')
+        Position::Option | Position::Required if argument.kind.is_list() => {
+            arg.long(argument.name).value_delimiter(',')
         }
-        Position::Option | Position::Required => arg.long(row.name),
+        Position::Option | Position::Required => arg.long(argument.name),
     };
     arg.conflicts_with_all(row.conflicts)?
         .requires_all(row.needs)

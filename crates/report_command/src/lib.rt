@@ -27,6 +27,7 @@ mod races;
 mod refusal;
 mod search;
 mod show;
+mod table;
 mod values;
 
 pub use advice::{ADVICE, Advice};

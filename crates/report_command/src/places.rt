@@ -68,14 +68,23 @@ fn span_in(text: &str) -> Option<NumberSpan>
     }
 }
 
+/// The number that decimal digits write, behind a plus or none.
+pub(crate) fn decimal_in(text: &str) -> Option<u32>
+    ensures { IfSome result (λ n. n ≡ decimal_of text.now) }
+{
+    text.parse::<u32>().ok()
+}
+
 /// A number of bytes, as many as are shown at most.
 fn count_in(text: &str) -> Option<u32>
     ensures range { IfSome result (λ count. count ≤ MOST_DUMP) }
     ensures spelled { IfSome result (λ count. count ≡ decimal_of text.now) }
 {
-    match text.parse::<u32>() {
-        Ok(count) if count <= MOST_DUMP => Some(count),
-        _ => None,
+    let count = decimal_in(text)?;
+    if count <= MOST_DUMP {
+        Some(count)
+    } else {
+        None
     }
 }
 

@@ -17,7 +17,7 @@ use crate::options::{
     ALL, ALLOW_RACES, DEEP, DUMP, EXPECT, FILE, FIND, FROM, JOBS, LIMIT, ORDERS, RACES, RUNS,
     SEARCH_RECORD, SEED, SHRINK, SHRINK_TIME, STATES, STRATEGY, TIME, UNTIL,
 };
-use crate::places::ValueReader;
+use crate::places::{ValueReader, decimal_in};
 use crate::refusal::CommandRefusal;
 use clap::ArgMatches;
 use selection::{Find, MOST_DEPTH, SearchTarget, Sought, Way};
@@ -82,9 +82,11 @@ impl<'a> ValueReader<'a> for WayReader {
 fn depth_in(text: &str) -> Option<u32>
     ensures { IfSome result (λ depth. depth ≡ decimal_of text.now) }
 {
-    match text.parse::<u32>() {
-        Ok(depth) if depth >= 1 && depth <= MOST_DEPTH => Some(depth),
-        _ => None,
+    let depth = decimal_in(text)?;
+    if depth >= 1 && depth <= MOST_DEPTH {
+        Some(depth)
+    } else {
+        None
     }
 }
 
