@@ -7,7 +7,8 @@ use Rattle.spawn_host.specs.Requests.{Requested}
 use Rattle.report_command.specs.declared.form.Form.{Form}
 use Rattle.report_command.specs.declared.form.Form.TheVariants.{Lines, Json}
 use Rattle.report_command.specs.declared.search.Search.{Search}
-use Rattle.report_jobs.specs.Prints.{WriterChange}
+use Rattle.report_jobs.specs.Prints.{WriterChange, changed}
+use Rattle.report_jobs.specs.declared.streams.Streams.{Streams}
 use Rattle.report.specs.Complete.{complete_lines}
 use Rattle.report.specs.Found.{AreKeptOf, HasFound, KeepsFound, found_lines, kept_lines}
 use Rattle.report.specs.Prints.{IsStatusOf}
@@ -40,3 +41,9 @@ pub record TellsRest (form : Form) (q : Requested) (s : Search) (met : Met) (out
   pub keeps_found : KeepsFound s told.kept.now save
   pub tells : (m : Parts) → IsRacedIn m told.raced.now → RestIn form m told found out
   pub status_is : IsStatusOf s told.whole.now status
+
+-- The same of what streams have before and after.
+abbrev pub TellsRestOn : {W E S : Type 0} → Form → (W → Option (List ℕ)) → (S → Option (List ℕ)) → Requested → Search → Met → Streams W E S
+    → Streams W E S → ℕ → Type 0
+TellsRestOn form out save q s met old new status =
+    TellsRest form q s met (changed out old.out new.out) (changed save old.save new.save) status

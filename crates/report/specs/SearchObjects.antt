@@ -28,7 +28,7 @@ use Rattle.report_json.specs.declared.raced.RacingThreads.{RacingThreads}
 use Rattle.report_json.specs.declared.raced.RunRaces.{RunRaces}
 use Rattle.report_json.specs.declared.raced.RunRaces.TheVariants as said
 use Rattle.report_looks.specs.Raced.{SaysObject}
-use Rattle.report.specs.Drawn.{cut_in}
+use Rattle.report.specs.Drawn.{coverage_of, cut_in}
 use Rattle.report.specs.declared.found.KeptRun.{KeptRun}
 use Rattle.report.specs.declared.raced.KeptRace.{KeptRace}
 use Rattle.report.specs.declared.raced.Raced.{Raced}
@@ -36,6 +36,8 @@ use Rattle.report.specs.declared.raced.Raced.TheVariants as raced
 use Rattle.report.specs.declared.whole.Racing.{Racing}
 use Rattle.report.specs.declared.whole.Racing.TheVariants.{Unasked, Never, Unknown}
 use Rattle.report.specs.declared.whole.Racing.TheVariants as racings
+use Rattle.report.specs.declared.table.DrawnTable.{DrawnTable}
+use Rattle.report.specs.declared.table.NoneFound.{NoneFound}
 use Rattle.report.specs.declared.telling.ToldSearch.{ToldSearch}
 
 -- How a run ended that was made; and what is kept of what was found, in an object.
@@ -128,3 +130,8 @@ WritesRacyTable s table k pair out =
 
 abbrev pub WritesRacy : Parts → Sought → EndingTable → KeptRace → WriterChange → Type 0
 WritesRacy m s table k out = (pair : RacePair) × SaysObject m k.racy.made.record pair × WritesRacyTable s table k pair out
+
+-- The table of drawn runs of which none was found.
+abbrev pub WritesNone : DrawnTable → NoneFound → WriterChange → Type 0
+WritesNone drawn none out = WritesTable drawn.sought.now drawn.table.now none.status none.races
+    (none_of none.is_told (coverage_of drawn.sought.now drawn.table.now)) out

@@ -1,10 +1,11 @@
 -- What is printed of a search in the form that is asked for, and what is written of what it found.
-use Rattle.std.specs.Prelude.{ℕ, ◌≡◌, false, true, List, Some, is_none}
+use Rattle.std.specs.Prelude.{ℕ, ◌≡◌, false, true, List, Option, Some, is_none}
 use Rattle.types.specs.declared.parts.Parts.{Parts}
 use Rattle.validate_typing.specs.Validity.{IsValid}
 use Rattle.binary.specs.Grammar.{IsModuleText}
 use Rattle.report_command.specs.declared.search.Search.{Search}
-use Rattle.report_jobs.specs.Prints.{WriterChange}
+use Rattle.report_jobs.specs.Prints.{WriterChange, changed}
+use Rattle.report_jobs.specs.declared.streams.Streams.{Streams}
 use Rattle.report.specs.Told.{TellsAll, TellsDrawn, TellsDrawnRaces}
 use Rattle.report.specs.Searches.{Finds, IsWellAt}
 
@@ -28,9 +29,18 @@ pub record IsSearched (m : Parts) (s : Search) (out save : WriterChange) (status
   pub drawn_races : IsDrawnForRaces m s out save status
   pub prints : IsPrintedOf m s out save status
 
+-- The same of what streams have before and after.
+abbrev pub IsSearchedOn : {W E S : Type 0} → (W → Option (List ℕ)) → (S → Option (List ℕ)) → Parts → Search → Streams W E S → Streams W E S
+    → ℕ → Type 0
+IsSearchedOn out save m s old new status = IsSearched m s (changed out old.out new.out) (changed save old.save new.save) status
+
 -- The bytes are a valid module's text, and its runs were searched.
 pub record HasSearched (bytes : List ℕ) (s : Search) (out save : WriterChange) (status : ℕ) : Type 0 where
   pub parts : Parts
   pub text : IsModuleText bytes parts
   pub valid : IsValid parts
   pub searched : IsSearched parts s out save status
+
+abbrev pub HasSearchedOn : {W E S : Type 0} → (W → Option (List ℕ)) → (S → Option (List ℕ)) → List ℕ → Search → Streams W E S → Streams W E S
+    → ℕ → Type 0
+HasSearchedOn out save bytes s old new status = HasSearched bytes s (changed out old.out new.out) (changed save old.save new.save) status

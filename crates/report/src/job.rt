@@ -3,13 +3,13 @@ ghost use Rattle.std.specs.Prelude.{◌≡◌, ◌≤◌, ◌⊎◌, IfErr, IfOk
 ghost use Rattle.report_command.specs.Jobs.{IsInRange};
 ghost use Rattle.report_command.specs.Searches.{IsSearchInRange};
 ghost use Rattle.report_jobs.specs.Jobs.{HasNoSuchCall, IsNoValidModule};
-ghost use Rattle.report_jobs.specs.Prints.{changed, written};
-ghost use Rattle.report_jobs.specs.Silence.{IsRefusal, Stays, makes_memory};
+ghost use Rattle.report_jobs.specs.Prints.{written};
+ghost use Rattle.report_jobs.specs.Silence.{AllStay, IsRefusal, Stays, makes_memory};
 ghost use Rattle.report_jobs.specs.Told.{TellsRefusal, TellsWhatIsWrong};
 ghost use Rattle.report_jobs.specs.Trapped.{Tells};
 ghost use Rattle.report_jobs.specs.Undone.{ended_status, undone_line, undone_status};
 ghost use Rattle.report_jobs.specs.Why.{RefusesModule, RefusesRecord};
-ghost use Rattle.report.specs.Searched.{HasSearched};
+ghost use Rattle.report.specs.Searched.{HasSearchedOn};
 ghost use Rattle.report.specs.Jobs.{Performs};
 ghost use Rattle.report.specs.Silent.{writes_file};
 
@@ -105,9 +105,7 @@ where
     ensures why { IfErr result (λ why. undone_status why ≡ 2 → RefusesModule bytes.entry.«module».now why) }
     ensures wrong { IfErr result (λ why. undone_status why ≡ 4
         → RefusesRecord bytes.entry.«module».now bytes.entry.saved.now why) }
-    ensures silent { IsRefusal (ended_status result)
-        → (Stays streams.old.out streams.new.out × Stays streams.old.err streams.new.err)
-        × Stays streams.old.save streams.new.save × Stays streams.old.memory streams.new.memory }
+    ensures silent { IsRefusal (ended_status result) → AllStay streams.old streams.new }
     ensures no_memory { makes_memory job.now ≡ false → Stays streams.old.memory streams.new.memory }
     ensures unwanted { writes_file job.now ≡ false → Stays streams.old.save streams.new.save }
 {
@@ -141,9 +139,8 @@ where
     S: Write,
     F: Hears,
     requires { IsSearchInRange asked.now }
-    ensures made { ended_status result ≤ 1 → HasSearched code.entry.«module».now asked.now
-        (changed W.contents streams.old.out streams.new.out) (changed S.contents streams.old.save streams.new.save)
-        (ended_status result) }
+    ensures made { ended_status result ≤ 1 → HasSearchedOn W.contents S.contents code.entry.«module».now asked.now
+        streams.old streams.new (ended_status result) }
     ensures done { IfOk result (λ done. done.status ≤ 1) }
     ensures refused { ended_status result ≡ 2 → IsNoValidModule code.entry.«module».now }
     ensures why { IfErr result (λ why. undone_status why ≡ 2 → RefusesModule code.entry.«module».now why) }

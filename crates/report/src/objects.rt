@@ -3,14 +3,13 @@ ghost use Rattle.std.specs.Prelude.{◌≡◌, ◌≤◌, ℕ, Some, None, IfOk,
 ghost use Rattle.std.specs.List.{AllZip};
 ghost use Rattle.types.specs.declared.parts.Parts.{Parts};
 ghost use Rattle.report_jobs.specs.Prints.{IsObjectOf, changed};
-ghost use Rattle.report.specs.Drawn as specified_table;
 ghost use Rattle.report.specs.Drawn.{cut_in};
 ghost use Rattle.report.specs.Racing.{CanTell, IsRacedIn, IsRacyRun};
 ghost use Rattle.report.specs.Searches.{IsOfSystem};
 ghost use Rattle.report_looks.specs.Sighted.{CanBeTold};
 ghost use Rattle.report.specs.SearchObjects as specified;
 ghost use Rattle.report.specs.SearchObjects.{AreKeptIn, IsEndIn, IsMetOf, WritesAll, WritesKept, WritesRacy};
-ghost use Rattle.report.specs.SearchObjects.{WritesTable, WritesTold};
+ghost use Rattle.report.specs.SearchObjects.{WritesNone, WritesTable, WritesTold};
 
 use crate::found::KeptRun;
 use crate::raced::{KeptRace, Raced, trouble_of};
@@ -229,9 +228,8 @@ fn write_none<W: Write>(
     out: &mut W,
 ) -> Result<(), Trouble>
     requires { cut_in drawn.table.now ≤ drawn.table.now.runs }
-    ensures written { IfOk result (λ _. WritesTable drawn.entry.sought.now drawn.entry.table.now none.entry.status
-        none.entry.races (specified.none_of none.entry.is_told
-        (specified_table.coverage_of drawn.entry.sought.now drawn.entry.table.now)) (changed W.contents out.old out.new)) }
+    ensures written { IfOk result
+        (λ _. WritesNone drawn.entry none.entry (changed W.contents out.old out.new)) }
     ensures trouble { IfErr result IsOfSystem }
 {
     let said = DrawnSaid {

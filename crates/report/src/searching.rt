@@ -9,8 +9,8 @@ ghost use Rattle.report_jobs.specs.Troubles.{IsTroubleOf};
 ghost use Rattle.report.specs.Drawn.{cut_in};
 ghost use Rattle.report.specs.Found.{KeepsFound};
 ghost use Rattle.report.specs.Racing.{CanTell, IsRacedIn, IsRacedOf, KeepsRaced, SaysRaced, keeps_race, racing_in};
-ghost use Rattle.report.specs.Rest.{TellsRest};
-ghost use Rattle.report.specs.Searched.{IsSearched};
+ghost use Rattle.report.specs.Rest.{TellsRestOn};
+ghost use Rattle.report.specs.Searched.{IsSearchedOn};
 ghost use Rattle.report.specs.Searches.{IsOfSystem};
 ghost use Rattle.report.specs.Silent.{IfRefusedCall, LeavesOthers};
 ghost use Rattle.report.specs.Telling as specified;
@@ -138,9 +138,8 @@ fn tell_orders<T: Teller, W: Write, E, S: Write, F: Hears>(
     follower: &mut F,
 ) -> Result<Done, Trouble>
     requires { CanTell met.now.raced }
-    ensures tells { IfOk result (λ done. TellsRest T.form call.entry.request.now call.entry.search.now met.now
-        (changed W.contents streams.old.out streams.new.out) (changed S.contents streams.old.save streams.new.save)
-        done.status) }
+    ensures tells { IfOk result (λ done. TellsRestOn T.form W.contents S.contents call.entry.request.now
+        call.entry.search.now met.now streams.old streams.new done.status) }
     ensures others { LeavesOthers call.entry.search.now streams.old streams.new }
     ensures trouble { IfErr result IsOfSystem }
 {
@@ -183,9 +182,8 @@ fn search_orders<T: Teller, R: Threads + Sync, W: Write, E, S: Write, F: Hears>(
     requires form { T.form ≡ call.search.now.form }
     requires asked { IsAskedBy call.search.now.call call.request.now }
     requires every_order { call.search.now.all ≡ Some orders.now.most }
-    ensures searched { IfOk result (λ done. IsSearched call.entry.request.now.parts call.entry.search.now
-        (changed W.contents streams.old.out streams.new.out) (changed S.contents streams.old.save streams.new.save)
-        done.status) }
+    ensures searched { IfOk result (λ done. IsSearchedOn W.contents S.contents call.entry.request.now.parts
+        call.entry.search.now streams.old streams.new done.status) }
     ensures others { LeavesOthers call.entry.search.now streams.old streams.new }
     ensures trouble { IfErr result IsOfSystem }
 {
@@ -252,9 +250,8 @@ fn search_for_endings<T: Teller, R: Threads + Sync, W: Write, E, S: Write, F: He
     requires asked { IsAskedBy call.search.now.call call.request.now }
     requires drawn { call.search.now.all ≡ None }
     requires raceless { call.search.now.races ≡ false }
-    ensures searched { IfOk result (λ done. IsSearched call.entry.request.now.parts call.entry.search.now
-        (changed W.contents streams.old.out streams.new.out) (changed S.contents streams.old.save streams.new.save)
-        done.status) }
+    ensures searched { IfOk result (λ done. IsSearchedOn W.contents S.contents call.entry.request.now.parts
+        call.entry.search.now streams.old streams.new done.status) }
     ensures others { LeavesOthers call.entry.search.now streams.old streams.new }
     ensures trouble { IfErr result IsOfSystem }
 {
@@ -312,9 +309,8 @@ fn search_for_races<T: Teller, R: Threads + Sync, W: Write, E, S: Write, F: Hear
     requires asked { IsAskedBy call.search.now.call call.request.now }
     requires drawn { call.search.now.all ≡ None }
     requires races { call.search.now.races ≡ true }
-    ensures searched { IfOk result (λ done. IsSearched call.entry.request.now.parts call.entry.search.now
-        (changed W.contents streams.old.out streams.new.out) (changed S.contents streams.old.save streams.new.save)
-        done.status) }
+    ensures searched { IfOk result (λ done. IsSearchedOn W.contents S.contents call.entry.request.now.parts
+        call.entry.search.now streams.old streams.new done.status) }
     ensures others { LeavesOthers call.entry.search.now streams.old streams.new }
     ensures trouble { IfErr result IsOfSystem }
 {
@@ -370,9 +366,8 @@ fn search_call<T: Teller, R: Threads + Sync, W: Write, E, S: Write, F: Hears>(
     requires form { T.form ≡ call.search.now.form }
     requires range { IsSearchInRange call.search.now }
     requires asked { IsAskedBy call.search.now.call call.request.now }
-    ensures searched { IfOk result (λ done. IsSearched call.entry.request.now.parts call.entry.search.now
-        (changed W.contents streams.old.out streams.new.out) (changed S.contents streams.old.save streams.new.save)
-        done.status) }
+    ensures searched { IfOk result (λ done. IsSearchedOn W.contents S.contents call.entry.request.now.parts
+        call.entry.search.now streams.old streams.new done.status) }
     ensures others { LeavesOthers call.entry.search.now streams.old streams.new }
     ensures trouble { IfErr result IsOfSystem }
 {
@@ -410,9 +405,8 @@ pub fn search_module<R: Threads + Sync, W: Write, E, S: Write, F: Hears>(
     follower: &mut F,
 ) -> Result<Done, Trouble>
     requires { IsSearchInRange asked.search.now }
-    ensures searched { IfOk result (λ done. IsSearched asked.entry.«module».now.parts asked.entry.search.now
-        (changed W.contents streams.old.out streams.new.out) (changed S.contents streams.old.save streams.new.save)
-        done.status) }
+    ensures searched { IfOk result (λ done. IsSearchedOn W.contents S.contents asked.entry.«module».now.parts
+        asked.entry.search.now streams.old streams.new done.status) }
     ensures trouble { IfErr result (IsTroubleOf asked.entry.«module».now.parts asked.entry.search.now.call) }
     ensures silent { IfErr result (λ e. IfRefusedCall e
         (Stays streams.old.out streams.new.out × Stays streams.old.save streams.new.save)) }

@@ -119,6 +119,10 @@ pub record PrintsAll (job : RunJob) (end : EndState) (out err memory : WriterCha
   pub printed : PrintsEnd end job.look out err status
   pub kept : KeepsBytes (is_some job.memory_out) memory end.bytes.items
 
+-- The same of what all streams have before and after.
+abbrev pub PrintsAllIn : RunJob → EndState → Written → ℕ → Type 0
+PrintsAllIn job end w status = PrintsAll job end w.out w.err w.memory status
+
 -- So were they, and its record.
 abbrev pub PrintsAndKeeps : RunJob → RecordParts → EndState → Written → ℕ → Type 0
 PrintsAndKeeps job r end w status =

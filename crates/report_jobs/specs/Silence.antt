@@ -13,6 +13,7 @@ use Rattle.report_jobs.specs.declared.replaying.Unfit.{Unfit}
 use Rattle.report_jobs.specs.declared.replaying.Unfit.TheVariants as unfits
 use Rattle.report_jobs.specs.declared.running.Trouble.{Trouble}
 use Rattle.report_jobs.specs.declared.running.Trouble.TheVariants as troubles
+use Rattle.report_jobs.specs.declared.streams.Streams.{Streams}
 
 -- 2 for a module, and 5 where memory ran out.
 abbrev pub refusal_status : ModuleRefusal → ℕ
@@ -46,6 +47,9 @@ unfit_status unfits.Output = 5
 -- What was there before is there still. A writer that is so was neither written to nor flushed.
 abbrev pub Stays : {X : Type 0} → X → X → Type 0
 Stays old new = new ≡ old
+
+abbrev pub AllStay : {W E S : Type 0} → Streams W E S → Streams W E S → Type 0
+AllStay old new = (Stays old.out new.out × Stays old.err new.err) × Stays old.save new.save × Stays old.memory new.memory
 
 -- Where no run is made all writers stay, and those of files where the lines can't be written.
 abbrev pub Leaves : Trouble → Type 0 → Type 0 → Type 0

@@ -6,7 +6,7 @@ ghost use Rattle.report_jobs.specs.Jobs.{IsAccepted, IsAcceptedAs, HasRun, Canno
 ghost use Rattle.report_jobs.specs.Jobs.{IsRefused};
 ghost use Rattle.report_jobs.specs.Jobs.{IsNoValidModule};
 ghost use Rattle.report_jobs.specs.Prints.{accepted_text, changed, written};
-ghost use Rattle.report_jobs.specs.Silence.{IsRefusal, Stays};
+ghost use Rattle.report_jobs.specs.Silence.{AllStay, IsRefusal, Stays};
 ghost use Rattle.report_jobs.specs.Undone.{ended_status, undone_status};
 ghost use Rattle.report_jobs.specs.Why.{RefusesModule, RefusesRecord};
 
@@ -149,9 +149,7 @@ where
     ensures refused { ended_status result ≡ 2 → IsNoValidModule «module».now }
     ensures why { IfErr result (λ why. undone_status why ≡ 2 → RefusesModule «module».now why) }
     ensures cannot { ended_status result ≡ 3 → CannotRun «module».now over.now job.now }
-    ensures silent { IsRefusal (ended_status result)
-        → (Stays streams.old.out streams.new.out × Stays streams.old.err streams.new.err)
-        × Stays streams.old.save streams.new.save × Stays streams.old.memory streams.new.memory }
+    ensures silent { IsRefusal (ended_status result) → AllStay streams.old streams.new }
     ensures unwanted { is_some job.now.save ≡ false → Stays streams.old.save streams.new.save }
     ensures no_memory { is_some job.now.memory_out ≡ false → Stays streams.old.memory streams.new.memory }
     ensures status { (ended_status result ≤ 3) ⊎ (ended_status result ≡ 5) }

@@ -3,7 +3,7 @@ ghost use Rattle.std.specs.Prelude.{◌≡◌, ◌≤◌, false, IfErr, IfOk};
 ghost use Rattle.report_command.specs.Jobs.{IsInRange};
 ghost use Rattle.report_jobs.specs.Plain.{IsPlain, PerformsPlain};
 ghost use Rattle.report_jobs.specs.Prints.{written};
-ghost use Rattle.report_jobs.specs.Silence.{IsRefusal, Stays, makes_file, makes_memory};
+ghost use Rattle.report_jobs.specs.Silence.{AllStay, IsRefusal, Stays, makes_file, makes_memory};
 ghost use Rattle.report_jobs.specs.Undone.{ended_status, undone_status};
 ghost use Rattle.report_jobs.specs.Why.{RefusesModule, RefusesRecord};
 
@@ -49,9 +49,7 @@ where
     ensures done { IfOk result (λ done. done.status ≤ 1) }
     ensures why { IfErr result (λ why. undone_status why ≡ 2 → RefusesModule «module».now why) }
     ensures wrong { IfErr result (λ why. undone_status why ≡ 4 → RefusesRecord «module».now saved.now why) }
-    ensures silent { IsRefusal (ended_status result)
-        → (Stays streams.old.out streams.new.out × Stays streams.old.err streams.new.err)
-        × Stays streams.old.save streams.new.save × Stays streams.old.memory streams.new.memory }
+    ensures silent { IsRefusal (ended_status result) → AllStay streams.old streams.new }
     ensures unwanted { makes_file job.now ≡ false → Stays streams.old.save streams.new.save }
     ensures no_memory { makes_memory job.now ≡ false → Stays streams.old.memory streams.new.memory }
 {

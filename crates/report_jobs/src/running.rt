@@ -4,7 +4,7 @@ ghost use Rattle.std.specs.Io.KnownBytes.{Appends};
 ghost use Rattle.types.specs.declared.limits.TheConstants.{MOST_FUEL};
 ghost use Rattle.validate_typing.specs.Validity.{HasDistinctNames};
 ghost use Rattle.report_jobs.specs.Asked.{IsAskedBy};
-ghost use Rattle.report_jobs.specs.Prints.{changed, written, PrintsRun, PrintsAll, PrintsAndKeeps, KeepsRecord, KeepsBytes};
+ghost use Rattle.report_jobs.specs.Prints.{changed, written, PrintsRun, PrintsAllIn, PrintsAndKeeps, KeepsRecord, KeepsBytes};
 ghost use Rattle.report_jobs.specs.Silence.{Leaves, Stays};
 ghost use Rattle.report_jobs.specs.Troubles.{IsTroubleOf, IsUnwritten, AreArgumentsOf, trouble_of};
 ghost use Rattle.report_jobs.specs.Troubles.{trouble_of_recording, trouble_of_unwritten};
@@ -291,9 +291,8 @@ fn print_and_write<W: Write, E: Write, S: Write>(
     whence: Whence,
     streams: &mut Streams<W, E, S>,
 ) -> Result<Done, Trouble>
-    ensures made { IfOk result (λ done. PrintsAll job.now end.now
-        (changed W.contents streams.old.out streams.new.out) (changed E.contents streams.old.err streams.new.err)
-        (changed S.contents streams.old.memory streams.new.memory) done.status) }
+    ensures made { IfOk result (λ done. PrintsAllIn job.now end.now
+        (written W.contents E.contents S.contents streams.old streams.new) done.status) }
     ensures trouble { IfErr result IsUnwritten }
     ensures silent { IfErr result (λ e. Leaves e
         (Stays streams.old.out streams.new.out × Stays streams.old.err streams.new.err)

@@ -28,7 +28,8 @@ use Rattle.report_command.specs.declared.show.ShowLook.{ShowLook}
 use Rattle.report_command.specs.declared.show.RecordView.{RecordView}
 use Rattle.report_command.specs.declared.show.RecordView.TheVariants as views
 use Rattle.report_command.specs.Views.{path_of}
-use Rattle.report_jobs.specs.Prints.{WriterChange}
+use Rattle.report_jobs.specs.Prints.{WriterChange, changed}
+use Rattle.report_jobs.specs.declared.streams.Streams.{Streams}
 use Rattle.dwarf_data.specs.declared.place.ByteRange.{ByteRange}
 use Rattle.dwarf_data.specs.Within.{IsWithinOne}
 use Rattle.show_events.specs.Written.{WritesPage, WritesTrace}
@@ -206,3 +207,7 @@ pub record PrintsShow (how : ShowLook) (out : WriterChange) (m : Parts) (saved :
 -- A page and a trace are written to the file that is made, and all else to standard output.
 abbrev pub stream_of : RecordView → WriterChange → WriterChange → WriterChange
 stream_of view out save = cond (is_some (path_of view)) save out
+
+abbrev pub shown_on : {W E S : Type 0} → (W → Option (List ℕ)) → (S → Option (List ℕ)) → ShowLook → Streams W E S → Streams W E S
+    → WriterChange
+shown_on out save how old new = stream_of how.view (changed out old.out new.out) (changed save old.save new.save)

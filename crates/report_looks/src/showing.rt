@@ -7,7 +7,7 @@ ghost use Rattle.report_command.specs.Views.{path_of};
 ghost use Rattle.report_jobs.specs.Silence.{IsRefusal, Stays};
 ghost use Rattle.report_jobs.specs.Undone.{ended_status, undone_status};
 ghost use Rattle.report_jobs.specs.Why.{RefusesModule, RefusesRecord};
-ghost use Rattle.report_looks.specs.Looked.{PrintsShow, stream_of};
+ghost use Rattle.report_looks.specs.Looked.{PrintsShow, shown_on};
 ghost use Rattle.report_looks.specs.Raced.{IsSeen, OfModule};
 ghost use Rattle.report_looks.specs.Silent.{IfUnshown, IsNoRefusal, IsShowStatus, IsUnshown};
 
@@ -44,8 +44,8 @@ pub fn show_saved<W: Write, E: Write, S: Write>(
     streams: &mut Streams<W, E, S>,
 ) -> Result<Done, Undone<'static>>
     ensures shown { ended_status result ≡ 0 → IsRecordOf code.entry.«module».now saved.now }
-    ensures prints { ended_status result ≡ 0 → OfModule (PrintsShow how.now (stream_of how.now.view
-        (changed W.contents streams.old.out streams.new.out) (changed S.contents streams.old.save streams.new.save)))
+    ensures prints { ended_status result ≡ 0
+        → OfModule (PrintsShow how.now (shown_on W.contents S.contents how.now streams.old streams.new))
         code.entry.«module».now saved.now }
     ensures done { IfOk result (λ done. done.status ≡ 0) }
     ensures refused { ended_status result ≡ 2 → IsNoValidModule code.entry.«module».now }

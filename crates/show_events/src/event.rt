@@ -3,6 +3,7 @@
 
 ghost use Rattle.std.specs.Prelude.{◌≡◌, string_bytes, IfOk};
 ghost use Rattle.show_events.specs.Events as specified;
+ghost use Rattle.show_events.specs.EntryRows.{event_row};
 ghost use Rattle.show_events.specs.Events.{entry_json, name_json, start_json, finish_json};
 
 use serde_json::Value;
@@ -79,12 +80,8 @@ impl fmt::Display for Placed<'_> {
 
 /// An entry with its words, from its number on and so many long.
 pub(crate) fn entry_event(alloc: Global, event: EntryEvent) -> Result<String, AllocError>
-    ensures { IfOk result (λ s. string_bytes s ≡ entry_json (record {
-      line = event.entry.line;
-      thread = event.entry.thread;
-      words = event.entry.words.now;
-      place = event.entry.place.now;
-    }) event.entry.at event.entry.length) }
+    ensures { IfOk result
+        (λ s. string_bytes s ≡ entry_json (event_row event.entry) event.entry.at event.entry.length) }
 {
     let words = quoted(alloc, event.words)?;
     let place = quoted(alloc, event.place)?;
