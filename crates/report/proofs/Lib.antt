@@ -5,6 +5,7 @@ mod DrawnRaces
 mod Keeping
 mod Looking
 mod Meeting
+mod Orders
 mod Pairs
 mod Performing
 mod Plain

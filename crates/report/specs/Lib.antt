@@ -7,6 +7,7 @@ pub mod Found
 pub mod Jobs
 pub mod Prints
 pub mod Racing
+pub mod Rest
 pub mod Searched
 pub mod Searches
 pub mod SearchObjects
