@@ -9,10 +9,12 @@ use Rattle.report_jobs.specs.Prints.{change}
 use Rattle.report.specs.Racing.{IsRacedOf, IsWhole, KeepsRaced, SaysRaced, keeps_race}
 use Rattle.report.specs.Rest.{TellsRest}
 use Rattle.report.specs.Searched.{IsSearched}
+use Rattle.report.specs.Searches.{Finds}
 use Rattle.report.specs.Telling.{InLines}
 use Rattle.report.specs.Told.{AllIn, TellsAll}
 use Rattle.report.specs.declared.raced.Raced.{Raced}
 use Rattle.report.specs.declared.searching.Met.{Met}
+use Rattle.report.specs.declared.telling.ToldSearch.{ToldSearch}
 use Rattle.report.specs.declared.whole.Racing.{Racing}
 use Rattle.report.specs.declared.whole.WholeSearch.{WholeSearch}
 use Rattle.report.proofs.AllTold.{all_told, orders_searched}
@@ -23,12 +25,18 @@ use Rattle.report.proofs.Wholly.{finds_all, well_by}
 module _ (q : Requested) (s : Search) (asked : IsAskedBy s.call q) (form : Form) (is_form : form ≡ s.form) (met : Met)
     (every_order : s.all ≡ Some met.most) (before between after a b c : Option (List ℕ))
     (unkept : keeps_race s ≡ false → b ≡ a) (status : ℕ) (rest : TellsRest form q s met (change between after) (change b c) status) where
+  t : ToldSearch
   t = rest.told
+
+  w : WholeSearch
   w = t.whole.now
+
+  raced : Raced
   raced = t.raced.now
 
   module _ (whole : IsWhole q s w) (is_raced : IsRacedOf q s w.racing raced) (keeps : KeepsRaced s raced (change a b))
       (told : InLines form (change before between) (SaysRaced q.parts raced)) where
+    finds : Finds q.parts s (change a c) status
     finds = finds_all q.parts s a b c status s.races refl unkept
         (quiet_by q s w rest.found t.kept.now (change b c) rest.has rest.is_kept rest.keeps_found)
         (raced_kept q s asked w.racing raced is_raced (change a b) keeps unkept)

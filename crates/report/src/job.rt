@@ -3,7 +3,7 @@ ghost use Rattle.std.specs.Prelude.{◌≡◌, ◌≤◌, ◌⊎◌, IfErr, IfOk
 ghost use Rattle.report_command.specs.Jobs.{IsInRange};
 ghost use Rattle.report_command.specs.Searches.{IsSearchInRange};
 ghost use Rattle.report_jobs.specs.Jobs.{HasNoSuchCall, IsNoValidModule};
-ghost use Rattle.report_jobs.specs.Prints.{written};
+ghost use Rattle.report_jobs.specs.Prints.{changed, written};
 ghost use Rattle.report_jobs.specs.Silence.{AllStay, IsRefusal, Stays, makes_memory};
 ghost use Rattle.report_jobs.specs.Told.{TellsRefusal, TellsWhatIsWrong};
 ghost use Rattle.report_jobs.specs.Trapped.{Tells};

@@ -25,8 +25,8 @@ returns-in-Lines-clause-trouble g c =
     IfErr-weaker c.search_call.result IsOfSystem (IsTroubleOf m words) (of_system m words.invoke.now (texts_in words.args.items))
     c.search_call.ensures.trouble
 
-pub returns-in-Json-clause-searched : goal.returns-in-Json-clause-searched
-returns-in-Json-clause-searched g c =
+pub returns-clause-searched : goal.returns-clause-searched
+returns-clause-searched g c =
     let old = c.args.streams.now in
     let new = c.search_call-in-Json.new.streams in
     let out = changed g.W.Write.contents old.out new.out in
@@ -34,8 +34,8 @@ returns-in-Json-clause-searched g c =
     subst (λ (m : Parts). IfOk c.search_call-in-Json.result (λ done. IsSearched m c.args.asked.search.now out save done.status))
     c.request_of-request.ensures.parts c.search_call-in-Json.ensures.searched
 
-pub returns-in-Json-clause-trouble : goal.returns-in-Json-clause-trouble
-returns-in-Json-clause-trouble g c =
+pub returns-clause-trouble : goal.returns-clause-trouble
+returns-clause-trouble g c =
     let m = c.args.asked.«module».now.parts in
     let words = c.args.asked.search.now.call in
     IfErr-weaker c.search_call-in-Json.result IsOfSystem (IsTroubleOf m words) (of_system m words.invoke.now (texts_in words.args.items))

@@ -1,15 +1,16 @@
-use Rattle.std.proofs.Common.{refl, ap, ◌∙◌}
+use Rattle.std.proofs.Common.{rules, refl, ap, ◌∙◌}
 use Rattle.std.proofs.lemmas.Result.{IfOk-weaker}
 use Rattle.report_jobs.specs.Prints.{change}
 use Rattle.report.specs.Rest.{TellsRest}
 use Rattle.report.specs.Searched.{IsSearched}
 use Rattle.report.proofs.Orders.{searched_by}
+use Rattle.report.specs.declared.searching.Met.{Met}
 use Rattle.report.proofs.Pairs.{can_tell}
 use Rattle.report.proofs.searching.search_orders.Goals as goal
 
 pub tell_orders-requires : goal.tell_orders-requires
 tell_orders-requires g c =
-    can_tell c.args.call.request.now c.args.call.search.now _ c.in_ok-raced.raced c.in_ok-raced.ensures.raced
+    (search rules, can_tell c.args.call.request.now c.args.call.search.now _ c.in_ok-raced.raced c.in_ok-raced.ensures.raced)
 
 pub returns-clause-searched : goal.returns-clause-searched
 returns-clause-searched g c =
@@ -23,10 +24,11 @@ returns-clause-searched g c =
     let before = contents c.args.streams.now.out in
     let between = contents c.race_told.new.streams.out in
     let after = contents c.tell_orders.new.streams.out in
+    let met : Met = record { whole = c.in_ok-whole.whole; raced = c.in_ok-raced.raced; most = c.args.orders.now.most } in
     IfOk-weaker c.tell_orders.result
-    (λ done. TellsRest g.T.Teller.form q s c.met (change between after) (change b last) done.status)
+    (λ done. TellsRest g.T.Teller.form q s met (change between after) (change b last) done.status)
     (λ done. IsSearched q.parts s (change before after) (change a last) done.status)
-    (λ done rest. searched_by q s c.requires.asked g.T.Teller.form c.requires.form c.met c.requires.every_order before between after a b last
+    (λ done rest. searched_by q s c.requires.asked g.T.Teller.form c.requires.form met c.requires.every_order before between after a b last
     (λ no. ap saved (c.race_told.ensures.unkept no)) done.status rest c.in_ok-whole.ensures.whole _ c.in_ok-whole.ensures.racing
     c.in_ok-raced.ensures.raced c.in_ok-raced.ensures.kept c.in_ok-raced.ensures.tells) c.tell_orders.ensures.tells
 
