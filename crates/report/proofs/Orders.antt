@@ -25,13 +25,13 @@ use Rattle.report.proofs.Wholly.{finds_all, well_by}
 module _ (q : Requested) (s : Search) (asked : IsAskedBy s.call q) (form : Form) (is_form : form ≡ s.form) (met : Met)
     (every_order : s.all ≡ Some met.most) (before between after a b c : Option (List ℕ))
     (unkept : keeps_race s ≡ false → b ≡ a) (status : ℕ) (rest : TellsRest form q s met (change between after) (change b c) status) where
-  t : ToldSearch
+  abbrev t : ToldSearch
   t = rest.told
 
-  w : WholeSearch
+  abbrev w : WholeSearch
   w = t.whole.now
 
-  raced : Raced
+  abbrev raced : Raced
   raced = t.raced.now
 
   module _ (whole : IsWhole q s w) (is_raced : IsRacedOf q s w.racing raced) (keeps : KeepsRaced s raced (change a b))
