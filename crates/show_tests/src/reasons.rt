@@ -346,12 +346,11 @@ static CALLS: [Call; 3] = [
 ];
 
 /// What is said of a call that a module hasn't.
-fn said_of_call(alloc: Global, bytes: &[u8], call: &Call) -> Result<String, Fail> {
-    let words = CallWords {
-        invoke: call.name,
-        args: Vec::from_slice(alloc, call.args)?,
-        fuel: 1,
-    };
+fn said_of_words<'x>(
+    alloc: Global,
+    bytes: &'x [u8],
+    words: &'x CallWords<'x>,
+) -> Result<String, Fail> {
     let refused = Refused::Call {
         fault: CallFault::WrongArguments,
         module: load(alloc, bytes)?,
@@ -359,9 +358,18 @@ fn said_of_call(alloc: Global, bytes: &[u8], call: &Call) -> Result<String, Fail
     let given = JobInputs {
         module: bytes,
         saved: &[],
-        call: Some(&words),
+        call: Some(words),
     };
     said_of(alloc, &Err(Undone::Refused(refused)), given)
+}
+
+fn said_of_call(alloc: Global, bytes: &[u8], call: &Call) -> Result<String, Fail> {
+    let words = CallWords {
+        invoke: call.name,
+        args: Vec::from_slice(alloc, call.args)?,
+        fuel: 1,
+    };
+    said_of_words(alloc, bytes, &words)
 }
 
 fn check_calls<R: Abort>(rt: &R, alloc: Global, bytes: &[u8], calls: &[Call]) -> Result<(), Fail> {
