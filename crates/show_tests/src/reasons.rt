@@ -3,14 +3,11 @@
 use crate::asserts::same_text;
 use interp_trait::Turn;
 use replay_text::{RecordFault, read_record};
-use report_command::CallWords;
-use report_jobs::{Advised, Done, JobResult, Refused, Undone, load, load_checked, of_refusal};
+use report_jobs::{Advised, Done, JobResult, Refused, Undone, load_checked, of_refusal};
 use report_reasons::{JobInputs, UnfitThread, add_misfit, explain};
-use spawn_host::CallFault;
 use std::alloc::Global;
 use std::process::Abort;
 use std::test::Fail;
-use test_modules::TELLING;
 use types::{Event, Outcome, RmwOp, Stop, Trap};
 
 /// Bytes, and the lines that are said of them.
@@ -316,70 +313,4 @@ fn check_ends<R: Abort>(rt: &R, alloc: Global, cases: &[(&[Outcome], &str)]) -> 
 #[test]
 fn ends_are_explained(rt: HostRuntime) -> Result<(), Fail> {
     check_ends(&rt, rt.alloc(), &ENDS)
-}
-
-/// A call of `TELLING`, and the lines that are said of it.
-struct Call {
-    name: &'static str,
-    args: &'static [&'static str],
-    lines: &'static str,
-}
-
-static CALLS: [Call; 3] = [
-    Call {
-        name: "f",
-        args: &["1", "2"],
-        lines: "f is of type (i32) -> (i32); arguments wanted: 1, given: 2\n\
-            an argument is a number that fits its type, signed or unsigned, or hexadecimal behind 0x: 5, -5 or 0x10\n",
-    },
-    Call {
-        name: "f",
-        args: &["-0x1"],
-        lines: "f is of type (i32) -> (i32)\nargument 1 is no i32: -0x1\n\
-            an argument is a number that fits its type, signed or unsigned, or hexadecimal behind 0x: 5, -5 or 0x10\n",
-    },
-    Call {
-        name: "g",
-        args: &[],
-        lines: "there is --invoke f\nthere is --invoke wasi_thread_start\n",
-    },
-];
-
-/// What is said of a call that a module hasn't.
-fn said_of_words<'x>(
-    alloc: Global,
-    bytes: &'x [u8],
-    words: &'x CallWords<'x>,
-) -> Result<String, Fail> {
-    let refused = Refused::Call {
-        fault: CallFault::WrongArguments,
-        module: load(alloc, bytes)?,
-    };
-    let given = JobInputs {
-        module: bytes,
-        saved: &[],
-        call: Some(words),
-    };
-    said_of(alloc, &Err(Undone::Refused(refused)), given)
-}
-
-fn said_of_call(alloc: Global, bytes: &[u8], call: &Call) -> Result<String, Fail> {
-    let words = CallWords {
-        invoke: call.name,
-        args: Vec::from_slice(alloc, call.args)?,
-        fuel: 1,
-    };
-    said_of_words(alloc, bytes, &words)
-}
-
-fn check_calls<R: Abort>(rt: &R, alloc: Global, bytes: &[u8], calls: &[Call]) -> Result<(), Fail> {
-    for call in calls {
-        same_text(rt, &said_of_call(alloc, bytes, call)?, call.lines);
-    }
-    Ok(())
-}
-
-#[test]
-fn calls_are_explained(rt: HostRuntime) -> Result<(), Fail> {
-    check_calls(&rt, rt.alloc(), TELLING, &CALLS)
 }
