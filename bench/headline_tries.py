@@ -16,7 +16,7 @@ CALLED = "crates/report_runs/specs/Called.antt"
 PAGE = "docs/HEADLINE.md"
 
 FOUND = """    ensures found { IfOk result
-        (λ r. AreListed (race_free_claims_of request.now dump) most_states (F.wish follower.new) r.ended) }
+        (λ r. AreListed (race_free_claims_of request.now dump) plan.now.most (F.wish follower.new) r.ended) }
 """
 LIVE = """    ensures live { IfOk result
         (λ r. SaysWhereAllFree request.now dump r.ended.states r.ended.verdict r.ended.liveness) }

@@ -42,6 +42,12 @@ def lines_of(folder):
         yield [*show, "--thread", "1", "--lines", "12-40"]
         yield [*show, "--addr", "0-7", "--names", "cc_broken_lock.wasm"]
         yield [*show, "--addr", "no such data"]
+        for at in ["9", "12", "21", "36", "2000000", "trap", "end"]:
+            yield [*show, "--at", at, "--dump", "4090:20"]
+            yield [*show, "--at", at, "--raw"]
+        yield [*show, "--last-write", "4096:8"]
+        yield [*show, "--last-write", "0:4096", "--at", "14"]
+        yield [*show, "--last-write", "no such data"]
     yield ["check", "no\"such\nfile\u00e9", "--json"]
     yield ["run", "no such file", "--invoke", "f", "--json"]
     yield ["replay", "fac.wasm", "no such record", "--json"]

@@ -1,17 +1,20 @@
 #!/usr/bin/env python3
-"""Makes the manual page and the completions of wathread out of what the program says of itself with --help.
+"""Makes the manual page, the completions and the usage block of wathread out of what the program says with --help.
 
-    release/manual.py PROGRAM           writes them into share/
-    release/manual.py PROGRAM --check   says which of them in share/ are others; the status is 1 where one is
+    release/manual.py PROGRAM                 writes them into share/, and the block into docs/COMMAND_LINE.md
+    release/manual.py PROGRAM --check         says which of them are others; the status is 1 where one is
+    release/manual.py PROGRAM --usage-block   prints the block
 
-`./wathread --install DIR` puts share/ into DIR.
+The block stands between the lines `<!-- usage -->` and `<!-- /usage -->`. `./wathread --install DIR` puts share/ into DIR.
 """
 import os
 import re
 import subprocess
 import sys
+import textwrap
 
 TOP = os.path.dirname(os.path.dirname(os.path.abspath(__file__)))
+PAGE = "docs/COMMAND_LINE.md"
 
 STATUSES = [
     (0, "The module was accepted, each thread ended well, or the search found nothing of what is looked for."),
@@ -198,13 +201,43 @@ def fish(commands):
     return "\n".join(out) + "\n"
 
 
-def made(program):
-    about, commands = read(program)
+def usage_words(command):
+    """A command's words, each of which stays on one line: what has to be there first, and what may be in brackets."""
+    words = [name.strip("<>") for name, _ in command.arguments if name.startswith("<")]
+    needed = re.findall(r"(--\S+) <", command.usage)
+    values = {it.long: " " + ("|".join(it.words) or it.value) if it.value else "" for it in command.options}
+    words += [name + values[name] for name in needed]
+    for name, value in values.items():
+        if name == "--explain":
+            words.append("[--explain|--no-explain]")
+        elif name not in needed + ["--no-explain", "--help"]:
+            words.append(f"[{name}{value}]")
+    return words + [name.replace("]...", "..]") for name, _ in command.arguments if not name.startswith("<")]
+
+
+def usage_block(commands):
+    lines = ["```"]
+    for it in commands:
+        head = f"wathread {it.name} "
+        words = [word.replace(" ", "\0") for word in usage_words(it)]
+        text = textwrap.fill(" ".join(words), 118, initial_indent=head, subsequent_indent=" " * len(head), break_long_words=False, break_on_hyphens=False)
+        lines += text.replace("\0", " ").split("\n")
+    return "\n".join(lines + ["```"]) + "\n"
+
+
+def page_with(block):
+    """The page with this block between its two lines, or nothing where it hasn't got them."""
+    parts = re.fullmatch(r"(.*^<!-- usage -->\n).*(^<!-- /usage -->\n.*)", text_of(os.path.join(TOP, PAGE)) or "", re.S | re.M)
+    return parts and parts.group(1) + block + parts.group(2)
+
+
+def made(about, commands):
     return {
         "share/man/man1/wathread.1": manual(about, commands),
         "share/bash-completion/completions/wathread": bash(commands),
         "share/zsh/site-functions/_wathread": zsh(commands),
         "share/fish/vendor_completions.d/wathread.fish": fish(commands),
+        PAGE: page_with(usage_block(commands)),
     }
 
 
@@ -217,11 +250,19 @@ def text_of(path):
 
 
 def main(words):
-    if len(words) not in (1, 2) or words[1:] not in ([], ["--check"]):
+    if len(words) not in (1, 2) or words[1:] not in ([], ["--check"], ["--usage-block"]):
         sys.exit(__doc__)
+    about, commands = read(os.path.abspath(words[0]))
+    if words[1:] == ["--usage-block"]:
+        print(usage_block(commands), end="")
+        return
     others = 0
-    for name, text in made(os.path.abspath(words[0])).items():
+    for name, text in made(about, commands).items():
         path = os.path.join(TOP, name)
+        if text is None:
+            print(f"{name} has no lines <!-- usage --> and <!-- /usage -->, between which the usage stands")
+            others += 1
+            continue
         if len(words) == 2:
             if text_of(path) != text:
                 print(f"{name} isn't what the program says of itself: release/manual.py PROGRAM writes it anew")

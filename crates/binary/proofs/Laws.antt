@@ -162,7 +162,8 @@ described_law kinds.Global = map_law (λ g. imports.Global g) IsGlobalType globa
 
 import_desc_law : Law IsImportDesc import_desc_at
 unfolding import_desc_at
-import_desc_law = then_law (IsCoded external_kind_of) (coded_at faults.UnknownByte external_kind_of) IsDescribed described_at (coded_law faults.UnknownByte external_kind_of) described_law
+import_desc_law = then_law (IsCoded external_kind_of) (coded_at faults.UnknownByte external_kind_of) IsDescribed described_at
+    (coded_law faults.UnknownByte external_kind_of) described_law
 
 pub import_law : Law IsImport import_at
 unfolding import_at
@@ -178,7 +179,8 @@ import_law = record {
         name_law.takes s a name b (sym e3),
         import_desc_law.takes s b desc c (sym e5),
       ))));
-  again = λ s bytes i rest h. rw (name_law.again s bytes i.«module» h.0 h.2, name_law.again s h.0 i.name h.1 h.3, import_desc_law.again s h.1 i.desc rest h.4) refl;
+  again = λ s bytes i rest h. rw (name_law.again s bytes i.«module» h.0 h.2, name_law.again s h.0 i.name h.1 h.3, import_desc_law.again s h.1 i.desc rest h.4)
+      refl;
   within = λ bytes i rest h. omega (
     arith,
     name_law.within bytes i.«module» h.0 h.2,
@@ -225,7 +227,8 @@ element_law =
             expression_law.takes s a offset b (sym e3),
             v.takes s b functions c (sym e5),
           ))));
-      again = λ s bytes x rest h. rw (u32_law.again s bytes x.table h.0 h.2, expression_law.again s h.0 x.offset h.1 h.3, v.again s h.1 x.functions rest h.4) refl;
+      again = λ s bytes x rest h. rw (u32_law.again s bytes x.table h.0 h.2, expression_law.again s h.0 x.offset h.1 h.3, v.again s h.1 x.functions rest h.4)
+          refl;
       within = λ bytes x rest h. omega (
         arith,
         u32_law.within bytes x.table h.0 h.2,
@@ -248,7 +251,8 @@ data_law = record {
         expression_law.takes s a offset b (sym e3),
         block_law.takes s b block c (sym e5),
       ))));
-  again = λ s bytes x rest h. rw (u32_law.again s bytes x.memory h.0 h.2, expression_law.again s h.0 x.offset h.1 h.3, block_law.again s h.1 x.bytes rest h.4) refl;
+  again = λ s bytes x rest h. rw (u32_law.again s bytes x.memory h.0 h.2, expression_law.again s h.0 x.offset h.1 h.3, block_law.again s h.1 x.bytes rest h.4)
+      refl;
   within = λ bytes x rest h. omega (
     arith,
     u32_law.within bytes x.memory h.0 h.2,
@@ -314,7 +318,8 @@ body_law params =
           bind_case (block_within_at MOST_BODY_BYTES s bytes)
           (λ contents. body_contents_at params (inside s contents.1) contents.0 >>= λ b. end_at (inside s contents.1) b.1 >>= λ whole. gives b.0 contents.1)
           (x, rest) e (λ block after e1 e2.
-          bind_case (body_contents_at params (inside s after) block) (λ b. end_at (inside s after) b.1 >>= λ whole. gives b.0 after) (x, rest) e2 (λ y left e3 e4.
+          bind_case (body_contents_at params (inside s after) block) (λ b. end_at (inside s after) b.1 >>= λ whole. gives b.0 after) (x, rest) e2
+          (λ y left e3 e4.
           let t = end_case (inside s after) left (gives y after) (x, rest) e4 in
           take_is (IsBody params bytes) y x after rest t.1
           (block, w.takes s bytes block after (sym e1), c.takes (inside s after) block y [] (rw t.0 at (sym e3)))));

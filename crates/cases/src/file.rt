@@ -1,8 +1,8 @@
 //! The cases of one file.
 
+use crate::runs::unknown_key;
 use crate::subject::Subject;
 use crate::trial::try_case;
-use report_cases::unknown_key;
 use std::sync::Wait;
 use std::thread::Threads;
 use test_cases::{Stop, Tally, cases, read_file};

@@ -12,9 +12,8 @@
 #![tactic(auto)]
 
 mod file;
-mod histories;
 mod mutants;
-mod records;
+mod runs;
 mod subject;
 mod trial;
 

@@ -1,7 +1,8 @@
 //! One case.
 
 use crate::subject::Subject;
-use crate::{histories, mutants, records};
+use crate::{mutants, runs};
+use history_cases::{try_history, try_record};
 use std::alloc::AllocError;
 use std::sync::Wait;
 use std::thread::Threads;
@@ -63,9 +64,9 @@ pub(crate) fn try_case<'a, R: Threads + Wait + Sync>(
     match subject {
         Subject::Modules => Ok(try_module(rt, file, case, tally)?),
         Subject::Lines => try_lines(rt, file, case, tally),
-        Subject::Histories => Ok(histories::try_case(rt, case, tally)?),
-        Subject::Records => records::try_case(rt, case, tally),
-        Subject::Runs => report_cases::try_case(rt, threads, file, case, tally),
+        Subject::Histories => Ok(try_history(rt, case, tally)?),
+        Subject::Records => try_record(rt, case, tally),
+        Subject::Runs => runs::try_case(rt, threads, file, case, tally),
         Subject::Mutants => mutants::try_case(rt, threads, case, tally),
     }
 }

@@ -1,6 +1,6 @@
 //! Names of static data.
 
-use dwarf_data::{Sought, name_at, place_of, read_data};
+use dwarf_data::{NamedBytes, name_at, place_of, read_data};
 use dwarf_units::{InfoSections, read_units};
 use std::alloc::{AllocError, Global};
 use std::fmt::Write;
@@ -34,12 +34,12 @@ pub(crate) fn write_sought(
     let data = read_data(alloc, &units)?;
     for word in words.split_whitespace() {
         match place_of(alloc, &units, &data, word)? {
-            Sought::One(place) => {
+            NamedBytes::One(place) => {
                 let (start, size) = (place.start, place.size);
                 writeln!(given, "{word} {start} {size}")?;
             }
-            Sought::Several => writeln!(given, "{word} several")?,
-            Sought::Nothing => writeln!(given, "{word} -")?,
+            NamedBytes::Several => writeln!(given, "{word} several")?,
+            NamedBytes::Nothing => writeln!(given, "{word} -")?,
         }
     }
     Ok(())

@@ -2,9 +2,9 @@
 
 ghost use Rattle.std.specs.Prelude.{◌+◌, ◌≤◌, All, IfOk};
 
-use crate::members::{Bits, first_members};
-use crate::parts::{Part, Shape};
-use crate::place::Place;
+use crate::members::{Bits, members};
+use crate::parts::{PartShape, VariablePart};
+use crate::place::ByteRange;
 use dwarf_units::Units;
 use std::alloc::{AllocError, Global};
 use std::fmt::Write;
@@ -23,7 +23,7 @@ const MOST_WORDS: usize = 256;
 #[derive(Drop)]
 pub struct Leaf {
     pub words: String,
-    pub place: Place,
+    pub place: ByteRange,
     pub its_type: usize,
     pub bits: Option<Bits>,
     /// Whether it has parts that aren't told.
@@ -32,37 +32,31 @@ pub struct Leaf {
 
 /// A part of a value that may have parts.
 #[derive(Drop)]
-struct Open {
+struct OpenPart {
     words: String,
-    part: Part,
+    part: VariablePart,
     bits: Option<Bits>,
 }
 
-impl Open {
-    /// The part as it is.
+impl OpenPart {
     fn close(self, is_cut: bool) -> Leaf {
-        let Open { words, part, bits } = self;
         Leaf {
-            words,
-            place: part.place,
-            its_type: part.its_type,
-            bits,
+            words: self.words,
+            place: self.part.place,
+            its_type: self.part.its_type,
+            bits: self.bits,
             is_cut,
         }
     }
 
     /// Its members, those with a name and those without.
-    fn members(
-        &self,
-        alloc: Global,
-        units: &Units,
-        inner: &mut Vec<Open>,
-    ) -> Result<(), AllocError> {
-        for member in &first_members(alloc, units, self.part.its_type, MOST_LEAVES + 1)? {
+    fn members(&self, alloc: Global, units: &Units) -> Result<Vec<OpenPart>, AllocError> {
+        let mut inner = Vec::new(alloc);
+        for member in &members(alloc, units, self.part.its_type, MOST_LEAVES + 1)? {
             let Some(part) = self.part.member(units, *member) else {
                 continue;
             };
-            let name = member.name.unwrap_or("");
+            let (name, bits) = (member.name.unwrap_or(""), member.bits);
             if name.len() > MOST_WORDS {
                 continue;
             }
@@ -70,13 +64,9 @@ impl Open {
             if !name.is_empty() {
                 write!(words, ".{name}")?;
             }
-            inner.push(Open {
-                words,
-                part,
-                bits: member.bits,
-            })?;
+            inner.push(OpenPart { words, part, bits })?;
         }
-        Ok(())
+        Ok(inner)
     }
 
     /// Its first elements, which have so many bytes each.
@@ -86,19 +76,19 @@ impl Open {
         units: &Units,
         count: u64,
         size: u64,
-        inner: &mut Vec<Open>,
-    ) -> Result<(), AllocError> {
+    ) -> Result<Vec<OpenPart>, AllocError> {
+        let mut inner = Vec::new(alloc);
         for number in 0..count.min(MOST_LEAVES as u64 + 1) {
             let Some(part) = self.part.element(alloc, units, number, size)? else {
                 break;
             };
-            inner.push(Open {
+            inner.push(OpenPart {
                 words: format!(in alloc; "{}[{number}]", self.words)?,
                 part,
                 bits: None,
             })?;
         }
-        Ok(())
+        Ok(inner)
     }
 }
 
@@ -110,11 +100,11 @@ pub fn leaves_of(
     size: u64,
 ) -> Result<Vec<Leaf>, AllocError> {
     let mut leaves = Vec::new(alloc);
-    let Some(part) = Part::new(units, Place { start: 0, size }, its_type) else {
+    let Some(part) = VariablePart::new(units, ByteRange { start: 0, size }, its_type) else {
         return Ok(leaves);
     };
     let mut open = Vec::new(alloc);
-    open.push(Open {
+    open.push(OpenPart {
         words: String::new(alloc),
         part,
         bits: None,
@@ -127,17 +117,14 @@ pub fn leaves_of(
             leaves.push(next.close(true))?;
             return Ok(leaves);
         }
-        let mut inner = Vec::new(alloc);
-        match next.part.shape(alloc, units)? {
-            Shape::Members => next.members(alloc, units, &mut inner)?,
-            Shape::Elements { count, size } => {
-                next.elements(alloc, units, count, size, &mut inner)?
-            }
-            Shape::Whole => {
+        let mut inner = match next.part.shape(alloc, units)? {
+            PartShape::Members => next.members(alloc, units)?,
+            PartShape::Elements { count, size } => next.elements(alloc, units, count, size)?,
+            PartShape::Whole => {
                 leaves.push(next.close(false))?;
                 continue;
             }
-        }
+        };
         inner.reverse();
         open.append(&mut inner)?;
     }

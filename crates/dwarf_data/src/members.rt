@@ -1,5 +1,6 @@
 //! Members of structures and unions.
 
+use crate::place::ByteRange;
 use crate::sizes::size_of;
 use dwarf_units::{Attribute, Tag, Units};
 use std::alloc::{AllocError, Global};
@@ -11,24 +12,20 @@ pub struct Bits {
     pub count: u64,
 }
 
-/// The bytes that a member touches: the offset of the first one, and how many; and which of their bits it has, if it
-/// hasn't all.
-#[derive(Clone, Copy)]
-struct MemberBytes {
-    offset: u64,
-    size: u64,
-    bits: Option<Bits>,
-}
-
-/// A member: its name, where it has one, its type, the offset of its first byte, how many bytes it touches, and the bits
-/// of these that it has, if it is a bit field.
+/// A member: its name, where it has one, its type, the bytes that it touches, counted from the structure's start, and
+/// the bits of these that it has, if it is a bit field.
 #[derive(Clone, Copy)]
 pub(crate) struct Member<'a> {
     pub name: Option<&'a str>,
     pub its_type: usize,
-    pub offset: u64,
-    pub size: u64,
+    pub place: ByteRange,
     pub bits: Option<Bits>,
+}
+
+fn offset_of(units: &Units, member: usize) -> u64 {
+    units
+        .number(member, Attribute::DataMemberLocation)
+        .unwrap_or(0)
 }
 
 /// The first bit of a member of so many bits, counted from the structure's start.
@@ -37,41 +34,23 @@ fn first_bit(units: &Units, member: usize, bits: u64, size: u64) -> Option<u64> 
         return Some(first);
     }
     // Version 4 counts from the highest bit of the bytes that hold the member.
-    let holder = units
-        .number(member, Attribute::DataMemberLocation)
-        .unwrap_or(0);
+    let holder = offset_of(units, member);
     let above = units.number(member, Attribute::BitOffset)?;
     let size = units.number(member, Attribute::ByteSize).unwrap_or(size);
     let below = size.checked_mul(8)?.checked_sub(above)?.checked_sub(bits)?;
     holder.checked_mul(8)?.checked_add(below)
 }
 
-/// The bytes that a member of so many bits touches.
-fn field_of(units: &Units, member: usize, count: u64, size: u64) -> Option<MemberBytes> {
-    let first = first_bit(units, member, count, size)?;
-    let end = first.checked_add(count)?;
-    Some(MemberBytes {
-        offset: first / 8,
-        size: end.div_ceil(8) - first / 8,
-        bits: Some(Bits {
-            first: first % 8,
-            count,
-        }),
-    })
-}
-
-/// The bytes that a member touches, where its type has a size.
-fn bytes_of(units: &Units, member: usize, size: u64) -> Option<MemberBytes> {
-    match units.number(member, Attribute::BitSize) {
-        Some(count) => field_of(units, member, count, size),
-        None => Some(MemberBytes {
-            offset: units
-                .number(member, Attribute::DataMemberLocation)
-                .unwrap_or(0),
-            size,
-            bits: None,
-        }),
-    }
+/// The bytes that a member touches whose type has a size, and its bits, if it is a bit field.
+fn bytes_of(units: &Units, member: usize, size: u64) -> Option<(ByteRange, Option<Bits>)> {
+    let Some(count) = units.number(member, Attribute::BitSize) else {
+        let start = offset_of(units, member);
+        return Some((ByteRange { start, size }, None));
+    };
+    let bit = first_bit(units, member, count, size)?;
+    let (start, first) = (bit / 8, bit % 8);
+    let size = bit.checked_add(count)?.div_ceil(8) - start;
+    Some((ByteRange { start, size }, Some(Bits { first, count })))
 }
 
 /// What an entry says of a member, if it is one that has a place.
@@ -89,26 +68,19 @@ fn member_of<'a>(
     let Some(size) = size_of(alloc, units, its_type)? else {
         return Ok(None);
     };
-    Ok(bytes_of(units, entry, size).map(|bytes| Member {
+    let Some((place, bits)) = bytes_of(units, entry, size) else {
+        return Ok(None);
+    };
+    Ok(Some(Member {
         name: units.name(entry),
         its_type,
-        offset: bytes.offset,
-        size: bytes.size,
-        bits: bytes.bits,
+        place,
+        bits,
     }))
 }
 
-/// The members of a structure or a union that have places.
+/// The members of a structure or a union that have places, among its first entries, not more than so many.
 pub(crate) fn members<'a>(
-    alloc: Global,
-    units: &Units<'a>,
-    structure: usize,
-) -> Result<Vec<Member<'a>>, AllocError> {
-    first_members(alloc, units, structure, units.len())
-}
-
-/// Those among its first entries, not more than so many.
-pub(crate) fn first_members<'a>(
     alloc: Global,
     units: &Units<'a>,
     structure: usize,

@@ -4,7 +4,7 @@ ghost use Rattle.std.specs.Prelude.{IfOk, OnSome, IsSome, find};
 ghost use Rattle.dwarf_units.specs.Spans.{holds};
 
 use crate::members::members;
-use crate::parts::{Part, Shape};
+use crate::parts::{PartShape, VariablePart};
 use crate::sizes::MOST_TYPES;
 use crate::static_data::whole;
 use dwarf_units::{Spans, Units};
@@ -13,25 +13,20 @@ use std::fmt::Write;
 
 /// The words of a part so far, the part, and where the last part began that has a name of its own.
 #[derive(Drop)]
-struct Named {
+struct NamedPart {
     words: String,
-    part: Part,
+    part: VariablePart,
     start: u64,
 }
 
-impl Named {
+impl NamedPart {
     /// Goes on to the first member that has an address. Answers whether there is one.
-    fn to_member(
-        &mut self,
-        alloc: Global,
-        units: &Units,
-        address: u64,
-    ) -> Result<bool, AllocError> {
-        for member in &members(alloc, units, self.part.its_type)? {
+    fn to_member(&mut self, alloc: Global, units: &Units, addr: u64) -> Result<bool, AllocError> {
+        for member in &members(alloc, units, self.part.its_type, units.len())? {
             let Some(part) = self.part.member(units, *member) else {
                 continue;
             };
-            if part.place.contains(address) {
+            if part.place.contains(addr) {
                 if let Some(name) = member.name {
                     write!(self.words, ".{name}")?;
                     self.start = part.place.start;
@@ -43,40 +38,36 @@ impl Named {
         Ok(false)
     }
 
-    /// Goes on to the element that has an address. Answers whether there is one.
+    /// Goes on to the element that has an addr. Answers whether there is one.
     fn to_element(
         &mut self,
         alloc: Global,
         units: &Units,
-        address: u64,
+        addr: u64,
         size: u64,
     ) -> Result<bool, AllocError> {
         if size == 0 {
             return Ok(false);
         }
-        let number = address.saturating_sub(self.part.place.start) / size;
-        match self.part.element(alloc, units, number, size)? {
-            Some(part) => {
-                write!(self.words, "[{number}]")?;
-                self.start = part.place.start;
-                self.part = part;
-                Ok(true)
-            }
-            None => Ok(false),
-        }
+        let number = addr.saturating_sub(self.part.place.start) / size;
+        let Some(part) = self.part.element(alloc, units, number, size)? else {
+            return Ok(false);
+        };
+        write!(self.words, "[{number}]")?;
+        self.start = part.place.start;
+        self.part = part;
+        Ok(true)
     }
 
     /// Goes on to the part right below that has an address. Answers whether there is one.
     fn step(&mut self, alloc: Global, units: &Units, address: u64) -> Result<bool, AllocError> {
         match self.part.shape(alloc, units)? {
-            Shape::Members => self.to_member(alloc, units, address),
-            Shape::Elements { count: _, size } => self.to_element(alloc, units, address, size),
-            Shape::Whole => Ok(false),
+            PartShape::Members => self.to_member(alloc, units, address),
+            PartShape::Elements { count: _, size } => self.to_element(alloc, units, address, size),
+            PartShape::Whole => Ok(false),
         }
     }
-}
 
-impl Named {
     /// Whether a part of this type begins at an address.
     fn is_at(&self, address: u64, its_type: Option<usize>) -> bool {
         self.part.place.start == address && its_type == Some(self.part.its_type)
@@ -101,7 +92,7 @@ pub fn name_at(
     let (Some(name), Some(part)) = (units.name(span.entry), whole(units, span)) else {
         return Ok(None);
     };
-    let mut named = Named {
+    let mut named = NamedPart {
         words: String::from_str(alloc, name)?,
         part,
         start: span.start,
@@ -115,10 +106,5 @@ pub fn name_at(
     if past > 0 {
         write!(named.words, "+{past}")?;
     }
-    let Named {
-        words,
-        part: _,
-        start: _,
-    } = named;
-    Ok(Some(words))
+    Ok(Some(named.words))
 }

@@ -3,14 +3,14 @@
 ghost use Rattle.std.specs.Prelude.{◌≡◌, IfOk, IfSome};
 
 use crate::members::Member;
-use crate::place::Place;
+use crate::place::ByteRange;
 use crate::sizes::{bare, dimensions};
 use dwarf_units::{Tag, Units};
 use std::alloc::{AllocError, Global};
 
 /// What a part is made of.
 #[derive(Clone, Copy)]
-pub(crate) enum Shape {
+pub(crate) enum PartShape {
     Members,
     /// So many elements of so many bytes.
     Elements { count: u64, size: u64 },
@@ -20,20 +20,20 @@ pub(crate) enum Shape {
 
 /// A part of a variable: its bytes, its type, and how many dimensions of this type the way to it has passed.
 #[derive(Clone, Copy)]
-pub(crate) struct Part {
-    pub place: Place,
+pub(crate) struct VariablePart {
+    pub place: ByteRange,
     pub its_type: usize,
     dimension: usize,
 }
 
-impl Part {
+impl VariablePart {
     ghost use Rattle.dwarf_data.specs.Within.{LiesWithin};
 
     /// All of what has a place and a type.
-    pub fn new(units: &Units, place: Place, its_type: usize) -> Option<Part>
+    pub fn new(units: &Units, place: ByteRange, its_type: usize) -> Option<VariablePart>
         ensures { IfSome result (λ p. p.place ≡ place) }
     {
-        Some(Part {
+        Some(VariablePart {
             place,
             its_type: bare(units, its_type)?,
             dimension: 0,
@@ -41,30 +41,30 @@ impl Part {
     }
 
     /// What it is made of.
-    pub fn shape(self, alloc: Global, units: &Units) -> Result<Shape, AllocError> {
+    pub fn shape(self, alloc: Global, units: &Units) -> Result<PartShape, AllocError> {
         match units.tag(self.its_type) {
-            Tag::StructureType | Tag::UnionType => Ok(Shape::Members),
+            Tag::StructureType | Tag::UnionType => Ok(PartShape::Members),
             Tag::ArrayType => {
                 let counts = dimensions(alloc, units, self.its_type)?;
                 match counts.get(self.dimension) {
-                    Some(Some(count)) if *count > 0 => Ok(Shape::Elements {
+                    Some(Some(count)) if *count > 0 => Ok(PartShape::Elements {
                         count: *count,
                         size: self.place.size / *count,
                     }),
-                    _ => Ok(Shape::Whole),
+                    _ => Ok(PartShape::Whole),
                 }
             }
-            _ => Ok(Shape::Whole),
+            _ => Ok(PartShape::Whole),
         }
     }
 
     /// A member.
-    pub fn member(self, units: &Units, member: Member) -> Option<Part>
+    pub fn member(self, units: &Units, member: Member) -> Option<VariablePart>
         ensures { LiesWithin self.place result }
     {
-        Part::new(
+        VariablePart::new(
             units,
-            self.place.inner(member.offset, member.size)?,
+            self.place.inner(member.place.start, member.place.size)?,
             member.its_type,
         )
     }
@@ -76,7 +76,7 @@ impl Part {
         units: &Units,
         number: u64,
         size: u64,
-    ) -> Result<Option<Part>, AllocError>
+    ) -> Result<Option<VariablePart>, AllocError>
         ensures { IfOk result (LiesWithin self.place) }
     {
         let Some(offset) = number.checked_mul(size) else {
@@ -87,14 +87,14 @@ impl Part {
         };
         let dimension = self.dimension.saturating_add(1);
         if dimension < dimensions(alloc, units, self.its_type)?.len() {
-            return Ok(Some(Part {
+            return Ok(Some(VariablePart {
                 place,
                 its_type: self.its_type,
                 dimension,
             }));
         }
         Ok(match units.type_of(self.its_type) {
-            Some(its_type) => Part::new(units, place, its_type),
+            Some(its_type) => VariablePart::new(units, place, its_type),
             None => None,
         })
     }

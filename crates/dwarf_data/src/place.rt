@@ -4,23 +4,23 @@ ghost use Rattle.std.specs.Prelude.{◌≡◌, ◌-◌, MatchOption, ◌&&◌, n
 
 /// Bytes of memory: where they begin, and how many they are.
 #[derive(Clone, Copy, Debug, PartialEq, Eq)]
-pub struct Place {
+pub struct ByteRange {
     pub start: u64,
     pub size: u64,
 }
 
-impl Place {
+impl ByteRange {
     ghost use Rattle.dwarf_data.specs.Within.{IsInner, HasNoInner};
 
     /// Some of its bytes: from an offset on, so many.
-    pub(crate) fn inner(self, offset: u64, size: u64) -> Option<Place>
+    pub(crate) fn inner(self, offset: u64, size: u64) -> Option<ByteRange>
         ensures { MatchOption result (HasNoInner self offset size) (IsInner self offset size) }
     {
         if offset > self.size || size > self.size - offset {
             return None;
         }
         let start = self.start.checked_add(offset)?;
-        Some(Place { start, size })
+        Some(ByteRange { start, size })
     }
 
     /// Whether an address is one of its bytes.

@@ -12,25 +12,26 @@ const MOST_DIMENSIONS: usize = 16;
 /// The size of an address.
 const ADDRESS: u64 = 4;
 
+/// Whether a type is a name or a qualifier of another one, whose values it has.
+fn is_alias(tag: Tag) -> bool {
+    matches!(
+        tag,
+        Tag::Typedef | Tag::ConstType | Tag::VolatileType | Tag::RestrictType | Tag::AtomicType
+    )
+}
+
 /// The type behind the names and qualifiers of a type, where the way to it is not too long.
 pub fn bare(units: &Units, its_type: usize) -> Option<usize> {
     let mut bare = its_type;
     for _ in 0..MOST_TYPES {
-        match units.tag(bare) {
-            Tag::Typedef
-            | Tag::ConstType
-            | Tag::VolatileType
-            | Tag::RestrictType
-            | Tag::AtomicType => {
-                bare = units.type_of(bare)?;
-            }
-            _ => return Some(bare),
+        if !is_alias(units.tag(bare)) {
+            return Some(bare);
         }
+        bare = units.type_of(bare)?;
     }
     None
 }
 
-/// The number of elements that a dimension has.
 fn count_of(units: &Units, dimension: usize) -> Option<u64> {
     match units.number(dimension, Attribute::Count) {
         Some(count) => Some(count),
@@ -83,23 +84,16 @@ pub fn size_of(alloc: Global, units: &Units, its_type: usize) -> Result<Option<u
                 count = count.and_then(|count| count.checked_mul(more?));
                 None
             }
-            (
-                None,
-                Tag::Typedef
-                | Tag::ConstType
-                | Tag::VolatileType
-                | Tag::RestrictType
-                | Tag::AtomicType,
-            ) => None,
+            (None, tag) if is_alias(tag) => None,
             _ => return Ok(None),
         };
         if let Some(size) = size {
             return Ok(count.and_then(|count| count.checked_mul(size)));
         }
-        its_type = match units.type_of(its_type) {
-            Some(inner) => inner,
-            None => return Ok(None),
+        let Some(inner) = units.type_of(its_type) else {
+            return Ok(None);
         };
+        its_type = inner;
     }
     Ok(None)
 }

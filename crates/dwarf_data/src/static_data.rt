@@ -2,10 +2,10 @@
 
 ghost use Rattle.std.specs.Prelude.{◌≡◌, ◌+◌, ◌≤◌, IfSome};
 
-use crate::parts::Part;
-use crate::place::Place;
+use crate::parts::VariablePart;
+use crate::place::ByteRange;
 use crate::sizes::size_of;
-use dwarf_reader::Value;
+use dwarf_reader::AttributeValue;
 use dwarf_units::{Attribute, Location, Spanned, Spans, Tag, Units};
 use std::alloc::{AllocError, Global};
 
@@ -14,7 +14,7 @@ const MEMORY_END: u64 = 0x1_0000_0000;
 
 /// The address of a variable that stands at one.
 fn address_of(units: &Units, entry: usize) -> Option<u64> {
-    let Value::Expression(place) = units.value(entry, Attribute::Location)? else {
+    let AttributeValue::Expression(place) = units.value(entry, Attribute::Location)? else {
         return None;
     };
     match units.location(entry, place, None)? {
@@ -45,23 +45,23 @@ fn span_of(alloc: Global, units: &Units, entry: usize) -> Result<Option<Spanned>
 pub fn read_data(alloc: Global, units: &Units) -> Result<Spans, AllocError> {
     let mut spans = Vec::new(alloc);
     for entry in 0..units.len() {
-        if matches!(units.tag(entry), Tag::Variable) {
-            if let Some(span) = span_of(alloc, units, entry)? {
-                spans.push(span)?;
-            }
+        if matches!(units.tag(entry), Tag::Variable)
+            && let Some(span) = span_of(alloc, units, entry)?
+        {
+            spans.push(span)?;
         }
     }
     Spans::new(alloc, spans)
 }
 
 /// A variable as a part of itself.
-pub(crate) fn whole(units: &Units, span: Spanned) -> Option<Part>
+pub(crate) fn whole(units: &Units, span: Spanned) -> Option<VariablePart>
     ensures start { IfSome result (λ p. p.place.start ≡ span.start) }
     ensures end { IfSome result (λ p. p.place.start + p.place.size ≡ span.end) }
 {
-    let place = Place {
+    let place = ByteRange {
         start: span.start,
         size: span.end.checked_sub(span.start)?,
     };
-    Part::new(units, place, units.type_of(span.entry)?)
+    VariablePart::new(units, place, units.type_of(span.entry)?)
 }

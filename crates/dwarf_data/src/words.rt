@@ -4,8 +4,8 @@ ghost use Rattle.std.specs.Prelude.{IfOk, IfSome};
 ghost use Rattle.dwarf_data.specs.Within.{LiesWithin, IsInSpan, NamesWithin};
 
 use crate::members::members;
-use crate::parts::{Part, Shape};
-use crate::place::Place;
+use crate::parts::{PartShape, VariablePart};
+use crate::place::ByteRange;
 use crate::sizes::MOST_TYPES;
 use crate::static_data::whole;
 use dwarf_units::{Spanned, Spans, Units};
@@ -13,9 +13,9 @@ use std::alloc::{AllocError, Global};
 
 /// What words name.
 #[derive(Clone, Copy, Debug, PartialEq, Eq)]
-pub enum Sought {
+pub enum NamedBytes {
     Nothing,
-    One(Place),
+    One(ByteRange),
     /// Variables at different places have the name.
     Several,
 }
@@ -29,12 +29,10 @@ enum Step<'w> {
 
 /// A name or a number up to the next `.` or `[`, and what is behind it.
 fn split(words: &str) -> (&str, &str) {
-    match words.find(['.', '[']) {
-        Some(end) => match (words.get(..end), words.get(end..)) {
-            (Some(name), Some(rest)) => (name, rest),
-            _ => (words, ""),
-        },
-        None => (words, ""),
+    let end = words.find(['.', '[']).unwrap_or(words.len());
+    match (words.get(..end), words.get(end..)) {
+        (Some(name), Some(rest)) => (name, rest),
+        _ => (words, ""),
     }
 }
 
@@ -52,9 +50,9 @@ fn next_step(words: &str) -> Option<(Step<'_>, &str)> {
 fn member_named(
     alloc: Global,
     units: &Units,
-    part: Part,
+    part: VariablePart,
     name: &str,
-) -> Result<Option<Part>, AllocError>
+) -> Result<Option<VariablePart>, AllocError>
     ensures { IfOk result (LiesWithin part.place) }
 {
     let mut parts = Vec::new(alloc);
@@ -63,10 +61,10 @@ fn member_named(
         let Some(outer) = parts.get(next).copied() else {
             break;
         };
-        if !matches!(outer.shape(alloc, units)?, Shape::Members) {
+        if !matches!(outer.shape(alloc, units)?, PartShape::Members) {
             continue;
         }
-        for member in &members(alloc, units, outer.its_type)? {
+        for member in &members(alloc, units, outer.its_type, units.len())? {
             let Some(inner) = outer.member(units, *member) else {
                 continue;
             };
@@ -80,13 +78,17 @@ fn member_named(
     Ok(None)
 }
 
-/// The part that a step leads to.
-fn follow(alloc: Global, units: &Units, part: Part, step: Step) -> Result<Option<Part>, AllocError>
+fn follow(
+    alloc: Global,
+    units: &Units,
+    part: VariablePart,
+    step: Step,
+) -> Result<Option<VariablePart>, AllocError>
     ensures { IfOk result (LiesWithin part.place) }
 {
     match (step, part.shape(alloc, units)?) {
-        (Step::Member(name), Shape::Members) => member_named(alloc, units, part, name),
-        (Step::Element(number), Shape::Elements { count, size }) if number < count => {
+        (Step::Member(name), PartShape::Members) => member_named(alloc, units, part, name),
+        (Step::Element(number), PartShape::Elements { count, size }) if number < count => {
             part.element(alloc, units, number, size)
         }
         _ => Ok(None),
@@ -97,9 +99,9 @@ fn follow(alloc: Global, units: &Units, part: Part, step: Step) -> Result<Option
 fn follow_all(
     alloc: Global,
     units: &Units,
-    part: Part,
+    part: VariablePart,
     steps: &str,
-) -> Result<Option<Part>, AllocError>
+) -> Result<Option<VariablePart>, AllocError>
     ensures { IfOk result (LiesWithin part.place) }
 {
     let mut reached = part;
@@ -120,16 +122,16 @@ fn follow_all(
     Ok(None)
 }
 
-impl Sought {
+impl NamedBytes {
     ghost use Rattle.dwarf_data.specs.Within.{NamesOneMore};
 
     /// With one more place that has the name.
-    fn and(self, place: Place) -> Sought
+    fn and(self, place: ByteRange) -> NamedBytes
         ensures { NamesOneMore place result }
     {
         match self {
-            Sought::Nothing => Sought::One(place),
-            Sought::One(_) | Sought::Several => Sought::Several,
+            NamedBytes::Nothing => NamedBytes::One(place),
+            NamedBytes::One(_) | NamedBytes::Several => NamedBytes::Several,
         }
     }
 }
@@ -141,7 +143,7 @@ fn place_in(
     span: Spanned,
     variable: &str,
     steps: &str,
-) -> Result<Option<Place>, AllocError>
+) -> Result<Option<ByteRange>, AllocError>
     ensures { IfOk result (λ place. IfSome place (IsInSpan span)) }
 {
     if units.name(span.entry) != Some(variable) {
@@ -162,11 +164,11 @@ pub fn place_of(
     units: &Units,
     data: &Spans,
     words: &str,
-) -> Result<Sought, AllocError>
+) -> Result<NamedBytes, AllocError>
     ensures { IfOk result (NamesWithin «data».now.items.items) }
 {
     let (variable, steps) = split(words);
-    let mut sought = Sought::Nothing;
+    let mut sought = NamedBytes::Nothing;
     for span in data.items() {
         if let Some(place) = place_in(alloc, units, *span, variable, steps)? {
             sought = sought.and(place);

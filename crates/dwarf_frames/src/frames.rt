@@ -26,7 +26,7 @@ pub struct Chain {
 
 /// What is said of a frame whose function is at an offset of the code.
 #[derive(Drop)]
-pub struct Frame {
+pub struct CallFrame {
     /// The offset of which it is said, if it is known.
     pub offset: Option<usize>,
     /// Whether functions are known at all.
@@ -41,25 +41,18 @@ fn write_place(
     line: Option<u64>,
     words: &mut String,
 ) -> Result<(), AllocError> {
-    match (file, line) {
-        (Some(file), Some(line)) => {
-            let name = file.name;
-            write!(words, " {name}:{line}")
-        }
-        (Some(file), None) => {
-            let name = file.name;
-            write!(words, " {name}")
-        }
-        _ => Ok(()),
+    let Some(Source { name, .. }) = file else {
+        return Ok(());
+    };
+    write!(words, " {name}")?;
+    match line {
+        Some(line) => write!(words, ":{line}"),
+        None => Ok(()),
     }
 }
 
 /// These calls in words; the innermost one is the first, and the function that has them all the last.
-fn chain_of(
-    alloc: Global,
-    inlined: &[Inlined],
-    function: &str,
-) -> Result<Option<Chain>, AllocError> {
+fn chain_of(alloc: Global, inlined: &[Inlined], last: &str) -> Result<Option<Chain>, AllocError> {
     let Some(first) = inlined.first() else {
         return Ok(None);
     };
@@ -67,7 +60,7 @@ fn chain_of(
     for (at, call) in inlined.iter().enumerate() {
         let caller = match inlined.get(at.saturating_add(1)) {
             Some(next) => next.function.unwrap_or(UNKNOWN),
-            None => function,
+            None => last,
         };
         if calls.len() > MOST_CALLS {
             calls.push_str(" < ..")?;
@@ -82,18 +75,6 @@ fn chain_of(
     }))
 }
 
-/// Of an offset at which no function is known.
-fn unknown(alloc: Global, offset: Option<usize>, is_known: bool) -> Frame
-    ensures { result.offset ≡ offset }
-{
-    Frame {
-        offset,
-        is_known,
-        chain: None,
-        values: Vec::new(alloc),
-    }
-}
-
 /// What is said of a frame whose function is at an offset of the code.
 pub fn read_frame(
     alloc: Global,
@@ -101,24 +82,23 @@ pub fn read_frame(
     lines: DebugSections,
     functions: &Spans,
     offset: Option<usize>,
-) -> Result<Frame, AllocError>
+) -> Result<CallFrame, AllocError>
     ensures { IfOk result (λ frame. frame.offset ≡ offset) }
 {
-    let is_known = !functions.items().is_empty();
-    let Some(at) = offset else {
-        return Ok(unknown(alloc, offset, is_known));
+    let mut frame = CallFrame {
+        offset,
+        is_known: !functions.items().is_empty(),
+        chain: None,
+        values: Vec::new(alloc),
     };
-    let at = at as u64;
-    let Some(function) = functions.at(at) else {
-        return Ok(unknown(alloc, offset, is_known));
+    let Some((at, function)) = offset.and_then(|at| Some((at as u64, functions.at(at as u64)?)))
+    else {
+        return Ok(frame);
     };
     let inlined = inlined_at(alloc, units, lines, functions, at)?;
     let name = units.name(function.entry).unwrap_or(UNKNOWN);
     let variables = variables_at(alloc, units, functions, at)?;
-    Ok(Frame {
-        offset,
-        is_known,
-        chain: chain_of(alloc, inlined.as_slice(), name)?,
-        values: values_of(alloc, units, inlined.as_slice(), variables.as_slice())?,
-    })
+    frame.chain = chain_of(alloc, inlined.as_slice(), name)?;
+    frame.values = values_of(alloc, units, inlined.as_slice(), variables.as_slice())?;
+    Ok(frame)
 }

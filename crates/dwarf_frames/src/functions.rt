@@ -1,6 +1,6 @@
 //! The code of functions.
 
-use dwarf_units::{Spanned, Spans, Tag, Units};
+use dwarf_units::{CodeRange, Spanned, Spans, Tag, Units};
 use std::alloc::{AllocError, Global};
 
 /// What is behind the last offset.
@@ -11,16 +11,12 @@ const CODE_END: u64 = 0x1_0000_0000;
 pub fn read_functions(alloc: Global, units: &Units) -> Result<Spans, AllocError> {
     let mut spans = Vec::new(alloc);
     for entry in 0..units.len() {
-        if matches!(units.tag(entry), Tag::Subprogram) {
-            if let Some(code) = units.code_of(entry) {
-                if code.start > 0 && code.end < CODE_END {
-                    spans.push(Spanned {
-                        start: code.start,
-                        end: code.end,
-                        entry,
-                    })?;
-                }
-            }
+        if matches!(units.tag(entry), Tag::Subprogram)
+            && let Some(CodeRange { start, end }) = units.code_of(entry)
+            && start > 0
+            && end < CODE_END
+        {
+            spans.push(Spanned { start, end, entry })?;
         }
     }
     Spans::new(alloc, spans)

@@ -16,10 +16,10 @@ mod values;
 mod variables;
 mod wording;
 
-pub use frames::{Chain, Frame, read_frame};
+pub use frames::{CallFrame, Chain, read_frame};
 pub use functions::read_functions;
 pub use inlined::{Inlined, inlined_at};
-pub use kinds::Kind;
+pub use kinds::ValueKind;
 pub use values::FrameValue;
 pub use variables::{Variable, variables_at};
 pub use wording::type_words;

@@ -11,12 +11,7 @@ use std::alloc::{AllocError, Global};
 const MOST_SCOPES: u32 = 4096;
 
 /// The scope right below one that has the code at an offset. It stands behind it.
-fn inner(
-    alloc: Global,
-    units: &Units,
-    scope: usize,
-    offset: u64,
-) -> Result<Option<usize>, AllocError>
+fn inner(alloc: Global, units: &Units, scope: usize, at: u64) -> Result<Option<usize>, AllocError>
     ensures { IfOk result (λ inner. IfSome inner (λ child. scope < child)) }
 {
     for child in &units.children(alloc, scope, units.len())? {
@@ -24,7 +19,7 @@ fn inner(
             units.tag(*child),
             Tag::LexicalBlock | Tag::InlinedSubroutine
         );
-        if is_scope && units.has_code(*child, offset) {
+        if is_scope && units.has_code(*child, at) {
             return Ok(Some(*child));
         }
     }

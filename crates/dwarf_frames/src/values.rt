@@ -1,7 +1,7 @@
 //! The values that a frame has: variables without parts, and the parts of those that have some.
 
 use crate::inlined::Inlined;
-use crate::kinds::{Kind, kind_of};
+use crate::kinds::{ValueKind, kind_of};
 use crate::variables::Variable;
 use crate::wording::type_words;
 use dwarf_data::{Bits, Leaf, bare, leaves_of};
@@ -26,14 +26,13 @@ pub struct FrameValue {
     pub label: String,
     pub location: Location,
     pub size: u8,
-    pub kind: Kind,
+    pub kind: ValueKind,
     /// The type of what it points to, if it does.
     pub target: Option<usize>,
     pub first_bit: u32,
     pub bits: u32,
 }
 
-/// All bits of so many bytes.
 fn all_bits(size: u64) -> Bits {
     Bits {
         first: 0,
@@ -43,41 +42,37 @@ fn all_bits(size: u64) -> Bits {
 
 /// How the bytes of a value are read, and the type of what it points to, if it does.
 #[derive(Clone, Copy)]
-struct Read {
-    kind: Kind,
+struct ReadAs {
+    kind: ValueKind,
     target: Option<usize>,
 }
 
-/// How the values of a type are read.
-fn read_of(units: &Units, its_type: usize) -> Read {
+fn read_of(units: &Units, its_type: usize) -> ReadAs {
     let kind = kind_of(units, its_type);
-    let target = if kind == Kind::Pointer {
+    let target = if kind == ValueKind::Pointer {
         bare(units, its_type)
             .and_then(|pointer| units.type_of(pointer))
             .and_then(|target| bare(units, target))
     } else {
         None
     };
-    Read { kind, target }
+    ReadAs { kind, target }
 }
 
 /// A value, where its bytes are a number, or only that it is there is told.
-fn told(
-    label: String,
-    location: Location,
-    size: u64,
-    read: Read,
-    bits: Bits,
-) -> Option<FrameValue> {
-    let Read { kind, target } = read;
-    match kind {
-        Kind::Signed | Kind::Unsigned | Kind::Pointer if size > MOST_BYTES => return None,
-        Kind::Float | Kind::Other => return None,
-        _ => {}
+fn told(label: String, place: Location, size: u64, read: ReadAs, bits: Bits) -> Option<FrameValue> {
+    let ReadAs { kind, target } = read;
+    let is_told = match kind {
+        ValueKind::Signed | ValueKind::Unsigned | ValueKind::Pointer => size <= MOST_BYTES,
+        ValueKind::Float | ValueKind::Other => false,
+        ValueKind::Parts => true,
+    };
+    if !is_told {
+        return None;
     }
     Some(FrameValue {
         label,
-        location,
+        location: place,
         size: u8::try_from(size).unwrap_or(u8::MAX),
         kind,
         target,
@@ -138,20 +133,14 @@ fn part_of(
         return Ok(None);
     };
     let read = if leaf.is_cut {
-        Read {
-            kind: Kind::Parts,
+        ReadAs {
+            kind: ValueKind::Parts,
             target: None,
         }
     } else {
         read_of(units, leaf.its_type)
     };
-    let label = label_of(
-        alloc,
-        inlined,
-        variable,
-        words.as_str(),
-        leaf.words.as_str(),
-    )?;
+    let label = label_of(alloc, inlined, variable, &words, &leaf.words)?;
     let size = leaf.place.size;
     let bits = leaf.bits.unwrap_or(all_bits(size));
     Ok(told(label, location, size, read, bits))
@@ -159,10 +148,11 @@ fn part_of(
 
 /// Adds a value, if there is one and there is room.
 fn add(values: &mut Vec<FrameValue>, value: Option<FrameValue>) -> Result<(), AllocError> {
-    if let Some(value) = value {
-        if values.len() < MOST_VALUES && value.label.len() <= MOST_LABEL {
-            values.push(value)?;
-        }
+    if let Some(value) = value
+        && values.len() < MOST_VALUES
+        && value.label.len() <= MOST_LABEL
+    {
+        values.push(value)?;
     }
     Ok(())
 }
@@ -179,7 +169,7 @@ pub(crate) fn values_of(
         if values.len() >= MOST_VALUES {
             break;
         }
-        if variable.kind != Kind::Parts {
+        if variable.kind != ValueKind::Parts {
             add(&mut values, value_of(alloc, units, inlined, variable)?)?;
             continue;
         }

@@ -1,6 +1,6 @@
 //! Parameters and locals.
 
-use crate::kinds::{Kind, kind_of};
+use crate::kinds::{ValueKind, kind_of};
 use crate::scopes::scopes_at;
 use crate::wording::type_words;
 use dwarf_data::size_of;
@@ -20,31 +20,26 @@ pub struct Variable<'a> {
     pub type_words: String,
     /// In bytes.
     pub size: u64,
-    pub kind: Kind,
+    pub kind: ValueKind,
     pub location: Location,
 }
 
 /// Where a scope is: how many calls lead to it, and the base of the function's frames.
 #[derive(Clone, Copy)]
-struct Scope {
+struct VariableScope {
     entry: usize,
     depth: usize,
     frame: Option<Base>,
 }
 
-/// What an entry of a scope says of a variable, where it says all while the code at an offset runs.
+/// What the entry of a variable in a scope says of it, where it says all while the code at an offset runs.
 fn variable_of<'a>(
     alloc: Global,
     units: &Units<'a>,
-    scope: Scope,
+    scope: VariableScope,
     entry: usize,
     offset: u64,
 ) -> Result<Option<Variable<'a>>, AllocError> {
-    let is_parameter = match units.tag(entry) {
-        Tag::FormalParameter => true,
-        Tag::Variable => false,
-        _ => return Ok(None),
-    };
     let location = units
         .place_at(entry, offset)
         .and_then(|place| units.location(entry, place, scope.frame));
@@ -63,7 +58,7 @@ fn variable_of<'a>(
     };
     Ok(Some(Variable {
         name,
-        is_parameter,
+        is_parameter: units.tag(entry) == Tag::FormalParameter,
         depth: scope.depth,
         its_type,
         type_words,
@@ -79,7 +74,7 @@ fn scopes(
     units: &Units,
     functions: &Spans,
     offset: u64,
-) -> Result<Vec<Scope>, AllocError> {
+) -> Result<Vec<VariableScope>, AllocError> {
     let mut scopes = Vec::new(alloc);
     let mut depth = 0usize;
     let mut frame = None;
@@ -89,7 +84,7 @@ fn scopes(
             Tag::InlinedSubroutine => depth = depth.saturating_add(1),
             _ => {}
         }
-        scopes.push(Scope {
+        scopes.push(VariableScope {
             entry: *entry,
             depth,
             frame,
@@ -104,46 +99,30 @@ const MOST_VARIABLES: usize = 256;
 /// The most bytes of a variable's name.
 const MOST_NAME: usize = 256;
 
-/// A name that stands in front of others.
-#[derive(Clone, Copy)]
-struct Seen<'a> {
-    name: &'a str,
-    depth: usize,
+/// The names that stand in front of others, each with the depth of its function.
+#[derive(Drop)]
+struct SeenNames<'a> {
+    all: Vec<(&'a str, usize)>,
 }
 
-/// Adds what an entry of a scope says of a variable, if no variable of its own function that was seen has its name, and
-/// not more were seen than are looked at.
-fn add_variable<'a>(
-    alloc: Global,
-    units: &Units<'a>,
-    scope: Scope,
-    entry: usize,
-    offset: u64,
-    seen: &mut Vec<Seen<'a>>,
-    variables: &mut Vec<Variable<'a>>,
-) -> Result<(), AllocError> {
-    if !matches!(units.tag(entry), Tag::FormalParameter | Tag::Variable)
-        || seen.len() >= MOST_VARIABLES
-    {
-        return Ok(());
+impl<'a> SeenNames<'a> {
+    /// Notes the name of an entry, if it is one of a variable and not more were noted than are looked at. Answers whether
+    /// no other of its function hides it.
+    fn note(&mut self, units: &Units<'a>, entry: usize, depth: usize) -> Result<bool, AllocError> {
+        let is_variable = matches!(units.tag(entry), Tag::FormalParameter | Tag::Variable);
+        if !is_variable || self.all.len() >= MOST_VARIABLES {
+            return Ok(false);
+        }
+        let Some(name) = units.name(entry) else {
+            return Ok(false);
+        };
+        if name.len() > MOST_NAME {
+            return Ok(false);
+        }
+        let is_hidden = self.all.contains(&(name, depth));
+        self.all.push((name, depth))?;
+        Ok(!is_hidden)
     }
-    let (Some(name), depth) = (units.name(entry), scope.depth) else {
-        return Ok(());
-    };
-    if name.len() > MOST_NAME {
-        return Ok(());
-    }
-    let is_hidden = seen
-        .iter()
-        .any(|other| other.depth == depth && other.name == name);
-    seen.push(Seen { name, depth })?;
-    if is_hidden {
-        return Ok(());
-    }
-    if let Some(variable) = variable_of(alloc, units, scope, entry, offset)? {
-        variables.push(variable)?;
-    }
-    Ok(())
 }
 
 /// The parameters and locals in scope at an offset of the code that have a place while it runs, those of the innermost
@@ -156,18 +135,16 @@ pub fn variables_at<'a>(
     offset: u64,
 ) -> Result<Vec<Variable<'a>>, AllocError> {
     let mut variables = Vec::new(alloc);
-    let mut seen = Vec::new(alloc);
+    let mut seen = SeenNames {
+        all: Vec::new(alloc),
+    };
     for scope in scopes(alloc, units, functions, offset)?.iter().rev() {
         for entry in &units.children(alloc, scope.entry, units.len())? {
-            add_variable(
-                alloc,
-                units,
-                *scope,
-                *entry,
-                offset,
-                &mut seen,
-                &mut variables,
-            )?;
+            if seen.note(units, *entry, scope.depth)?
+                && let Some(variable) = variable_of(alloc, units, *scope, *entry, offset)?
+            {
+                variables.push(variable)?;
+            }
         }
     }
     Ok(variables)

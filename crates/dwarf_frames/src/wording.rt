@@ -27,11 +27,7 @@ impl Declarator {
     /// What points to the type.
     fn point(&mut self, alloc: Global) -> Result<(), AllocError> {
         let (front, behind) = (self.front.trim_end(), &self.behind);
-        self.behind = if front.is_empty() {
-            format!(in alloc; "*{behind}")?
-        } else {
-            format!(in alloc; "*{front}{behind}")?
-        };
+        self.behind = format!(in alloc; "*{front}{behind}")?;
         self.front = String::new(alloc);
         self.is_pointer = true;
         Ok(())
@@ -67,18 +63,13 @@ impl Declarator {
 
     /// All words, with the name of the type that it is made of.
     fn finish(self, kind: &str, name: &str) -> Result<String, AllocError> {
-        let Declarator {
-            behind,
-            front,
-            is_pointer: _,
-        } = self;
-        let mut words = front;
+        let mut words = self.front;
         words.push_str(kind)?;
         words.push_str(name)?;
-        if !behind.is_empty() && !behind.starts_with('[') {
+        if !self.behind.is_empty() && !self.behind.starts_with('[') {
             words.push(' ')?;
         }
-        words.push_str(behind.as_str())?;
+        words.push_str(self.behind.as_str())?;
         Ok(words)
     }
 }

@@ -2,7 +2,7 @@
 
 use crate::header::{Source, read_header};
 use crate::table::DebugSections;
-use dwarf_reader::{Cursor, Fault};
+use dwarf_reader::{Cursor, DebugFault};
 use std::alloc::{AllocError, Global};
 
 /// The files of a unit.
@@ -33,21 +33,18 @@ fn files_at<'a>(
     alloc: Global,
     sections: DebugSections<'a>,
     offset: u64,
-) -> Result<Files<'a>, Fault> {
-    let offset = usize::try_from(offset).map_err(|_| Fault::Unreadable)?;
-    let mut cursor = Cursor::new(sections.lines.get(offset..).ok_or(Fault::Unreadable)?);
+) -> Result<Files<'a>, DebugFault> {
+    let offset = usize::try_from(offset).map_err(|_| DebugFault::Unreadable)?;
+    let mut cursor = Cursor::new(sections.lines.get(offset..).ok_or(DebugFault::Unreadable)?);
     let size = cursor.read_number(4)?;
     let mut unit = Cursor::new(cursor.read_bytes(size)?);
-    let version = unit.read_number(2)?;
-    if version != 4 && version != 5 {
-        return Err(Fault::Unreadable);
-    }
     let len = unit.len();
-    let header = read_header(alloc, &mut unit, version, sections)?;
+    let header = read_header(alloc, &mut unit, sections)?;
     Ok(Files {
         first: header.first_file,
         sources: header.files,
-        size: len.saturating_sub(unit.len()),
+        // those of the version aren't counted
+        size: len.saturating_sub(unit.len()).saturating_sub(2),
     })
 }
 
@@ -59,8 +56,8 @@ pub fn read_files<'a>(
 ) -> Result<Files<'a>, AllocError> {
     match files_at(alloc, sections, offset) {
         Ok(files) => Ok(files),
-        Err(Fault::OutOfMemory) => Err(AllocError),
-        Err(Fault::Unreadable) => Ok(Files {
+        Err(DebugFault::OutOfMemory) => Err(AllocError),
+        Err(DebugFault::Unreadable) => Ok(Files {
             sources: Vec::new(alloc),
             first: 0,
             size: 0,

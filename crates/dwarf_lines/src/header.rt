@@ -2,7 +2,7 @@
 
 use crate::program::LineMachine;
 use crate::table::DebugSections;
-use dwarf_reader::{Cursor, Fault, Form, Value, string_at};
+use dwarf_reader::{AttributeForm, AttributeValue, Cursor, DebugFault, string_at};
 use std::alloc::Global;
 
 /// A file of source: the name of its directory, where it has one, and its own.
@@ -12,9 +12,9 @@ pub struct Source<'a> {
     pub name: &'a str,
 }
 
-/// What stands in front of a unit's program.
+/// What stands in front of a unit's program, behind the unit's length.
 #[derive(Drop)]
-pub struct Header<'a> {
+pub struct LineHeader<'a> {
     pub machine: LineMachine,
     /// How many operands the standard opcodes have, from 1 on.
     pub lengths: &'a [u8],
@@ -24,7 +24,7 @@ pub struct Header<'a> {
 }
 
 /// An entry of a table of directories or of files: the name, and the number of its directory.
-#[derive(Clone, Copy)]
+#[derive(Clone, Copy, Default)]
 struct FileEntry<'a> {
     name: &'a str,
     directory: u64,
@@ -34,7 +34,7 @@ struct FileEntry<'a> {
 #[derive(Clone, Copy)]
 struct ContentFormat {
     content: u64,
-    form: Form,
+    form: AttributeForm,
 }
 
 /// The content types of a name and of the number of a directory.
@@ -45,17 +45,16 @@ const DIRECTORY_INDEX: u64 = 2;
 /// The most bytes of a name that stands in another section.
 const MOST_NAME: usize = 1024;
 
-/// The text that bytes are.
-fn text_of(bytes: &[u8]) -> Result<&str, Fault> {
-    std::str::from_utf8(bytes).map_err(|_| Fault::Unreadable)
+fn text_of(bytes: &[u8]) -> Result<&str, DebugFault> {
+    std::str::from_utf8(bytes).map_err(|_| DebugFault::Unreadable)
 }
 
 /// What the entries of a table of version 5 say, and how it is spelled.
-fn read_format(alloc: Global, cursor: &mut Cursor) -> Result<Vec<ContentFormat>, Fault> {
+fn read_format(alloc: Global, cursor: &mut Cursor) -> Result<Vec<ContentFormat>, DebugFault> {
     let mut format = Vec::new(alloc);
     for _ in 0..cursor.read_u8()? {
         let content = cursor.read_unsigned()?;
-        let form = Form::of(cursor.read_unsigned()?).ok_or(Fault::Unreadable)?;
+        let form = AttributeForm::of(cursor.read_unsigned()?).ok_or(DebugFault::Unreadable)?;
         format.push(ContentFormat { content, form })?;
     }
     Ok(format)
@@ -67,20 +66,20 @@ impl<'a> FileEntry<'a> {
         &mut self,
         sections: DebugSections<'a>,
         content: u64,
-        value: Value<'a>,
-    ) -> Result<(), Fault> {
+        value: AttributeValue<'a>,
+    ) -> Result<(), DebugFault> {
         let bytes = match value {
-            Value::String(bytes) => bytes,
-            Value::LineStringAt(offset) => string_at(sections.line_texts, offset, MOST_NAME)?,
-            Value::StringAt(offset) => string_at(sections.texts, offset, MOST_NAME)?,
-            Value::Constant(number) => {
+            AttributeValue::String(bytes) => bytes,
+            AttributeValue::LineStringAt(at) => string_at(sections.line_texts, at, MOST_NAME)?,
+            AttributeValue::StringAt(at) => string_at(sections.texts, at, MOST_NAME)?,
+            AttributeValue::Constant(number) => {
                 if content == DIRECTORY_INDEX {
                     self.directory = number;
                 }
                 return Ok(());
             }
-            Value::Other => return Ok(()),
-            _ => return Err(Fault::Unreadable),
+            AttributeValue::Other => return Ok(()),
+            _ => return Err(DebugFault::Unreadable),
         };
         let name = text_of(bytes)?;
         if content == PATH {
@@ -95,11 +94,8 @@ fn read_entry<'a>(
     cursor: &mut Cursor<'a>,
     sections: DebugSections<'a>,
     format: &[ContentFormat],
-) -> Result<FileEntry<'a>, Fault> {
-    let mut entry = FileEntry {
-        name: "",
-        directory: 0,
-    };
+) -> Result<FileEntry<'a>, DebugFault> {
+    let mut entry = FileEntry::default();
     for part in format {
         entry.take(sections, part.content, part.form.read(cursor)?)?;
     }
@@ -111,12 +107,12 @@ fn read_table<'a>(
     alloc: Global,
     cursor: &mut Cursor<'a>,
     sections: DebugSections<'a>,
-) -> Result<Vec<FileEntry<'a>>, Fault> {
+) -> Result<Vec<FileEntry<'a>>, DebugFault> {
     let format = read_format(alloc, cursor)?;
     let count = cursor.read_unsigned()?;
     // Each entry has a byte at least, or it has no name.
     if count > cursor.len() as u64 {
-        return Err(Fault::Unreadable);
+        return Err(DebugFault::Unreadable);
     }
     let mut entries = Vec::new(alloc);
     for _ in 0..count {
@@ -125,42 +121,33 @@ fn read_table<'a>(
     Ok(entries)
 }
 
-/// The directories of version 4, from 1 on. An empty name ends them.
-fn read_directories<'a>(
-    alloc: Global,
-    cursor: &mut Cursor<'a>,
-) -> Result<Vec<FileEntry<'a>>, Fault> {
-    let mut entries = Vec::new(alloc);
-    // The directory 0 is that of the compilation, which stands elsewhere.
-    entries.push(FileEntry {
-        name: "",
-        directory: 0,
-    })?;
-    for _ in 0..cursor.len() {
-        let name = text_of(cursor.read_string()?)?;
-        if name.is_empty() {
-            break;
-        }
-        entries.push(FileEntry { name, directory: 0 })?;
-    }
-    Ok(entries)
+/// The number of a file's directory in version 4, in front of its time and its size.
+fn read_directory(cursor: &mut Cursor) -> Result<u64, DebugFault> {
+    let directory = cursor.read_unsigned()?;
+    cursor.read_unsigned()?;
+    cursor.read_unsigned()?;
+    Ok(directory)
 }
 
-/// The files of version 4. An empty name ends them.
-fn read_files<'a>(alloc: Global, cursor: &mut Cursor<'a>) -> Result<Vec<FileEntry<'a>>, Fault> {
-    let mut entries = Vec::new(alloc);
+/// Adds the entries of a table of version 4, of directories or of files. An empty name ends it.
+fn add_table<'a>(
+    entries: &mut Vec<FileEntry<'a>>,
+    cursor: &mut Cursor<'a>,
+    is_of_files: bool,
+) -> Result<(), DebugFault> {
     for _ in 0..cursor.len() {
         let name = text_of(cursor.read_string()?)?;
         if name.is_empty() {
             break;
         }
-        let directory = cursor.read_unsigned()?;
-        // its time and its size
-        cursor.read_unsigned()?;
-        cursor.read_unsigned()?;
+        let directory = if is_of_files {
+            read_directory(cursor)?
+        } else {
+            0
+        };
         entries.push(FileEntry { name, directory })?;
     }
-    Ok(entries)
+    Ok(())
 }
 
 /// The files with the names of their directories.
@@ -168,15 +155,13 @@ fn sources<'a>(
     alloc: Global,
     directories: &[FileEntry<'a>],
     files: &[FileEntry<'a>],
-) -> Result<Vec<Source<'a>>, Fault> {
+) -> Result<Vec<Source<'a>>, DebugFault> {
     let mut sources = Vec::new(alloc);
     for file in files {
-        let directory = match usize::try_from(file.directory) {
-            Ok(i) => match directories.get(i) {
-                Some(d) => d.name,
-                None => "",
-            },
-            Err(_) => "",
+        let number = usize::try_from(file.directory).unwrap_or(usize::MAX);
+        let directory = match directories.get(number) {
+            Some(directory) => directory.name,
+            None => "",
         };
         sources.push(Source {
             directory,
@@ -187,7 +172,7 @@ fn sources<'a>(
 }
 
 /// What stands between the length of the header and the tables of files.
-fn read_machine<'a>(cursor: &mut Cursor<'a>) -> Result<(LineMachine, &'a [u8]), Fault> {
+fn read_machine<'a>(cursor: &mut Cursor<'a>) -> Result<(LineMachine, &'a [u8]), DebugFault> {
     let &[
         instruction,
         operations,
@@ -197,10 +182,10 @@ fn read_machine<'a>(cursor: &mut Cursor<'a>) -> Result<(LineMachine, &'a [u8]), 
         opcode_base,
     ] = cursor.read_bytes(6)?
     else {
-        return Err(Fault::Unreadable);
+        return Err(DebugFault::Unreadable);
     };
     if operations != 1 || line_range == 0 || opcode_base == 0 {
-        return Err(Fault::Unreadable);
+        return Err(DebugFault::Unreadable);
     }
     let lengths = cursor.read_bytes(u64::from(opcode_base - 1))?;
     Ok((
@@ -214,36 +199,44 @@ fn read_machine<'a>(cursor: &mut Cursor<'a>) -> Result<(LineMachine, &'a [u8]), 
     ))
 }
 
-/// The header behind the unit's length and version; and the program behind it.
+/// The files of version 4. The directory 0 is that of the compilation, which stands elsewhere.
+fn read_files<'a>(alloc: Global, cursor: &mut Cursor<'a>) -> Result<Vec<Source<'a>>, DebugFault> {
+    let (mut directories, mut files) = (Vec::new(alloc), Vec::new(alloc));
+    directories.push(FileEntry::default())?;
+    add_table(&mut directories, cursor, false)?;
+    add_table(&mut files, cursor, true)?;
+    sources(alloc, directories.as_slice(), files.as_slice())
+}
+
+/// The header behind the unit's length.
 pub fn read_header<'a>(
     alloc: Global,
     unit: &mut Cursor<'a>,
-    version: u64,
     sections: DebugSections<'a>,
-) -> Result<Header<'a>, Fault> {
-    if version == 5 {
+) -> Result<LineHeader<'a>, DebugFault> {
+    let is_version_5 = match unit.read_number(2)? {
+        4 => false,
+        5 => true,
+        _ => return Err(DebugFault::Unreadable),
+    };
+    if is_version_5 {
         // the sizes of an address and of a segment's number
         unit.read_bytes(2)?;
     }
     let size = unit.read_number(4)?;
     let mut cursor = Cursor::new(unit.read_bytes(size)?);
     let (machine, lengths) = read_machine(&mut cursor)?;
-    let (directories, files) = if version == 5 {
-        (
-            read_table(alloc, &mut cursor, sections)?,
-            read_table(alloc, &mut cursor, sections)?,
-        )
+    let files = if is_version_5 {
+        let directories = read_table(alloc, &mut cursor, sections)?;
+        let files = read_table(alloc, &mut cursor, sections)?;
+        sources(alloc, directories.as_slice(), files.as_slice())?
     } else {
-        (
-            read_directories(alloc, &mut cursor)?,
-            read_files(alloc, &mut cursor)?,
-        )
+        read_files(alloc, &mut cursor)?
     };
-    let files = sources(alloc, directories.as_slice(), files.as_slice())?;
-    Ok(Header {
+    Ok(LineHeader {
         machine,
         lengths,
         files,
-        first_file: if version == 5 { 0 } else { 1 },
+        first_file: u64::from(!is_version_5),
     })
 }

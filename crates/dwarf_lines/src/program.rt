@@ -2,7 +2,7 @@
 
 ghost use Rattle.std.specs.Prelude.{◌<◌};
 
-use dwarf_reader::{Cursor, Fault};
+use dwarf_reader::{Cursor, DebugFault};
 
 /// The state machine that runs a program: how far a unit of advance goes, and what its special opcodes do.
 #[derive(Clone, Copy, PartialEq, Eq)]
@@ -57,13 +57,9 @@ impl LineMachine {
     }
 
     /// An instruction with a size in front, which may be of a kind that isn't known.
-    fn extended(
-        self,
-        place: &mut LineRegisters,
-        instructions: &mut Cursor,
-    ) -> Result<Emitted, Fault> {
-        let size = instructions.read_unsigned()?;
-        let mut operands = Cursor::new(instructions.read_bytes(size)?);
+    fn extended(self, place: &mut LineRegisters, code: &mut Cursor) -> Result<Emitted, DebugFault> {
+        let size = code.read_unsigned()?;
+        let mut operands = Cursor::new(code.read_bytes(size)?);
         match operands.read_u8()? {
             1 => return Ok(Emitted::End),
             // An address of which more than 8 bytes are said has those of its front.
@@ -79,7 +75,7 @@ impl LineMachine {
         place: &mut LineRegisters,
         lengths: &[u8],
         instructions: &mut Cursor,
-    ) -> Result<Emitted, Fault> {
+    ) -> Result<Emitted, DebugFault> {
         let opcode = instructions.read_u8()?;
         if opcode >= self.opcode_base {
             self.special(place, opcode - self.opcode_base);

@@ -6,7 +6,7 @@ ghost use Rattle.dwarf_reader.specs.Sections.{IsCustomOrEmpty};
 
 use crate::header::Source;
 use crate::unit::read_unit;
-use dwarf_reader::{Cursor, Fault, custom_or_empty};
+use dwarf_reader::{Cursor, DebugFault, custom_or_empty};
 use std::alloc::{AllocError, Global};
 
 /// Code that comes from one line of source: from an offset up to another, counted from the start of the code section's
@@ -127,8 +127,8 @@ pub fn read_lines<'a>(
     for _ in 0..cursor.len() {
         match read_unit(alloc, &mut cursor, sections, &mut ranges) {
             Ok(()) => {}
-            Err(Fault::Unreadable) => break,
-            Err(Fault::OutOfMemory) => return Err(AllocError),
+            Err(DebugFault::Unreadable) => break,
+            Err(DebugFault::OutOfMemory) => return Err(AllocError),
         }
     }
     Ok(LineTable { ranges })

@@ -1,12 +1,12 @@
 //! A unit: its header, and its program run to the end.
 
-use crate::header::{Header, read_header};
+use crate::header::{LineHeader, read_header};
 use crate::program::{Emitted, LineRegisters};
 use crate::table::{DebugSections, Range};
-use dwarf_reader::{Cursor, Fault};
+use dwarf_reader::{Cursor, DebugFault};
 use std::alloc::Global;
 
-impl<'a> Header<'a> {
+impl<'a> LineHeader<'a> {
     /// The code from a row up to an address, where the row has a line.
     fn range(&self, row: LineRegisters, end: u64) -> Option<Range<'a>> {
         let number = usize::try_from(row.file.checked_sub(self.first_file)?).ok()?;
@@ -24,7 +24,7 @@ impl<'a> Header<'a> {
     }
 
     /// Runs the program. What it made before a fault stays.
-    fn run(&self, program: &'a [u8], ranges: &mut Vec<Range<'a>>) -> Result<(), Fault> {
+    fn run(&self, program: &'a [u8], ranges: &mut Vec<Range<'a>>) -> Result<(), DebugFault> {
         let mut instructions = Cursor::new(program);
         let mut place = LineRegisters::START;
         let mut row: Option<LineRegisters> = None;
@@ -59,11 +59,11 @@ pub fn read_unit<'a>(
     cursor: &mut Cursor<'a>,
     sections: DebugSections<'a>,
     ranges: &mut Vec<Range<'a>>,
-) -> Result<(), Fault> {
+) -> Result<(), DebugFault> {
     let size = cursor.read_number(4)?;
     let mut unit = Cursor::new(cursor.read_bytes(size)?);
     match read_program(alloc, &mut unit, sections, ranges) {
-        Err(Fault::OutOfMemory) => Err(Fault::OutOfMemory),
+        Err(DebugFault::OutOfMemory) => Err(DebugFault::OutOfMemory),
         _ => Ok(()),
     }
 }
@@ -73,12 +73,8 @@ fn read_program<'a>(
     unit: &mut Cursor<'a>,
     sections: DebugSections<'a>,
     ranges: &mut Vec<Range<'a>>,
-) -> Result<(), Fault> {
-    let version = unit.read_number(2)?;
-    if version != 4 && version != 5 {
-        return Err(Fault::Unreadable);
-    }
-    let header = read_header(alloc, unit, version, sections)?;
+) -> Result<(), DebugFault> {
+    let header = read_header(alloc, unit, sections)?;
     let program = unit.read_bytes(unit.len() as u64)?;
     header.run(program, ranges)
 }

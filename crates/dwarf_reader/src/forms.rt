@@ -3,50 +3,7 @@
 ghost use Rattle.std.specs.Prelude.{◌≤◌};
 
 use crate::cursor::Cursor;
-use crate::fault::Fault;
-
-/// How the bytes of a value are read.
-#[derive(Clone, Copy)]
-enum Width {
-    /// A number of 1, 2, 3, 4 or 8 bytes.
-    One,
-    Two,
-    Three,
-    Four,
-    Eight,
-    /// A number in LEB128.
-    Unsigned,
-    Signed,
-    /// Bytes with a zero behind them.
-    Terminated,
-    /// Bytes behind their number, which has 1, 2 or 4 bytes, or is in LEB128.
-    BehindOne,
-    BehindTwo,
-    BehindFour,
-    BehindUnsigned,
-    /// Sixteen bytes.
-    Sixteen,
-    /// No bytes: each such value is this number.
-    Given(u64),
-}
-
-/// What the number or the bytes of a value mean.
-#[derive(Clone, Copy)]
-enum Class {
-    Constant,
-    String,
-    StringAt,
-    LineStringAt,
-    StringIndex,
-    Address,
-    AddressIndex,
-    UnitReference,
-    Reference,
-    SectionOffset,
-    ListIndex,
-    Expression,
-    Other,
-}
+use crate::fault::DebugFault;
 
 /// The number or the bytes of a value.
 #[derive(Clone, Copy)]
@@ -57,14 +14,18 @@ enum Raw<'a> {
 
 /// How the values of an attribute are spelled, and what they are.
 #[derive(Clone, Copy)]
-pub struct Form {
-    width: Width,
-    class: Class,
+pub struct AttributeForm {
+    code: u64,
+    /// The constant that all its values are, if they are one.
+    given: Option<u64>,
 }
+
+/// The form behind which stands the constant that all of its values are.
+const IMPLICIT_CONST: u64 = 0x21;
 
 /// What an attribute says.
 #[derive(Clone, Copy)]
-pub enum Value<'a> {
+pub enum AttributeValue<'a> {
     /// A number or a flag; a number with a sign in two's complement of 64 bits.
     Constant(u64),
     String(&'a [u8]),
@@ -90,128 +51,85 @@ pub enum Value<'a> {
     Other,
 }
 
-impl Width {
-    /// How wide the values of a form are.
-    fn of(code: u64) -> Option<Width> {
-        Some(match code {
-            // data1, flag, ref1, strx1, addrx1
-            0x0b | 0x0c | 0x11 | 0x25 | 0x29 => Width::One,
-            // data2, ref2, strx2, addrx2
-            0x05 | 0x12 | 0x26 | 0x2a => Width::Two,
-            // strx3, addrx3
-            0x27 | 0x2b => Width::Three,
-            // addr, data4, strp, ref_addr, ref4, sec_offset, ref_sup4, strp_sup, line_strp, strx4, addrx4
-            0x01 | 0x06 | 0x0e | 0x10 | 0x13 | 0x17 | 0x1c | 0x1d | 0x1f | 0x28 | 0x2c =>
-                Width::Four,
-            // data8, ref8, ref_sig8, ref_sup8
-            0x07 | 0x14 | 0x20 | 0x24 => Width::Eight,
-            // udata, ref_udata, strx, addrx, loclistx, rnglistx
-            0x0f | 0x15 | 0x1a | 0x1b | 0x22 | 0x23 => Width::Unsigned,
-            // sdata
-            0x0d => Width::Signed,
-            // string
-            0x08 => Width::Terminated,
-            // block1, block2, block4, block, exprloc
-            0x0a => Width::BehindOne,
-            0x03 => Width::BehindTwo,
-            0x04 => Width::BehindFour,
-            0x09 | 0x18 => Width::BehindUnsigned,
-            // data16
-            0x1e => Width::Sixteen,
-            // flag_present
-            0x19 => Width::Given(1),
-            _ => return None,
-        })
-    }
-
-    /// The number or the bytes of a value.
-    fn read<'a>(self, cursor: &mut Cursor<'a>) -> Result<Raw<'a>, Fault> {
-        let len = match self {
-            Width::One => return Ok(Raw::Number(cursor.read_number(1)?)),
-            Width::Two => return Ok(Raw::Number(cursor.read_number(2)?)),
-            Width::Three => return Ok(Raw::Number(cursor.read_number(3)?)),
-            Width::Four => return Ok(Raw::Number(cursor.read_number(4)?)),
-            Width::Eight => return Ok(Raw::Number(cursor.read_number(8)?)),
-            Width::Unsigned => return Ok(Raw::Number(cursor.read_unsigned()?)),
-            Width::Signed => return Ok(Raw::Number(cursor.read_signed()?)),
-            Width::Terminated => return Ok(Raw::Bytes(cursor.read_string()?)),
-            Width::Given(number) => return Ok(Raw::Number(number)),
-            Width::BehindOne => cursor.read_number(1)?,
-            Width::BehindTwo => cursor.read_number(2)?,
-            Width::BehindFour => cursor.read_number(4)?,
-            Width::BehindUnsigned => cursor.read_unsigned()?,
-            Width::Sixteen => 16,
-        };
-        Ok(Raw::Bytes(cursor.read_bytes(len)?))
-    }
-}
-
-impl Class {
-    /// What the values of a form mean.
-    fn of(code: u64) -> Class {
-        match code {
-            // data1, data2, data4, data8, flag, sdata, udata, flag_present
-            0x0b | 0x05 | 0x06 | 0x07 | 0x0c | 0x0d | 0x0f | 0x19 => Class::Constant,
-            // string, strp, line_strp
-            0x08 => Class::String,
-            0x0e => Class::StringAt,
-            0x1f => Class::LineStringAt,
-            // strx, strx1 to strx4
-            0x1a | 0x25 | 0x26 | 0x27 | 0x28 => Class::StringIndex,
-            // addr; addrx, addrx1 to addrx4
-            0x01 => Class::Address,
-            0x1b | 0x29 | 0x2a | 0x2b | 0x2c => Class::AddressIndex,
-            // ref1, ref2, ref4, ref8, ref_udata; ref_addr
-            0x11 | 0x12 | 0x13 | 0x14 | 0x15 => Class::UnitReference,
-            0x10 => Class::Reference,
-            // sec_offset; loclistx, rnglistx
-            0x17 => Class::SectionOffset,
-            0x22 | 0x23 => Class::ListIndex,
-            // exprloc
-            0x18 => Class::Expression,
-            _ => Class::Other,
-        }
-    }
-
-    /// What a number or bytes mean.
-    fn value<'a>(self, raw: Raw<'a>) -> Value<'a> {
-        match (self, raw) {
-            (Class::Constant, Raw::Number(number)) => Value::Constant(number),
-            (Class::String, Raw::Bytes(bytes)) => Value::String(bytes),
-            (Class::StringAt, Raw::Number(offset)) => Value::StringAt(offset),
-            (Class::LineStringAt, Raw::Number(offset)) => Value::LineStringAt(offset),
-            (Class::StringIndex, Raw::Number(index)) => Value::StringIndex(index),
-            (Class::Address, Raw::Number(address)) => Value::Address(address),
-            (Class::AddressIndex, Raw::Number(index)) => Value::AddressIndex(index),
-            (Class::UnitReference, Raw::Number(offset)) => Value::UnitReference(offset),
-            (Class::Reference, Raw::Number(offset)) => Value::Reference(offset),
-            (Class::SectionOffset, Raw::Number(offset)) => Value::SectionOffset(offset),
-            (Class::ListIndex, Raw::Number(index)) => Value::ListIndex(index),
-            (Class::Expression, Raw::Bytes(bytes)) => Value::Expression(bytes),
-            _ => Value::Other,
-        }
-    }
-}
-
-impl Form {
+impl AttributeForm {
     /// The form of a code, where it is one whose values stand with their attributes.
-    pub fn of(code: u64) -> Option<Form> {
-        Some(Form {
-            width: Width::of(code)?,
-            class: Class::of(code),
-        })
+    pub fn of(code: u64) -> Option<AttributeForm> {
+        let is_known = matches!(code, 0x01 | 0x03..=0x15 | 0x17..=0x20 | 0x22..=0x2c);
+        is_known.then_some(AttributeForm { code, given: None })
     }
 
     /// The form whose values are all this constant, which stands behind the form itself (`DW_FORM_implicit_const`).
-    pub fn implicit(constant: u64) -> Form {
-        Form {
-            width: Width::Given(constant),
-            class: Class::Constant,
+    pub fn implicit(constant: u64) -> AttributeForm {
+        AttributeForm {
+            code: IMPLICIT_CONST,
+            given: Some(constant),
+        }
+    }
+
+    /// The number or the bytes of a value.
+    fn read_raw<'a>(self, cursor: &mut Cursor<'a>) -> Result<Raw<'a>, DebugFault> {
+        let len = match self.code {
+            // data1, flag, ref1, strx1, addrx1
+            0x0b | 0x0c | 0x11 | 0x25 | 0x29 => return Ok(Raw::Number(cursor.read_number(1)?)),
+            // data2, ref2, strx2, addrx2
+            0x05 | 0x12 | 0x26 | 0x2a => return Ok(Raw::Number(cursor.read_number(2)?)),
+            // strx3, addrx3
+            0x27 | 0x2b => return Ok(Raw::Number(cursor.read_number(3)?)),
+            // data8, ref8, ref_sig8, ref_sup8
+            0x07 | 0x14 | 0x20 | 0x24 => return Ok(Raw::Number(cursor.read_number(8)?)),
+            // udata, ref_udata, strx, addrx, loclistx, rnglistx
+            0x0f | 0x15 | 0x1a | 0x1b | 0x22 | 0x23 => {
+                return Ok(Raw::Number(cursor.read_unsigned()?));
+            }
+            // sdata, string, flag_present
+            0x0d => return Ok(Raw::Number(cursor.read_signed()?)),
+            0x08 => return Ok(Raw::Bytes(cursor.read_string()?)),
+            0x19 => return Ok(Raw::Number(1)),
+            // block1, block2, block4, block, exprloc
+            0x0a => cursor.read_number(1)?,
+            0x03 => cursor.read_number(2)?,
+            0x04 => cursor.read_number(4)?,
+            0x09 | 0x18 => cursor.read_unsigned()?,
+            // data16
+            0x1e => 16,
+            // addr, data4, strp, ref_addr, ref4, sec_offset, ref_sup4, strp_sup, line_strp, strx4, addrx4
+            _ => return Ok(Raw::Number(cursor.read_number(4)?)),
+        };
+        Ok(Raw::Bytes(cursor.read_bytes(len)?))
+    }
+
+    /// What a number or bytes mean.
+    fn value<'a>(self, raw: Raw<'a>) -> AttributeValue<'a> {
+        match (self.code, raw) {
+            // data1, data2, data4, data8, flag, sdata, udata, flag_present
+            (0x0b | 0x05 | 0x06 | 0x07 | 0x0c | 0x0d | 0x0f | 0x19, Raw::Number(number)) =>
+                AttributeValue::Constant(number),
+            // string, strp, line_strp
+            (0x08, Raw::Bytes(bytes)) => AttributeValue::String(bytes),
+            (0x0e, Raw::Number(offset)) => AttributeValue::StringAt(offset),
+            (0x1f, Raw::Number(offset)) => AttributeValue::LineStringAt(offset),
+            // strx, strx1 to strx4
+            (0x1a | 0x25..=0x28, Raw::Number(index)) => AttributeValue::StringIndex(index),
+            // addr; addrx, addrx1 to addrx4
+            (0x01, Raw::Number(address)) => AttributeValue::Address(address),
+            (0x1b | 0x29..=0x2c, Raw::Number(index)) => AttributeValue::AddressIndex(index),
+            // ref1, ref2, ref4, ref8, ref_udata; ref_addr
+            (0x11..=0x15, Raw::Number(offset)) => AttributeValue::UnitReference(offset),
+            (0x10, Raw::Number(offset)) => AttributeValue::Reference(offset),
+            // sec_offset; loclistx, rnglistx
+            (0x17, Raw::Number(offset)) => AttributeValue::SectionOffset(offset),
+            (0x22 | 0x23, Raw::Number(index)) => AttributeValue::ListIndex(index),
+            // exprloc
+            (0x18, Raw::Bytes(bytes)) => AttributeValue::Expression(bytes),
+            _ => AttributeValue::Other,
         }
     }
 
     /// A value of this form.
-    pub fn read<'a>(self, cursor: &mut Cursor<'a>) -> Result<Value<'a>, Fault> {
-        Ok(self.class.value(self.width.read(cursor)?))
+    pub fn read<'a>(self, cursor: &mut Cursor<'a>) -> Result<AttributeValue<'a>, DebugFault> {
+        match self.given {
+            Some(constant) => Ok(AttributeValue::Constant(constant)),
+            None => Ok(self.value(self.read_raw(cursor)?)),
+        }
     }
 }

@@ -11,6 +11,6 @@ mod forms;
 mod sections;
 
 pub use cursor::{Cursor, string_at};
-pub use fault::Fault;
-pub use forms::{Form, Value};
+pub use fault::DebugFault;
+pub use forms::{AttributeForm, AttributeValue};
 pub use sections::custom_or_empty;

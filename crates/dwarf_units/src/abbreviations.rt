@@ -1,7 +1,7 @@
 //! What the entries of a kind have in common: their tag, and how their attributes are spelled (DWARF 5, section 7.5.3).
 
 use crate::tags::Tag;
-use dwarf_reader::{Cursor, Fault, Form};
+use dwarf_reader::{AttributeForm, Cursor, DebugFault};
 use std::alloc::Global;
 
 /// The most attributes that an entry may have: each costs time, even one without bytes.
@@ -14,7 +14,7 @@ const IMPLICIT_CONST: u64 = 0x21;
 #[derive(Clone, Copy)]
 pub(crate) struct AttributeSpec {
     pub code: u64,
-    pub form: Form,
+    pub form: AttributeForm,
 }
 
 /// A kind of entries: where its attributes begin among all, and how many they are.
@@ -29,7 +29,7 @@ pub(crate) struct Abbreviation {
 /// The abbreviations table of a unit: where its kinds begin among all, and how many they are. Their codes count from 1
 /// on.
 #[derive(Clone, Copy)]
-pub(crate) struct AbbreviationsTable {
+pub(crate) struct KindTable {
     first: usize,
     count: u64,
 }
@@ -42,7 +42,7 @@ pub(crate) struct Abbreviations {
     /// Up to where the section has been read.
     read_to: usize,
     /// Where the table begins that was read last, and the table.
-    last: Option<(usize, AbbreviationsTable)>,
+    last: Option<(usize, KindTable)>,
 }
 
 impl Abbreviations {
@@ -56,7 +56,7 @@ impl Abbreviations {
     }
 
     /// The attributes of one kind, up to the pair of zeros.
-    fn read_specs(&mut self, cursor: &mut Cursor) -> Result<(), Fault> {
+    fn read_specs(&mut self, cursor: &mut Cursor) -> Result<(), DebugFault> {
         for _ in 0..MOST_SPECS {
             let code = cursor.read_unsigned()?;
             let form = cursor.read_unsigned()?;
@@ -64,17 +64,17 @@ impl Abbreviations {
                 return Ok(());
             }
             let form = if form == IMPLICIT_CONST {
-                Form::implicit(cursor.read_signed()?)
+                AttributeForm::implicit(cursor.read_signed()?)
             } else {
-                Form::of(form).ok_or(Fault::Unreadable)?
+                AttributeForm::of(form).ok_or(DebugFault::Unreadable)?
             };
             self.specs.push(AttributeSpec { code, form })?;
         }
-        Err(Fault::Unreadable)
+        Err(DebugFault::Unreadable)
     }
 
     /// One kind, or none where the table ends. Its code is the next one.
-    fn read_kind(&mut self, cursor: &mut Cursor, number: u64) -> Result<bool, Fault> {
+    fn read_kind(&mut self, cursor: &mut Cursor, number: u64) -> Result<bool, DebugFault> {
         let code = cursor.read_unsigned()?;
         if code == 0 {
             return Ok(false);
@@ -85,7 +85,7 @@ impl Abbreviations {
         self.read_specs(cursor)?;
         let count = self.specs.len().saturating_sub(first);
         if code != number {
-            return Err(Fault::Unreadable);
+            return Err(DebugFault::Unreadable);
         }
         self.kinds.push(Abbreviation {
             tag,
@@ -97,32 +97,32 @@ impl Abbreviations {
     }
 
     /// A table, as far as it can be read.
-    fn read_table(&mut self, section: &[u8], offset: usize) -> Result<AbbreviationsTable, Fault> {
-        let mut cursor = Cursor::new(section.get(offset..).ok_or(Fault::Unreadable)?);
+    fn read_table(&mut self, section: &[u8], offset: usize) -> Result<KindTable, DebugFault> {
+        let mut cursor = Cursor::new(section.get(offset..).ok_or(DebugFault::Unreadable)?);
         let first = self.kinds.len();
         let mut count = 0;
         for number in 1..=cursor.len() as u64 {
             match self.read_kind(&mut cursor, number) {
                 Ok(true) => count = number,
-                Err(Fault::OutOfMemory) => return Err(Fault::OutOfMemory),
+                Err(DebugFault::OutOfMemory) => return Err(DebugFault::OutOfMemory),
                 _ => break,
             }
         }
         self.read_to = section.len().saturating_sub(cursor.len());
-        Ok(AbbreviationsTable { first, count })
+        Ok(KindTable { first, count })
     }
 
     /// The table at an offset. Tables stand behind one another as their units do, and each is read once;
     /// one in front of what was read isn't looked for.
-    pub fn table_at(&mut self, section: &[u8], offset: u64) -> Result<AbbreviationsTable, Fault> {
-        let offset = usize::try_from(offset).map_err(|_| Fault::Unreadable)?;
-        if let Some((last, table)) = self.last {
-            if last == offset {
-                return Ok(table);
-            }
+    pub fn table_at(&mut self, section: &[u8], offset: u64) -> Result<KindTable, DebugFault> {
+        let offset = usize::try_from(offset).map_err(|_| DebugFault::Unreadable)?;
+        if let Some((last, table)) = self.last
+            && last == offset
+        {
+            return Ok(table);
         }
         if offset < self.read_to {
-            return Err(Fault::Unreadable);
+            return Err(DebugFault::Unreadable);
         }
         let table = self.read_table(section, offset)?;
         self.last = Some((offset, table));
@@ -130,7 +130,7 @@ impl Abbreviations {
     }
 
     /// Where a kind of a table stands among all, by its code.
-    pub fn place_of(&self, table: AbbreviationsTable, code: u64) -> Option<usize> {
+    pub fn place_of(&self, table: KindTable, code: u64) -> Option<usize> {
         if code == 0 || code > table.count {
             return None;
         }

@@ -7,7 +7,7 @@ use crate::attributes::Attribute;
 use crate::sections::InfoSections;
 use crate::tags::Tag;
 use crate::units::Unit;
-use dwarf_reader::{Cursor, Fault, Value};
+use dwarf_reader::{AttributeValue, Cursor, DebugFault};
 use std::alloc::{AllocError, Global};
 use std::cell::Cell;
 
@@ -24,13 +24,13 @@ pub(crate) struct DebugEntry {
     end: u32,
 }
 
-fn narrow(number: usize) -> Result<u32, Fault> {
-    u32::try_from(number).map_err(|_| Fault::Unreadable)
+fn narrow(number: usize) -> Result<u32, DebugFault> {
+    u32::try_from(number).map_err(|_| DebugFault::Unreadable)
 }
 
 impl DebugEntry {
     /// An entry that holds none, at an index.
-    pub fn new(offset: usize, kind: usize, unit: usize, index: usize) -> Result<DebugEntry, Fault> {
+    pub fn new(offset: usize, kind: usize, unit: usize, index: usize) -> Result<Self, DebugFault> {
         Ok(DebugEntry {
             offset: narrow(offset)?,
             kind: narrow(kind)?,
@@ -54,7 +54,7 @@ pub struct Units<'a> {
     pub(crate) steps: Cell<u64>,
 }
 
-impl Units<'_> {
+impl<'a> Units<'a> {
     /// Lets what is asked from now on take so many steps in all: one for each attribute, each entry right below another
     /// one and each item of a list that is passed over, and one for each 64 bytes. Behind the last one nothing is said
     /// of an entry but its kind, so that what others wrote costs no more.
@@ -64,13 +64,9 @@ impl Units<'_> {
 
     /// Takes a step. Answers whether one was left.
     pub(crate) fn step(&self) -> bool {
-        match self.steps.get().checked_sub(1) {
-            Some(left) => {
-                self.steps.set(left);
-                true
-            }
-            None => false,
-        }
+        let left = self.steps.get().checked_sub(1);
+        self.steps.set(left.unwrap_or(0));
+        left.is_some()
     }
 
     /// Takes the steps for so many bytes that were passed over.
@@ -78,9 +74,7 @@ impl Units<'_> {
         self.steps
             .set(self.steps.get().saturating_sub(bytes as u64 / STEP_BYTES));
     }
-}
 
-impl<'a> Units<'a> {
     /// How many entries there are.
     pub fn len(&self) -> usize {
         self.entries.len()
@@ -101,21 +95,17 @@ impl<'a> Units<'a> {
 
     /// What an entry is.
     pub fn tag(&self, entry: usize) -> Tag {
-        match self.entries.get(entry) {
-            Some(entry) => match self.abbreviations.at(entry.kind as usize) {
-                Some(kind) => kind.tag,
-                None => Tag::Other,
-            },
-            None => Tag::Other,
-        }
+        self.entries
+            .get(entry)
+            .and_then(|entry| self.abbreviations.at(entry.kind as usize))
+            .map_or(Tag::Other, |kind| kind.tag)
     }
 
     /// The index of the first entry behind those that an entry holds.
     fn end_of(&self, entry: usize) -> usize {
-        match self.entries.get(entry) {
-            Some(entry) => entry.end as usize,
-            None => 0,
-        }
+        self.entries
+            .get(entry)
+            .map_or(0, |entry| entry.end as usize)
     }
 
     /// The first of the entries right below an entry.
@@ -173,7 +163,7 @@ impl<'a> Units<'a> {
     }
 
     /// What an attribute of an entry says, the first of its code.
-    pub fn value(&self, entry: usize, wanted: Attribute) -> Option<Value<'a>> {
+    pub fn value(&self, entry: usize, wanted: Attribute) -> Option<AttributeValue<'a>> {
         let unit = self.unit_of(entry)?;
         let entry = self.entries.get(entry)?;
         let bytes = self.sections.info.get(entry.offset as usize..unit.end)?;
@@ -187,7 +177,7 @@ impl<'a> Units<'a> {
             let len = cursor.len();
             let value = spec.form.read(&mut cursor).ok()?;
             self.pass(len.saturating_sub(cursor.len()));
-            if spec.code == wanted.code() {
+            if spec.code == wanted as u64 {
                 return Some(value);
             }
         }
@@ -205,11 +195,11 @@ impl<'a> Units<'a> {
     /// The entry that an attribute of an entry names.
     pub fn entry(&self, entry: usize, wanted: Attribute) -> Option<usize> {
         match self.value(entry, wanted)? {
-            Value::UnitReference(offset) => {
+            AttributeValue::UnitReference(offset) => {
                 let start = self.unit_of(entry)?.start as u64;
                 self.index_of(start.saturating_add(offset))
             }
-            Value::Reference(offset) => self.index_of(offset),
+            AttributeValue::Reference(offset) => self.index_of(offset),
             _ => None,
         }
     }

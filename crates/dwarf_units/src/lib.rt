@@ -14,7 +14,6 @@ mod lists;
 mod locations;
 mod sections;
 mod spans;
-mod strings;
 mod tags;
 mod units;
 mod values;

@@ -2,7 +2,7 @@
 
 use crate::attributes::Attribute;
 use crate::entries::Units;
-use dwarf_reader::{Cursor, Fault, Value};
+use dwarf_reader::{AttributeValue, Cursor};
 
 /// A place of WebAssembly that holds an address.
 #[derive(Clone, Copy, Debug, PartialEq, Eq)]
@@ -30,47 +30,20 @@ pub enum Location {
     Static(u64),
 }
 
-/// An operation of an expression that is known.
-#[derive(Clone, Copy)]
-enum Operation {
-    Address(u64),
-    AddressIndex(u64),
-    Wasm(Location),
-    FromFrame(i64),
-    Plus(u64),
-    /// What was computed is the value and not its address.
-    IsValue,
-}
-
 /// A place of WebAssembly: a local, a global, an operand, or a global in four bytes.
-fn read_wasm(cursor: &mut Cursor) -> Result<Location, Fault> {
-    let kind = cursor.read_u8()?;
+fn read_wasm(cursor: &mut Cursor) -> Option<Location> {
+    let kind = cursor.read_u8().ok()?;
     let index = if kind == 3 {
-        cursor.read_number(4)?
+        cursor.read_number(4).ok()?
     } else {
-        cursor.read_unsigned()?
+        cursor.read_unsigned().ok()?
     };
-    let index = u32::try_from(index).map_err(|_| Fault::Unreadable)?;
-    Ok(match kind {
+    let index = u32::try_from(index).ok()?;
+    Some(match kind {
         0 => Location::Local(index),
         1 | 3 => Location::Global(index),
         2 => Location::Operand(index),
-        _ => return Err(Fault::Unreadable),
-    })
-}
-
-/// The next operation.
-fn read_operation(cursor: &mut Cursor) -> Result<Operation, Fault> {
-    Ok(match cursor.read_u8()? {
-        // addr, plus_uconst, fbreg
-        0x03 => Operation::Address(cursor.read_number(4)?),
-        0x23 => Operation::Plus(cursor.read_unsigned()?),
-        0x91 => Operation::FromFrame(cursor.read_signed()?.cast_signed()),
-        // stack_value, addrx, WASM_location
-        0x9f => Operation::IsValue,
-        0xa1 => Operation::AddressIndex(cursor.read_unsigned()?),
-        0xed => Operation::Wasm(read_wasm(cursor)?),
-        _ => return Err(Fault::Unreadable),
+        _ => return None,
     })
 }
 
@@ -100,23 +73,26 @@ impl Location {
 }
 
 impl<'a> Units<'a> {
-    /// The place that one operation of an entry is by itself.
+    /// The place that the first operation of an entry's expression is by itself, and whether it is one of WebAssembly.
     fn first_place(
         &self,
+        cursor: &mut Cursor,
         entry: usize,
-        operation: Operation,
         frame: Option<Base>,
-    ) -> Option<Location> {
-        Some(match operation {
-            Operation::Address(address) => Location::Static(address),
-            Operation::AddressIndex(index) => { Location::Static(self.address_of(entry, index)?) }
-            Operation::Wasm(place) => place,
-            Operation::FromFrame(offset) => Location::Memory {
+    ) -> Option<(Location, bool)> {
+        let place = match cursor.read_u8().ok()? {
+            // addr, addrx, fbreg
+            0x03 => Location::Static(cursor.read_number(4).ok()?),
+            0xa1 => Location::Static(self.address_of(entry, cursor.read_unsigned().ok()?)?),
+            0x91 => Location::Memory {
+                offset: cursor.read_signed().ok()?.cast_signed(),
                 base: frame?,
-                offset,
             },
-            Operation::Plus(_) | Operation::IsValue => return None,
-        })
+            // WASM_location
+            0xed => return Some((read_wasm(cursor)?, true)),
+            _ => return None,
+        };
+        Some((place, false))
     }
 
     /// Where a variable is that an expression of an entry places, in a function with this base of its frames. Of what
@@ -128,16 +104,16 @@ impl<'a> Units<'a> {
         frame: Option<Base>,
     ) -> Option<Location> {
         let mut cursor = Cursor::new(expression);
-        let first = read_operation(&mut cursor).ok()?;
-        let place = self.first_place(entry, first, frame)?;
-        let is_wasm = matches!(first, Operation::Wasm(_));
+        let (first, is_wasm) = self.first_place(&mut cursor, entry, frame)?;
+        let in_memory = if is_wasm { behind(first) } else { Some(first) };
         if cursor.is_empty() {
-            return if is_wasm { behind(place) } else { Some(place) };
+            return in_memory;
         }
-        let place = match read_operation(&mut cursor).ok()? {
-            Operation::IsValue if is_wasm => place,
-            Operation::Plus(by) if is_wasm => behind(place)?.farther(by)?,
-            Operation::Plus(by) => place.farther(by)?,
+        let place = match cursor.read_u8().ok()? {
+            // stack_value: what was computed is the value and not its address
+            0x9f if is_wasm => first,
+            // plus_uconst
+            0x23 => in_memory?.farther(cursor.read_unsigned().ok()?)?,
             _ => return None,
         };
         if cursor.is_empty() { Some(place) } else { None }
@@ -145,7 +121,8 @@ impl<'a> Units<'a> {
 
     /// The base of a function's frames.
     pub fn frame_base(&self, function: usize) -> Option<Base> {
-        let Value::Expression(expression) = self.value(function, Attribute::FrameBase)? else {
+        let AttributeValue::Expression(expression) = self.value(function, Attribute::FrameBase)?
+        else {
             return None;
         };
         match self.location(function, expression, None)? {

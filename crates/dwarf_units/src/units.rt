@@ -1,9 +1,9 @@
 //! Units, and their entries read one after the other (DWARF 5, sections 7.5.1 and 7.5.2).
 
-use crate::abbreviations::{Abbreviations, AbbreviationsTable};
+use crate::abbreviations::{Abbreviations, KindTable};
 use crate::entries::{DebugEntry, Units};
 use crate::sections::InfoSections;
-use dwarf_reader::{Cursor, Fault};
+use dwarf_reader::{Cursor, DebugFault};
 use std::alloc::{AllocError, Global};
 use std::cell::Cell;
 
@@ -15,65 +15,50 @@ pub(crate) struct Unit {
     /// What is behind it.
     pub end: usize,
     pub is_version_5: bool,
-    pub abbreviations: AbbreviationsTable,
+    pub abbreviations: KindTable,
     /// The index of its first entry.
     pub root: usize,
 }
 
-/// What the bytes of an entry are.
-enum Found {
-    /// The end of the entries of a parent.
-    End,
-    /// An entry, whose kind stands at a place; whether entries of its own follow.
-    Entry { kind: usize, has_children: bool },
-}
-
 /// What stands in a unit behind its length: whether it is of version 5, and the offset of its abbreviations.
-fn read_header(cursor: &mut Cursor) -> Result<(bool, u64), Fault> {
-    let version = cursor.read_number(2)?;
-    let (abbreviations, address_size) = match version {
+fn read_header(cursor: &mut Cursor) -> Result<(bool, u64), DebugFault> {
+    match cursor.read_number(2)? {
         4 => {
             let abbreviations = cursor.read_number(4)?;
-            (abbreviations, cursor.read_u8()?)
+            if cursor.read_u8()? == 4 {
+                return Ok((false, abbreviations));
+            }
         }
         5 => {
-            let unit_type = cursor.read_u8()?;
-            let address_size = cursor.read_u8()?;
-            // a unit of code, a part of one
-            if unit_type != 1 && unit_type != 3 {
-                return Err(Fault::Unreadable);
+            // a unit of code, or a part of one, and the size of an address
+            if let &[1 | 3, 4] = cursor.read_bytes(2)? {
+                return Ok((true, cursor.read_number(4)?));
             }
-            (cursor.read_number(4)?, address_size)
         }
-        _ => return Err(Fault::Unreadable),
-    };
-    if address_size != 4 {
-        return Err(Fault::Unreadable);
+        _ => {}
     }
-    Ok((version == 5, abbreviations))
+    Err(DebugFault::Unreadable)
 }
 
-/// Passes over the attributes of an entry.
+/// Passes over an entry. Gives the place of its kind and whether entries of its own follow, or nothing at the end of the
+/// entries of a parent.
 fn read_entry(
     cursor: &mut Cursor,
     abbreviations: &Abbreviations,
-    table: AbbreviationsTable,
-) -> Result<Found, Fault> {
+    table: KindTable,
+) -> Result<Option<(usize, bool)>, DebugFault> {
     let code = cursor.read_unsigned()?;
     if code == 0 {
-        return Ok(Found::End);
+        return Ok(None);
     }
     let kind = abbreviations
         .place_of(table, code)
-        .ok_or(Fault::Unreadable)?;
-    let abbreviation = abbreviations.at(kind).ok_or(Fault::Unreadable)?;
+        .ok_or(DebugFault::Unreadable)?;
+    let abbreviation = abbreviations.at(kind).ok_or(DebugFault::Unreadable)?;
     for spec in abbreviations.specs_of(abbreviation) {
         spec.form.read(cursor)?;
     }
-    Ok(Found::Entry {
-        kind,
-        has_children: abbreviation.has_children,
-    })
+    Ok(Some((kind, abbreviation.has_children)))
 }
 
 impl<'a> Units<'a> {
@@ -83,23 +68,19 @@ impl<'a> Units<'a> {
         cursor: &mut Cursor<'a>,
         unit: Unit,
         open: &mut Vec<usize>,
-    ) -> Result<(), Fault> {
+    ) -> Result<(), DebugFault> {
         for _ in 0..cursor.len() {
             let offset = unit.end.saturating_sub(cursor.len());
-            match read_entry(cursor, &self.abbreviations, unit.abbreviations)? {
-                Found::End => {
-                    if let Some(parent) = open.pop() {
-                        self.close(parent);
-                    }
+            let kind = read_entry(cursor, &self.abbreviations, unit.abbreviations)?;
+            if let Some((kind, has_children)) = kind {
+                let index = self.entries.len();
+                let entry = DebugEntry::new(offset, kind, self.units.len(), index)?;
+                self.entries.push(entry)?;
+                if has_children {
+                    open.push(index)?;
                 }
-                Found::Entry { kind, has_children } => {
-                    let index = self.entries.len();
-                    let entry = DebugEntry::new(offset, kind, self.units.len(), index)?;
-                    self.entries.push(entry)?;
-                    if has_children {
-                        open.push(index)?;
-                    }
-                }
+            } else if let Some(parent) = open.pop() {
+                self.close(parent);
             }
             if open.is_empty() {
                 break;
@@ -109,7 +90,12 @@ impl<'a> Units<'a> {
     }
 
     /// A unit, as far as its entries can be read.
-    fn read_unit(&mut self, alloc: Global, start: usize, contents: &'a [u8]) -> Result<(), Fault> {
+    fn read_unit(
+        &mut self,
+        alloc: Global,
+        start: usize,
+        contents: &'a [u8],
+    ) -> Result<(), DebugFault> {
         let mut cursor = Cursor::new(contents);
         let (is_version_5, offset) = read_header(&mut cursor)?;
         let abbreviations = self
@@ -132,12 +118,12 @@ impl<'a> Units<'a> {
     }
 
     /// The next unit. Where it can't be read on it has the entries that were read.
-    fn read_next(&mut self, alloc: Global, cursor: &mut Cursor<'a>) -> Result<(), Fault> {
+    fn read_next(&mut self, alloc: Global, cursor: &mut Cursor<'a>) -> Result<(), DebugFault> {
         let start = self.sections.info.len().saturating_sub(cursor.len());
         let size = cursor.read_number(4)?;
         let contents = cursor.read_bytes(size)?;
         match self.read_unit(alloc, start, contents) {
-            Err(Fault::OutOfMemory) => Err(Fault::OutOfMemory),
+            Err(DebugFault::OutOfMemory) => Err(DebugFault::OutOfMemory),
             _ => Ok(()),
         }
     }
@@ -157,8 +143,8 @@ pub fn read_units<'a>(alloc: Global, sections: InfoSections<'a>) -> Result<Units
     for _ in 0..cursor.len() {
         match units.read_next(alloc, &mut cursor) {
             Ok(()) => {}
-            Err(Fault::Unreadable) => break,
-            Err(Fault::OutOfMemory) => return Err(AllocError),
+            Err(DebugFault::Unreadable) => break,
+            Err(DebugFault::OutOfMemory) => return Err(AllocError),
         }
     }
     Ok(units)

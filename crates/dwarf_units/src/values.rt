@@ -1,8 +1,11 @@
-//! What attributes say, by the tables of other sections where they say an index.
+//! What attributes say, by other sections where they say an offset or an index of a table.
 
 use crate::attributes::Attribute;
 use crate::entries::Units;
-use dwarf_reader::{Cursor, Value};
+use dwarf_reader::{AttributeValue, Cursor, string_at};
+
+/// The most bytes of a string that isn't in its entry.
+const MOST_STRING: usize = 4096;
 
 /// The number of 4 bytes at an index of a table, which begins at an offset in its section.
 fn in_table(section: &[u8], base: u64, index: u64) -> Option<u64> {
@@ -15,7 +18,7 @@ impl<'a> Units<'a> {
     fn base_of(&self, entry: usize, base: Attribute) -> Option<u64> {
         let root = self.unit_of(entry)?.root;
         match self.value(root, base)? {
-            Value::SectionOffset(offset) => Some(offset),
+            AttributeValue::SectionOffset(offset) => Some(offset),
             _ => None,
         }
     }
@@ -37,23 +40,22 @@ impl<'a> Units<'a> {
         in_table(self.sections.text_offsets, base, index)
     }
 
-    /// Where the list of ranges of an index stands in `.debug_rnglists`, in the unit of an entry.
-    pub(crate) fn ranges_offset(&self, entry: usize, index: u64) -> Option<u64> {
-        let base = self.base_of(entry, Attribute::RnglistsBase)?;
-        in_table(self.sections.range_lists, base, index)?.checked_add(base)
-    }
-
-    /// Where the list of locations of an index stands in `.debug_loclists`, in the unit of an entry.
-    pub(crate) fn locations_offset(&self, entry: usize, index: u64) -> Option<u64> {
-        let base = self.base_of(entry, Attribute::LoclistsBase)?;
-        in_table(self.sections.location_lists, base, index)?.checked_add(base)
+    /// Where the list of an index stands in `.debug_loclists` or `.debug_rnglists`, in the unit of an entry.
+    pub(crate) fn list_offset(&self, entry: usize, has_places: bool, index: u64) -> Option<u64> {
+        let (section, base) = if has_places {
+            (self.sections.location_lists, Attribute::LoclistsBase)
+        } else {
+            (self.sections.range_lists, Attribute::RnglistsBase)
+        };
+        let base = self.base_of(entry, base)?;
+        in_table(section, base, index)?.checked_add(base)
     }
 
     /// The address that an attribute of an entry says.
     pub fn address(&self, entry: usize, wanted: Attribute) -> Option<u64> {
         match self.value(entry, wanted)? {
-            Value::Address(address) => Some(address),
-            Value::AddressIndex(index) => self.address_of(entry, index),
+            AttributeValue::Address(address) => Some(address),
+            AttributeValue::AddressIndex(index) => self.address_of(entry, index),
             _ => None,
         }
     }
@@ -61,8 +63,27 @@ impl<'a> Units<'a> {
     /// The number that an attribute of an entry says.
     pub fn number(&self, entry: usize, wanted: Attribute) -> Option<u64> {
         match self.value(entry, wanted)? {
-            Value::Constant(number) => Some(number),
+            AttributeValue::Constant(number) => Some(number),
             _ => None,
         }
+    }
+
+    /// The string that an attribute of an entry says.
+    pub fn string(&self, entry: usize, wanted: Attribute) -> Option<&'a str> {
+        let strings = self.sections.texts;
+        let (section, offset) = match self.value(entry, wanted)? {
+            AttributeValue::String(bytes) => return self.pass_string(bytes),
+            AttributeValue::StringAt(offset) => (strings, offset),
+            AttributeValue::LineStringAt(offset) => (self.sections.line_texts, offset),
+            AttributeValue::StringIndex(index) => (strings, self.string_offset(entry, index)?),
+            _ => return None,
+        };
+        self.pass_string(string_at(section, offset, MOST_STRING).ok()?)
+    }
+
+    /// A string of these bytes, for which steps are taken.
+    fn pass_string(&self, bytes: &'a [u8]) -> Option<&'a str> {
+        self.pass(bytes.len());
+        std::str::from_utf8(bytes).ok()
     }
 }

@@ -18,8 +18,8 @@ use Rattle.replay.specs.Runs.{IsRunOf}
 use Rattle.selection.specs.declared.sought.Find.TheVariants as finds
 use Rattle.selection.specs.declared.sought.Sought.{Sought}
 use Rattle.report_jobs.specs.Jobs.{IsRefused}
-use Rattle.report_jobs.specs.declared.loading.Refusal.{Refusal}
-use Rattle.report_jobs.specs.declared.loading.Refusal.TheVariants as refusals
+use Rattle.report_jobs.specs.declared.loading.ModuleRefusal.{ModuleRefusal}
+use Rattle.report_jobs.specs.declared.loading.ModuleRefusal.TheVariants as refusals
 use Rattle.search_endings.specs.Endings.{Ending}
 use Rattle.search_reach.specs.Found.{AreListed}
 use Rattle.search_reach.specs.declared.ending.Ended.{Ended}
@@ -50,7 +50,7 @@ sought_by plan = record {
 }
 
 -- Out of memory is no fault of the module.
-abbrev pub fault_of_refusal : Refusal → HostFault
+abbrev pub fault_of_refusal : ModuleRefusal → HostFault
 fault_of_refusal (refusals.Read reads.OutOfMemory) = faults.NoMemory
 fault_of_refusal (refusals.Validity validity.OutOfMemory) = faults.NoMemory
 fault_of_refusal refusal = faults.Module refusal

@@ -12,7 +12,7 @@ use report_jobs::load_checked;
 use search_endings::Ending;
 use search_finds::run_of_number;
 use search_modules::{Ended, all_endings};
-use search_reach::Order;
+use search_reach::{SearchOrder, SearchPlan};
 use search_scheduled::MadeRun;
 use spawn_host::{Call, EndState};
 use std::alloc::Global;
@@ -109,15 +109,12 @@ pub fn endings_of(
             fuel: 0,
         },
     )?;
-    match all_endings(
-        alloc,
-        &request,
-        Order::Breadth,
-        most_states,
-        dump as usize,
-        &(),
-        &mut (),
-    ) {
+    let plan = SearchPlan {
+        order: SearchOrder::Breadth,
+        most: most_states,
+        sought: (),
+    };
+    match all_endings(alloc, &request, &plan, dump as usize, &mut ()) {
         Ok(all) => Ok(all),
         Err(_) => Err(HostFault::NoMemory),
     }

@@ -5,7 +5,7 @@ ghost use Rattle.host_calls.specs.Hosts.{fault_of_refusal, status_of_fault};
 use binary_wire::ReadFault;
 use replay::ReplayFault;
 use replay_text::RecordFault;
-use report_jobs::Refusal;
+use report_jobs::ModuleRefusal;
 use spawn_host::CallFault;
 use thiserror::Error;
 use validate_typing::ValidFault;
@@ -15,7 +15,7 @@ use validate_typing::ValidFault;
 pub enum HostFault {
     /// The bytes are no valid module's text.
     #[error("{0}")]
-    Module(Refusal),
+    Module(ModuleRefusal),
     /// The module has no such call.
     #[error("{0}")]
     Call(CallFault),
@@ -34,12 +34,12 @@ pub enum HostFault {
 }
 
 /// The fault of a module that is refused: where memory was, it is that.
-pub(crate) fn refused(refusal: Refusal) -> HostFault
+pub(crate) fn refused(refusal: ModuleRefusal) -> HostFault
     ensures { result ≡ fault_of_refusal refusal }
 {
     match refusal {
-        Refusal::Read(ReadFault::OutOfMemory) => HostFault::NoMemory,
-        Refusal::Validity(ValidFault::OutOfMemory) => HostFault::NoMemory,
+        ModuleRefusal::Read(ReadFault::OutOfMemory) => HostFault::NoMemory,
+        ModuleRefusal::Validity(ValidFault::OutOfMemory) => HostFault::NoMemory,
         _ => HostFault::Module(refusal),
     }
 }

@@ -2,7 +2,7 @@
 ghost use Rattle.std.specs.Prelude.{◌≡◌, ◌↔◌, true};
 ghost use Rattle.host_calls.specs.Hosts.{IsPlanInRange, sought_by};
 
-use selection::{Find, Sought, Target, Way};
+use selection::{Find, SearchTarget, Sought, Way};
 use types::{MOST_FUEL, MOST_LIMIT};
 
 /// Which run a host wants: that of a number, by a seed and a strategy, as a search draws it.
@@ -39,7 +39,7 @@ impl Plan {
             runs: 1,
             limit: self.limit,
             dump: 0,
-            target: Target {
+            target: SearchTarget {
                 find: Find::Nothing,
                 expect: None,
             },

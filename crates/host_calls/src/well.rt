@@ -5,7 +5,6 @@ ghost use Rattle.host_calls.specs.Well.{all_end_well, EndsForSure, IsSure, IsWel
 use search_endings::{Ending, is_done};
 use search_modules::{Ended, FairRuns, Liveness, Verdict};
 
-/// Whether all threads ended well.
 fn has_ended_well(ending: &Ending) -> bool
     ensures { result ≡ threads_end_well ending.now }
 {

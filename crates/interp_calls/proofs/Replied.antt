@@ -71,7 +71,8 @@ call_imported s f b =
 
 pub call_pops : (s : State) (f : ℕ) → Wanting s (Plain (plain.Call f)) → 0 < length s.values.items
 call_pops s f b =
-    let st = b.stands in let x = call_spawns b.tables s b.config st f b.valid (call_imported s f b) (call_at b.tables s b.config f st b.here (not_asked s _ b)) in
+    let st = b.stands in let x = call_spawns b.tables s b.config st f b.valid (call_imported s f b) (call_at b.tables s b.config f st b.here (not_asked s _ b))
+    in
     let a = means_long _ _ x.values in let d = length-reverse s.values.items in omega arith
 
 pub call_heard : (w : WithTables) (s n : State) (c : Config) (f number word : ℕ) → IsValidated w → Stands w s c → Wanting s (Plain (plain.Call f)) →

@@ -140,7 +140,8 @@ module _ (m : Parts) (v : IsValid m) (whole : length m.functions ≡ length m.bo
   at_types : (rest : Code) (middle : List ValType) → HasType x labels rest middle ends → (ts : List ValType) → ts ≡ middle → HasType x labels rest ts ends
   at_types rest middle r ts e = subst (λ us. HasType x labels rest us ends) (sym e) r
 
-  on : (rest : Code) (middle : List ValType) → HasType x labels rest middle ends → (ops : List Value) → map type_of ops ≡ middle → IsTyped m (with_rest c rest ops)
+  on : (rest : Code) (middle : List ValType) → HasType x labels rest middle ends → (ops : List Value) → map type_of ops ≡ middle →
+      IsTyped m (with_rest c rest ops)
   on rest middle r ops e = goes_behind rest ops c.frame.locals c.globals (at_types rest middle r (map type_of ops) e) locals globals
 
   -- a question was asked
@@ -284,19 +285,22 @@ module _ (m : Parts) (v : IsValid m) (whole : length m.functions ≡ length m.bo
         (asked (program_of m).shared _ _ traps.NotShared (λ n. waiting rest middle r left (ap (λ (ts : List ValType). types.I32 ∷ ts) u ∙ sym g))) tt)))
     atomic_instr (atomic.Load w) arg rest ops below middle r h g =
         number m types.I32 below ops _ h (λ base left e. asked (nat_eq ((base + arg.offset) % access_bytes w) 0) _ _ _
-        (λ n. on rest middle r (answered_value w n ∷ left) (on_top_of (answered_value w n) left (access_type w) below (value_typed (access_type w) _) e ∙ sym g)))
+        (λ n. on rest middle r (answered_value w n ∷ left) (on_top_of (answered_value w n) left (access_type w) below (value_typed (access_type w) _) e ∙
+        sym g)))
     atomic_instr (atomic.Store w) arg rest ops below middle r h g =
         number m (access_type w) (types.I32 ∷ below) ops _ h (λ k more d. number m types.I32 below more _ d (λ base left e.
         asked (nat_eq ((base + arg.offset) % access_bytes w) 0) _ _ _ (λ n. on rest middle r left (e ∙ sym g))))
     atomic_instr (atomic.Rmw op w) arg rest ops below middle r h g =
         number m (access_type w) (types.I32 ∷ below) ops _ h (λ k more d. number m types.I32 below more _ d (λ base left e.
         asked (nat_eq ((base + arg.offset) % access_bytes w) 0) _ _ _
-        (λ n. on rest middle r (answered_value w n ∷ left) (on_top_of (answered_value w n) left (access_type w) below (value_typed (access_type w) _) e ∙ sym g))))
+        (λ n. on rest middle r (answered_value w n ∷ left) (on_top_of (answered_value w n) left (access_type w) below (value_typed (access_type w) _) e ∙
+        sym g))))
     atomic_instr (atomic.Cmpxchg w) arg rest ops below middle r h g =
         number m (access_type w) (access_type w ∷ (types.I32 ∷ below)) ops _ h (λ replacement more d.
         number m (access_type w) (types.I32 ∷ below) more _ d (λ expected further e. number m types.I32 below further _ e (λ base left u.
         asked (nat_eq ((base + arg.offset) % access_bytes w) 0) _ _ _
-        (λ n. on rest middle r (answered_value w n ∷ left) (on_top_of (answered_value w n) left (access_type w) below (value_typed (access_type w) _) u ∙ sym g)))))
+        (λ n. on rest middle r (answered_value w n ∷ left) (on_top_of (answered_value w n) left (access_type w) below (value_typed (access_type w) _) u ∙
+        sym g)))))
 
     -- ---- Any instruction
 
@@ -345,7 +349,8 @@ module _ (m : Parts) (v : IsValid m) (whole : length m.functions ≡ length m.bo
     doing (plain.LocalSet i) rest middle f r =
         let y = local_slot i f.0 f.1 in
         top m f.0 f.2.0 c.frame.operands _ f.2.1 (λ u below a d. some m _ y.value _ y.is
-        (goes_behind rest below (slice_set c.frame.locals i u) c.globals (at_types rest middle r (map type_of below) (d ∙ sym f.2.2)) (y.keeps u a ∙ locals) globals))
+        (goes_behind rest below (slice_set c.frame.locals i u) c.globals (at_types rest middle r (map type_of below) (d ∙ sym f.2.2))
+        (y.keeps u a ∙ locals) globals))
     doing (plain.LocalTee i) rest middle f r =
         let y = local_slot i f.0 f.1 in
         top m f.0 f.2.0 c.frame.operands _ f.2.1 (λ u below a d. some m _ y.value _ y.is
@@ -358,7 +363,8 @@ module _ (m : Parts) (v : IsValid m) (whole : length m.functions ≡ length m.bo
     doing (plain.GlobalSet i) rest middle f r =
         let y = global_slot i f.0 f.1 in
         top m f.0.val_type f.3.0 c.frame.operands _ f.3.1 (λ u below a d. some m _ y.value _ y.is
-        (goes_behind rest below c.frame.locals (slice_set c.globals i u) (at_types rest middle r (map type_of below) (d ∙ sym f.3.2)) locals (y.keeps u a ∙ globals)))
+        (goes_behind rest below c.frame.locals (slice_set c.globals i u) (at_types rest middle r (map type_of below) (d ∙ sym f.3.2)) locals
+        (y.keeps u a ∙ globals)))
     doing (plain.I32Const n) rest middle f r =
         on rest middle r (values.I32 n ∷ c.frame.operands) (ap (λ (ts : List ValType). types.I32 ∷ ts) f.1 ∙ sym f.2)
     doing (plain.I64Const n) rest middle f r =
@@ -369,7 +375,8 @@ module _ (m : Parts) (v : IsValid m) (whole : length m.functions ≡ length m.bo
     doing (plain.Store a arg) rest middle f r =
         number m (access_type a) (types.I32 ∷ f.2.0) c.frame.operands _ f.2.1 (λ n more d. number m types.I32 f.2.0 more _ d (λ base below e.
         storing (access_bytes a) (base + arg.offset) n rest below middle r (e ∙ sym f.2.2) c.progress))
-    doing plain.MemorySize rest middle f r = λ n. on rest middle r (values.I32 _ ∷ c.frame.operands) (ap (λ (ts : List ValType). types.I32 ∷ ts) f.1.1 ∙ sym f.1.2)
+    doing plain.MemorySize rest middle f r = λ n. on rest middle r (values.I32 _ ∷ c.frame.operands)
+        (ap (λ (ts : List ValType). types.I32 ∷ ts) f.1.1 ∙ sym f.1.2)
     doing plain.MemoryGrow rest middle f r =
         number m types.I32 f.1.0 c.frame.operands _ f.1.1 (λ more below d n.
         on rest middle r (values.I32 _ ∷ below) (ap (λ (ts : List ValType). types.I32 ∷ ts) d ∙ sym f.1.2))

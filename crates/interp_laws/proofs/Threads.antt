@@ -81,7 +81,8 @@ module _ (m : Parts) (v : IsValid m) (whole : length m.functions ≡ length m.bo
 
   -- ---- One step of a thread
 
-  taken : (w : Wish Event Outcome) (s : State) (left : ℕ) (reply : Reply) → IsTypedState m s → IsTypedThread m (takes_by (machine_of (program_of m)) w s left reply)
+  taken : (w : Wish Event Outcome) (s : State) (left : ℕ) (reply : Reply) → IsTypedState m s →
+      IsTypedThread m (takes_by (machine_of (program_of m)) w s left reply)
   taken WishGoes s left reply t = t
   taken WishWaits s left reply t = t
   taken (WishAsks e) s left reply t = takes_typed s reply t

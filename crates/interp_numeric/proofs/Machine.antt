@@ -11,7 +11,8 @@ use mir.Val.{bits, hbits}
 use Rattle.types.specs.declared.outcome.Trap.{Trap}
 use Rattle.types.specs.declared.outcome.Trap.TheVariants as traps
 use Rattle.interp_numeric.specs.Bits.{ibits, first_bit}
-use Rattle.interp_numeric.specs.Integers.{signed, unsigned, iadd, isub, imul, idiv_u, irem_u, ishl, ishr_u, ishr_s, irotl, irotr, wrap, extend_s, iextend_s, shifted_right}
+use Rattle.interp_numeric.specs.Integers.{signed, unsigned, iadd, isub, imul, idiv_u, irem_u, ishl, ishr_u, ishr_s}
+use Rattle.interp_numeric.specs.Integers.{irotl, irotr, wrap, extend_s, iextend_s, shifted_right}
 use Rattle.interp_numeric.proofs.Shifts.{shifted_left-is, shifted_right-zeros, rotated_left-is, rotated_right-is}
 use Rattle.interp_numeric.proofs.Signs.{signed-is, unsigned-is, passed, shifted_signed}
 use Rattle.interp_numeric.proofs.Division.{idiv_u-zero, idiv_u-some, irem_u-zero, irem_u-some}

@@ -1,4 +1,4 @@
-//! The numeric instructions on edge values, and the laws of the thread machine, each called once.
+//! The numeric instructions on edge values, and the laws of the thread machine, of schedules and of walks, each called once.
 #![tactic(auto)]
 
 #[cfg(test)]
@@ -7,3 +7,7 @@ mod expected;
 mod laws;
 #[cfg(test)]
 mod numeric;
+#[cfg(test)]
+mod schedule_laws;
+#[cfg(test)]
+mod walk_laws;

@@ -1,11 +1,11 @@
 -- What happens before comes before.
 use Rattle.std.proofs.Common.{◌≡◌, ◌⊎◌, ◌<◌, ℕ, List, inl, inr, refl, sym, subst, arith}
 use Rattle.types.specs.declared.event.Entry.{Entry}
-use Rattle.race_history.specs.declared.access.Kind.{Kind}
+use Rattle.race_history.specs.declared.access.AccessKind.{AccessKind}
 use Rattle.race_history.specs.Order.{IsBefore, IsEdge}
 use Rattle.race_history.specs.Clocks.{IsUpTo}
 
-module _ (log : List Entry) (kinds : List Kind) where
+module _ (log : List Entry) (kinds : List AccessKind) where
   pub edge_earlier : (i j : ℕ) → IsEdge log kinds i j → i < j
   edge_earlier i j h = elim h [
     | inl o ↦ o.earlier

@@ -1,11 +1,12 @@
 -- The clock of an entry from those of the entries just before it.
-use Rattle.std.proofs.Common.{◌≡◌, ◌∙◌, ◌⊎◌, ◌<◌, ◌+◌, ◌++◌, ℕ, List, [], ◌∷◌, length, get_or, set, max, inl, inr, refl, sym, ap, subst, arith, get_or-set_other, get_or-set_same}
+use Rattle.std.proofs.Common.{◌≡◌, ◌∙◌, ◌⊎◌, ◌<◌, ◌+◌, ◌++◌, ℕ, List, [], ◌∷◌, length, get_or, set, max, inl, inr, refl}
+use Rattle.std.proofs.Common.{sym, ap, subst, arith, get_or-set_other, get_or-set_same}
 use Rattle.std.specs.Global.{Vec}
 use Rattle.std.specs.List.{All, Contains, fold}
 use Rattle.std.proofs.lemmas.Bool.{cases_eq, cases_lt}
 use Rattle.std.proofs.lemmas.List.{get_or-map, get_or_append_left, get_or_push, length-map, length-set, length_push, map-append}
 use Rattle.types.specs.declared.event.Entry.{Entry}
-use Rattle.race_history.specs.declared.access.Kind.{Kind}
+use Rattle.race_history.specs.declared.access.AccessKind.{AccessKind}
 use Rattle.race_history.specs.Places.{thread_at}
 use Rattle.race_history.specs.Order.{IsBefore, IsEdge}
 use Rattle.race_history.specs.Sources.{AreSources, rows}
@@ -42,7 +43,7 @@ module _ (f : ℕ → ℕ) (n : ℕ) where
     | inr r ↦ below_to xs (max most (f z)) s r lt
   ]
 
-module _ (log : List Entry) (kinds : List Kind) (threads place : ℕ) (clocks : List (List ℕ)) (h : AreClocks log kinds threads place clocks)
+module _ (log : List Entry) (kinds : List AccessKind) (threads place : ℕ) (clocks : List (List ℕ)) (h : AreClocks log kinds threads place clocks)
     (sources row : List ℕ) (from : AreSources log kinds place sources) (joined : IsJoined clocks sources row) (wide : length row ≡ threads)
     (within : place < length log) (known : thread_at log place < threads) where
   -- an entry up to a source is below the joined row
@@ -112,7 +113,7 @@ module _ (log : List Entry) (kinds : List Kind) (threads place : ℕ) (clocks : 
     counts = λ i lt. (counts_from i lt, counts_to i lt);
   }
 
-pub clocks_more : (log : List Entry) (kinds : List Kind) (threads end : ℕ) (clocks : List (List ℕ)) (row : List ℕ)
+pub clocks_more : (log : List Entry) (kinds : List AccessKind) (threads end : ℕ) (clocks : List (List ℕ)) (row : List ℕ)
     → AreClocks log kinds threads end clocks → IsClock log kinds threads end row → AreClocks log kinds threads (end + 1) (clocks ++ row ∷ [])
 clocks_more log kinds threads end clocks row h is =
     let count : length clocks ≡ end = h.count in
@@ -129,7 +130,7 @@ clocks_more log kinds threads end clocks row h is =
       ];
     }
 
-pub clocks_none : (log : List Entry) (kinds : List Kind) (threads : ℕ) → AreClocks log kinds threads 0 []
+pub clocks_none : (log : List Entry) (kinds : List AccessKind) (threads : ℕ) → AreClocks log kinds threads 0 []
 clocks_none log kinds threads = record { count = refl; each = λ place lt. absurd (omega arith) }
 
 -- what the lists hold, as lists
@@ -143,14 +144,14 @@ pub rows_length : (vs : List (Vec ℕ)) → length (rows vs) ≡ length vs
 rows_length vs = length-map vs (λ (w : Vec ℕ). w.items)
 
 -- the entries just before one are below it
-pub sources_below : (log : List Entry) (kinds : List Kind) (place : ℕ) (here : List ℕ) → AreSources log kinds place here
+pub sources_below : (log : List Entry) (kinds : List AccessKind) (place : ℕ) (here : List ℕ) → AreSources log kinds place here
     → All (λ (s : ℕ). s < place) here
 sources_below log kinds place here h k d lt =
     edge_earlier log kinds (get_or here k d) place
     (h.from (get_or here k d) (Contains-at here k (get_or here k d) (IsAt-get here k d lt)))
 
 -- the clock of the next entry
-pub clock_next : (log : List Entry) (kinds : List Kind) (threads place : ℕ) (clocks : List (Vec ℕ)) (sources row : List ℕ) (d : Entry)
+pub clock_next : (log : List Entry) (kinds : List AccessKind) (threads place : ℕ) (clocks : List (Vec ℕ)) (sources row : List ℕ) (d : Entry)
     → AreClocks log kinds threads place (rows clocks) → AreSources log kinds place sources → IsJoined (rows clocks) sources row
     → length row ≡ threads → place < length log → All (λ (e : Entry). e.thread < threads) log
     → (v : Vec ℕ) → v.items ≡ set row (get_or log place d).thread (place + 1)

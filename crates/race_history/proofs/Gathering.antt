@@ -1,20 +1,22 @@
 -- The entries just before one.
-use Rattle.std.proofs.Common.{◌≡◌, ◌∙◌, ◌⊎◌, ◌<◌, ◌≤◌, ◌+◌, ◌++◌, ◌==◌, ℕ, zero, suc, List, [], ◌∷◌, Option, Some, None, length, get_or, set, take, inl, inr, refl, sym, ap, subst, arith, add-one, get_or-set_other, get_or-set_same}
+use Rattle.std.proofs.Common.{◌≡◌, ◌∙◌, ◌⊎◌, ◌<◌, ◌≤◌, ◌+◌, ◌++◌, ◌==◌, ℕ, zero, suc, List, [], ◌∷◌, Option, Some, None}
+use Rattle.std.proofs.Common.{length, get_or, set, take, inl, inr, refl, sym, ap, subst, arith, add-one}
+use Rattle.std.proofs.Common.{get_or-set_other, get_or-set_same}
 use Rattle.std.specs.Prelude.{nat_lt, slice_get}
 use Rattle.std.specs.List.{Contains}
 use Rattle.std.specs.Option.{option_to_list}
 use Rattle.std.proofs.lemmas.Bool.{cases_eq, cases_lt, cond-false, cond-true, eq-eqb, lt-ltb, ltb-true, ne_eqb}
-use Rattle.std.proofs.lemmas.List.{get_or_append_left, get_or_default, get_or_push, length_push}
+use Rattle.std.proofs.lemmas.List.{get_or_default}
 use Rattle.std.proofs.lemmas.List.Elements.{Contains-append_cases, Contains-append_left, Contains-append_right}
 use Rattle.std.proofs.lemmas.Option.{cond_some, get_or_from_slice_get, none-some, same_Some, slice_get-get_or, slice_get_within}
 use Rattle.types.specs.declared.event.Entry.{Entry}
 use Rattle.shared_memory.specs.History.{queue_after}
-use Rattle.race_history.specs.declared.access.Kind.{Kind}
+use Rattle.race_history.specs.declared.access.AccessKind.{AccessKind}
 use Rattle.race_history.specs.Places.{IsAt, thread_at}
 use Rattle.race_history.specs.Order.{IsEdge, IsOfOneThread, IsStartOf, ReadsFrom, Starts, Wakes}
 use Rattle.race_history.specs.Calls.{AreStarts, AreWakers}
 use Rattle.race_history.specs.Writers.{AreWriters}
-use Rattle.race_history.specs.Sources.{AreSources, HaveSources, if_before, last_of, start_before}
+use Rattle.race_history.specs.Sources.{AreSources, if_before, last_of, start_before}
 use Rattle.race_history.proofs.Lists.{Contains-cons_cases, Contains-here, Contains-none, IsAt-any}
 
 some_in : (o : Option ℕ) (x : ℕ) → Contains (option_to_list o) x → o ≡ Some x
@@ -107,7 +109,7 @@ module _ (log : List Entry) where
         ap (if_before place) get ∙ cond-true (nat_lt i place) (Some i) None (lt-ltb i place earlier)
 
 -- all that come just before
-module _ (log : List Entry) (kinds : List Kind) (place : ℕ) (within : place < length log)
+module _ (log : List Entry) (kinds : List AccessKind) (place : ℕ) (within : place < length log)
     (wakers : List ℕ) (start writer previous : Option ℕ)
     (wakers_from : (i : ℕ) → Contains wakers i → Wakes log i place) (wakers_to : (i : ℕ) → Wakes log i place → Contains wakers i)
     (start_from : (i : ℕ) → start ≡ Some i → Starts log i place) (start_to : (i : ℕ) → Starts log i place → start ≡ Some i)
@@ -173,29 +175,8 @@ module _ (log : List Entry) (kinds : List Kind) (place : ℕ) (within : place < 
     ];
   }
 
--- one more
-pub sources_more : (log : List Entry) (kinds : List Kind) (end : ℕ) (lists : List (List ℕ)) (here : List ℕ) → HaveSources log kinds end lists
-    → AreSources log kinds end here → HaveSources log kinds (end + 1) (lists ++ here ∷ [])
-sources_more log kinds end lists here h is =
-    let count : length lists ≡ end = h.count in
-    record {
-      count = length_push lists here ∙ ap (λ (n : ℕ). n + 1) count;
-      each = λ place lt. elim (cases_lt place end) [
-        | inl before ↦
-            let within : place < length lists = omega arith in
-            subst (λ (l : List ℕ). AreSources log kinds place l) (sym (get_or_append_left lists (here ∷ []) [] place within)) (h.each place before)
-        | inr le ↦
-            let e : place ≡ end = omega arith in
-            subst (λ (l : List ℕ). AreSources log kinds place l) (sym (get_or_push lists here [] place (count ∙ sym e)))
-            (subst (λ (n : ℕ). AreSources log kinds n here) (sym e) is)
-      ];
-    }
-
-pub sources_none : (log : List Entry) (kinds : List Kind) → HaveSources log kinds 0 []
-sources_none log kinds = record { count = refl; each = λ place lt. absurd (omega arith) }
-
 -- those that are gathered
-pub sources_next : (log : List Entry) (kinds : List Kind) (place : ℕ) → place < length log
+pub sources_next : (log : List Entry) (kinds : List AccessKind) (place : ℕ) → place < length log
     → (writers : List (Option ℕ)) → AreWriters log kinds (length log) writers → (starts : List ℕ) → AreStarts log (length log) starts
     → (wakers : List (List ℕ)) → AreWakers log (length log) wakers → (previous : Option ℕ) → previous ≡ last_of log (thread_at log place) place
     → AreSources log kinds place (get_or wakers place [] ++ option_to_list (start_before starts (thread_at log place) place)

@@ -1,5 +1,7 @@
 -- The last accesses stay the last ones where one is kept.
-use Rattle.std.proofs.Common.{◌≡◌, ◌∙◌, ◌<◌, ◌≤◌, ◌+◌, ◌/◌, ◌%◌, ◌⊎◌, ℕ, zero, suc, List, [], ◌∷◌, Bool, not, length, filter, map, get_or, set, replicate, inl, inr, refl, sym, ap, subst, arith, get_or-set_same, get_or-set_other}
+use Rattle.std.proofs.Common.{◌≡◌, ◌∙◌, ◌<◌, ◌≤◌, ◌+◌, ◌/◌, ◌%◌, ◌⊎◌, ℕ, zero, suc, List, [], ◌∷◌, Bool, not, length}
+use Rattle.std.proofs.Common.{filter, map, get_or, set, replicate, inl, inr, refl, sym, ap, subst, arith}
+use Rattle.std.proofs.Common.{get_or-set_same, get_or-set_other}
 use Rattle.std.specs.Global.{Vec}
 use Rattle.std.specs.List.{AllPairs, Contains}
 use Rattle.std.proofs.lemmas.Bool.{both_ways, cases_Bool, cases_eq, cases_lt, not-true, not_from_false}
@@ -8,8 +10,8 @@ use Rattle.std.proofs.lemmas.List.Elements.{Contains-append_left, Contains-push,
 use Rattle.std.proofs.lemmas.List.Kept.{AllPairs-filter}
 use Rattle.std.proofs.lemmas.List.Quantifiers.{all_pairs_push}
 use Rattle.types.specs.declared.event.Entry.{Entry}
-use Rattle.race_history.specs.declared.access.Access.{Access}
-use Rattle.race_history.specs.declared.access.Kind.{Kind}
+use Rattle.race_history.specs.declared.access.ThreadAccess.{ThreadAccess}
+use Rattle.race_history.specs.declared.access.AccessKind.{AccessKind}
 use Rattle.race_history.specs.declared.lasts.Last.{Last}
 use Rattle.race_history.specs.Places.{IsAccess}
 use Rattle.race_history.specs.Lasts.{AreLasts, IsAhead, Keeps, list_for, with_last}
@@ -94,7 +96,7 @@ some_lists : (n : ℕ) → 0 < n → 0 < length (replicate n no_list)
 some_lists zero some = absurd (omega arith)
 some_lists (suc n) some = omega arith
 
-module _ (log : List Entry) (kinds : List Kind) where
+module _ (log : List Entry) (kinds : List AccessKind) where
   pub lasts_none : (n : ℕ) → 0 < n → AreLasts log kinds 0 (replicate n no_list)
   lasts_none n some = record {
     some = some_lists n some;
@@ -103,7 +105,7 @@ module _ (log : List Entry) (kinds : List Kind) where
     all = λ place a lt h. absurd (omega arith);
   }
 
-  pub lasts_skip : (end : ℕ) (lists : List (List Last)) → ((a : Access) → IsAccess log kinds end a → ⊥)
+  pub lasts_skip : (end : ℕ) (lists : List (List Last)) → ((a : ThreadAccess) → IsAccess log kinds end a → ⊥)
       → AreLasts log kinds end lists → AreLasts log kinds (end + 1) lists
   lasts_skip end lists none h = record {
     some = h.some;
@@ -115,7 +117,7 @@ module _ (log : List Entry) (kinds : List Kind) where
     ];
   }
 
-  module _ (end : ℕ) (lists new : List (List Last)) (a : Access) (h : AreLasts log kinds end lists) (is : IsAccess log kinds end a)
+  module _ (end : ℕ) (lists new : List (List Last)) (a : ThreadAccess) (h : AreLasts log kinds end lists) (is : IsAccess log kinds end a)
       (keeps : Keeps lists new (record { place = end; access = a })) where
     abbrev last : Last
     last = record { place = end; access = a }
@@ -157,7 +159,7 @@ module _ (log : List Entry) (kinds : List Kind) where
               let lt : x.place < end = m.0 in (omega arith, m.1)
         ]
 
-    all_more : (place : ℕ) (b : Access) → place < end + 1 → IsAccess log kinds place b
+    all_more : (place : ℕ) (b : ThreadAccess) → place < end + 1 → IsAccess log kinds place b
         → (x : Last) × (Contains (list_for new b.addr) x × (x.access ≡ b) × (place ≤ x.place))
     all_more place b lt i =
         elim (cases_lt place end) [
@@ -186,7 +188,7 @@ module _ (log : List Entry) (kinds : List Kind) where
               let ends : place ≤ end = omega arith in
               let has : Contains (list_for new a.addr) last =
               subst (λ (l : List Last). Contains l last) (sym keeps.put) (put_has (list_for lists a.addr) last) in
-              (last, (subst (λ (z : Access). Contains (list_for new z.addr) last) same has, same, ends))
+              (last, (subst (λ (z : ThreadAccess). Contains (list_for new z.addr) last) same has, same, ends))
         ]
 
     pub lasts_more : AreLasts log kinds (end + 1) new

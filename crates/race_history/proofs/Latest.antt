@@ -5,7 +5,7 @@ use Rattle.std.specs.List.{Contains, fold}
 use Rattle.std.proofs.lemmas.Bool.{and_from, and_parts, both_ways, cond_both, ltb-false, ltb-true}
 use Rattle.std.proofs.lemmas.List.{append-nil}
 use Rattle.std.proofs.lemmas.List.Elements.{Contains-append_left, Contains-push, Contains-push_cases}
-use Rattle.race_history.specs.declared.access.Access.{Access}
+use Rattle.race_history.specs.declared.access.ThreadAccess.{ThreadAccess}
 use Rattle.race_history.specs.declared.lasts.Last.{Last}
 use Rattle.race_history.specs.Accesses.{Meet}
 use Rattle.race_history.specs.Lasts.{IsInWord}
@@ -15,17 +15,17 @@ use Rattle.race_history.proofs.Lists.{Contains-here, Contains-none, Contains-the
 use Rattle.race_history.proofs.Words.{touches_from, touches_to}
 
 -- the last of the writes that were seen
-pub record IsLast (a : Access) (seen : List Last) (y : Last) : Type 0 where
+pub record IsLast (a : ThreadAccess) (seen : List Last) (y : Last) : Type 0 where
   pub has : Contains seen y
   pub writes : y.access.writes ≡ true
   pub meet : Meet y.access a
   pub last : (x : Last) → Contains seen x → x.access.writes ≡ true → Meet x.access a → x.place ≤ y.place
 
-abbrev pub IsLatest : Access → List Last → Option Last → Type 0
+abbrev pub IsLatest : ThreadAccess → List Last → Option Last → Type 0
 IsLatest a seen None = (x : Last) → Contains seen x → x.access.writes ≡ true → Meet x.access a → ⊥
 IsLatest a seen (Some y) = IsLast a seen y
 
-module _ (a : Access) (wa : IsInWord a) where
+module _ (a : ThreadAccess) (wa : IsInWord a) where
   module _ (seen : List Last) (x : Last) (wx : IsInWord x.access) where
     -- it writes a byte
     module _ (writes : x.access.writes ≡ true) (meet : Meet x.access a) where

@@ -1,8 +1,10 @@
 -- Lists: what they contain, and what stands where.
-use Rattle.std.proofs.Common.{◌≡◌, ◌∙◌, ◌⊎◌, ◌<◌, ◌≤◌, ◌+◌, ◌-◌, ◌++◌, ℕ, zero, suc, List, [], ◌∷◌, Bool, true, length, get_or, map, filter, take, inl, inr, refl, sym, ap, subst, arith}
+use Rattle.std.proofs.Common.{◌≡◌, ◌∙◌, ◌⊎◌, ◌<◌, ◌≤◌, ◌+◌, ◌-◌, ◌++◌, ℕ, zero, suc, List, [], ◌∷◌, Bool, true, length}
+use Rattle.std.proofs.Common.{get_or, map, filter, take, inl, inr, refl, sym, ap, subst, arith}
 use Rattle.std.specs.List.{AllPairs, Contains}
 use Rattle.std.proofs.lemmas.Bool.{cases_Bool, cases_lt, cond-true, cond-false, cond_both}
-use Rattle.std.proofs.lemmas.List.{get_or-append_right, get_or-map, get_or-take, get_or_append_left, get_or_default, get_or_push, length-append, length-map, length-take-le, length_push, take_more}
+use Rattle.std.proofs.lemmas.List.{get_or-append_right, get_or-map, get_or-take, get_or_append_left, get_or_default}
+use Rattle.std.proofs.lemmas.List.{get_or_push, length-append, length-map, length-take-le, length_push, take_more}
 use Rattle.race_history.specs.Places.{IsAt}
 
 module _ {X : Type 0} where

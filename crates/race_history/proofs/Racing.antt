@@ -1,5 +1,6 @@
 -- The races that are found.
-use Rattle.std.proofs.Common.{◌≡◌, ◌∙◌, ◌⊎◌, ◌<◌, ◌≤◌, ◌+◌, ◌++◌, ◌/◌, ◌%◌, ℕ, List, [], true, length, get_or, map, filter, take, drop, inl, inr, refl, sym, ap, subst, arith}
+use Rattle.std.proofs.Common.{◌≡◌, ◌∙◌, ◌⊎◌, ◌<◌, ◌≤◌, ◌+◌, ◌++◌, ◌/◌, ◌%◌, ℕ, List, [], true, length, get_or, map}
+use Rattle.std.proofs.Common.{filter, take, drop, inl, inr, refl, sym, ap, subst, arith}
 use Rattle.std.specs.Prelude.{nat_le}
 use Rattle.std.specs.List.{All, AllPairs, Contains}
 use Rattle.std.proofs.lemmas.Bool.{and_from, and_parts, cases_lt, le-leb, leb-true}
@@ -8,8 +9,8 @@ use Rattle.std.proofs.lemmas.List.Elements.{Contains-append_cases, Contains-appe
 use Rattle.std.proofs.lemmas.List.Kept.{AllPairs-filter}
 use Rattle.types.specs.declared.event.Entry.{Entry}
 use Rattle.shared_memory.specs.History.{AreEntries}
-use Rattle.race_history.specs.declared.access.Access.{Access}
-use Rattle.race_history.specs.declared.access.Kind.{Kind}
+use Rattle.race_history.specs.declared.access.ThreadAccess.{ThreadAccess}
+use Rattle.race_history.specs.declared.access.AccessKind.{AccessKind}
 use Rattle.race_history.specs.declared.lasts.Last.{Last}
 use Rattle.race_history.specs.declared.race.Race.{Race}
 use Rattle.race_history.specs.Accesses.{Meet}
@@ -20,26 +21,28 @@ use Rattle.race_history.specs.Clocks.{AreClocks}
 use Rattle.race_history.specs.Found.{clashes, race_of}
 use Rattle.race_history.specs.Races.{AreInOrder, AreRaces, AreRacing, Conflict, HasEach, IsCut, IsEarlier, IsLastRace, IsNamed}
 use Rattle.race_history.specs.Tests.{conflicts}
-use Rattle.race_history.proofs.Lists.{Contains-at, Contains-filter, Contains-map, Contains-none, IsAt-get, all_pairs_append, all_pairs_map, all_pairs_none, all_pairs_take, filter-Contains, map-Contains}
+use Rattle.race_history.proofs.Lists.{Contains-at, Contains-filter, Contains-map, Contains-none, IsAt-get}
+use Rattle.race_history.proofs.Lists.{all_pairs_append, all_pairs_map, all_pairs_none, all_pairs_take, filter-Contains}
+use Rattle.race_history.proofs.Lists.{map-Contains}
 use Rattle.race_history.proofs.Places.{IsAccess-same, access_thread, access_word, thread_is}
 use Rattle.race_history.proofs.Words.{conflict_from, conflict_to}
 use Rattle.race_history.proofs.Reading.{near, words}
 use Rattle.race_history.proofs.Keeping.{once}
 
 -- of the entries before a place each race is named
-abbrev pub HasEachTo : List Entry → List Kind → ℕ → List Race → Type 0
-HasEachTo log kinds end pairs = (first second : ℕ) (a b : Access) → second < end → AreRacing log kinds first second a b
+abbrev pub HasEachTo : List Entry → List AccessKind → ℕ → List Race → Type 0
+HasEachTo log kinds end pairs = (first second : ℕ) (a b : ThreadAccess) → second < end → AreRacing log kinds first second a b
     → IsNamed log kinds pairs a second
 
 -- the races of the entries before a place
-pub record AreFound (log : List Entry) (kinds : List Kind) (end : ℕ) (pairs : List Race) : Type 0 where
+pub record AreFound (log : List Entry) (kinds : List AccessKind) (end : ℕ) (pairs : List Race) : Type 0 where
   pub races : AreRaces log kinds pairs
   pub in_order : AreInOrder pairs
   pub before : (r : Race) → Contains pairs r → r.second < end
   pub each : HasEachTo log kinds end pairs
 
-module _ (log : List Entry) (kinds : List Kind) where
-  pub named_more : (a : Access) (second : ℕ) (pairs more : List Race) → IsNamed log kinds pairs a second → IsNamed log kinds (pairs ++ more) a second
+module _ (log : List Entry) (kinds : List AccessKind) where
+  pub named_more : (a : ThreadAccess) (second : ℕ) (pairs more : List Race) → IsNamed log kinds pairs a second → IsNamed log kinds (pairs ++ more) a second
   named_more a second pairs more h = record {
     first = h.first;
     made = h.made;
@@ -47,13 +50,13 @@ module _ (log : List Entry) (kinds : List Kind) where
   }
 
   -- a race ends within the history
-  pub racing_within : (first second : ℕ) (a b : Access) → AreRacing log kinds first second a b → second < length log
+  pub racing_within : (first second : ℕ) (a b : ThreadAccess) → AreRacing log kinds first second a b → second < length log
   racing_within first second a b r = r.met.entered.within
 
   pub each_all : (pairs : List Race) → HasEachTo log kinds (length log) pairs → HasEach log kinds pairs
   each_all pairs h = λ first second a b r. h first second a b (racing_within first second a b r) r
 
-  pub each_skip : (end : ℕ) (pairs : List Race) → ((a : Access) → IsAccess log kinds end a → ⊥) → HasEachTo log kinds end pairs
+  pub each_skip : (end : ℕ) (pairs : List Race) → ((a : ThreadAccess) → IsAccess log kinds end a → ⊥) → HasEachTo log kinds end pairs
       → HasEachTo log kinds (end + 1) pairs
   each_skip end pairs none h first second a b lt r = elim (cases_lt second end) [
     | inl before ↦ h first second a b before r
@@ -61,7 +64,7 @@ module _ (log : List Entry) (kinds : List Kind) where
   ]
 
   module _ (entries : AreEntries log) (threads end : ℕ) (lists : List (List Last)) (lasts : AreLasts log kinds end lists)
-      (clocks : List (List ℕ)) (h : AreClocks log kinds threads (length log) clocks) (a : Access) (is : IsAccess log kinds end a) where
+      (clocks : List (List ℕ)) (h : AreClocks log kinds threads (length log) clocks) (a : ThreadAccess) (is : IsAccess log kinds end a) where
     -- what the clock says of an earlier access
     unordered : (x : Last) → Contains (list_for lists a.addr) x → nat_le (get_or (get_or clocks end []) x.access.thread 0) x.place ≡ true
         → IsBefore log kinds x.place end → ⊥
@@ -118,18 +121,18 @@ module _ (log : List Entry) (kinds : List Kind) where
         ]
 
     -- an access that races with this one is named, by the last that is the same
-    named_here : (first : ℕ) (b c : Access) → AreRacing log kinds first end b c
+    named_here : (first : ℕ) (b c : ThreadAccess) → AreRacing log kinds first end b c
         → IsNamed log kinds (map (race_of end) (filter (clashes a (get_or clocks end [])) (list_for lists a.addr))) b end
     named_here first b c r =
         let same : c ≡ a = IsAccess-same log kinds end c a r.met is in
-        let conflict : Conflict b a = subst (λ (z : Access). Conflict b z) same r.conflict in
+        let conflict : Conflict b a = subst (λ (z : ThreadAccess). Conflict b z) same r.conflict in
         let n = near log kinds entries end lists lasts a is first b r.earlier r.made conflict.meet in
         let x : Last = n.0 in
         let m = lasts.made (a.addr / 8 % length lists) x n.1.0 in
         let late : first ≤ x.place = n.1.2 in
-        let clashing : conflicts x.access a ≡ true = conflict_to x.access a (subst (λ (z : Access). Conflict z a) (sym n.1.1) conflict) in
+        let clashing : conflicts x.access a ≡ true = conflict_to x.access a (subst (λ (z : ThreadAccess). Conflict z a) (sym n.1.1) conflict) in
         let thread : thread_at log first ≡ x.access.thread =
-        access_thread log kinds first b r.made ∙ ap (λ (z : Access). z.thread) (sym n.1.1) in
+        access_thread log kinds first b r.made ∙ ap (λ (z : ThreadAccess). z.thread) (sym n.1.1) in
         let above : get_or (get_or clocks end []) x.access.thread 0 ≤ first = elim (cases_lt first (get_or (get_or clocks end []) x.access.thread 0)) [
           | inl lt ↦
               let at : get_or (get_or clocks end []) (thread_at log first) 0 ≡ get_or (get_or clocks end []) x.access.thread 0 =
@@ -145,7 +148,7 @@ module _ (log : List Entry) (kinds : List Kind) where
         (le-leb (get_or (get_or clocks end []) x.access.thread 0) x.place (omega arith)) in
         record {
           first = x.place;
-          made = subst (λ (z : Access). IsAccess log kinds x.place z) n.1.1 m.1;
+          made = subst (λ (z : ThreadAccess). IsAccess log kinds x.place z) n.1.1 m.1;
           named =
               map-Contains (race_of end) (filter (clashes a (get_or clocks end [])) (list_for lists a.addr)) x
               (filter-Contains (clashes a (get_or clocks end [])) (list_for lists a.addr) x n.1.0 test);
@@ -230,7 +233,7 @@ module _ (log : List Entry) (kinds : List Kind) where
     each = λ first second a b lt r. absurd (omega arith);
   }
 
-  pub found_skip : (end : ℕ) (pairs : List Race) → ((a : Access) → IsAccess log kinds end a → ⊥) → AreFound log kinds end pairs
+  pub found_skip : (end : ℕ) (pairs : List Race) → ((a : ThreadAccess) → IsAccess log kinds end a → ⊥) → AreFound log kinds end pairs
       → AreFound log kinds (end + 1) pairs
   found_skip end pairs none h = record {
     races = h.races;
@@ -278,7 +281,7 @@ module _ (log : List Entry) (kinds : List Kind) where
         let there : r.first < r.second = t.racing.earlier in
         elim (cases_lt n.first r.first) [
           | inl before ↦
-              absurd (m.last r.first before there (subst (λ (a : Access). IsAccess log kinds r.first a) (sym same) t.racing.made))
+              absurd (m.last r.first before there (subst (λ (a : ThreadAccess). IsAccess log kinds r.first a) (sym same) t.racing.made))
           | inr ge ↦ elim (cases_lt r.first n.first) [
             | inl after ↦ absurd (t.last n.first after here n.made)
             | inr le ↦

@@ -1,13 +1,14 @@
 -- Which write an access reads from.
-use Rattle.std.proofs.Common.{◌≡◌, ◌∙◌, ◌<◌, ◌≤◌, ◌+◌, ◌/◌, ◌%◌, ◌++◌, ◌&&◌, ℕ, List, [], ◌∷◌, true, Option, Some, None, length, get_or, inl, inr, refl, sym, ap, subst, arith}
+use Rattle.std.proofs.Common.{◌≡◌, ◌∙◌, ◌<◌, ◌≤◌, ◌+◌, ◌/◌, ◌%◌, ◌++◌, ◌&&◌, ℕ, List, [], ◌∷◌, true, Option, Some, None}
+use Rattle.std.proofs.Common.{length, get_or, inl, inr, refl, sym, ap, subst, arith}
 use Rattle.std.specs.List.{Contains, fold}
 use Rattle.std.proofs.lemmas.Bool.{and_from, and_parts, cases_lt, cond-true}
 use Rattle.std.proofs.lemmas.List.{length_push}
 use Rattle.std.proofs.lemmas.Option.{cond_some, none-some}
 use Rattle.types.specs.declared.event.Entry.{Entry}
 use Rattle.shared_memory.specs.History.{AreEntries}
-use Rattle.race_history.specs.declared.access.Access.{Access}
-use Rattle.race_history.specs.declared.access.Kind.{Kind}
+use Rattle.race_history.specs.declared.access.ThreadAccess.{ThreadAccess}
+use Rattle.race_history.specs.declared.access.AccessKind.{AccessKind}
 use Rattle.race_history.specs.declared.lasts.Last.{Last}
 use Rattle.race_history.specs.Accesses.{AreMatched, Meet}
 use Rattle.race_history.specs.Places.{IsAccess, IsAt}
@@ -20,13 +21,13 @@ use Rattle.race_history.proofs.Places.{IsAccess-same, access_word}
 use Rattle.race_history.proofs.Words.{matched_from, matched_meet, matched_to, one_word}
 use Rattle.race_history.proofs.Latest.{IsLatest, latest_is}
 
-module _ (log : List Entry) (kinds : List Kind) (entries : AreEntries log) (end : ℕ) (lists : List (List Last))
-    (lasts : AreLasts log kinds end lists) (a : Access) (is : IsAccess log kinds end a) where
+module _ (log : List Entry) (kinds : List AccessKind) (entries : AreEntries log) (end : ℕ) (lists : List (List Last))
+    (lasts : AreLasts log kinds end lists) (a : ThreadAccess) (is : IsAccess log kinds end a) where
   wa : IsInWord a
   wa = access_word log kinds entries end a is
 
   -- the last of an access that touches a byte of this one is in its list
-  pub near : (place : ℕ) (b : Access) → place < end → IsAccess log kinds place b → Meet b a
+  pub near : (place : ℕ) (b : ThreadAccess) → place < end → IsAccess log kinds place b → Meet b a
       → (x : Last) × (Contains (list_for lists a.addr) x × (x.access ≡ b) × (place ≤ x.place))
   near place b lt h meet =
       let o = lasts.all place b lt h in
@@ -58,8 +59,8 @@ module _ (log : List Entry) (kinds : List Kind) (entries : AreEntries log) (end 
             let z = near k c before i meet in
             let x : Last = z.0 in
             let late : k ≤ x.place = z.1.2 in
-            let latest : x.place ≤ y.place = h.last x z.1.0 (subst (λ (b : Access). b.writes ≡ true) (sym z.1.1) w)
-            (subst (λ (b : Access). Meet b a) (sym z.1.1) meet) in
+            let latest : x.place ≤ y.place = h.last x z.1.0 (subst (λ (b : ThreadAccess). b.writes ≡ true) (sym z.1.1) w)
+            (subst (λ (b : ThreadAccess). Meet b a) (sym z.1.1) meet) in
             omega arith;
       }
 
@@ -68,7 +69,7 @@ module _ (log : List Entry) (kinds : List Kind) (entries : AreEntries log) (end 
     same_read = IsAccess-same log kinds end r.read a r.met is
 
     meet : Meet r.write a
-    meet = subst (λ (b : Access). Meet r.write b) same_read
+    meet = subst (λ (b : ThreadAccess). Meet r.write b) same_read
         (matched_meet r.write r.read (access_word log kinds entries first r.write r.made) r.matched)
 
     -- no write in a list that touches a byte is later
@@ -76,7 +77,7 @@ module _ (log : List Entry) (kinds : List Kind) (entries : AreEntries log) (end 
     no_later x c w m =
         let made = lasts.made (a.addr / 8 % length lists) x c in
         elim (cases_lt first x.place) [
-          | inl after ↦ absurd (r.last x.place x.access after made.0 made.1 w (subst (λ (b : Access). Meet x.access b) (sym same_read) m))
+          | inl after ↦ absurd (r.last x.place x.access after made.0 made.1 w (subst (λ (b : ThreadAccess). Meet x.access b) (sym same_read) m))
           | inr le ↦ le
         ]
 
@@ -84,10 +85,10 @@ module _ (log : List Entry) (kinds : List Kind) (entries : AreEntries log) (end 
     found = near first r.write r.earlier r.made meet
 
     writes_found : found.0.access.writes ≡ true
-    writes_found = subst (λ (b : Access). b.writes ≡ true) (sym found.1.1) r.writes
+    writes_found = subst (λ (b : ThreadAccess). b.writes ≡ true) (sym found.1.1) r.writes
 
     meet_found : Meet found.0.access a
-    meet_found = subst (λ (b : Access). Meet b a) (sym found.1.1) meet
+    meet_found = subst (λ (b : ThreadAccess). Meet b a) (sym found.1.1) meet
 
     from_reads : (o : Option Last) → IsLatest a (list_for lists a.addr) o → from_latest a o ≡ Some first
     from_reads None h = absurd (h found.0 found.1.0 writes_found meet_found)
@@ -100,8 +101,8 @@ module _ (log : List Entry) (kinds : List Kind) (entries : AreEntries log) (end 
         let same : y.access ≡ r.write =
         IsAccess-same log kinds first y.access r.write (subst (λ (n : ℕ). IsAccess log kinds n y.access) at made.1) r.made in
         let matched : AreMatched y.access a =
-        subst (λ (b : Access). AreMatched b a) (sym same) (subst (λ (b : Access). AreMatched r.write b) same_read r.matched) in
-        let reads : a.reads ≡ true = subst (λ (b : Access). b.reads ≡ true) same_read r.reads in
+        subst (λ (b : ThreadAccess). AreMatched b a) (sym same) (subst (λ (b : ThreadAccess). AreMatched r.write b) same_read r.matched) in
+        let reads : a.reads ≡ true = subst (λ (b : ThreadAccess). b.reads ≡ true) same_read r.reads in
         cond-true (a.reads && are_matched y.access a) (Some y.place) None
         (and_from a.reads (are_matched y.access a) reads (matched_to y.access a matched))
         ∙ ap (λ (n : ℕ). Some n) at
@@ -116,7 +117,7 @@ module _ (log : List Entry) (kinds : List Kind) (entries : AreEntries log) (end 
   is-read_from first r = from_reads first r (fold (later a) None (list_for lists a.addr)) latest
 
 -- one more
-module _ (log : List Entry) (kinds : List Kind) where
+module _ (log : List Entry) (kinds : List AccessKind) where
   pub writers_none : AreWriters log kinds 0 []
   writers_none = record {
     count = refl;
@@ -142,7 +143,7 @@ module _ (log : List Entry) (kinds : List Kind) where
     ];
   }
 
-  pub writers_skip : (end : ℕ) (ws : List (Option ℕ)) → AreWriters log kinds end ws → ((a : Access) → IsAccess log kinds end a → ⊥)
+  pub writers_skip : (end : ℕ) (ws : List (Option ℕ)) → AreWriters log kinds end ws → ((a : ThreadAccess) → IsAccess log kinds end a → ⊥)
       → AreWriters log kinds (end + 1) (ws ++ None ∷ [])
   writers_skip end ws h none =
       writers_more end ws None h (λ first e. absurd (none-some first e)) (λ first r. absurd (none r.read r.met))

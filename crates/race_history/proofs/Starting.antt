@@ -1,5 +1,6 @@
 -- Which spawn starts which thread, and how the queue goes along.
-use Rattle.std.proofs.Common.{◌≡◌, ◌∙◌, ◌⊎◌, ◌<◌, ◌≤◌, ◌+◌, ◌++◌, ◌==◌, ℕ, List, [], ◌∷◌, true, false, not, length, take, drop, inl, inr, refl, sym, ap, subst, arith, add-one}
+use Rattle.std.proofs.Common.{◌≡◌, ◌∙◌, ◌⊎◌, ◌<◌, ◌≤◌, ◌+◌, ◌++◌, ◌==◌, ℕ, List, [], ◌∷◌, true, false, not, length}
+use Rattle.std.proofs.Common.{take, drop, inl, inr, refl, sym, ap, subst, arith, add-one}
 use Rattle.std.specs.Prelude.{if◌then◌else◌, slice_get}
 use Rattle.std.specs.Option.{is_some}
 use Rattle.std.proofs.lemmas.Bool.{both_ways, cases_lt, cond_both}
@@ -13,7 +14,9 @@ use Rattle.types.specs.declared.event.Question.TheVariants.{Wait, Notify, Spawn,
 use Rattle.types.specs.declared.event.Answer.TheVariants.{Number}
 use Rattle.types.specs.declared.event.Reply.{Reply}
 use Rattle.types.specs.declared.event.Reply.TheVariants.{Value, Done, OutOfBounds, Again, Full}
-use Rattle.shared_memory.specs.WaitQueue.{WaitQueue, after_answer, after_question, asked, end_answer, ended, ends_at_once, first_queue, has_slot, is_stuck, next_id, settled, sleeps, starts, tells, wakes}
+use Rattle.shared_memory.specs.WaitQueue.{WaitQueue, after_answer, after_question, asked, end_answer, ended}
+use Rattle.shared_memory.specs.WaitQueue.{ends_at_once, first_queue, has_slot, is_stuck, next_id, settled, sleeps}
+use Rattle.shared_memory.specs.WaitQueue.{starts, tells, wakes}
 use Rattle.shared_memory.specs.History.{queue_after, queue_step}
 use Rattle.shared_memory.specs.Legal.{IsAllowed, IsQueueLegal}
 use Rattle.shared_memory.proofs.Histories.{IsQueueLegal-prefix}

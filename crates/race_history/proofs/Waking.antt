@@ -1,5 +1,6 @@
 -- Who was woken and hasn't taken the answer, and whom an answer taken was due to.
-use Rattle.std.proofs.Common.{◌≡◌, ◌∙◌, ◌<◌, ◌≤◌, ◌+◌, ◌++◌, ◌==◌, ℕ, List, [], ◌∷◌, Bool, true, false, not, length, map, filter, take, inl, inr, refl, sym, ap, subst, arith}
+use Rattle.std.proofs.Common.{◌≡◌, ◌∙◌, ◌<◌, ◌≤◌, ◌+◌, ◌++◌, ◌==◌, ℕ, List, [], ◌∷◌, Bool, true, false, not, length}
+use Rattle.std.proofs.Common.{map, filter, take, inl, inr, refl, sym, ap, subst, arith}
 use Rattle.std.specs.List.{Contains, list_any}
 use Rattle.std.proofs.lemmas.Bool.{both_ways, cases_lt, cond-true, cond_both, eq-eqb, eqb-true, ne_eqb, not-true, not_from_false, or_cases}
 use Rattle.std.proofs.lemmas.List.{get_or_append_left, get_or_past, get_or_push, length_push}
@@ -17,7 +18,8 @@ use Rattle.race_history.specs.Accesses.{is_out_of_bounds}
 use Rattle.race_history.specs.Places.{IsAt, is_told, is_told_at, thread_at}
 use Rattle.race_history.specs.Order.{IsWakeOf, Wakes}
 use Rattle.race_history.specs.Calls.{AreWakers, AreWoken, IsPending, noted, noted_after, notified, noting, wakers_at}
-use Rattle.race_history.proofs.Lists.{Contains-filter, Contains-here, Contains-map, Contains-none, Contains-there, IsAt-same, filter-Contains, map-Contains, map-at}
+use Rattle.race_history.proofs.Lists.{Contains-filter, Contains-here, Contains-map, Contains-none, Contains-there}
+use Rattle.race_history.proofs.Lists.{IsAt-same, filter-Contains, map-Contains, map-at}
 
 any_has : {X : Type 0} (p : X → Bool) (xs : List X) → list_any p xs ≡ true → (x : X) × (Contains xs x × (p x ≡ true))
 any_has p [] h = absurd (both_ways false refl h)

@@ -3,17 +3,19 @@ use Rattle.std.proofs.Common.{◌≡◌, ◌∙◌, ◌<◌, ◌≤◌, ◌+◌,
 use Rattle.std.proofs.Math.Bool.{beq}
 use Rattle.std.specs.Cmp.{booleans_Decides}
 use Rattle.std.specs.Prelude.{nat_le, nat_lt}
-use Rattle.std.proofs.lemmas.Bool.{and_from, and_parts, both_ways, cases_lt, cond-false, cond-true, eq-eqb, eqb-true, false_from_ne_true, le-leb, lt-leb, lt-ltb, ltb-true, ne_eqb, not-true, not_from_false, or_cases, or_left, or_right}
-use Rattle.race_history.specs.declared.access.Access.{Access}
+use Rattle.std.proofs.lemmas.Bool.{and_from, and_parts, both_ways, cases_lt, cond-false, cond-true, eq-eqb, eqb-true}
+use Rattle.std.proofs.lemmas.Bool.{false_from_ne_true, le-leb, lt-leb, lt-ltb, ltb-true, ne_eqb, not-true}
+use Rattle.std.proofs.lemmas.Bool.{not_from_false, or_cases, or_left, or_right}
+use Rattle.race_history.specs.declared.access.ThreadAccess.{ThreadAccess}
 use Rattle.race_history.specs.Accesses.{AreMatched, Meet}
 use Rattle.race_history.specs.Lasts.{IsInWord}
 use Rattle.race_history.specs.Races.{Conflict}
 use Rattle.race_history.specs.Tests.{are_matched, conflicts, is_same, touches}
 
-same_fields : (a b : Access) → a.thread ≡ b.thread → a.addr ≡ b.addr → a.width ≡ b.width → a.reads ≡ b.reads → a.writes ≡ b.writes
+same_fields : (a b : ThreadAccess) → a.thread ≡ b.thread → a.addr ≡ b.addr → a.width ≡ b.width → a.reads ≡ b.reads → a.writes ≡ b.writes
     → a.atomic ≡ b.atomic → a ≡ b
 same_fields a b thread addr width reads writes atomic =
-    let of : ℕ → ℕ → ℕ → Bool → Bool → Bool → Access =
+    let of : ℕ → ℕ → ℕ → Bool → Bool → Bool → ThreadAccess =
     λ n k w r s t. record { thread = n; addr = k; width = w; reads = r; writes = s; atomic = t } in
     ap (λ (n : ℕ). of n a.addr a.width a.reads a.writes a.atomic) thread
     ∙ (ap (λ (k : ℕ). of b.thread k a.width a.reads a.writes a.atomic) addr
@@ -22,7 +24,7 @@ same_fields a b thread addr width reads writes atomic =
     ∙ (ap (λ (s : Bool). of b.thread b.addr b.width b.reads s a.atomic) writes
     ∙ ap (λ (t : Bool). of b.thread b.addr b.width b.reads b.writes t) atomic))))
 
-module _ (a b : Access) where
+module _ (a b : ThreadAccess) where
   pub same_from : is_same a b ≡ true → a ≡ b
   same_from t =
       let thread : Bool = a.thread == b.thread in
@@ -52,11 +54,11 @@ module _ (a b : Access) where
       (and_from (thread && addr && width && reads) writes
       (and_from (thread && addr && width) reads
       (and_from (thread && addr) width
-      (and_from thread addr (eq-eqb a.thread b.thread (ap (λ (z : Access). z.thread) e)) (eq-eqb a.addr b.addr (ap (λ (z : Access). z.addr) e)))
-      (eq-eqb a.width b.width (ap (λ (z : Access). z.width) e)))
-      ((booleans_Decides a.reads b.reads).1 (ap (λ (z : Access). z.reads) e)))
-      ((booleans_Decides a.writes b.writes).1 (ap (λ (z : Access). z.writes) e)))
-      ((booleans_Decides a.atomic b.atomic).1 (ap (λ (z : Access). z.atomic) e))
+      (and_from thread addr (eq-eqb a.thread b.thread (ap (λ (z : ThreadAccess). z.thread) e)) (eq-eqb a.addr b.addr (ap (λ (z : ThreadAccess). z.addr) e)))
+      (eq-eqb a.width b.width (ap (λ (z : ThreadAccess). z.width) e)))
+      ((booleans_Decides a.reads b.reads).1 (ap (λ (z : ThreadAccess). z.reads) e)))
+      ((booleans_Decides a.writes b.writes).1 (ap (λ (z : ThreadAccess). z.writes) e)))
+      ((booleans_Decides a.atomic b.atomic).1 (ap (λ (z : ThreadAccess). z.atomic) e))
 
   pub matched_from : are_matched a b ≡ true → AreMatched a b
   matched_from t =
@@ -140,7 +142,7 @@ module _ (a b : Access) where
       (not_from_false (are_matched a b) (false_from_ne_true (are_matched a b) (λ t. h.unmatched (matched_from t))))
 
 -- whoever is matched touches the same bytes
-pub matched_meet : (a b : Access) → IsInWord a → AreMatched a b → Meet a b
+pub matched_meet : (a b : ThreadAccess) → IsInWord a → AreMatched a b → Meet a b
 matched_meet a b wa h =
     let some : 1 ≤ a.width = wa.some in
     let addr : a.addr ≡ b.addr = h.addr in

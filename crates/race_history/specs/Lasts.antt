@@ -2,15 +2,15 @@
 use Rattle.std.specs.Prelude.{ℕ, ◌≡◌, ◌≢◌, ◌<◌, ◌≤◌, ◌+◌, ◌++◌, ◌/◌, ◌%◌, List, [], ◌∷◌, length, map, filter, not, Contains, AllPairs, slice_index_or}
 use Rattle.std.specs.Global.{Vec}
 use Rattle.types.specs.declared.event.Entry.{Entry}
-use Rattle.race_history.specs.declared.access.Access.{Access}
-use Rattle.race_history.specs.declared.access.Kind.{Kind}
+use Rattle.race_history.specs.declared.access.ThreadAccess.{ThreadAccess}
+use Rattle.race_history.specs.declared.access.AccessKind.{AccessKind}
 use Rattle.race_history.specs.declared.lasts.Last.{Last}
 use Rattle.race_history.specs.declared.lasts.Lasts.{Lasts}
 use Rattle.race_history.specs.Places.{IsAccess}
 use Rattle.race_history.specs.Tests.{is_same}
 
 -- An access touches a byte, and all that it touches lie in one aligned 8-byte word.
-pub record IsInWord (a : Access) : Type 0 where
+pub record IsInWord (a : ThreadAccess) : Type 0 where
   pub some : 1 ≤ a.width
   pub one_word : a.addr % 8 + a.width ≤ 8
 
@@ -38,9 +38,9 @@ pub record IsAhead (x y : Last) : Type 0 where
   pub other : x.access ≡ y.access → ⊥
 
 -- Of each access that entries before a place made, the list of its word has the last place; each list is in order.
-pub record AreLasts (log : List Entry) (kinds : List Kind) (end : ℕ) (lists : List (List Last)) : Type 0 where
+pub record AreLasts (log : List Entry) (kinds : List AccessKind) (end : ℕ) (lists : List (List Last)) : Type 0 where
   pub some : 0 < length lists
   pub in_order : (k : ℕ) → AllPairs IsAhead (slice_index_or lists k [])
   pub made : (k : ℕ) (x : Last) → Contains (slice_index_or lists k []) x → (x.place < end) × IsAccess log kinds x.place x.access
-  pub all : (place : ℕ) (a : Access) → place < end → IsAccess log kinds place a
+  pub all : (place : ℕ) (a : ThreadAccess) → place < end → IsAccess log kinds place a
       → (x : Last) × (Contains (list_for lists a.addr) x × (x.access ≡ a) × (place ≤ x.place))

@@ -12,8 +12,8 @@ use Rattle.types.specs.declared.event.Event.TheVariants.{Ask}
 use Rattle.types.specs.declared.event.Question.TheVariants.{Notify}
 use Rattle.shared_memory.specs.WaitQueue.{is_among, next_id, woken_at}
 use Rattle.shared_memory.specs.History.{queue_after}
-use Rattle.race_history.specs.declared.access.Access.{Access}
-use Rattle.race_history.specs.declared.access.Kind.{Kind}
+use Rattle.race_history.specs.declared.access.ThreadAccess.{ThreadAccess}
+use Rattle.race_history.specs.declared.access.AccessKind.{AccessKind}
 use Rattle.race_history.specs.Accesses.{Meet, AreMatched, is_out_of_bounds}
 use Rattle.race_history.specs.Places.{IsAt, IsAccess, thread_at, is_told_at}
 
@@ -37,16 +37,17 @@ pub record Starts (log : List Entry) (first second : ℕ) : Type 0 where
 
 -- An atomic write, and an atomic read of exactly these bytes that reads what it wrote: no write that touches one of
 -- them stands between.
-pub record ReadsFrom (log : List Entry) (kinds : List Kind) (first second : ℕ) : Type 0 where
+pub record ReadsFrom (log : List Entry) (kinds : List AccessKind) (first second : ℕ) : Type 0 where
   pub earlier : first < second
-  pub write : Access
-  pub read : Access
+  pub write : ThreadAccess
+  pub read : ThreadAccess
   pub made : IsAccess log kinds first write
   pub met : IsAccess log kinds second read
   pub matched : AreMatched write read
   pub writes : write.writes ≡ true
   pub reads : read.reads ≡ true
-  pub last : (k : ℕ) (c : Access) → first < k → k < second → IsAccess log kinds k c → c.writes ≡ true → Meet c read → ⊥
+  pub last : (k : ℕ) (c : ThreadAccess) → first < k → k < second → IsAccess log kinds k c → c.writes ≡ true
+      → Meet c read → ⊥
 
 -- The entry is a notify that wakes this thread.
 pub record IsWakeOf (log : List Entry) (place n : ℕ) : Type 0 where
@@ -66,11 +67,11 @@ pub record Wakes (log : List Entry) (first second : ℕ) : Type 0 where
   pub told : is_told_at log second ≡ true
   pub next : (k : ℕ) → first < k → k < second → is_told_at log k ≡ true → thread_at log k ≡ thread_at log second → ⊥
 
-abbrev pub IsEdge : List Entry → List Kind → ℕ → ℕ → Type 0
+abbrev pub IsEdge : List Entry → List AccessKind → ℕ → ℕ → Type 0
 IsEdge log kinds first second =
     IsOfOneThread log first second ⊎ Starts log first second ⊎ ReadsFrom log kinds first second ⊎ Wakes log first second
 
 -- Happens before: along edges, one or more.
-pub data IsBefore (log : List Entry) (kinds : List Kind) : ℕ → ℕ → Type 0 where
+pub data IsBefore (log : List Entry) (kinds : List AccessKind) : ℕ → ℕ → Type 0 where
   along : {i j : ℕ} → IsEdge log kinds i j → IsBefore log kinds i j
   further : {i j k : ℕ} → IsBefore log kinds i j → IsEdge log kinds j k → IsBefore log kinds i k

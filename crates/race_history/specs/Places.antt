@@ -3,8 +3,8 @@ use Rattle.std.specs.Prelude.{ℕ, ◌≡◌, ◌<◌, Bool, true, false, List, 
 use Rattle.types.specs.declared.event.Entry.{Entry}
 use Rattle.types.specs.declared.event.Event.{Event}
 use Rattle.types.specs.declared.event.Event.TheVariants.{Told}
-use Rattle.race_history.specs.declared.access.Access.{Access}
-use Rattle.race_history.specs.declared.access.Kind.{Kind}
+use Rattle.race_history.specs.declared.access.ThreadAccess.{ThreadAccess}
+use Rattle.race_history.specs.declared.access.AccessKind.{AccessKind}
 use Rattle.race_history.specs.Accesses.{access_of}
 
 -- A list has this at a place.
@@ -13,9 +13,9 @@ pub record IsAt {X : Type 0} (xs : List X) (place : ℕ) (x : X) : Type 0 where
   pub is : slice_index_or xs place x ≡ x
 
 -- The entry at a place makes this access.
-pub record IsAccess (log : List Entry) (kinds : List Kind) (place : ℕ) (a : Access) : Type 0 where
+pub record IsAccess (log : List Entry) (kinds : List AccessKind) (place : ℕ) (a : ThreadAccess) : Type 0 where
   pub entry : Entry
-  pub kind : Kind
+  pub kind : AccessKind
   pub entered : IsAt log place entry
   pub kinded : IsAt kinds place kind
   pub made : access_of entry kind ≡ Some a

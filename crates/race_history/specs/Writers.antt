@@ -2,8 +2,8 @@
 use Rattle.std.specs.Prelude.{ℕ, ◌≡◌, ◌<◌, ◌&&◌, nat_lt, if◌then◌else◌, List, length, Option, Some, None}
 use Rattle.std.specs.List.{fold}
 use Rattle.types.specs.declared.event.Entry.{Entry}
-use Rattle.race_history.specs.declared.access.Access.{Access}
-use Rattle.race_history.specs.declared.access.Kind.{Kind}
+use Rattle.race_history.specs.declared.access.ThreadAccess.{ThreadAccess}
+use Rattle.race_history.specs.declared.access.AccessKind.{AccessKind}
 use Rattle.race_history.specs.declared.lasts.Last.{Last}
 use Rattle.race_history.specs.Places.{IsAt}
 use Rattle.race_history.specs.Order.{ReadsFrom}
@@ -14,19 +14,19 @@ later_of x None = Some x
 later_of x (Some y) = if nat_lt x.place y.place then Some y else Some x
 
 -- The later one of an access and the latest before it, of those that write a byte of this access.
-abbrev pub later : Access → Option Last → Last → Option Last
+abbrev pub later : ThreadAccess → Option Last → Last → Option Last
 later a latest x = if x.access.writes && touches x.access a then later_of x latest else latest
 
 -- The place of the write that the access reads from, if it is an atomic read of just the bytes of the latest.
-abbrev pub from_latest : Access → Option Last → Option ℕ
+abbrev pub from_latest : ThreadAccess → Option Last → Option ℕ
 from_latest a None = None
 from_latest a (Some x) = if a.reads && are_matched x.access a then Some x.place else None
 
-abbrev pub read_from : List Last → Access → Option ℕ
+abbrev pub read_from : List Last → ThreadAccess → Option ℕ
 read_from list a = from_latest a (fold (later a) None list)
 
 -- Of each entry before a place, the write that it reads from.
-pub record AreWriters (log : List Entry) (kinds : List Kind) (end : ℕ) (writers : List (Option ℕ)) : Type 0 where
+pub record AreWriters (log : List Entry) (kinds : List AccessKind) (end : ℕ) (writers : List (Option ℕ)) : Type 0 where
   pub count : length writers ≡ end
   pub from : (first second : ℕ) → IsAt writers second (Some first) → ReadsFrom log kinds first second
   pub all : (first second : ℕ) → second < end → ReadsFrom log kinds first second → IsAt writers second (Some first)

@@ -8,14 +8,14 @@ use types::{Entry, Event, Question, Reply};
 
 /// By which instruction an access was made: a plain one or an atomic one.
 #[derive(Clone, Copy, PartialEq, Eq, Debug)]
-pub enum Kind {
+pub enum AccessKind {
     Plain,
     Atomic,
 }
 
 /// An access to the bytes `addr .. addr + width`.
 #[derive(Clone, Copy, PartialEq, Eq, Debug)]
-pub struct Access {
+pub struct ThreadAccess {
     /// The thread's number.
     pub thread: u32,
     /// The first byte's address.
@@ -47,20 +47,20 @@ pub(crate) fn is_out_of_bounds(reply: Reply) -> bool
     }
 }
 
-fn is_atomic(kind: Kind) -> bool
+fn is_atomic(kind: AccessKind) -> bool
     ensures { result ≡ is_atomic kind }
 {
     match kind {
-        Kind::Plain => false,
-        Kind::Atomic => true,
+        AccessKind::Plain => false,
+        AccessKind::Atomic => true,
     }
 }
 
 /// An access that reads alone.
-fn reading(thread: u32, addr: u64, width: u8, atomic: bool) -> Access
+fn reading(thread: u32, addr: u64, width: u8, atomic: bool) -> ThreadAccess
     ensures { result ≡ reading thread addr width atomic }
 {
-    Access {
+    ThreadAccess {
         thread,
         addr,
         width,
@@ -71,10 +71,10 @@ fn reading(thread: u32, addr: u64, width: u8, atomic: bool) -> Access
 }
 
 /// An atomic access that reads and may write.
-fn changing(thread: u32, addr: u64, width: u8, writes: bool) -> Access
+fn changing(thread: u32, addr: u64, width: u8, writes: bool) -> ThreadAccess
     ensures { result ≡ changing thread addr width writes }
 {
-    Access {
+    ThreadAccess {
         thread,
         addr,
         width,
@@ -85,7 +85,7 @@ fn changing(thread: u32, addr: u64, width: u8, writes: bool) -> Access
 }
 
 /// The access that an event makes within bounds.
-fn access_within(thread: u32, event: Event, reply: Reply, kind: Kind) -> Option<Access>
+fn access_within(thread: u32, event: Event, reply: Reply, kind: AccessKind) -> Option<ThreadAccess>
     ensures { result ≡ access_within thread event reply kind }
 {
     match event {
@@ -99,7 +99,7 @@ fn access_within(thread: u32, event: Event, reply: Reply, kind: Kind) -> Option<
             width,
             reach: _,
             value: _,
-        } => Some(Access {
+        } => Some(ThreadAccess {
             thread,
             addr,
             width,
@@ -132,7 +132,7 @@ fn access_within(thread: u32, event: Event, reply: Reply, kind: Kind) -> Option<
 }
 
 /// The access that an entry makes.
-pub fn access_of(entry: &Entry, kind: Kind) -> Option<Access>
+pub fn access_of(entry: &Entry, kind: AccessKind) -> Option<ThreadAccess>
     ensures { result ≡ access_of entry.now kind }
 {
     if is_out_of_bounds(entry.reply) {
@@ -142,7 +142,7 @@ pub fn access_of(entry: &Entry, kind: Kind) -> Option<Access>
 }
 
 /// Whether two accesses touch a byte in common.
-pub(crate) fn touches(a: &Access, b: &Access) -> bool
+pub(crate) fn touches(a: &ThreadAccess, b: &ThreadAccess) -> bool
     ensures { result ≡ touches a.now b.now }
 {
     if a.addr <= b.addr {
@@ -153,21 +153,21 @@ pub(crate) fn touches(a: &Access, b: &Access) -> bool
 }
 
 /// Whether both are atomic, of exactly the same bytes.
-pub(crate) fn are_matched(a: &Access, b: &Access) -> bool
+pub(crate) fn are_matched(a: &ThreadAccess, b: &ThreadAccess) -> bool
     ensures { result ≡ are_matched a.now b.now }
 {
     a.atomic && b.atomic && a.addr == b.addr && a.width == b.width
 }
 
 /// Whether two accesses of two threads touch a byte in common, one writes, and they aren't matched.
-pub(crate) fn conflicts(a: &Access, b: &Access) -> bool
+pub(crate) fn conflicts(a: &ThreadAccess, b: &ThreadAccess) -> bool
     ensures { result ≡ conflicts a.now b.now }
 {
     a.thread != b.thread && touches(a, b) && (a.writes || b.writes) && !are_matched(a, b)
 }
 
 /// Whether two accesses are the same.
-pub(crate) fn is_same(a: &Access, b: &Access) -> bool
+pub(crate) fn is_same(a: &ThreadAccess, b: &ThreadAccess) -> bool
     ensures { result ≡ is_same a.now b.now }
 {
     *a == *b

@@ -1,10 +1,14 @@
 //! Vector clocks of places.
 ghost use Rattle.std.specs.Prelude.{◌≡◌, ◌<◌, ◌≤◌, ℕ, [], All, IfOk, IfSome, length, max, slice_index, slice_index_or};
 ghost use Rattle.types.specs.declared.event.Entry.{Entry};
-ghost use Rattle.race_history.specs.Sources.{HaveSources, rows};
+ghost use Rattle.race_history.specs.Calls.{AreCalls};
+ghost use Rattle.race_history.specs.Sources.{rows};
 ghost use Rattle.race_history.specs.Clocks.{AreClocks, IsJoined};
+ghost use Rattle.race_history.specs.Writers.{AreWriters};
 
-use crate::access::Kind;
+use crate::access::AccessKind;
+use crate::calls::Calls;
+use crate::sources::{gather, start_before};
 use std::alloc::{AllocError, Global};
 use types::Entry;
 
@@ -56,20 +60,29 @@ fn joined(
 pub(crate) fn make_clocks(
     alloc: Global,
     log: &[Entry],
-    kinds: &[Kind],
-    sources: &[Vec<usize>],
+    kinds: &[AccessKind],
+    writers: &[Option<usize>],
+    calls: &Calls,
     threads: usize,
 ) -> Result<Vec<Vec<usize>>, AllocError>
     requires threads { All (λ (e : Entry). e.thread < threads) log.now }
-    requires sources { HaveSources log.now kinds.now (length log.now) (rows sources.now) }
+    requires writers { AreWriters log.now kinds.now (length log.now) writers.now }
+    requires calls { AreCalls log.now (length log.now) calls.now }
     ensures { IfOk result (λ v. AreClocks log.now kinds.now threads (length log.now) (rows v.items)) }
 {
     let _ = kinds;
+    let mut previous = vec![in alloc; None; threads]?;
+    let mut here = Vec::new(alloc);
     let mut clocks = Vec::with_capacity(alloc, log.len())?;
     for (place, entry) in log.iter().enumerate() {
-        let mut row = joined(alloc, clocks.as_slice(), sources[place].as_slice(), threads)?;
-        row[entry.thread as usize] = place + 1;
+        let thread = entry.thread as usize;
+        let start = start_before(calls.starts.as_slice(), thread, place);
+        let wakers = calls.wakers[place].as_slice();
+        gather(&mut here, wakers, start, writers[place], previous[thread])?;
+        let mut row = joined(alloc, clocks.as_slice(), here.as_slice(), threads)?;
+        row[thread] = place + 1;
         clocks.push(row)?;
+        previous[thread] = Some(place);
     }
     Ok(clocks)
 }

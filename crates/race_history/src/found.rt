@@ -8,14 +8,14 @@ ghost use Rattle.race_history.specs.Found.{clashes, race_of};
 ghost use Rattle.race_history.specs.Races.{AreInOrder, AreRaces, HasEach, IsCut};
 ghost use Rattle.race_history.specs.Sources.{rows};
 
-use crate::access::{Access, Kind, access_of, conflicts};
+use crate::access::{AccessKind, ThreadAccess, access_of, conflicts};
 use crate::lasts::{Last, Lasts};
 use crate::race::{Race, Races};
 use std::alloc::{AllocError, Global};
 use types::Entry;
 
 /// Whether an access races with an earlier one, by its clock.
-fn clashes(last: &Last, access: &Access, clock: &[usize]) -> bool
+fn clashes(last: &Last, access: &ThreadAccess, clock: &[usize]) -> bool
     requires { last.now.access.thread < length clock.now }
     ensures { result ≡ clashes access.now clock.now last.now }
 {
@@ -27,7 +27,7 @@ fn add_races(
     pairs: &mut Vec<Race>,
     list: &[Last],
     place: usize,
-    access: &Access,
+    access: &ThreadAccess,
     clock: &[usize],
 ) -> Result<(), AllocError>
     requires { All (λ (x : Last). x.access.thread < length clock.now) list.now }
@@ -49,7 +49,7 @@ fn add_races(
 pub(crate) fn find_races(
     alloc: Global,
     log: &[Entry],
-    kinds: &[Kind],
+    kinds: &[AccessKind],
     clocks: &[Vec<usize>],
     threads: usize,
     most: usize,

@@ -2,14 +2,14 @@
 ghost use Rattle.std.specs.Prelude.{◌≡◌, ◌<◌, ◌/◌, ◌%◌, [], IfOk, OnOk, length, replicate};
 ghost use Rattle.race_history.specs.Lasts.{Keeps, list_for, table, with_last};
 
-use crate::access::{Access, is_same};
+use crate::access::{ThreadAccess, is_same};
 use std::alloc::{AllocError, Global};
 
 /// The last place at which an access was made.
 #[derive(Clone, Copy)]
 pub(crate) struct Last {
     pub(crate) place: usize,
-    pub(crate) access: Access,
+    pub(crate) access: ThreadAccess,
 }
 
 /// Of each access that was made the last place. Those of one aligned 8-byte word stand in one list, maybe with those of

@@ -23,6 +23,6 @@ mod race;
 mod sources;
 mod writers;
 
-pub use access::{Access, Kind, access_of};
+pub use access::{AccessKind, ThreadAccess, access_of};
 pub use history::is_history;
 pub use race::{Race, Races, races_of};

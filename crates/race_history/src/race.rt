@@ -4,11 +4,10 @@ ghost use Rattle.shared_memory.specs.History.{AreEntries};
 ghost use Rattle.shared_memory.specs.Legal.{IsQueueLegal};
 ghost use Rattle.race_history.specs.Races.{AreInOrder, AreRaces, HasEach, IsCut};
 
-use crate::access::Kind;
+use crate::access::AccessKind;
 use crate::calls::find_calls;
 use crate::clocks::{count_threads, make_clocks};
 use crate::found::find_races;
-use crate::sources::find_sources;
 use crate::writers::find_writers;
 use std::alloc::{AllocError, Global};
 use types::Entry;
@@ -39,7 +38,7 @@ pub struct Races {
 pub fn races_of(
     alloc: Global,
     log: &[Entry],
-    kinds: &[Kind],
+    kinds: &[AccessKind],
     most: usize,
 ) -> Result<Races, AllocError>
     requires kinds { length kinds.now ≡ length log.now }
@@ -54,7 +53,6 @@ pub fn races_of(
     let threads = count_threads(log);
     let writers = find_writers(alloc, log, kinds)?;
     let calls = find_calls(alloc, log)?;
-    let sources = find_sources(alloc, log, kinds, writers.as_slice(), &calls, threads)?;
-    let clocks = make_clocks(alloc, log, kinds, sources.as_slice(), threads)?;
+    let clocks = make_clocks(alloc, log, kinds, writers.as_slice(), &calls, threads)?;
     find_races(alloc, log, kinds, clocks.as_slice(), threads, most)
 }

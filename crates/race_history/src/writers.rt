@@ -3,13 +3,13 @@ ghost use Rattle.std.specs.Prelude.{◌≡◌, IfOk, None, fold, length};
 ghost use Rattle.shared_memory.specs.History.{AreEntries};
 ghost use Rattle.race_history.specs.Writers.{AreWriters, later, read_from};
 
-use crate::access::{Access, Kind, access_of, are_matched, touches};
+use crate::access::{AccessKind, ThreadAccess, access_of, are_matched, touches};
 use crate::lasts::{Last, Lasts};
 use std::alloc::{AllocError, Global};
 use types::Entry;
 
 /// This access, where it writes a byte of the other one and is later than the latest that did.
-fn later(latest: Option<Last>, last: &Last, access: &Access) -> Option<Last>
+fn later(latest: Option<Last>, last: &Last, access: &ThreadAccess) -> Option<Last>
     ensures { result ≡ later access.now latest last.now }
 {
     if !(last.access.writes && touches(&last.access, access)) {
@@ -22,7 +22,7 @@ fn later(latest: Option<Last>, last: &Last, access: &Access) -> Option<Last>
 }
 
 /// The latest write of the list that touches a byte of the access.
-fn latest(list: &[Last], access: &Access) -> Option<Last>
+fn latest(list: &[Last], access: &ThreadAccess) -> Option<Last>
     ensures { result ≡ fold (later access.now) None list.now }
 {
     let mut latest = None;
@@ -33,7 +33,7 @@ fn latest(list: &[Last], access: &Access) -> Option<Last>
 }
 
 /// The place of the atomic write that the access reads from, if it is an atomic read of what one wrote.
-fn read_from(list: &[Last], access: &Access) -> Option<usize>
+fn read_from(list: &[Last], access: &ThreadAccess) -> Option<usize>
     ensures { result ≡ read_from list.now access.now }
 {
     let last = latest(list, access)?;
@@ -47,7 +47,7 @@ fn read_from(list: &[Last], access: &Access) -> Option<usize>
 pub(crate) fn find_writers(
     alloc: Global,
     log: &[Entry],
-    kinds: &[Kind],
+    kinds: &[AccessKind],
 ) -> Result<Vec<Option<usize>>, AllocError>
     requires kinds { length kinds.now ≡ length log.now }
     requires entries { AreEntries log.now }

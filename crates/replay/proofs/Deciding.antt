@@ -64,7 +64,8 @@ module _ {T : Type 0} (meaning : T → Meaning)
 
 -- The walk came along a log, which is the record's. Behind it the lines were compared, and the answer is what they say.
 module _ {T : Type 0} {meaning : T → Meaning}
-    (run : Run) (r : RecordParts) (limit : run.limit ≡ r.limit) (most : run.threads ≡ r.threads) (budget : run.budget ≡ r.fuel) {log : List entries.Entry} (log_is : log ≡ r.log)
+    (run : Run) (r : RecordParts) (limit : run.limit ≡ r.limit) (most : run.threads ≡ r.threads) (budget : run.budget ≡ r.fuel) {log : List entries.Entry}
+    (log_is : log ≡ r.log)
     {threads : List T} {slice : List T} (slice_is : slice ≡ threads) {memory : Memory} {queue : WaitQueue} {begun : ℕ} {ends : List (Option Outcome)}
     (w : HasWalked meaning run log threads memory queue begun ends) {held : ℕ} (held_is : held ≡ pages memory) (answer : Option ℕ)
     (says : (s : Standing) → Ends meaning s slice queue begun ends r.fuel → held ≡ pages s.memory → IsVerdict r s.state s.places answer) where

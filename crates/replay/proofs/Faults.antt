@@ -36,7 +36,8 @@ module _ (m : Parts) (r : RecordParts) where
     of_call (EndLine line) h = absurd h
     of_call NoMemory h = tt
 
-    pub of_walk : (b : BeginsBy m r) (start : Start) → start ≡ start_of_record m r b → (fault : ReplayFault) → IsWalkFault start r fault → IsReplayFault m r fault
+    pub of_walk : (b : BeginsBy m r) (start : Start) → start ≡ start_of_record m r b → (fault : ReplayFault) → IsWalkFault start r fault →
+        IsReplayFault m r fault
     of_walk b start same (Line line) h = inr (h.0, h.1, len, within, (b, subst (λ (s : Start). IsFirstMisfit s r h.0) same h.2))
     of_walk b start same (EndLine line) h = (h.0, h.1, len, within, (b, subst (λ (s : Start). IsFirstWrongEnd s r h.0) same h.2))
     of_walk b start same NoMemory h = absurd h

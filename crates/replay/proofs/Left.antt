@@ -17,7 +17,8 @@ use Rattle.schedule.specs.System.{Want, Want.Turns, Want.Calls, Want.Awaits, Wan
 use Rattle.schedule.specs.System.{Kind, Kind.Turn, Kind.Loses, Kind.Fills, put}
 use Rattle.schedule.specs.System as systems
 use Rattle.schedule.specs.Scheduled.{or_started, hears_any, with_thread, after_event, after_turn, if_may, after_mark, entries_by, entries_at, entries_made}
-use Rattle.schedule.specs.Machine.{Wish, Wish.Goes, Wish.Asks, Wish.Waits, Wish.Ends, Thread, Thread.Absent, Thread.Runs, Thread.Over, Thread.Leaves, Thread.Left}
+use Rattle.schedule.specs.Machine.{Wish, Wish.Goes, Wish.Asks, Wish.Waits, Wish.Ends, Thread, Thread.Absent}
+use Rattle.schedule.specs.Machine.{Thread.Runs, Thread.Over, Thread.Leaves, Thread.Left}
 use Rattle.schedule.specs.Machine.{wanted, thread_wants, takes_by, thread_takes}
 use Rattle.schedule.proofs.Basics.{put-same, put-other, same_or_not}
 use Rattle.interp_machine.specs.State.{State}
@@ -81,7 +82,8 @@ module _ (b : Start) where
 
   spawn_next : (q : WaitQueue) (k arg : ℕ) → next_id q < length q.due → next_id (queue_step q k (events.Ask (Spawn arg)) replies.Done) ≡ next_id q + 1
   spawn_next q k arg room =
-      ap (λ w. length w + 1) (question_args q k (Spawn arg) 0 ∙ cond-true (nat_lt (next_id q) (length q.due)) (q.args ++ arg ∷ []) q.args (lt-ltb (next_id q) (length q.due) room))
+      ap (λ w. length w + 1) (question_args q k (Spawn arg) 0 ∙ cond-true (nat_lt (next_id q) (length q.due)) (q.args ++ arg ∷ []) q.args
+      (lt-ltb (next_id q) (length q.due) room))
       ∙ omega (arith, length-append q.args (arg ∷ []))
 
   -- whom an event starts had no number before, and has one after
@@ -92,7 +94,8 @@ module _ (b : Start) where
       cond_both (nat_lt m (length w.shared.queue.due) && (m == next w)) (Some (Runs (b.spawned m arg) b.fuel)) None
       (λ o. o ≡ Some t → (m ≡ next w) × (m < next (after_event (system_of b) w k (events.Ask (Spawn arg)))))
       (λ both e.
-      let parts : (nat_lt m (length w.shared.queue.due) ≡ true) × ((m == next w) ≡ true) = and_parts (nat_lt m (length w.shared.queue.due)) (m == next w) both in
+      let parts : (nat_lt m (length w.shared.queue.due) ≡ true) × ((m == next w) ≡ true) = and_parts (nat_lt m (length w.shared.queue.due))
+      (m == next w) both in
       let same : m ≡ next w = eqb-true m (next w) parts.1 in
       let room : m < length w.shared.queue.due = ltb-true m (length w.shared.queue.due) parts.0 in
       let more = spawn_next w.shared.queue k arg (omega (arith, same, room)) in
@@ -204,10 +207,26 @@ module _ (b : Start) where
       let e : wants (w.threads n) ≡ Awaits = ap wants is in (ap (after_turn (system_of b) w n) e, ap (entries_by (system_of b) w n) e)
   out_idle n w (Left outcome left) Turn out is =
       let e : wants (w.threads n) ≡ Gone = ap wants is in (ap (after_turn (system_of b) w n) e, ap (entries_by (system_of b) w n) e)
-  out_idle n w (Leaves outcome left) Loses out is = (let s = system_of b in ap (λ may. if_may s may (with_thread s w n (s.lost (w.threads n))) w) (ap s.may_lose is), refl)
-  out_idle n w (Left outcome left) Loses out is = (let s = system_of b in ap (λ may. if_may s may (with_thread s w n (s.lost (w.threads n))) w) (ap s.may_lose is), refl)
-  out_idle n w (Leaves outcome left) Fills out is = (let s = system_of b in ap (λ may. if_may s may (with_thread s w n (s.full (w.threads n))) w) (ap s.may_fill is), refl)
-  out_idle n w (Left outcome left) Fills out is = (let s = system_of b in ap (λ may. if_may s may (with_thread s w n (s.full (w.threads n))) w) (ap s.may_fill is), refl)
+  out_idle n w (Leaves outcome left) Loses out is = (
+    let s = system_of b in ap (λ may. if_may s may (with_thread s w n (s.lost (w.threads n))) w)
+        (ap s.may_lose is),
+    refl,
+  )
+  out_idle n w (Left outcome left) Loses out is = (
+    let s = system_of b in ap (λ may. if_may s may (with_thread s w n (s.lost (w.threads n))) w)
+        (ap s.may_lose is),
+    refl,
+  )
+  out_idle n w (Leaves outcome left) Fills out is = (
+    let s = system_of b in ap (λ may. if_may s may (with_thread s w n (s.full (w.threads n))) w)
+        (ap s.may_fill is),
+    refl,
+  )
+  out_idle n w (Left outcome left) Fills out is = (
+    let s = system_of b in ap (λ may. if_may s may (with_thread s w n (s.full (w.threads n))) w)
+        (ap s.may_fill is),
+    refl,
+  )
   out_idle n w Absent kind out is = absurd out
   out_idle n w (Runs c left) kind out is = absurd out
   out_idle n w (Over outcome left) kind out is = absurd out

@@ -66,5 +66,6 @@ module _ (m : Parts) (distinct : HasDistinctNames m.exports) where
       let same = same_function r.invoke x.own y.own x.func_type y.func_type x.body y.body x.exports y.exports in
       let spawned : x.spawned ≡ y.spawned = fun_ext (λ n. fun_ext (λ arg. same_spawned r.invoke r.args x y n arg)) in
       ap (λ (s : Start). record s { opening = opening_within r.max_pages m })
-      (ap (λ (t : FuncType). start_with m t x.body r.args x.spawned r.fuel) same.0 ∙ ap (λ (b : Body). start_with m y.func_type b r.args x.spawned r.fuel) same.1
+      (ap (λ (t : FuncType). start_with m t x.body r.args x.spawned r.fuel) same.0 ∙
+      ap (λ (b : Body). start_with m y.func_type b r.args x.spawned r.fuel) same.1
       ∙ ap (λ (s : ℕ → ℕ → State). start_with m y.func_type y.body r.args s r.fuel) spawned)

@@ -1,5 +1,6 @@
 -- A text that isn't read breaks off where its fault says.
-use Rattle.std.proofs.Common.{◌≡◌, ℕ, ◌+◌, ◌-◌, ◌*◌, ◌^◌, ◌<◌, ◌≤◌, Bool, true, false, cond, List, [], ◌∷◌, ◌++◌, Option, Some, None, refl, sym, ap, subst, ◌∙◌, append_assoc, arith, inl, inr, ◌⊎◌}
+use Rattle.std.proofs.Common.{◌≡◌, ℕ, ◌+◌, ◌-◌, ◌*◌, ◌^◌, ◌<◌, ◌≤◌, Bool, true, false, cond, List, [], ◌∷◌, ◌++◌}
+use Rattle.std.proofs.Common.{Option, Some, None, refl, sym, ap, subst, ◌∙◌, append_assoc, arith, inl, inr, ◌⊎◌}
 use Rattle.std.specs.Prelude.{length, codes, nat_le}
 use Rattle.std.specs.Fmt.{decimal}
 use Rattle.std.proofs.lemmas.Bool.Decides.{nat_tests}
@@ -545,7 +546,12 @@ body_breaks header threads max_pages are limit bytes none =
     let spelled : (z : List ℕ) → texts (λ k. entry_text) 0 all.0 z ≡ before ++ z =
     λ z. items_spelled (λ k. entry_text) (λ i. entry_line) (λ i e rest. line_spelled (entry_words e) rest) 0 all.0 z in
     let feeds : line_feeds (before ++ c.front) ≡ length all.0 + line_feeds c.front =
-    omega (arith, feeds_append before c.front, items_feeds (λ i. entry_line) (λ k. IsEntry threads) (λ i e fit. line_free (entry_words e) (entry_free threads are.0.1 e fit)) 0 all.0 t.fit) in
+    omega (
+      arith,
+      feeds_append before c.front,
+      items_feeds (λ i. entry_line) (λ k. IsEntry threads)
+          (λ i e fit. line_free (entry_words e) (entry_free threads are.0.1 e fit)) 0 all.0 t.fit,
+    ) in
     record {
       front = before ++ c.front;
       rest = c.rest;
@@ -682,7 +688,8 @@ texts_feeds h b fit gits are =
     let q = ap line_feeds ends ∙ feeds_append (ends_before (b.1).0) (pages_text (b.1).1 (last_line ++ [])) in
     let r = ap line_feeds log ∙ feeds_append (items_front (λ i. entry_line) 0 b.0) (ends_text b.1 []) in
     let s = ap line_feeds (header_front.spelled h (body_text b [])) ∙ feeds_append (header_front.front h) (body_text b []) in
-    let log_feeds = items_feeds (λ i. entry_line) (λ k. IsEntry (threads_in h)) (λ i e f. line_free (entry_words e) (entry_free (threads_in h) are.0.1 e f)) 0 b.0 gits.0 in
+    let log_feeds = items_feeds (λ i. entry_line) (λ k. IsEntry (threads_in h)) (λ i e f. line_free (entry_words e) (entry_free (threads_in h) are.0.1 e f)) 0
+    b.0 gits.0 in
     omega (
       arith,
       p,

@@ -234,7 +234,13 @@ entry_there threads count x y rest fit e =
     let p = only_some (is_event (x.1).0 && is_reply_to (x.1).0 (x.1).1) (Some made_entry) y e in
     let q = and_parts (is_event (x.1).0) (is_reply_to (x.1).0 (x.1).1) p.0 in
     let below : x.0 < threads = omega (arith, fit.0, count.0) in
-    let good : IsEntry threads made_entry = record { thread = below; event_fits = (fit.1).0; event = event_found (x.1).0 q.0; reply_fits = (fit.1).1; reply = q.1 } in
+    let good : IsEntry threads made_entry = record {
+      thread = below;
+      event_fits = (fit.1).0;
+      event = event_found (x.1).0 q.0;
+      reply_fits = (fit.1).1;
+      reply = q.1;
+    } in
     subst (λ (z : Entry). (pieces_text x rest ≡ entry_text z rest) × IsEntry threads z) (some_is made_entry y p.1) (same_text x.0 (x.1).0 (x.1).1 rest, good)
 
 pub entry_takes : (threads : ℕ) → IsCount threads → (bytes : List ℕ) (x : Entry) (rest : List ℕ)

@@ -1,5 +1,6 @@
 -- A text that is no record's has one fault, and a record's text has none.
-use Rattle.std.proofs.Common.{◌≡◌, ℕ, ◌<◌, Bool, true, false, cond, ◌||◌, length-append, List, [], ◌∷◌, ◌++◌, Option, None, refl, sym, ap, subst, ◌∙◌, append_assoc, arith, inl, inr, ◌⊎◌, get_or}
+use Rattle.std.proofs.Common.{◌≡◌, ℕ, ◌<◌, Bool, true, false, cond, ◌||◌, length-append, List, [], ◌∷◌, ◌++◌, Option}
+use Rattle.std.proofs.Common.{None, refl, sym, ap, subst, ◌∙◌, append_assoc, arith, inl, inr, ◌⊎◌, get_or}
 use Rattle.std.specs.Prelude.{length, codes, nat_le}
 use Rattle.std.specs.List.{list_any}
 use Rattle.std.proofs.lemmas.List.{append-nil}
@@ -148,7 +149,8 @@ breaks_both bytes e f p q n =
     let lines : line_behind p.front ≡ line_behind q.front = omega (arith, ap line_feeds n.1, feeds_append p.front n.0, free_feeds n.0 free) in
     let feeds : list_any is_feed p.rest ≡ list_any is_feed q.rest =
     ap (list_any is_feed) n.2 ∙ list_any-append is_feed n.0 q.rest ∙ ap (λ (b : Bool). b || list_any is_feed q.rest) free in
-    let same : fault_by (header_count v) (line_behind p.front) (list_any is_feed q.rest) ≡ fault_by (header_count w) (line_behind p.front) (list_any is_feed q.rest) =
+    let same : fault_by (header_count v) (line_behind p.front) (list_any is_feed q.rest) ≡ fault_by (header_count w) (line_behind p.front)
+    (list_any is_feed q.rest) =
     elim (free_by (list_any is_feed p.front)) [
       | inl none ↦ (let first : line_behind p.front ≡ 1 = omega (arith, free_feeds p.front none) in
           ap (λ (k : ℕ). fault_by (header_count v) k (list_any is_feed q.rest)) first ∙ fault_low v (list_any is_feed q.rest)

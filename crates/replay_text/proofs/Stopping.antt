@@ -125,7 +125,8 @@ pub record Stops {A : Type 0} (text : A → List ℕ → List ℕ) (Fits : A →
   pub within : line_feeds front + 1 ≤ count value
 
 -- where it stops, and what is said of it, counted from this line on
-pub record Breaks {A : Type 0} (text : A → List ℕ → List ℕ) (Fits : A → Type 0) (at : Reader A) (count : A → ℕ) (first : ℕ) (refusal : Refusal) (bytes : List ℕ) : Type 0 where
+pub record Breaks {A : Type 0} (text : A → List ℕ → List ℕ) (Fits : A → Type 0) (at : Reader A) (count : A → ℕ) (first : ℕ) (refusal : Refusal)
+    (bytes : List ℕ) : Type 0 where
   pub front : List ℕ
   pub rest : List ℕ
   pub stops : Stops text Fits at count bytes front rest

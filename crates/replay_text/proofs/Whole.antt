@@ -324,7 +324,8 @@ pub ends_found : (threads max_pages : ℕ) → max_pages ≤ MOST_PAGES → (byt
 unfolding ends_at
 ends_found threads max_pages fits bytes x rest e =
     let all = several end_at 0 threads bytes in
-    let p = bind_some (some_items all.0) (λ ends. pages_at max_pages all.1 >>= λ pages. after last_line pages.1 >>= λ r. Some ((ends, pages.0), r)) (x, rest) e in
+    let p = bind_some (some_items all.0) (λ ends. pages_at max_pages all.1 >>= λ pages. after last_line pages.1 >>= λ r. Some ((ends, pages.0), r))
+    (x, rest) e in
     let q = bind_some (pages_at max_pages all.1) (λ pages. after last_line pages.1 >>= λ r. Some ((p.0, pages.0), r)) (x, rest) p.2 in
     let s = bind_some (after last_line q.0.1) (λ r. Some ((p.0, q.0.0), r)) (x, rest) q.2 in
     ends_made threads max_pages bytes all p.0 q.0.0 q.0.1 s.0 x rest
@@ -343,7 +344,8 @@ ends_again threads max_pages fits x rest fit =
     let s = several_again (λ r. Unit {0}) end_text EndFits end_at (λ i y r g f. end_again i y r f)
     (λ i y r. tt) 0 threads x.0 behind_ends tt fit.0 ((fit.1).1).0 (λ k. pages_stop k x.1 (last_line ++ rest))
     in
-    ap (λ (z : List ThreadReport × List ℕ). some_items z.0 >>= λ ends. pages_at max_pages z.1 >>= λ pages. after last_line pages.1 >>= λ r. Some ((ends, pages.0), r)) s
+    ap (λ (z : List ThreadReport × List ℕ). some_items z.0 >>= λ ends. pages_at max_pages z.1 >>= λ pages. after last_line pages.1 >>=
+    λ r. Some ((ends, pages.0), r)) s
     ∙ rw (items_to x.0 (fit.1).0, (pages_law max_pages fits).again x.1 (last_line ++ rest) ((fit.1).1).1, after_again last_line rest) refl
 
 abbrev pub body_text : Body → List ℕ → List ℕ
@@ -383,7 +385,8 @@ body_again threads max_pages are limit b rest fit =
     let s = several_again (λ r. Unit {0}) (λ k. entry_text) (λ k. IsEntry threads) (λ place. entry_at threads)
     (λ i y r g f. entry_again threads are.0 y r f) (λ i y r. tt) 0 (limit + 3 * threads) b.0 (ends_text b.1 rest) tt fit.0
     (fit.1).0 (λ k. stop) in
-    ap (λ (z : List Entry × List ℕ). ends_at threads max_pages z.1 >>= λ x. Some ((z.0, x.0), x.1)) s ∙ rw (ends_again threads max_pages are.1 b.1 rest (fit.1).1) refl
+    ap (λ (z : List Entry × List ℕ). ends_at threads max_pages z.1 >>= λ x. Some ((z.0, x.0), x.1)) s ∙
+    rw (ends_again threads max_pages are.1 b.1 rest (fit.1).1) refl
 
 -- ---- records
 
@@ -455,7 +458,8 @@ nothing_is (c ∷ bytes) x y e = absurd cc
 pub record_takes : (bytes : List ℕ) (r : RecordParts) → record_at bytes ≡ Some r → IsRecord r × (bytes ≡ record_text r)
 unfolding record_at
 record_takes bytes r e =
-    let p = bind_some (header_at bytes) (λ h. body_at (threads_in h.0) (max_pages_in h.0) (limit_in h.0) h.1 >>= λ b. nothing_left b.1 (parts_of h.0 b.0)) r e in
+    let p = bind_some (header_at bytes) (λ h. body_at (threads_in h.0) (max_pages_in h.0) (limit_in h.0) h.1 >>= λ b. nothing_left b.1 (parts_of h.0 b.0)) r e
+    in
     let q = bind_some (body_at (threads_in p.0.0) (max_pages_in p.0.0) (limit_in p.0.0) p.0.1) (λ b. nothing_left b.1 (parts_of p.0.0 b.0)) r p.2 in
     let n = nothing_is q.0.1 (parts_of p.0.0 q.0.0) r q.2 in
     let t = header_law.takes bytes p.0.0 p.0.1 p.1 in
@@ -472,7 +476,10 @@ body_of r = (r.log, (r.ends, r.pages))
 pub fits_of : (r : RecordParts) → IsRecord r → HeaderFits (header_of r) × Fits (header_of r) (body_of r)
 fits_of r fit =
     let n = fit.numbers in
-    let hf : HeaderFits (header_of r) = (n.scale, ((fit.invoke, all_fit IsByte 0 r.invoke fit.bytes), (all_fit IsValue 0 r.args fit.args, (n.fuel, (n.limit_low, n.limit))))) in
+    let hf : HeaderFits (header_of r) = (
+      n.scale,
+      ((fit.invoke, all_fit IsByte 0 r.invoke fit.bytes), (all_fit IsValue 0 r.args fit.args, (n.fuel, (n.limit_low, n.limit)))),
+    ) in
     let are = are_in (header_of r) hf in
     let few : 0 + length r.ends ≤ MOST_THREADS = omega (arith, n.ends, are.0.1) in
     (hf, (all_fit (IsEntry r.threads) 0 r.log fit.log, (n.log, (ends_fit 0 r.ends fit.ends few, (n.ends_low, (n.ends, n.pages))))))

@@ -72,7 +72,8 @@ module _ {S : Type 0} (meaning : S → Meaning) where
 
     starts_other : (m : ℕ) → m ≢ begun → (x : Running) → starts_in m ≡ Some x → ⊥
     starts_other m apart x k =
-        cond_both (nat_lt m (length queue.due) && (m == next_id s.state.shared.queue)) (Some (Runs (spawned_in s.worker m arg) s.budget)) None (λ w. w ≡ Some x → ⊥)
+        cond_both (nat_lt m (length queue.due) && (m == next_id s.state.shared.queue)) (Some (Runs (spawned_in s.worker m arg) s.budget)) None
+        (λ w. w ≡ Some x → ⊥)
         (λ both e. apart (eqb-true m (next_id s.state.shared.queue)
         (and_parts (nat_lt m (length queue.due)) (m == next_id s.state.shared.queue) both).1 ∙ number_is))
         (λ isnt e. absurd (cc e))
@@ -112,7 +113,8 @@ module _ {S : Type 0} (meaning : S → Meaning) where
 
       below : begun < length after
       below =
-          let long : length after ≡ MOST_THREADS = ap length taken.list ∙ (length-set threads n taken.now ∙ full) in omega (arith, room, ((on.standing).sound).due_length)
+          let long : length after ≡ MOST_THREADS = ap length taken.list ∙ (length-set threads n taken.now ∙ full) in
+          omega (arith, room, ((on.standing).sound).due_length)
 
       abbrev old : S
       old = get_or after begun taken.now

@@ -1,39 +1,46 @@
-//! What a search finds, before it is told: the run to an ending that is looked for, or one that never ends.
-ghost use Rattle.std.specs.Prelude.{◌≡◌, None, IfOk, IfErr, IfSome};
+//! What a search found, before it is told: the run to an ending that is looked for, or one that never ends, and the
+//! status; and what is kept of it, with the records.
+ghost use Rattle.std.specs.Prelude.{◌≡◌, None, false, is_some, IfOk, IfErr, IfSome};
+ghost use Rattle.search_finds.specs.Endings.{HaveOneEnding};
 ghost use Rattle.search_finds.specs.Finds.{IsFind};
-ghost use Rattle.report_searches.specs.Prints.{IsStatusOf};
-ghost use Rattle.report_searches.specs.Searches.{IsOfSystem};
-ghost use Rattle.report.specs.SearchObjects as specified;
-ghost use Rattle.report.specs.SearchObjects.{HasEndless, HasFilled, HasFound, HasOne, HasRun};
+ghost use Rattle.report.specs.Prints as specified_prints;
+ghost use Rattle.report.specs.Prints.{IsStatusOf};
+ghost use Rattle.report.specs.Searches.{IsOfSystem};
+ghost use Rattle.report.specs.Found as specified;
+ghost use Rattle.report_jobs.specs.Prints.{changed};
+ghost use Rattle.report_jobs.specs.Silence.{Stays};
+ghost use Rattle.report.specs.Found.{AreKeptOf, CanBeKept, HasFilled, HasFound, HasOne, IsKeptOf, KeepsFound, KeepsMade};
+ghost use Rattle.report.specs.Racing as racing;
+ghost use Rattle.report.specs.Racing.{KeepsRaced};
 
-use report_command::{Search, Sought};
-use report_jobs::Trouble;
-use report_json::{FoundAs, RunSize, Shrunk};
-use report_searches::{
-    EndlessRun, SoughtEnding, Whole, are_well, choices_in, course_of, endless_run, filled,
-    first_sought, no_memory, smaller_if_asked, stops_behind,
+use crate::all::{
+    EndlessRun, EndlessWay, SoughtEnding, choices_to, course_of, endless_run, first_sought,
 };
-use search_finds::{Hears, Size, entries_leading, run_round, run_to, size_of};
+use crate::asked::SearchedCall;
+use crate::complete::are_well;
+use crate::raced::Raced;
+use crate::whole::WholeSearch;
+use report_command::{Search, Sought};
+use report_jobs::{Trouble, keep};
+use report_json::{FoundAs, RunSize, Shrunk};
+use search_finds::{Hears, Size, entries_leading, run_round, run_to, shrunk, size_of};
 use search_scheduled::MadeRun;
-use spawn_host::Request;
 use std::alloc::Global;
+use std::io::Write;
 
-/// What was found: as what, the sizes of a run that was shrunk, and the run, if one was made.
+/// What was found: as what, and the run, if one was made.
 #[derive(Drop)]
 pub(crate) struct FoundRun {
     pub found_as: FoundAs,
-    pub shrunk: Option<Shrunk>,
     pub made: Option<MadeRun>,
 }
 
-/// A size as it is told.
-fn told_size(size: Size) -> RunSize
-    ensures { result ≡ specified.size_of size }
-{
-    RunSize {
-        entries: size.entries,
-        switches: size.switches,
-    }
+/// What is kept of it: as what it was found, the sizes of a run that was shrunk, and the run, if one was made.
+#[derive(Drop)]
+pub(crate) struct KeptRun {
+    pub found_as: FoundAs,
+    pub shrunk: Option<Shrunk>,
+    pub made: Option<MadeRun>,
 }
 
 /// How large a run was, and is, where it was shrunk.
@@ -42,46 +49,111 @@ pub(crate) fn shrunk_if(is_asked: bool, was: Size, is: Size) -> Option<Shrunk>
 {
     if is_asked {
         return Some(Shrunk {
-            before: told_size(was),
-            after: told_size(is),
+            before: RunSize {
+                entries: was.entries,
+                switches: was.switches,
+            },
+            after: RunSize {
+                entries: is.entries,
+                switches: is.switches,
+            },
         });
     }
     None
 }
 
-/// The run that was found, or a smaller one that ends alike, as what it was found.
-pub(crate) fn run_found<F: Hears>(
+/// Whether a smaller run is looked for in place of one that was found so: one that never ends is as long as budgets and
+/// log let it be.
+fn can_shrink(found_as: FoundAs) -> bool
+    ensures { result ≡ specified.can_shrink found_as }
+{
+    matches!(found_as, FoundAs::Run(_) | FoundAs::Ending(_))
+}
+
+/// The run that was found, or where that is asked for a smaller one that ends alike.
+fn smaller<F: Hears>(
     alloc: Global,
-    request: &Request,
-    search: &Search,
-    found_as: FoundAs,
+    call: SearchedCall,
     found: MadeRun,
     follower: &mut F,
-) -> Result<FoundRun, Trouble>
-    requires { IsFind request.now search.now.sought.limit found }
-    ensures has { IfOk result (HasRun request.now search.now found found_as) }
+) -> Result<MadeRun, Trouble>
+    requires { IsFind call.request.now call.search.now.sought.limit found }
+    ensures run { IfOk result (IsFind call.entry.request.now call.entry.search.now.sought.limit) }
+    ensures ending { IfOk result (λ made. HaveOneEnding call.entry.search.now.sought.dump found.end made.end) }
+    ensures same { IfOk result (λ made. call.entry.search.now.shrink ≡ false → made ≡ found) }
     ensures trouble { IfErr result IsOfSystem }
 {
-    let was = size_of(&found.record);
-    let made = smaller_if_asked(alloc, request, search, found, follower)?;
+    if !call.search.shrink {
+        return Ok(found);
+    }
+    let Sought { limit, dump, .. } = call.search.sought;
+    let Ok(made) = shrunk(alloc, call.request, limit, dump, found, follower) else {
+        return Err(Trouble::NoMemory);
+    };
+    follower.end();
+    Ok(made)
+}
+
+/// What is kept of what was found: where that is asked for, a smaller run that ends alike.
+pub(crate) fn kept_of<F: Hears>(
+    alloc: Global,
+    call: SearchedCall,
+    found: FoundRun,
+    follower: &mut F,
+) -> Result<KeptRun, Trouble>
+    requires { CanBeKept call.request.now call.search.now found.made }
+    ensures kept { IfOk result (IsKeptOf call.entry.request.now call.entry.search.now found) }
+    ensures trouble { IfErr result IsOfSystem }
+{
+    let FoundRun { found_as, made } = found;
+    if !can_shrink(found_as) {
+        return Ok(KeptRun {
+            found_as,
+            shrunk: None,
+            made,
+        });
+    }
+    let Some(made) = made else {
+        return Ok(KeptRun {
+            found_as,
+            shrunk: None,
+            made: None,
+        });
+    };
+    let was = size_of(&made.record);
+    let made = smaller(alloc, call, made, follower)?;
     let is = size_of(&made.record);
-    Ok(FoundRun {
+    Ok(KeptRun {
         found_as,
-        shrunk: shrunk_if(search.shrink, was, is),
+        shrunk: shrunk_if(call.search.shrink, was, is),
         made: Some(made),
     })
 }
 
-/// The run to an ending of the list, or that its choices lead to another one.
-fn ending_found<F: Hears>(
+/// The same, if something was found.
+pub(crate) fn kept_if_found<F: Hears>(
     alloc: Global,
-    request: &Request,
-    search: &Search,
-    first: SoughtEnding,
+    call: SearchedCall,
+    found: Option<FoundRun>,
     follower: &mut F,
-) -> Result<FoundRun, Trouble>
-    ensures has { IfOk result
-        (HasOne request.now search.now first.entry.choices.now first.entry.number first.entry.ending.now) }
+) -> Result<Option<KeptRun>, Trouble>
+    requires { IfSome found (λ f. CanBeKept call.request.now call.search.now f.made) }
+    ensures kept { IfOk result (AreKeptOf call.entry.request.now call.entry.search.now found) }
+    ensures trouble { IfErr result IsOfSystem }
+{
+    match found {
+        Some(found) => {
+            let kept = kept_of(alloc, call, found, follower)?;
+            Ok(Some(kept))
+        }
+        None => Ok(None),
+    }
+}
+
+/// The run to an ending of the list, or that its choices lead to another one.
+fn ending_found(alloc: Global, call: SearchedCall, first: SoughtEnding) -> Result<FoundRun, Trouble>
+    ensures has { IfOk result (HasOne call.entry.request.now call.entry.search.now first.entry.choices.now
+        first.entry.number first.entry.ending.now) }
     ensures trouble { IfErr result IsOfSystem }
 {
     let SoughtEnding {
@@ -89,126 +161,101 @@ fn ending_found<F: Hears>(
         ending,
         choices,
     } = first;
-    let Sought { limit, dump, .. } = search.sought;
-    let made = match run_to(alloc, request, limit, dump, choices, ending) {
-        Ok(made) => made,
-        Err(fault) => return Err(no_memory(fault)),
-    };
-    match made {
-        Some(made) => {
-            let found_as = FoundAs::Ending(number);
-            run_found(alloc, request, search, found_as, made, follower)
-        }
-        None => Ok(FoundRun {
+    let Sought { limit, dump, .. } = call.search.sought;
+    match run_to(alloc, call.request, limit, dump, choices, ending) {
+        Ok(made) => Ok(FoundRun {
             found_as: FoundAs::Ending(number),
-            shrunk: None,
-            made: None,
+            made,
         }),
+        Err(_) => Err(Trouble::NoMemory),
     }
 }
 
 /// As what a run that never ends is found, by how many entries lead to where it is sure not to.
-fn endless_as(run: &EndlessRun, entries: usize) -> FoundAs
-    ensures { result ≡ specified.endless_as run.now entries }
+fn endless_as(way: EndlessWay, entries: usize) -> FoundAs
+    ensures { result ≡ specified.endless_as way entries }
 {
-    match run {
-        EndlessRun::ToNoEnd(_) => FoundAs::NoEndAfter(entries),
-        EndlessRun::Round(_, _) => FoundAs::ForEverAfter(entries),
+    match way {
+        EndlessWay::ToNoEnd => FoundAs::NoEndAfter(entries),
+        EndlessWay::Round => FoundAs::ForEverAfter(entries),
     }
 }
 
 /// A run that never ends, as far as budgets and log reach.
 fn endless_found(
     alloc: Global,
-    request: &Request,
-    search: &Search,
-    run: &EndlessRun,
+    call: SearchedCall,
+    run: EndlessRun,
+    is_free: bool,
 ) -> Result<FoundRun, Trouble>
-    ensures has { IfOk result (HasEndless request.now search.now run.now) }
+    ensures has { IfOk result (HasFilled call.entry.request.now call.entry.search.now is_free run.entry) }
     ensures trouble { IfErr result IsOfSystem }
 {
-    let Sought { limit, .. } = search.sought;
-    let made = match run_round(alloc, request, limit, run.path(), run.round()) {
+    let course = course_of(alloc, call, run, is_free)?;
+    let (path, round) = (course.path.as_slice(), course.round.as_slice());
+    let limit = call.search.sought.limit;
+    let made = match run_round(alloc, call.request, limit, path, round) {
         Ok(made) => made,
-        Err(fault) => return Err(no_memory(fault)),
+        Err(_) => return Err(Trouble::NoMemory),
     };
-    let entries = entries_leading(&made.record, run.path().len());
+    let entries = entries_leading(&made.record, path.len());
     Ok(FoundRun {
-        found_as: endless_as(run, entries),
-        shrunk: None,
+        found_as: endless_as(run.way, entries),
         made: Some(made),
     })
 }
 
-/// The same, by the choices of each event, where those that were noted leave plain accesses out.
-fn known_found(
-    alloc: Global,
-    request: &Request,
-    search: &Search,
-    is_free: bool,
-    run: &EndlessRun,
-) -> Result<FoundRun, Trouble>
-    ensures has { IfOk result (HasFilled request.now search.now is_free run.now) }
-    ensures trouble { IfErr result IsOfSystem }
-{
-    if !is_free {
-        return endless_found(alloc, request, search, run);
-    }
-    let course = course_of(alloc, request, search.sought.dump, run)?;
-    let run = run.along(course.path.as_slice(), course.round.as_slice());
-    endless_found(alloc, request, search, &run)
-}
-
 /// What comes behind the endings of every order: the status, and what was found.
 #[derive(Drop)]
-pub(crate) struct Behind {
+pub(crate) struct StatusAndFound {
     pub status: u8,
     pub found: Option<FoundRun>,
 }
 
 /// Nothing was found, with this status.
-fn nothing(status: u8) -> Behind
+fn nothing(status: u8) -> StatusAndFound
     ensures { result ≡ record { status = status; found = None } }
 {
-    Behind {
+    StatusAndFound {
         status,
         found: None,
     }
 }
 
-/// The first ending that is looked for, by a run that ends so, or where none is a run that never ends; and the status,
-/// as `report_searches` has it where it tells lines.
-pub(crate) fn behind_of<F: Hears>(
+/// Whether a search stops at an ending that is looked for, or a run that never ends.
+fn stops_behind(search: &Search) -> bool
+    ensures { result ≡ specified_prints.stops_behind search.now }
+{
+    search.sought.stops && !search.races
+}
+
+/// The first ending that is looked for, by a run that ends so, or where none is a run that never ends; and the status: 1
+/// where such an ending was found, one has a trap or a stop, there is none, they are not all, something never ends, or
+/// there are races, which aren't allowed; and else 0.
+pub(crate) fn behind_of(
     alloc: Global,
-    request: &Request,
-    search: &Search,
-    whole: &Whole,
-    follower: &mut F,
-) -> Result<Behind, Trouble>
-    ensures has { IfOk result (λ b. HasFound request.now search.now whole.now b.found) }
-    ensures status { IfOk result (λ b. IsStatusOf search.now whole.now b.status) }
+    call: SearchedCall,
+    whole: &WholeSearch,
+) -> Result<StatusAndFound, Trouble>
+    ensures has { IfOk result (λ b. HasFound call.entry.request.now call.entry.search.now whole.now b.found) }
+    ensures status { IfOk result (λ b. IsStatusOf call.entry.search.now whole.now b.status) }
     ensures one { IfOk result (λ b. IfSome b.found (λ _. b.status ≡ 1)) }
     ensures trouble { IfErr result IsOfSystem }
 {
+    let search = call.search;
     let first = first_sought(alloc, &whole.all, &search.sought)?;
     let stops = stops_behind(search);
     if let Some(first) = first {
         if !stops {
             return Ok(nothing(1));
         }
-        let filled = filled(
-            alloc,
-            request,
-            search.sought.dump,
-            whole.is_free,
-            first.choices,
-        )?;
+        let choices = choices_to(alloc, call, first.choices, whole.is_free)?;
         let sought = SoughtEnding {
-            choices: choices_in(&filled, first.choices),
+            choices: choices.as_slice(),
             ..first
         };
-        let found = ending_found(alloc, request, search, sought, follower)?;
-        return Ok(Behind {
+        let found = ending_found(alloc, call, sought)?;
+        return Ok(StatusAndFound {
             status: 1,
             found: Some(found),
         });
@@ -224,12 +271,67 @@ pub(crate) fn behind_of<F: Hears>(
     }
     match endless_run(&whole.all.liveness, search.sought.target) {
         Some(run) => {
-            let found = known_found(alloc, request, search, whole.is_free, &run)?;
-            Ok(Behind {
+            let found = endless_found(alloc, call, run, whole.is_free)?;
+            Ok(StatusAndFound {
                 status: 1,
                 found: Some(found),
             })
         }
         None => Ok(nothing(1)),
+    }
+}
+
+/// Whether the record of a run with a race is kept.
+fn keeps_race(search: &Search) -> bool
+    ensures { result ≡ racing.keeps_race search.now }
+{
+    search.races && search.save.is_some()
+}
+
+/// Keeps the record of the run with the race, where it is looked for.
+pub(crate) fn keep_raced<S: Write>(
+    search: &Search,
+    raced: &Raced,
+    save: &mut S,
+) -> Result<(), Trouble>
+    ensures kept { IfOk result (λ _. KeepsRaced search.now raced.now (changed S.contents save.old save.new)) }
+    ensures unwanted { racing.keeps_race search.now ≡ false → Stays save.old save.new }
+    ensures trouble { IfErr result IsOfSystem }
+{
+    match raced {
+        Raced::Run(run) => keep(&run.made.record, keeps_race(search), save),
+        Raced::Threads(_) | Raced::Untold => Ok(()),
+    }
+}
+
+/// Keeps the record of a run, if one was made and it is wanted.
+pub(crate) fn keep_made<S: Write>(
+    search: &Search,
+    made: &Option<MadeRun>,
+    save: &mut S,
+) -> Result<(), Trouble>
+    ensures kept { IfOk result (λ _. KeepsMade search.now made.now (changed S.contents save.old save.new)) }
+    ensures unwanted { is_some search.now.save ≡ false → Stays save.old save.new }
+    ensures trouble { IfErr result IsOfSystem }
+{
+    match made {
+        Some(made) => keep(&made.record, search.save.is_some(), save),
+        None => Ok(()),
+    }
+}
+
+/// Keeps that of what was found, if something was.
+pub(crate) fn keep_found<S: Write>(
+    search: &Search,
+    kept: &Option<KeptRun>,
+    save: &mut S,
+) -> Result<(), Trouble>
+    ensures kept { IfOk result (λ _. KeepsFound search.now kept.now (changed S.contents save.old save.new)) }
+    ensures unwanted { is_some search.now.save ≡ false → Stays save.old save.new }
+    ensures trouble { IfErr result IsOfSystem }
+{
+    match kept {
+        Some(kept) => keep_made(search, &kept.made, save),
+        None => Ok(()),
     }
 }

@@ -1,169 +1,431 @@
-//! Searches by the program, in lines or as an object.
-ghost use Rattle.std.specs.Prelude.{◌≡◌, IfOk, IfErr, Some, true, false, is_some};
+//! Searches by the program: what comes of one is decided here, and told by `telling` in the form that is asked for.
+ghost use Rattle.std.specs.Prelude.{◌≡◌, ◌≤◌, IfOk, IfErr, None, Some, true, false, is_some};
+ghost use Rattle.types.specs.declared.parts.Parts.{Parts};
 ghost use Rattle.report_command.specs.Searches.{IsSearchInRange};
 ghost use Rattle.report_jobs.specs.Asked.{IsAskedBy};
-ghost use Rattle.report_jobs.specs.Troubles.{IsTroubleOf};
-ghost use Rattle.report_searches.specs.Searches.{Finds, IsOfSystem, IsWellAt};
-ghost use Rattle.report.specs.Searched.{AllIn, DrawnIn, DrawnRacesIn, IsDrawn, IsDrawnForRaces, IsPrintedOf};
 ghost use Rattle.report_jobs.specs.Prints.{changed};
 ghost use Rattle.report_jobs.specs.Silence.{Stays};
-ghost use Rattle.report.specs.Silent.{IfRefusedCall};
+ghost use Rattle.report_jobs.specs.Troubles.{IsTroubleOf};
+ghost use Rattle.report.specs.Drawn.{cut_in};
+ghost use Rattle.report.specs.Found.{KeepsFound};
+ghost use Rattle.report.specs.Racing.{CanTell, IsRacedIn, IsRacedOf, KeepsRaced, SaysRaced, keeps_race, racing_in};
+ghost use Rattle.report.specs.Rest.{TellsRestOn};
+ghost use Rattle.report.specs.Searched.{IsSearchedOn};
+ghost use Rattle.report.specs.Searches.{IsOfSystem};
+ghost use Rattle.report.specs.Silent.{IfRefusedCall, LeavesOthers};
+ghost use Rattle.report.specs.Telling as specified;
+ghost use Rattle.report.specs.Telling.{EndsAll, InLines, TellsNoneFound};
+ghost use Rattle.report.specs.Told.{IsStatusOfTable};
 
-use crate::all_object::write_all_orders;
-use crate::drawn_object::write_drawn_runs;
-use crate::racy_object::write_drawn_races;
+use crate::asked::{SearchRequest, SearchedCall};
+use crate::found::{
+    FoundRun, behind_of, keep_found, keep_made, keep_raced, kept_if_found, kept_of,
+};
+use crate::lines::LinesTeller;
+use crate::objects::ObjectTeller;
+use crate::raced::{Raced, kept_race, raced_of};
+use crate::table::{DrawnTable, NoneFound, status_of_none};
+use crate::telling::{Conclusion, News, Teller, ToldSearch};
+use crate::whole::{FirstLook, WholeSearch, first_look, whole_of};
 use report_command::{Form, Search};
-use report_jobs::{Trouble, args_of, request_of};
-use report_searches::{Asked, jobs_of, search_all_orders, search_drawn, search_drawn_races};
-use search_finds::Hears;
+use report_jobs::{Advised, Done, Streams, Trouble, args_of, keep, request_of};
+use report_json::{FoundAs, RunRaces};
+use search_endings::Ending;
+use search_finds::{Crew, EndingTable, Halt, Hears, SearchResult, first_found, first_judged};
 use search_modules::Hands;
-use spawn_host::Request;
+use search_races::RaceJudge;
 use std::alloc::Global;
 use std::io::Write;
-use std::thread::Threads;
-use validate_module::ValidModule;
+use std::thread::{self, Threads};
 
-/// Makes the runs that a search asks for, and prints what comes of them in the form that is asked for.
-fn search_for_endings<R: Threads + Sync, F: Hears, W: Write, S: Write>(
-    rt: &R,
+/// What goes through every order of entries: so many threads as are asked for, and depth first one alone, with so many states
+/// at most.
+#[derive(Drop)]
+struct Orders<'a, R> {
+    hands: Hands<'a, R>,
+    most: u32,
+}
+
+/// Notes what is advised of threads that ended so.
+fn advise(advised: &mut Advised, ending: &Ending) {
+    for outcome in ending.outcomes() {
+        advised.note(*outcome);
+    }
+}
+
+/// What is advised of the endings of all runs.
+fn advised_of(whole: &WholeSearch) -> Advised {
+    let mut advised = Advised::none();
+    for ending in whole.all.endings.as_slice() {
+        advise(&mut advised, ending);
+    }
+    advised
+}
+
+/// What is advised of the endings of drawn runs.
+fn advised_of_table(table: &EndingTable) -> Advised {
+    let mut advised = Advised::none();
+    for met in table.met.as_slice() {
+        advise(&mut advised, &met.ending);
+    }
+    advised
+}
+
+/// The race that a first look at all runs found, if it found one, once it is told, and the record of it kept, where one is
+/// wanted.
+fn race_told<'a, T: Teller, W: Write, E, S: Write>(
     alloc: Global,
-    request: &Request,
+    teller: &T,
+    call: SearchedCall<'a>,
+    look: &FirstLook,
+    streams: &mut Streams<W, E, S>,
+) -> Result<Raced<'a, 'a>, Trouble>
+    ensures raced { IfOk result
+        (IsRacedOf call.entry.request.now call.entry.search.now (racing_in look.now)) }
+    ensures tells { IfOk result (λ raced. InLines T.form (changed W.contents streams.old.out streams.new.out)
+        (SaysRaced call.entry.request.now.parts raced)) }
+    ensures kept { IfOk result
+        (λ raced. KeepsRaced call.entry.search.now raced (changed S.contents streams.old.save streams.new.save)) }
+    ensures unkept { keeps_race call.entry.search.now ≡ false → Stays streams.old.save streams.new.save }
+    ensures others { LeavesOthers call.entry.search.now streams.old streams.new }
+    ensures trouble { IfErr result IsOfSystem }
+{
+    let Streams { out, save, .. } = streams;
+    let raced = raced_of(alloc, call, look)?;
+    teller.tell(alloc, News::Race(&raced), out)?;
+    keep_raced(call.search, &raced, save)?;
+    Ok(raced)
+}
+
+/// Tells the rest of what was found in every order, and keeps the record of it, where one is wanted.
+fn end_orders<T: Teller, W: Write, S: Write>(
+    alloc: Global,
+    teller: &T,
     search: &Search,
-    follower: &mut F,
+    told: ToldSearch,
     out: &mut W,
     save: &mut S,
-) -> Result<u8, Trouble>
-    requires range { IsSearchInRange search.now }
-    requires asked { IsAskedBy search.now.call request.now }
-    ensures finds { IfOk result (Finds request.now.parts search.now (changed S.contents save.old save.new)) }
-    ensures prints { IfOk result (DrawnIn search.now.form request.now.parts search.now
-        (changed W.contents out.old out.new) (changed S.contents save.old save.new)) }
+) -> Result<(), Trouble>
+    requires { CanTell told.raced.now }
+    ensures tells { (m : Parts) → IsRacedIn m told.entry.raced.now
+        → IfOk result (λ _. EndsAll T.form m told.entry (changed W.contents out.old out.new)) }
+    ensures kept { IfOk result
+        (λ _. KeepsFound search.now told.entry.kept.now (changed S.contents save.old save.new)) }
     ensures unwanted { is_some search.now.save ≡ false → Stays save.old save.new }
     ensures trouble { IfErr result IsOfSystem }
 {
-    match search.form {
-        Form::Lines => search_drawn(rt, alloc, request, search, follower, out, save),
-        Form::Json => write_drawn_runs(rt, alloc, request, search, follower, out, save),
-    }
+    teller.conclude(alloc, Conclusion::Orders(told), out)?;
+    keep_found(search, told.kept, save)?;
+    Ok(())
 }
 
-/// Does the same where a run with a race is looked for.
-fn search_for_races<R: Threads + Sync, F: Hears, W: Write, S: Write>(
-    rt: &R,
-    alloc: Global,
-    request: &Request,
-    asked: Asked,
-    follower: &mut F,
-    out: &mut W,
-    save: &mut S,
-) -> Result<u8, Trouble>
-    requires range { IsSearchInRange asked.search.now }
-    requires asked { IsAskedBy asked.search.now.call request.now }
-    requires races { asked.search.now.races ≡ true }
-    ensures finds { IfOk result
-        (Finds request.now.parts asked.entry.search.now (changed S.contents save.old save.new)) }
-    ensures prints { IfOk result (DrawnRacesIn asked.entry.search.now.form request.now.parts asked.entry.search.now
-        (changed W.contents out.old out.new) (changed S.contents save.old save.new)) }
-    ensures unwanted { is_some asked.entry.search.now.save ≡ false → Stays save.old save.new }
-    ensures trouble { IfErr result IsOfSystem }
-{
-    match asked.search.form {
-        Form::Lines => search_drawn_races(rt, alloc, request, asked, follower, out, save),
-        Form::Json => write_drawn_races(rt, alloc, request, asked, follower, out, save),
-    }
-}
-
-/// Searches through drawn runs: for one with a race, where that is asked for, or for one that ends so.
-fn search_runs<R: Threads + Sync, F: Hears, W: Write, S: Write>(
-    rt: &R,
-    alloc: Global,
-    request: &Request,
-    asked: Asked,
-    follower: &mut F,
-    out: &mut W,
-    save: &mut S,
-) -> Result<u8, Trouble>
-    requires range { IsSearchInRange asked.search.now }
-    requires asked { IsAskedBy asked.search.now.call request.now }
-    ensures finds { IfOk result
-        (Finds request.now.parts asked.entry.search.now (changed S.contents save.old save.new)) }
-    ensures prints { asked.entry.search.now.races ≡ false
-        → IfOk result (DrawnIn asked.entry.search.now.form request.now.parts asked.entry.search.now
-        (changed W.contents out.old out.new) (changed S.contents save.old save.new)) }
-    ensures races { asked.entry.search.now.races ≡ true
-        → IfOk result (DrawnRacesIn asked.entry.search.now.form request.now.parts asked.entry.search.now
-        (changed W.contents out.old out.new) (changed S.contents save.old save.new)) }
-    ensures unwanted { is_some asked.entry.search.now.save ≡ false → Stays save.old save.new }
-    ensures trouble { IfErr result IsOfSystem }
-{
-    if asked.search.races {
-        return search_for_races(rt, alloc, request, asked, follower, out, save);
-    }
-    search_for_endings(rt, alloc, request, asked.search, follower, out, save)
-}
-
-/// Goes through every order of entries, and prints what comes of that in the form that is asked for.
-fn search_orders<R: Threads + Sync, F: Hears, W: Write, S: Write>(
-    rt: &R,
-    alloc: Global,
-    request: &Request,
-    asked: Asked,
+/// What all orders came to: what was found of all runs, with so many states at most, and what is told of a race of one.
+#[derive(Drop)]
+pub(crate) struct Met<'m> {
+    whole: WholeSearch,
+    raced: Raced<'m, 'm>,
     most: u32,
+}
+
+/// Tells what was found of all runs behind a race: the endings, whether these are all, what is known of races, what never
+/// ends, and what is looked for; and keeps the record of that, where one is wanted. Answers the status.
+fn tell_orders<T: Teller, W: Write, E, S: Write, F: Hears>(
+    alloc: Global,
+    teller: &T,
+    call: SearchedCall,
+    met: &Met,
+    streams: &mut Streams<W, E, S>,
     follower: &mut F,
-    out: &mut W,
-    save: &mut S,
-) -> Result<u8, Trouble>
-    requires asked { IsAskedBy asked.search.now.call request.now }
-    requires every_order { asked.search.now.all ≡ Some most }
-    ensures finds { IfOk result
-        (Finds request.now.parts asked.entry.search.now (changed S.contents save.old save.new)) }
-    ensures prints { IfOk result (AllIn asked.entry.search.now.form request.now.parts asked.entry.search.now most
-        (changed W.contents out.old out.new) (changed S.contents save.old save.new)) }
-    ensures well { IfOk result (IsWellAt request.now.parts asked.entry.search.now) }
-    ensures unwanted { is_some asked.entry.search.now.save ≡ false → Stays save.old save.new }
+) -> Result<Done, Trouble>
+    requires { CanTell met.now.raced }
+    ensures tells { IfOk result (λ done. TellsRestOn T.form W.contents S.contents call.entry.request.now
+        call.entry.search.now met.now streams.old streams.new done.status) }
+    ensures others { LeavesOthers call.entry.search.now streams.old streams.new }
     ensures trouble { IfErr result IsOfSystem }
 {
-    let jobs = if asked.search.deep {
-        1
-    } else {
-        jobs_of(rt, asked.search)
+    let Streams { out, save, .. } = streams;
+    let Met { whole, raced, most } = met;
+    let most = *most;
+    let search = call.search;
+    teller.tell(alloc, News::Orders(whole, most), out)?;
+    let behind = behind_of(alloc, call, whole)?;
+    let status = behind.status;
+    teller.tell(alloc, News::Behind(&behind.found), out)?;
+    let kept = kept_if_found(alloc, call, behind.found, follower)?;
+    let told = ToldSearch {
+        whole,
+        raced,
+        kept: &kept,
+        most,
+        status,
+        dump: search.sought.dump,
     };
-    let hands = Hands { rt, jobs };
-    match asked.search.form {
-        Form::Lines => search_all_orders(alloc, request, &hands, asked, most, follower, out, save),
-        Form::Json => write_all_orders(alloc, request, &hands, asked, most, follower, out, save),
+    end_orders(alloc, teller, search, told, out, save)?;
+    Ok(Done {
+        status,
+        advised: advised_of(whole),
+        is_bare: false,
+    })
+}
+
+/// Goes through all runs of a call: where no threads race by the orders that matter then, and else through every order
+/// of their entries. Tells what that comes to, a race first, and keeps the records, where they are wanted. Answers the
+/// status.
+fn search_orders<T: Teller, R: Threads + Sync, W: Write, E, S: Write, F: Hears>(
+    alloc: Global,
+    teller: &T,
+    call: SearchedCall,
+    orders: &Orders<R>,
+    streams: &mut Streams<W, E, S>,
+    follower: &mut F,
+) -> Result<Done, Trouble>
+    requires form { T.form ≡ call.search.now.form }
+    requires asked { IsAskedBy call.search.now.call call.request.now }
+    requires every_order { call.search.now.all ≡ Some orders.now.most }
+    ensures searched { IfOk result (λ done. IsSearchedOn W.contents S.contents call.entry.request.now.parts
+        call.entry.search.now streams.old streams.new done.status) }
+    ensures others { LeavesOthers call.entry.search.now streams.old streams.new }
+    ensures trouble { IfErr result IsOfSystem }
+{
+    let Orders { hands, most } = orders;
+    let most = *most;
+    let look = first_look(alloc, call, hands, most, follower)?;
+    follower.end();
+    let raced = race_told(alloc, teller, call, &look, streams)?;
+    let whole = whole_of(alloc, call, most, look, follower)?;
+    follower.end();
+    let met = Met { whole, raced, most };
+    tell_orders(alloc, teller, call, &met, streams, follower)
+}
+
+/// Whether the search was told to end.
+fn was_told(halt: &Halt) -> bool
+    ensures { result ≡ specified.was_told halt.now }
+{
+    matches!(halt, Halt::Told)
+}
+
+/// Tells that none of drawn runs was found, and answers the status: 0 where all is well, and else 1.
+fn end_without<T: Teller, W: Write>(
+    alloc: Global,
+    teller: &T,
+    drawn: DrawnTable,
+    races: Option<RunRaces<'static>>,
+    halt: &Halt,
+    out: &mut W,
+) -> Result<Done, Trouble>
+    requires { cut_in drawn.table.now ≤ drawn.table.now.runs }
+    ensures tells { (m : Parts) → IfOk result (λ done. TellsNoneFound T.form drawn.entry races.entry halt.now done.status
+        (changed W.contents out.old out.new)) }
+    ensures status { IfOk result (λ done. IsStatusOfTable drawn.entry.sought.now drawn.entry.table.now done.status) }
+    ensures trouble { IfErr result IsOfSystem }
+{
+    let status = status_of_none(alloc, drawn)?;
+    let none = NoneFound {
+        races,
+        is_told: was_told(halt),
+        status,
+    };
+    teller.conclude(alloc, Conclusion::None(drawn, none), out)?;
+    Ok(Done {
+        status,
+        advised: advised_of_table(drawn.table),
+        is_bare: false,
+    })
+}
+
+/// Makes the runs that a search asks for, tells the table of their endings, and the run that was found, or that none was;
+/// and keeps the record of what was found, where one is wanted. Answers the status: 1 where a run was found or an ending
+/// has a trap or a stop, and else 0.
+fn search_for_endings<T: Teller, R: Threads + Sync, W: Write, E, S: Write, F: Hears>(
+    alloc: Global,
+    teller: &T,
+    call: SearchedCall,
+    hands: &Hands<R>,
+    streams: &mut Streams<W, E, S>,
+    follower: &mut F,
+) -> Result<Done, Trouble>
+    requires form { T.form ≡ call.search.now.form }
+    requires range { IsSearchInRange call.search.now }
+    requires asked { IsAskedBy call.search.now.call call.request.now }
+    requires drawn { call.search.now.all ≡ None }
+    requires raceless { call.search.now.races ≡ false }
+    ensures searched { IfOk result (λ done. IsSearchedOn W.contents S.contents call.entry.request.now.parts
+        call.entry.search.now streams.old streams.new done.status) }
+    ensures others { LeavesOthers call.entry.search.now streams.old streams.new }
+    ensures trouble { IfErr result IsOfSystem }
+{
+    let Streams { out, save, .. } = streams;
+    let SearchedCall {
+        request,
+        search,
+        ..
+    } = call;
+    let sought = &search.sought;
+    let Hands { rt, jobs } = *hands;
+    let crew = Crew { rt, jobs };
+    let searched = match first_found(&crew, alloc, request, sought, follower) {
+        Ok(searched) => searched,
+        Err(_) => return Err(Trouble::NoMemory),
+    };
+    let SearchResult { table, halt } = searched;
+    follower.end();
+    let drawn = DrawnTable {
+        sought,
+        table: &table,
+    };
+    teller.tell(alloc, News::Table(drawn), out)?;
+    match halt {
+        Halt::Found(found) => {
+            teller.tell(alloc, News::Run(found.run), out)?;
+            let run = FoundRun {
+                found_as: FoundAs::Run(found.run),
+                made: Some(found.made),
+            };
+            let kept = kept_of(alloc, call, run, follower)?;
+            teller.conclude(alloc, Conclusion::Last(drawn, &kept), out)?;
+            keep_made(search, &kept.made, save)?;
+            Ok(Done {
+                status: 1,
+                advised: advised_of_table(&table),
+                is_bare: false,
+            })
+        }
+        halt => end_without(alloc, teller, drawn, None, &halt, out),
+    }
+}
+
+/// The same up to the first run with a race: tells that and its race, or that none has one.
+fn search_for_races<T: Teller, R: Threads + Sync, W: Write, E, S: Write, F: Hears>(
+    alloc: Global,
+    teller: &T,
+    call: SearchedCall,
+    hands: &Hands<R>,
+    streams: &mut Streams<W, E, S>,
+    follower: &mut F,
+) -> Result<Done, Trouble>
+    requires form { T.form ≡ call.search.now.form }
+    requires range { IsSearchInRange call.search.now }
+    requires asked { IsAskedBy call.search.now.call call.request.now }
+    requires drawn { call.search.now.all ≡ None }
+    requires races { call.search.now.races ≡ true }
+    ensures searched { IfOk result (λ done. IsSearchedOn W.contents S.contents call.entry.request.now.parts
+        call.entry.search.now streams.old streams.new done.status) }
+    ensures others { LeavesOthers call.entry.search.now streams.old streams.new }
+    ensures trouble { IfErr result IsOfSystem }
+{
+    let Streams { out, save, .. } = streams;
+    let SearchedCall {
+        request,
+        search,
+        ..
+    } = call;
+    let sought = &search.sought;
+    let Hands { rt, jobs } = *hands;
+    let crew = Crew { rt, jobs };
+    let searched = match first_judged(&crew, alloc, request, sought, &RaceJudge, follower) {
+        Ok(searched) => searched,
+        Err(_) => return Err(Trouble::NoMemory),
+    };
+    let SearchResult { table, halt } = searched;
+    follower.end();
+    let drawn = DrawnTable {
+        sought,
+        table: &table,
+    };
+    teller.tell(alloc, News::Table(drawn), out)?;
+    match halt {
+        Halt::Found(found) => {
+            teller.tell(alloc, News::Run(found.run), out)?;
+            let kept = kept_race(alloc, call, found, follower)?;
+            teller.conclude(alloc, Conclusion::Racy(drawn, &kept), out)?;
+            keep(&kept.racy.made.record, search.save.is_some(), save)?;
+            Ok(Done {
+                status: 1,
+                advised: advised_of_table(&table),
+                is_bare: false,
+            })
+        }
+        halt => {
+            let races = Some(RunRaces::Unknown);
+            end_without(alloc, teller, drawn, races, &halt, out)
+        }
+    }
+}
+
+/// Searches through runs of a call that can be made: through every order of entries, or through drawn runs for one with a
+/// race, where that is asked for, or for one that ends so.
+fn search_call<T: Teller, R: Threads + Sync, W: Write, E, S: Write, F: Hears>(
+    rt: &R,
+    alloc: Global,
+    teller: &T,
+    call: SearchedCall,
+    streams: &mut Streams<W, E, S>,
+    follower: &mut F,
+) -> Result<Done, Trouble>
+    requires form { T.form ≡ call.search.now.form }
+    requires range { IsSearchInRange call.search.now }
+    requires asked { IsAskedBy call.search.now.call call.request.now }
+    ensures searched { IfOk result (λ done. IsSearchedOn W.contents S.contents call.entry.request.now.parts
+        call.entry.search.now streams.old streams.new done.status) }
+    ensures others { LeavesOthers call.entry.search.now streams.old streams.new }
+    ensures trouble { IfErr result IsOfSystem }
+{
+    let search = call.search;
+    let jobs = match search.jobs {
+        Some(jobs) => jobs as usize,
+        None => thread::available_parallelism(rt).map_or(1, |count| count.get()),
+    };
+    match search.all {
+        Some(most) => {
+            let jobs = if search.deep { 1 } else { jobs };
+            let orders = Orders {
+                hands: Hands { rt, jobs },
+                most,
+            };
+            search_orders(alloc, teller, call, &orders, streams, follower)
+        }
+        None => {
+            let hands = Hands { rt, jobs };
+            if search.races {
+                return search_for_races(alloc, teller, call, &hands, streams, follower);
+            }
+            search_for_endings(alloc, teller, call, &hands, streams, follower)
+        }
     }
 }
 
 /// Searches as is asked for: through drawn runs, or through every order of entries; and prints lines or an object.
 /// Answers the status.
-pub fn search_module<R: Threads + Sync, F: Hears, W: Write, S: Write>(
+pub fn search_module<R: Threads + Sync, W: Write, E, S: Write, F: Hears>(
     rt: &R,
     alloc: Global,
-    module: &ValidModule,
-    asked: Asked,
+    asked: SearchRequest,
+    streams: &mut Streams<W, E, S>,
     follower: &mut F,
-    out: &mut W,
-    save: &mut S,
-) -> Result<u8, Trouble>
+) -> Result<Done, Trouble>
     requires { IsSearchInRange asked.search.now }
-    ensures finds { IfOk result (Finds «module».now.parts asked.entry.search.now (changed S.contents save.old save.new)) }
-    ensures well { IfOk result (IsWellAt «module».now.parts asked.entry.search.now) }
-    ensures drawn { IfOk result (IsDrawn «module».now.parts asked.entry.search.now (changed W.contents out.old out.new)
-        (changed S.contents save.old save.new)) }
-    ensures drawn_races { IfOk result (IsDrawnForRaces «module».now.parts asked.entry.search.now
-        (changed W.contents out.old out.new) (changed S.contents save.old save.new)) }
-    ensures prints { IfOk result (IsPrintedOf «module».now.parts asked.entry.search.now (changed W.contents out.old out.new)
-        (changed S.contents save.old save.new)) }
-    ensures trouble { IfErr result (IsTroubleOf «module».now.parts asked.entry.search.now.call) }
-    ensures silent { IfErr result (λ e. IfRefusedCall e (Stays out.old out.new × Stays save.old save.new)) }
-    ensures unwanted { is_some asked.entry.search.now.save ≡ false → Stays save.old save.new }
+    ensures searched { IfOk result (λ done. IsSearchedOn W.contents S.contents asked.entry.«module».now.parts
+        asked.entry.search.now streams.old streams.new done.status) }
+    ensures trouble { IfErr result (IsTroubleOf asked.entry.«module».now.parts asked.entry.search.now.call) }
+    ensures silent { IfErr result (λ e. IfRefusedCall e
+        (Stays streams.old.out streams.new.out × Stays streams.old.save streams.new.save)) }
+    ensures others { LeavesOthers asked.entry.search.now streams.old streams.new }
 {
-    let search = asked.search;
+    let SearchRequest {
+        module,
+        code,
+        search,
+    } = asked;
     let args = args_of(alloc, module, &search.call)?;
     let request = request_of(module, &search.call, &args);
-    match search.all {
-        Some(most) => search_orders(rt, alloc, &request, asked, most, follower, out, save),
-        None => search_runs(rt, alloc, &request, asked, follower, out, save),
+    let call = SearchedCall {
+        request: &request,
+        code,
+        search,
+    };
+    match search.form {
+        Form::Lines => search_call(rt, alloc, &LinesTeller, call, streams, follower),
+        Form::Json => search_call(rt, alloc, &ObjectTeller, call, streams, follower),
     }
 }

@@ -1,10 +1,6 @@
 -- What number a text spells, by how it begins.
-use Rattle.std.proofs.Common.{◌≡◌, ℕ, ◌+◌, ◌-◌, ◌/◌, ◌%◌, ◌<◌, ◌≤◌, ◌⊎◌, inl, inr, List, ◌∷◌, ◌++◌, codes, Option, Some, None, IfSome, refl, sym, ap, subst, ◌∙◌, arith}
-use Rattle.types.specs.declared.value.ValType.{ValType}
-use Rattle.types.specs.declared.value.Value.{Value}
-use Rattle.types.specs.declared.value.Value.TheVariants as values
-use Rattle.types.specs.Values.{type_of}
-use Rattle.report_command.specs.Spells.{AreDigits, IsNegative, Spells, Writes}
+use Rattle.std.proofs.Common.{◌≡◌, ℕ, ◌+◌, ◌-◌, ◌/◌, ◌%◌, ◌≤◌, inl, inr, List, ◌∷◌, ◌++◌, codes, Option, Some, None, IfSome, refl, sym, ap, subst, ◌∙◌, arith}
+use Rattle.report_command.specs.Spells.{AreDigits, IsNegative, Writes}
 
 -- it is something exactly where this holds of it
 abbrev pub Gives : Option ℕ → (ℕ → Type 0) → Type 0

@@ -8,7 +8,7 @@ use Rattle.report_command.specs.declared.command_line.RunJob.{RunJob}
 use Rattle.report_command.specs.declared.form.Form.{Form}
 use Rattle.report_command.specs.declared.show.ShowLook.{ShowLook}
 use Rattle.report_command.specs.Searches.{IsSearchInRange, SearchKeepsItsModule}
-use Rattle.report_command.specs.Views.{IsViewInRange, form_of, path_of}
+use Rattle.report_command.specs.Views.{IsViewInRange, view_form, path_of}
 
 abbrev pub IsLookInRange : ShowLook → Type 0
 IsLookInRange how = (NARROWEST ≤ how.width) × (how.width ≤ WIDEST) × IsViewInRange how.view
@@ -46,6 +46,6 @@ abbrev pub form_in : Job → Form
 form_in (Check file form) = form
 form_in (Run job) = job.look.form
 form_in (Replay file saved look) = look.form
-form_in (Show file saved names how) = form_of how.view
+form_in (Show file saved names how) = view_form how.view
 form_in (Races job) = job.form
 form_in (Search s) = s.form

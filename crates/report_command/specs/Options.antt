@@ -1,8 +1,8 @@
 -- Which field of a job is which argument of the command line: a line for each.
 use Rattle.std.specs.Prelude.{ℕ, ◌≡◌, ◌≢◌, ◌⊎◌, ◌||◌, Bool, true, false, List, map, ◌++◌, codes}
-use Rattle.std.specs.Prelude.{Option, Some, None, is_some, option_map, IfSome, MatchOption}
+use Rattle.std.specs.Prelude.{Option, Some, is_some, option_map, IfSome, MatchOption}
 use Rattle.std.specs.Borrow.{Bor}
-use Rattle.std.specs.List.{AllZip}
+use Rattle.std.specs.Str.Iter.{HasSubslice}
 use Rattle.clap.specs.Words.{first_value, rows_of, subcommand_name_of, subcommand_rows_of}
 use Rattle.clap.specs.Words.{HasMatchesOf, app_of, IsParsedFrom}
 use Rattle.clap.specs.declared.builder.command.Command.{Command}
@@ -15,7 +15,7 @@ use Rattle.selection.specs.declared.choice.Color.{Color}
 use Rattle.selection.specs.declared.choice.Color.TheVariants.{Auto, Always, Never}
 use Rattle.selection.specs.declared.sought.Find.{Find}
 use Rattle.selection.specs.declared.sought.Find.TheVariants.{Nothing, Failure, Words, NoEnd, ForEver}
-use Rattle.selection.specs.declared.sought.Target.{Target}
+use Rattle.selection.specs.declared.sought.SearchTarget.{SearchTarget}
 use Rattle.selection.specs.declared.sought.Sought.{Sought}
 use Rattle.report_command.specs.declared.limits.TheConstants.{DEFAULT_STATES, DEFAULT_SHRINK_SECONDS}
 use Rattle.report_command.specs.declared.call.CallWords.{CallWords}
@@ -28,18 +28,19 @@ use Rattle.report_command.specs.declared.form.Form.TheVariants.{Lines, Json}
 use Rattle.report_command.specs.declared.form.EndLook.{EndLook}
 use Rattle.report_command.specs.declared.command_line.Job.{Job}
 use Rattle.report_command.specs.declared.command_line.Job.TheVariants as jobs
-use Rattle.report_command.specs.declared.command_line.Order.{Order}
+use Rattle.report_command.specs.declared.command_line.JobOrder.{JobOrder}
 use Rattle.report_command.specs.declared.races.RacesJob.{RacesJob}
-use Rattle.report_command.specs.declared.show.View.{View}
-use Rattle.report_command.specs.declared.show.View.TheVariants.{Rows, Unfolded, Moment, Write, Page, Trace, Object}
+use Rattle.report_command.specs.declared.show.RecordView.{RecordView}
+use Rattle.report_command.specs.declared.show.RecordView.TheVariants.{Rows, Unfolded, Moment, Write, Page, Trace}
+use Rattle.report_command.specs.declared.show.RecordView.TheVariants.{Object}
 use Rattle.report_command.specs.declared.show.LastWrite.{LastWrite}
 use Rattle.report_command.specs.declared.show.ShowLook.{ShowLook}
 use Rattle.report_command.specs.declared.places.When.{When}
 use Rattle.report_command.specs.declared.places.When.TheVariants.{End}
 use Rattle.report_command.specs.Addresses.{IsAddress, IsBytes, IsData, IsMoment, IsSpan, IsStretch, IsThread}
 use Rattle.report_command.specs.declared.search.Search.{Search}
-use Rattle.report_command.specs.Found.{HasNo, is_given, HasText, HasTextIfAny, HasTexts, number_in, HasFlag, IsWord}
-use Rattle.report_command.specs.Found.{HasNumber, HasNumberIfAny, HasNumberOr}
+use Rattle.report_command.specs.Found.{HasNo, is_given, HasText, HasTextIfAny, HasTexts, decimal_of, HasFlag, IsWord}
+use Rattle.report_command.specs.Found.{HasNumber, HasNumberIfAny, HasNumberOr, IsReadIfAny, AreRead}
 use Rattle.report_command.specs.Results.{IsSpelledBy}
 
 -- The call of a run and of a search.
@@ -70,8 +71,7 @@ IsMemoryFile text file = ((file.path.now ≡ text) × (file.addr ≡ 0))
 
 -- What is laid over the memory of a run, or nothing.
 abbrev pub AsksMemoryIn : Found → Option MemoryFile → Type 0
-AsksMemoryIn f None = HasNo f (codes "memory-in")
-AsksMemoryIn f (Some file) = (text : List ℕ) × (first_value f (codes "memory-in") ≡ Some text) × IsMemoryFile text file
+AsksMemoryIn f file = IsReadIfAny IsMemoryFile f (codes "memory-in") file
 
 -- `check`
 pub record AsksCheck (f : Found) (file : Bor (List ℕ)) (form : Form) : Type 0 where
@@ -101,7 +101,7 @@ AsksBytes f addr count =
     MatchOption (first_value f (codes "dump")) ((addr ≡ 0) × (count ≡ 0)) (λ text. IsBytes text addr count)
 
 -- Its entries, as rows or as an object.
-abbrev pub AsksEntries : Found → View → Type 0
+abbrev pub AsksEntries : Found → RecordView → Type 0
 AsksEntries f Rows = AsksForm f Lines × HasFlag f (codes "unfold") false
 AsksEntries f Unfolded = AsksForm f Lines × HasFlag f (codes "unfold") true
 AsksEntries f Object = AsksForm f Json
@@ -118,24 +118,24 @@ AsksMoment f when = (text : List ℕ) × (first_value f (codes "at") ≡ Some te
 abbrev pub AsksBefore : Found → When → Type 0
 AsksBefore f when = MatchOption (first_value f (codes "at")) (when ≡ End) (λ text. IsMoment text when)
 
--- The last write of which bytes, and before which moment.
+-- The last write of which bytes, before which moment, and in which form.
 abbrev pub AsksLastWrite : Found → LastWrite → Type 0
 AsksLastWrite f write = ((text : List ℕ) × (first_value f (codes "last-write") ≡ Some text)
-    × IsData IsStretch text write.bytes) × AsksBefore f write.before
+    × IsData IsStretch text write.bytes) × AsksBefore f write.before × AsksForm f write.form
 
 -- What is made of a record, where no file is.
-abbrev pub AsksShown : Found → View → Type 0
+abbrev pub AsksShown : Found → RecordView → Type 0
 AsksShown f Rows = HasNo f (codes "last-write") × HasNo f (codes "at") × AsksEntries f Rows
 AsksShown f Unfolded = HasNo f (codes "last-write") × HasNo f (codes "at") × AsksEntries f Unfolded
 AsksShown f Object = HasNo f (codes "last-write") × HasNo f (codes "at") × AsksEntries f Object
 AsksShown f (Moment at) = HasNo f (codes "last-write") × AsksMoment f at.when × AsksBytes f at.addr at.count
-    × HasFlag f (codes "raw") at.is_raw
+    × HasFlag f (codes "raw") at.is_raw × AsksForm f at.form
 AsksShown f (Write write) = AsksLastWrite f write
 AsksShown f (Page path) = ⊥
 AsksShown f (Trace path) = ⊥
 
 -- What is made of a record.
-abbrev pub AsksView : Found → View → Type 0
+abbrev pub AsksView : Found → RecordView → Type 0
 AsksView f (Page path) = HasText f (codes "html") path
 AsksView f (Trace path) = HasText f (codes "trace") path
 AsksView f view = HasNo f (codes "html") × HasNo f (codes "trace") × AsksShown f view
@@ -146,16 +146,11 @@ AsksColor f Never = first_value f (codes "color") ≡ Some (codes "never")
 AsksColor f Auto =
     (first_value f (codes "color") ≢ Some (codes "always")) × (first_value f (codes "color") ≢ Some (codes "never"))
 
--- The values of an argument, one for each of its texts; none where it isn't given.
-abbrev pub AsksEach : {T : Type 0} → (List ℕ → T → Type 0) → Found → List ℕ → List T → Type 0
-AsksEach Parses f name values = (texts : List (Bor (List ℕ))) × HasTexts f name texts
-    × AllZip (λ text value. Parses text.now value) texts values
-
 -- Which entries of a record are shown, how, and what is made of it. Bytes may be given by their addresses, or by words.
 pub record AsksLook (f : Found) (how : ShowLook) : Type 0 where
-  pub lines : AsksEach IsSpan f (codes "lines") how.lines.items
-  pub threads : AsksEach IsThread f (codes "thread") how.threads.items
-  pub bytes : AsksEach (IsData IsSpan) f (codes "addr") how.bytes.items
+  pub lines : AreRead IsSpan f (codes "lines") how.lines.items
+  pub threads : AreRead IsThread f (codes "thread") how.threads.items
+  pub bytes : AreRead (IsData IsSpan) f (codes "addr") how.bytes.items
   pub width : HasNumber f (codes "width") how.width
   pub color : AsksColor f how.color
   pub source : HasTextIfAny f (codes "source") how.source
@@ -181,32 +176,43 @@ abbrev pub IsWay : List ℕ → Way → Type 0
 IsWay word Mix = word ≡ codes "mix"
 IsWay word Random = word ≡ codes "random"
 IsWay word Spin = word ≡ codes "spin"
-IsWay word (Priorities depth) = (digits : List ℕ) × (word ≡ codes "pct:" ++ digits) × (depth ≡ number_in digits)
+IsWay word (Priorities depth) = (digits : List ℕ) × (word ≡ codes "pct:" ++ digits) × (depth ≡ decimal_of digits)
 
 abbrev pub AsksWay : Found → Way → Type 0
 AsksWay f way = (word : List ℕ) × (first_value f (codes "strategy") ≡ Some word) × IsWay word way
+
+-- The words in which a search through every order says that no run ends from some state, and that a fair run goes on for
+-- ever.
+abbrev pub no_end_words : List ℕ
+no_end_words = codes "from which no run ends"
+
+abbrev pub for_ever_words : List ℕ
+for_ever_words = codes "a fair run can go on for ever"
+
+-- What is looked for by words that are given: a line of a thread that has them; or what the words say that they are a part
+-- of, the first of the two where they are a part of both.
+abbrev pub IsFindOf : List ℕ → Find → Type 0
+IsFindOf words (Words text) = text.now ≡ words
+IsFindOf words Nothing = ⊥
+IsFindOf words Failure = ⊥
+IsFindOf words NoEnd = HasSubslice no_end_words words
+IsFindOf words ForEver = HasSubslice for_ever_words words × (HasSubslice no_end_words words → ⊥)
+
+abbrev pub AsksFindOf : Found → Find → Type 0
+AsksFindOf f find = (words : List ℕ) × (first_value f (codes "find") ≡ Some words) × IsFindOf words find
 
 -- What is looked for by words; where none are given a trap or a stop, or nothing where a result is expected.
 abbrev pub AsksFind : Found → Find → Type 0
 AsksFind f (Words words) = HasText f (codes "find") words
 AsksFind f Nothing = HasNo f (codes "find") × (is_given f (codes "expect") ≡ true)
 AsksFind f Failure = HasNo f (codes "find") × HasNo f (codes "expect")
-AsksFind f NoEnd = is_given f (codes "find") ≡ true
-AsksFind f ForEver = is_given f (codes "find") ≡ true
-
--- What is looked for by words that are given.
-abbrev pub IsFindOf : List ℕ → Find → Type 0
-IsFindOf words (Words text) = text.now ≡ words
-IsFindOf words Nothing = ⊥
-IsFindOf words Failure = ⊥
-IsFindOf words NoEnd = Unit {0}
-IsFindOf words ForEver = Unit {0}
+AsksFind f NoEnd = AsksFindOf f NoEnd
+AsksFind f ForEver = AsksFindOf f ForEver
 
 abbrev pub AsksResult : Found → Option Outcome → Type 0
-AsksResult f None = HasNo f (codes "expect")
-AsksResult f (Some result) = (words : List ℕ) × (first_value f (codes "expect") ≡ Some words) × IsSpelledBy words result
+AsksResult f result = IsReadIfAny IsSpelledBy f (codes "expect") result
 
-pub record AsksTarget (f : Found) (target : Target) : Type 0 where
+pub record AsksTarget (f : Found) (target : SearchTarget) : Type 0 where
   pub find : AsksFind f target.find
   pub expect : AsksResult f target.expect
 
@@ -286,7 +292,7 @@ is_explained explains.Never is_terminal = false
 is_explained explains.Auto is_terminal = is_terminal
 
 -- What the parser found asks for: the command, and its arguments.
-pub record IsOrderOf (m : ArgMatches) (order : Order) : Type 0 where
+pub record IsOrderOf (m : ArgMatches) (order : JobOrder) : Type 0 where
   pub found : Found
   pub command : subcommand_name_of m ≡ Some (command_name order.job)
   pub arguments : option_map (λ s. s.1) (subcommand_rows_of m) ≡ Some (rows_of found)
@@ -294,7 +300,7 @@ pub record IsOrderOf (m : ArgMatches) (order : Order) : Type 0 where
   pub explain : AsksExplain found order.explain
 
 -- What a command line that `clap` parses finds in the words asks for.
-pub record IsAskedBy (words : List (List ℕ)) (order : Order) : Type 0 where
+pub record IsAskedBy (words : List (List ℕ)) (order : JobOrder) : Type 0 where
   pub command : Command
   pub matches : ArgMatches
   pub parsed : IsParsedFrom command matches
@@ -302,7 +308,7 @@ pub record IsAskedBy (words : List (List ℕ)) (order : Order) : Type 0 where
   pub order_is : IsOrderOf matches order
 
 abbrev pub IsJobOf : List (List ℕ) → Job → Type 0
-IsJobOf words job = (order : Order) × (order.job ≡ job) × IsAskedBy words order
+IsJobOf words job = (order : JobOrder) × (order.job ≡ job) × IsAskedBy words order
 
 abbrev pub texts_in : List (Bor (List ℕ)) → List (List ℕ)
 texts_in texts = map (λ text. text.now) texts

@@ -2,13 +2,14 @@
 use Rattle.std.specs.Prelude.{◌≤◌, List, ℕ, Option, Some, None}
 use Rattle.std.specs.Borrow.{Bor}
 use Rattle.report_command.specs.declared.limits.TheConstants.{MOST_DUMP}
-use Rattle.report_command.specs.declared.show.View.{View}
-use Rattle.report_command.specs.declared.show.View.TheVariants.{Rows, Unfolded, Moment, Write, Page, Trace, Object}
+use Rattle.report_command.specs.declared.show.RecordView.{RecordView}
+use Rattle.report_command.specs.declared.show.RecordView.TheVariants.{Rows, Unfolded, Moment, Write, Page, Trace}
+use Rattle.report_command.specs.declared.show.RecordView.TheVariants.{Object}
 use Rattle.report_command.specs.declared.form.Form.{Form}
 use Rattle.report_command.specs.declared.form.Form.TheVariants.{Lines, Json}
 
 -- A moment shows no more bytes than any dump.
-abbrev pub IsViewInRange : View → Type 0
+abbrev pub IsViewInRange : RecordView → Type 0
 IsViewInRange (Moment at) = at.count ≤ MOST_DUMP
 IsViewInRange Rows = Unit {0}
 IsViewInRange Unfolded = Unit {0}
@@ -18,7 +19,7 @@ IsViewInRange (Page path) = Unit {0}
 IsViewInRange (Trace path) = Unit {0}
 
 -- The path of the file that is made, if one is.
-abbrev pub path_of : View → Option (Bor (List ℕ))
+abbrev pub path_of : RecordView → Option (Bor (List ℕ))
 path_of Rows = None
 path_of Unfolded = None
 path_of Object = None
@@ -28,11 +29,11 @@ path_of (Page path) = Some path
 path_of (Trace path) = Some path
 
 -- In which form it is printed.
-abbrev pub form_of : View → Form
-form_of Object = Json
-form_of Rows = Lines
-form_of Unfolded = Lines
-form_of (Moment at) = Lines
-form_of (Write write) = Lines
-form_of (Page path) = Lines
-form_of (Trace path) = Lines
+abbrev pub view_form : RecordView → Form
+view_form Object = Json
+view_form Rows = Lines
+view_form Unfolded = Lines
+view_form (Moment at) = at.form
+view_form (Write write) = write.form
+view_form (Page path) = Lines
+view_form (Trace path) = Lines

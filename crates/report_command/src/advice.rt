@@ -22,7 +22,7 @@ pub static ADVICE: [Advice; 4] = [
     },
     Advice {
         outcome: Outcome::Stop(Stop::AsleepForGood),
-        words: "a thread sleeps where nobody is left to wake it: `show` has the line on which it fell asleep",
+        words: "a thread sleeps where nobody is left to wake it: `show` has the entry at which it fell asleep",
     },
     Advice {
         outcome: Outcome::Trap(Trap::UnalignedAtomic),

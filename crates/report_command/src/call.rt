@@ -1,16 +1,13 @@
 //! A call as the command line spells it.
-ghost use Rattle.std.specs.Prelude.{◌≤◌, IfOk, IfSome};
+ghost use Rattle.std.specs.Prelude.{◌≤◌, IfOk};
 ghost use Rattle.clap.specs.Words.{found_of};
 ghost use Rattle.types.specs.declared.limits.TheConstants.{MOST_FUEL};
 ghost use Rattle.report_command.specs.Options.{AsksCall};
 
-use crate::arguments::{Argument, Kind, OPTION};
-use crate::limits::DEFAULT_FUEL;
-use crate::words::{number_of, texts_of};
+use crate::options::{ARGS, FUEL, INVOKE};
+use crate::refusal::CommandRefusal;
 use clap::ArgMatches;
-use clap::builder::ValueParser;
-use std::alloc::{AllocError, Global};
-use types::MOST_FUEL;
+use std::alloc::Global;
 
 /// A call of a function of a module, in words.
 #[derive(Drop)]
@@ -23,48 +20,19 @@ pub struct CallWords<'a> {
     pub fuel: u64,
 }
 
-/// The function that is called.
-pub(crate) const INVOKE: Argument = Argument {
-    name: "invoke",
-    value: "NAME",
-    help: "The exported function that thread 0 runs",
-    kind: Kind::Required,
-    ..OPTION
-};
-
-/// Its arguments.
-pub(crate) const ARGS: Argument = Argument {
-    name: "args",
-    value: "ARG",
-    help: "The function's arguments, as 5, -5 or 0x10",
-    kind: Kind::Rest,
-    ..OPTION
-};
-
-/// How much a thread may spend.
-pub(crate) const FUEL: Argument = Argument {
-    name: "fuel",
-    value: "N",
-    help: "How many units each thread may spend, 0 to 1000000000000",
-    parser: ValueParser::Unsigned(0, MOST_FUEL),
-    defaults: &[DEFAULT_FUEL],
-    ..OPTION
-};
-
-/// The call, where its name is there and its budget in range, as the parser sees to.
+/// The call.
+///
+/// # Errors
+/// `Value` where the name or the budget isn't there, and `NoMemory`.
 pub(crate) fn call_of<'a>(
     alloc: Global,
     matches: &ArgMatches<'a>,
-) -> Result<Option<CallWords<'a>>, AllocError>
-    ensures range { IfOk result (λ call. IfSome call (λ words. words.fuel ≤ MOST_FUEL)) }
-    ensures asks { IfOk result (λ call. IfSome call (AsksCall (found_of matches.now))) }
+) -> Result<CallWords<'a>, CommandRefusal<'static>>
+    ensures range { IfOk result (λ call. call.fuel ≤ MOST_FUEL) }
+    ensures asks { IfOk result (AsksCall (found_of matches.now)) }
 {
-    let (Some(invoke), Some(fuel)) = (matches.get_str("invoke"), number_of(matches, "fuel")) else {
-        return Ok(None);
-    };
-    if fuel > MOST_FUEL {
-        return Ok(None);
-    }
-    let args = texts_of(alloc, matches, "args")?;
-    Ok(Some(CallWords { invoke, args, fuel }))
+    let invoke = INVOKE.text(matches)?;
+    let fuel = FUEL.long(matches)?;
+    let args = ARGS.texts(alloc, matches)?;
+    Ok(CallWords { invoke, args, fuel })
 }

@@ -4,7 +4,7 @@ ghost use Rattle.std.specs.Prelude.{◌≡◌};
 ghost use Rattle.clap.specs.Words.{found_of};
 ghost use Rattle.report_command.specs.Options.{AsksExplain, is_explained};
 
-use crate::arguments::{Argument, FLAG};
+use crate::options::{EXPLAIN, NO_EXPLAIN};
 use clap::ArgMatches;
 
 /// When more is said of a refusal, a trap or a stop.
@@ -29,29 +29,14 @@ impl Explain {
     }
 }
 
-/// Whether more is said.
-pub(crate) const EXPLAIN: Argument = Argument {
-    name: "explain",
-    help: "Say on standard error, behind a refusal, a trap or a stop, where and why it is, and what to do; on a terminal without it too",
-    ..FLAG
-};
-
-/// Whether nothing more is said, on a terminal neither.
-pub(crate) const NO_EXPLAIN: Argument = Argument {
-    name: "no-explain",
-    help: "Say no more than one line of it, on a terminal neither",
-    conflicts: &["explain"],
-    ..FLAG
-};
-
 /// When more is said.
 pub(crate) fn explain_of(matches: &ArgMatches) -> Explain
     ensures { AsksExplain (found_of matches.now) result }
 {
-    if matches.get_flag("explain") {
+    if EXPLAIN.is_set(matches) {
         return Explain::Always;
     }
-    if matches.get_flag("no-explain") {
+    if NO_EXPLAIN.is_set(matches) {
         return Explain::Never;
     }
     Explain::Auto

@@ -1,14 +1,14 @@
 //! In which form a job prints.
 
-ghost use Rattle.std.specs.Prelude.{◌≡◌, ◌≤◌, false, IfSome};
+ghost use Rattle.std.specs.Prelude.{◌≡◌, ◌≤◌, false, IfOk};
 ghost use Rattle.clap.specs.Words.{found_of};
 ghost use Rattle.report_command.specs.declared.limits.TheConstants.{MOST_DUMP};
 ghost use Rattle.report_command.specs.declared.form.Form.TheVariants.{Lines};
 ghost use Rattle.report_command.specs.Options.{AsksForm, AsksEndLook};
 
-use crate::arguments::{Argument, FLAG};
 use crate::limits::MOST_DUMP;
-use crate::words::short_of;
+use crate::options::{DUMP, EXPLAIN, JSON, UNITS};
+use crate::refusal::CommandRefusal;
 use clap::ArgMatches;
 
 /// In which form a job prints.
@@ -47,43 +47,30 @@ impl EndLook {
     }
 }
 
-/// Whether an object is printed.
-pub(crate) const JSON: Argument = Argument {
-    name: "json",
-    help: "Print one JSON object in place of lines, also of a refusal",
-    ..FLAG
-};
-
-/// Whether lines have units.
-pub(crate) const UNITS: Argument = Argument {
-    name: "units",
-    help: "Print behind how each thread ended how many units it spent",
-    ..FLAG
-};
-
 /// In which form is printed.
 pub(crate) fn form_of(matches: &ArgMatches) -> Form
     ensures { AsksForm (found_of matches.now) result }
 {
-    if matches.get_flag("json") {
+    if JSON.is_set(matches) {
         Form::Json
     } else {
         Form::Lines
     }
 }
 
-/// How the end of a run is printed, where its number is there and in range, as the parser sees to.
-pub(crate) fn end_look_of(matches: &ArgMatches) -> Option<EndLook>
-    ensures range { IfSome result (λ look. look.dump ≤ MOST_DUMP) }
-    ensures asks { IfSome result (AsksEndLook (found_of matches.now)) }
+/// How the end of a run is printed.
+///
+/// # Errors
+/// `Value` where the length of the dump isn't there.
+pub(crate) fn end_look_of(matches: &ArgMatches) -> Result<EndLook, CommandRefusal<'static>>
+    ensures range { IfOk result (λ look. look.dump ≤ MOST_DUMP) }
+    ensures asks { IfOk result (AsksEndLook (found_of matches.now)) }
 {
-    match short_of(matches, "dump") {
-        Some(dump) if dump <= MOST_DUMP => Some(EndLook {
-            dump,
-            units: matches.get_flag("units"),
-            traps: matches.get_flag("explain"),
-            form: form_of(matches),
-        }),
-        _ => None,
-    }
+    let dump = DUMP.number(matches)?;
+    Ok(EndLook {
+        dump,
+        units: UNITS.is_set(matches),
+        traps: EXPLAIN.is_set(matches),
+        form: form_of(matches),
+    })
 }

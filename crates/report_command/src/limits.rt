@@ -32,32 +32,5 @@ pub const NARROWEST: u32 = 40;
 
 pub const WIDEST: u32 = 1000;
 
-/// How many units each thread may spend, where nobody says so.
-pub(crate) const DEFAULT_FUEL: &str = "1000000000";
-
-/// How many entries the log takes.
-pub(crate) const DEFAULT_LIMIT: &str = "100000";
-
-/// The same of a search, whose runs are many.
-pub(crate) const DEFAULT_SEARCH_FUEL: &str = "10000000";
-
-pub(crate) const DEFAULT_SEARCH_LIMIT: &str = "10000";
-
-/// How many bytes of the memory are printed.
-pub(crate) const DEFAULT_DUMP: &str = "0";
-
-/// How many runs a search makes, from which one on, and of which seed.
-pub(crate) const DEFAULT_RUNS: &str = "10000";
-
-pub(crate) const DEFAULT_FROM: &str = "1";
-
-pub(crate) const DEFAULT_SEED: &str = "1";
-
-/// How many states a search through every order of entries meets at most.
+/// How many states a search through every order of entries meets at most, where nobody says so.
 pub(crate) const DEFAULT_STATES: u32 = 1_000_000;
-
-/// How many races are told at most.
-pub(crate) const DEFAULT_RACES: &str = "10";
-
-/// How many characters a row has room for.
-pub(crate) const DEFAULT_WIDTH: &str = "120";

@@ -30,7 +30,7 @@ static SPENT: [Outcome; 2] = [
 ];
 
 /// The number at the end of words, or where there are no digits 0; none where it has more than 64 bits.
-fn number_in(words: &str) -> Option<u64> {
+fn last_number(words: &str) -> Option<u64> {
     let digits = words
         .bytes()
         .rev()
@@ -56,7 +56,6 @@ fn can_stand(alloc: Global, words: &str, outcome: Outcome) -> Result<bool, Alloc
     Ok(false)
 }
 
-/// Whether a line with one of these outcomes can have the words.
 fn can_stand_in(alloc: Global, words: &str, outcomes: &[Outcome]) -> Result<bool, AllocError> {
     for outcome in outcomes {
         if can_stand(alloc, words, *outcome)? {
@@ -69,12 +68,12 @@ fn can_stand_in(alloc: Global, words: &str, outcomes: &[Outcome]) -> Result<bool
 /// Whether a line with a value can have the words: digits at their end are those of the value, or of its first part, or
 /// stand behind its first one.
 fn can_stand_in_values(alloc: Global, words: &str) -> Result<bool, AllocError> {
-    let Some(number) = number_in(words) else {
+    let Some(number) = last_number(words) else {
         return Ok(false);
     };
     let short = u32::try_from(number).unwrap_or(0);
     let behind = format!(in alloc; "1{words}")?;
-    let longer = number_in(&behind).unwrap_or(0);
+    let longer = last_number(&behind).unwrap_or(0);
     let values = [
         Outcome::Done(Some(Value::I32(short))),
         Outcome::Done(Some(Value::I64(number))),
@@ -134,7 +133,7 @@ fn is_spelled(alloc: Global, words: &str, outcome: Outcome) -> Result<bool, Allo
 }
 
 /// The value that ends words, if one does.
-fn value_in(words: &str) -> Option<Value> {
+fn plain_value(words: &str) -> Option<Value> {
     let (kind, digits) = words.split_once(':')?;
     match kind {
         "i32" | "ok i32" => Some(Value::I32(digits.parse::<u32>().ok()?)),
@@ -143,7 +142,6 @@ fn value_in(words: &str) -> Option<Value> {
     }
 }
 
-/// The one of these outcomes that is spelled so.
 fn spelled_in(
     alloc: Global,
     words: &str,
@@ -164,7 +162,7 @@ fn spelled_in(
 pub(crate) fn result_of(alloc: Global, words: &str) -> Result<Option<Outcome>, AllocError>
     ensures { IfOk result (λ o. IfSome o (IsSpelledBy words.now)) }
 {
-    if let Some(value) = value_in(words) {
+    if let Some(value) = plain_value(words) {
         return spelled_in(alloc, words, &[Outcome::Done(Some(value))]);
     }
     match spelled_in(alloc, words, &PLAIN)? {

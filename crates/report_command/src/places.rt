@@ -4,9 +4,10 @@ ghost use Rattle.std.specs.List.{AllZip};
 ghost use Rattle.report_command.specs.declared.limits.TheConstants.{MOST_DUMP};
 ghost use Rattle.report_command.specs.Addresses.{IsAddress, IsBytes, IsData, IsEndOf, IsMoment, IsSpan, IsSpanOf};
 ghost use Rattle.report_command.specs.Addresses.{IsStretch, IsThread};
+ghost use Rattle.report_command.specs.Found.{decimal_of};
 
 use crate::limits::{MOST_DUMP, MOST_LINE};
-use selection::Span;
+use selection::NumberSpan;
 use std::alloc::{AllocError, Global};
 use types::MOST_THREADS;
 
@@ -14,7 +15,7 @@ use types::MOST_THREADS;
 #[derive(Clone, Copy, PartialEq, Eq, Debug)]
 pub enum Data<'a> {
     /// Those at these addresses.
-    At(Span),
+    At(NumberSpan),
     /// Those that words name, as `queue.head`, by the debug section of a module.
     Named(&'a str),
 }
@@ -31,7 +32,7 @@ pub enum When {
 }
 
 /// An address: an unsigned decimal, or a hexadecimal number behind `0x`.
-fn addr_of(text: &str) -> Option<u64>
+pub(crate) fn addr_in(text: &str) -> Option<u64>
     ensures { IfSome result (IsAddress text.now) }
 {
     match text.strip_prefix("0x") {
@@ -47,60 +48,73 @@ fn end_of(text: &str) -> Option<u64>
     if text.is_empty() {
         Some(u64::MAX)
     } else {
-        addr_of(text)
+        addr_in(text)
     }
 }
 
 /// The span of a text `A`, `A-B` or `A-`, where A isn't above B.
-pub(crate) fn span_in(text: &str) -> Option<Span>
+fn span_in(text: &str) -> Option<NumberSpan>
     ensures { IfSome result (IsSpan text.now) }
 {
     let Some((first, last)) = text.split_once('-') else {
-        let first = addr_of(text)?;
-        return Some(Span { first, last: first });
+        let first = addr_in(text)?;
+        return Some(NumberSpan { first, last: first });
     };
-    let (first, last) = (addr_of(first)?, end_of(last)?);
+    let (first, last) = (addr_in(first)?, end_of(last)?);
     if first <= last {
-        Some(Span { first, last })
+        Some(NumberSpan { first, last })
+    } else {
+        None
+    }
+}
+
+/// The number that decimal digits write, behind a plus or none.
+pub(crate) fn decimal_in(text: &str) -> Option<u32>
+    ensures { IfSome result (λ n. n ≡ decimal_of text.now) }
+{
+    text.parse::<u32>().ok()
+}
+
+/// A number of bytes, as many as are shown at most.
+fn count_in(text: &str) -> Option<u32>
+    ensures range { IfSome result (λ count. count ≤ MOST_DUMP) }
+    ensures spelled { IfSome result (λ count. count ≡ decimal_of text.now) }
+{
+    let count = decimal_in(text)?;
+    if count <= MOST_DUMP {
+        Some(count)
     } else {
         None
     }
 }
 
 /// An address and a number of bytes, of a text `A:N`.
-pub(crate) fn bytes_in(text: &str) -> Option<(u64, u32)>
+fn bytes_in(text: &str) -> Option<(u64, u32)>
     ensures range { IfSome result (λ bytes. bytes.1 ≤ MOST_DUMP) }
     ensures spelled { IfSome result (λ bytes. IsBytes text.now bytes.0 bytes.1) }
 {
-    let Some((addr, count)) = text.split_once(':') else {
-        return None;
-    };
-    let (Some(addr), Ok(count)) = (addr_of(addr), count.parse::<u32>()) else {
-        return None;
-    };
-    if count <= MOST_DUMP {
-        Some((addr, count))
-    } else {
-        None
-    }
+    let (addr, count) = text.split_once(':')?;
+    let addr = addr_in(addr)?;
+    let count = count_in(count)?;
+    Some((addr, count))
 }
 
 /// The addresses of so many bytes from one on, one at least.
-fn span_of(first: u64, count: u32) -> Option<Span>
+fn span_of(first: u64, count: u32) -> Option<NumberSpan>
     ensures { IfSome result (IsSpanOf first count) }
 {
     let more = count.checked_sub(1)?;
     let last = first.checked_add(u64::from(more))?;
-    Some(Span { first, last })
+    Some(NumberSpan { first, last })
 }
 
 /// The addresses of a text `A:N`, or of `A` alone, which is one byte.
-pub(crate) fn stretch_in(text: &str) -> Option<Span>
+fn stretch_in(text: &str) -> Option<NumberSpan>
     ensures { IfSome result (IsStretch text.now) }
 {
     if !text.contains(':') {
-        let first = addr_of(text)?;
-        return Some(Span { first, last: first });
+        let first = addr_in(text)?;
+        return Some(NumberSpan { first, last: first });
     }
     let (first, count) = bytes_in(text)?;
     span_of(first, count)
@@ -113,126 +127,136 @@ fn is_name(text: &str) -> bool {
         .is_some_and(|byte| byte.is_ascii_alphabetic() || byte == b'_')
 }
 
-/// The bytes of a text that is a name, or a span.
-pub(crate) fn data_in(text: &str) -> Option<Data<'_>>
-    ensures { IfSome result (IsData IsSpan text.now) }
-{
-    if is_name(text) {
-        return Some(Data::Named(text));
-    }
-    match span_in(text) {
-        Some(span) => Some(Data::At(span)),
-        None => None,
-    }
-}
-
-/// The bytes of a text that is a name, or a stretch.
-pub(crate) fn target_in(text: &str) -> Option<Data<'_>>
-    ensures { IfSome result (IsData IsStretch text.now) }
-{
-    if is_name(text) {
-        return Some(Data::Named(text));
-    }
-    match stretch_in(text) {
-        Some(span) => Some(Data::At(span)),
-        None => None,
-    }
-}
-
-/// The thread of a text `T` or `tT`, of 0 to 63.
-fn thread_in(text: &str) -> Option<u32>
-    ensures { IfSome result (IsThread text.now) }
-{
-    let thread = match text.strip_prefix('t') {
-        Some(digits) => digits.parse::<u32>().ok()?,
-        None => text.parse::<u32>().ok()?,
-    };
-    if (thread as usize) < MOST_THREADS {
-        Some(thread)
-    } else {
-        None
-    }
-}
-
-/// A parser of values: a type without values, which says how one text is read.
-pub(crate) trait Parser<'a> {
+/// A reader of values: a type without values, which says how a text is read.
+pub(crate) trait ValueReader<'a> {
     type Value: Drop;
 
     /// Which value a text has.
-    ghost parses: { List ℕ → Self.Value → Type 0 };
+    ghost reads: { List ℕ → Self.Value → Type 0 };
 
-    /// The value of a text, if it has one.
-    fn parse(text: &'a str) -> Option<Self::Value>
-        ensures { IfSome result (parses text.now) };
+    fn read(text: &'a str) -> Option<Self::Value>
+        ensures { IfSome result (reads text.now) };
 }
 
 /// Lines of a record.
-pub(crate) struct LineParser;
+pub(crate) struct SpanReader;
 
-impl<'a> Parser<'a> for LineParser {
-    type Value = Span;
+impl<'a> ValueReader<'a> for SpanReader {
+    type Value = NumberSpan;
 
-    ghost parses = { IsSpan };
+    ghost reads = { IsSpan };
 
-    fn parse(text: &'a str) -> Option<Span> {
+    fn read(text: &'a str) -> Option<NumberSpan> {
         span_in(text)
     }
 }
 
-/// A thread.
-pub(crate) struct ThreadParser;
+/// Threads: `T` or `tT`, of 0 to 63.
+pub(crate) struct ThreadReader;
 
-impl<'a> Parser<'a> for ThreadParser {
+impl<'a> ValueReader<'a> for ThreadReader {
     type Value = u32;
 
-    ghost parses = { IsThread };
+    ghost reads = { IsThread };
 
-    fn parse(text: &'a str) -> Option<u32> {
-        thread_in(text)
+    fn read(text: &'a str) -> Option<u32> {
+        let thread = match text.strip_prefix('t') {
+            Some(digits) => digits.parse::<u32>().ok()?,
+            None => text.parse::<u32>().ok()?,
+        };
+        if (thread as usize) < MOST_THREADS {
+            Some(thread)
+        } else {
+            None
+        }
     }
 }
 
-/// Bytes of the memory.
-pub(crate) struct DataParser;
+/// Bytes of the memory, by their names or their first and last addresses.
+pub(crate) struct DataReader;
 
-impl<'a> Parser<'a> for DataParser {
+impl<'a> ValueReader<'a> for DataReader {
     type Value = Data<'a>;
 
-    ghost parses = { IsData IsSpan };
+    ghost reads = { IsData IsSpan };
 
-    fn parse(text: &'a str) -> Option<Data<'a>> {
-        data_in(text)
+    fn read(text: &'a str) -> Option<Data<'a>> {
+        if is_name(text) {
+            return Some(Data::Named(text));
+        }
+        match span_in(text) {
+            Some(span) => Some(Data::At(span)),
+            None => None,
+        }
+    }
+}
+
+/// The same, by their names or by the first address and their number.
+pub(crate) struct WrittenReader;
+
+impl<'a> ValueReader<'a> for WrittenReader {
+    type Value = Data<'a>;
+
+    ghost reads = { IsData IsStretch };
+
+    fn read(text: &'a str) -> Option<Data<'a>> {
+        if is_name(text) {
+            return Some(Data::Named(text));
+        }
+        match stretch_in(text) {
+            Some(span) => Some(Data::At(span)),
+            None => None,
+        }
+    }
+}
+
+/// The first address and the number of bytes that are shown.
+pub(crate) struct BytesReader;
+
+impl<'a> ValueReader<'a> for BytesReader {
+    type Value = (u64, u32);
+
+    ghost reads = { λ text bytes. IsBytes text bytes.0 bytes.1 × (bytes.1 ≤ MOST_DUMP) };
+
+    fn read(text: &'a str) -> Option<(u64, u32)> {
+        bytes_in(text)
+    }
+}
+
+/// Moments of a run: a line of the record, or a word.
+pub(crate) struct MomentReader;
+
+impl<'a> ValueReader<'a> for MomentReader {
+    type Value = When;
+
+    ghost reads = { IsMoment };
+
+    fn read(text: &'a str) -> Option<When> {
+        match text {
+            "end" => Some(When::End),
+            "trap" => Some(When::Trap),
+            _ => match text.parse::<u64>() {
+                Ok(line) if 1 <= line && line <= MOST_LINE => Some(When::Line(line)),
+                _ => None,
+            },
+        }
     }
 }
 
 /// The values of these texts, one for each; `None` where one has none.
 #[tactic(auto, using(crate::proofs::Zipped::zip_next))]
-pub(crate) fn values_in<'a, P: Parser<'a>>(
+pub(crate) fn values_in<'a, R: ValueReader<'a>>(
     alloc: Global,
     texts: &[&'a str],
-) -> Result<Option<Vec<P::Value>>, AllocError>
-    ensures { IfOk result (λ read. IfSome read (λ all. AllZip (λ text v. P.parses text.now v) texts.now all.items)) }
+) -> Result<Option<Vec<R::Value>>, AllocError>
+    ensures { IfOk result (λ read. IfSome read (λ all. AllZip (λ text v. R.reads text.now v) texts.now all.items)) }
 {
     let mut values = Vec::new(alloc);
     for at in 0..texts.len() {
-        let Some(value) = P::parse(texts[at]) else {
+        let Some(value) = R::read(texts[at]) else {
             return Ok(None);
         };
         values.push(value)?;
     }
     Ok(Some(values))
-}
-
-/// The moment of a text: a line of a record, or a word.
-pub(crate) fn moment_in(text: &str) -> Option<When>
-    ensures { IfSome result (IsMoment text.now) }
-{
-    match text {
-        "end" => Some(When::End),
-        "trap" => Some(When::Trap),
-        _ => match text.parse::<u64>() {
-            Ok(line) if 1 <= line && line <= MOST_LINE => Some(When::Line(line)),
-            _ => None,
-        },
-    }
 }

@@ -17,7 +17,8 @@ use Rattle.binary_wire.specs.Faults.{refusal, offset_of}
 use Rattle.binary_wire.specs.Reading.{◌>>=◌, s32_at, signed_at, unsigned_at}
 use Rattle.binary_instructions.specs.Instructions.{const_instr}
 use Rattle.binary_instructions.specs.Opcodes.{opcode, atomic_number}
-use Rattle.binary_instructions.specs.Reading.{instr_at, shape_at, shaped_at, const_at, kept_at, each_kept_at, code_at, expression_at, atomic_at, atomic_shaped_at, memarg_at}
+use Rattle.binary_instructions.specs.Reading.{instr_at, shape_at, shaped_at, const_at, kept_at, each_kept_at, code_at}
+use Rattle.binary_instructions.specs.Reading.{expression_at, atomic_at, atomic_shaped_at, memarg_at}
 use Rattle.report_first.specs.First.{first_code, whole_word}
 
 -- a number below 64 is one byte

@@ -33,7 +33,8 @@ single x y (suc k) is = absurd (cc is)
 
 module _ (a v own : ℕ) (t : FuncType) (b : Body) (x : Exports (first_parts a v) (codes "f") own t b) where
   pub type_is : first_type ≡ t
-  type_is = single first_type t 0 (subst (λ k. slice_get (first_type ∷ []) k ≡ Some t) (sym (single 0 x.function.index own x.function.typed)) x.function.type_is)
+  type_is = single first_type t 0 (subst (λ k. slice_get (first_type ∷ []) k ≡ Some t) (sym (single 0 x.function.index own x.function.typed))
+      x.function.type_is)
 
   body_is : first_body a v ≡ b
   body_is = single (first_body a v) b own x.function.body_is

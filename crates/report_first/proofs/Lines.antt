@@ -1,5 +1,6 @@
 -- From the end of a run of a module of one atomic add to what is printed of it.
-use Rattle.std.proofs.Common.{◌≡◌, ℕ, ◌<◌, ◌++◌, Bool, true, false, cond, List, [], ◌∷◌, map, Option, Some, Result, Ok, Err, ◌↔◌, refl, ◌∙◌, ap, subst, arith, append-nil}
+use Rattle.std.proofs.Common.{◌≡◌, ℕ, ◌<◌, ◌++◌, Bool, true, false, cond, List, [], ◌∷◌, map, Option, Some, Result, Ok}
+use Rattle.std.proofs.Common.{Err, ◌↔◌, refl, ◌∙◌, ap, subst, arith, append-nil}
 use Rattle.std.specs.Prelude.{codes, IsErrOf}
 use Rattle.std.specs.Io.KnownBytes.{Appends}
 use Rattle.types.specs.declared.value.Value.TheVariants as values

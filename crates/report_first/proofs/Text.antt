@@ -97,7 +97,8 @@ module _ (a v : ℕ) (below : a < 64) (small : v < 64) where
 
   stores_read : (s : Bounds) → stores_at s stores_bytes
       ≡ Ok (record { tables = []; memories = one_memory ∷ []; globals = []; exports = the_export ∷ []; start = None }, tail_bytes)
-  unfolding stores_at section_at part_at customs_at sized_at block_at unsigned_at vector_at items_at u32_within_at export_at name_at export_desc_at start_at is_utf8 chars encode memory_at coded_at
+  unfolding stores_at section_at part_at customs_at sized_at block_at unsigned_at vector_at items_at u32_within_at export_at name_at export_desc_at start_at
+      is_utf8 chars encode memory_at coded_at
   stores_read s =
       along (memories_read s) (λ r. r >>= λ memories. section_at 6 MOST_ITEMS global_at s memories.1 >>= λ globals.
       section_at 7 MOST_ITEMS export_at s globals.1 >>= λ exported. start_at s exported.1 >>= λ start.

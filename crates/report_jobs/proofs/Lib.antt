@@ -1,5 +1,5 @@
 pub mod Replays
-pub mod Refused
+pub mod Refusing
 pub mod Spelled
 pub mod Calls
 pub mod Printed
@@ -8,3 +8,5 @@ pub mod Silent
 pub mod Said
 pub mod Trapping
 pub mod Readied
+pub mod Outcomes
+pub mod Ended

@@ -5,11 +5,15 @@ use Rattle.report_jobs.specs.declared.replaying.Unfit.{Unfit}
 use Rattle.report_jobs.specs.declared.replaying.Unfit.TheVariants as unfits
 use Rattle.report_jobs.specs.declared.running.Trouble.{Trouble}
 use Rattle.report_jobs.specs.declared.running.Trouble.TheVariants as troubles
+use Rattle.report_jobs.specs.declared.undone.Done.{Done}
 use Rattle.types.specs.declared.parts.Parts.{Parts}
 use Rattle.show_text.specs.declared.sheet.Unwritten.{Unwritten}
 use Rattle.show_text.specs.declared.sheet.Unwritten.TheVariants as unwritten
 use Rattle.report_json.specs.Unwritten.{LeavesAs}
-use Rattle.report_jobs.specs.Jobs.{IsUnfit, unfit_of_unwritten}
+use Rattle.replay_text.specs.declared.parts.RecordParts.{RecordParts}
+use Rattle.replay_text.specs.Text.{record_text}
+use Rattle.report_jobs.specs.Jobs.{IsUnfit, IsUnfitTextOf, unfit_of_unwritten}
+use Rattle.report_jobs.specs.declared.replaying.Unreplayed.{Unreplayed}
 use Rattle.report_jobs.specs.Silence.{Leaves, LeavesOut, IsRefusal, trouble_status, unfit_status}
 use Rattle.report_jobs.specs.Troubles.{IsTrouble, IsUnwritten, trouble_of_unwritten}
 
@@ -41,12 +45,12 @@ module _ (A B : Type 0) where
   of_first troubles.Save left b = tt
   of_first troubles.SaveMemory left b = tt
 
-  pub of_err : (r : Result ℕ Trouble) → A → B → IfErr r (λ t. Leaves t A B)
-  of_err (Ok status) a b = tt
+  pub of_err : (r : Result Done Trouble) → A → B → IfErr r (λ t. Leaves t A B)
+  of_err (Ok done) a b = tt
   of_err (Err t) a b = of_all t a b
 
-  pub of_first_err : (r : Result ℕ Trouble) → IfErr r (λ t. Leaves t A (Unit {0})) → B → IfErr r (λ t. Leaves t A B)
-  of_first_err (Ok status) left b = tt
+  pub of_first_err : (r : Result Done Trouble) → IfErr r (λ t. Leaves t A (Unit {0})) → B → IfErr r (λ t. Leaves t A B)
+  of_first_err (Ok done) left b = tt
   of_first_err (Err t) left b = of_first t left b
 
 -- what leaves one file leaves another one too that stays
@@ -58,8 +62,8 @@ beside A B C troubles.Output left b = (b, left)
 beside A B C troubles.Save left b = tt
 beside A B C troubles.SaveMemory left b = tt
 
-pub beside_err : (A B C : Type 0) (r : Result ℕ Trouble) → IfErr r (λ t. Leaves t A C) → B → IfErr r (λ t. Leaves t A (B × C))
-beside_err A B C (Ok status) left b = tt
+pub beside_err : (A B C : Type 0) (r : Result Done Trouble) → IfErr r (λ t. Leaves t A C) → B → IfErr r (λ t. Leaves t A (B × C))
+beside_err A B C (Ok done) left b = tt
 beside_err A B C (Err t) left b = beside A B C t left b
 
 module _ (A : Type 0) where
@@ -77,9 +81,10 @@ module _ (A : Type 0) where
 
 -- what couldn't be written leaves what it left
 module _ {W : Type 0} (old new : W) where
-  pub of_unwritten : (B : Type 0) (u : Unwritten) → LeavesAs old new u → B → Leaves (trouble_of_unwritten u) (new ≡ old) B
-  of_unwritten B unwritten.NoMemory left b = (left, b)
-  of_unwritten B unwritten.Output left b = b
+  pub of_unwritten : (A B : Type 0) (u : Unwritten) → LeavesAs old new u → A → B
+      → Leaves (trouble_of_unwritten u) ((new ≡ old) × A) B
+  of_unwritten A B unwritten.NoMemory left a b = ((left, a), b)
+  of_unwritten A B unwritten.Output left a b = b
 
   pub unwritten_out : (u : Unwritten) → LeavesAs old new u → LeavesOut (unfit_of_unwritten u) (new ≡ old)
   unwritten_out unwritten.NoMemory left = left
@@ -97,3 +102,9 @@ unwritten_trouble m name texts unwritten.Output = tt
 pub unwritten_unfit : (m : Parts) (saved : List ℕ) (u : Unwritten) → IsUnfit m saved (unfit_of_unwritten u)
 unwritten_unfit m saved unwritten.NoMemory = tt
 unwritten_unfit m saved unwritten.Output = tt
+
+-- what is wrong with a record is so with each text of it
+pub unfit_of_text : (m : Parts) (record_is : RecordParts) (saved : List ℕ) → saved ≡ record_text record_is
+    → (r : Result Done Unreplayed) → IfErr r (λ e. IsUnfitTextOf m record_is e.unfit) → IfErr r (λ e. IsUnfit m saved e.unfit)
+unfit_of_text m record_is saved text (Ok done) unfit = tt
+unfit_of_text m record_is saved text (Err e) unfit = unfit saved text

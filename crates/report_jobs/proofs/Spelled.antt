@@ -28,7 +28,8 @@ module _ {X : Type 0} (view : X → List ℕ) where
   spelled_more i texts params args d e v lt near all same one is =
       let more : map view (take (i + 1) texts) ≡ map view (take i texts) ++ view (slice_index_or texts i d) ∷ []
       = ap (map view) (take_more texts i d lt) ∙ map-append view (take i texts) (slice_index_or texts i d ∷ []) in (
-        subst (λ (ts : List (List ℕ)). AreSpelled ts (args ++ v ∷ [])) (sym more) (spelled_push (map view (take i texts)) args (view (slice_index_or texts i d)) v all one),
+        subst (λ (ts : List (List ℕ)). AreSpelled ts (args ++ v ∷ [])) (sym more)
+            (spelled_push (map view (take i texts)) args (view (slice_index_or texts i d)) v all one),
         map-append type_of args (v ∷ []) ∙ ap (λ (ts : List ValType). ts ++ type_of v ∷ []) same
             ∙ ap (λ (t : ValType). take i params ++ t ∷ []) is ∙ sym (take_more params i e near),
       )

@@ -29,10 +29,10 @@ use Rattle.report_jobs.specs.declared.replaying.Unfit.{Unfit}
 use Rattle.report_jobs.specs.declared.replaying.Unfit.TheVariants.{Unread, Misfit, NoMemory, Output}
 use Rattle.validate_typing.specs.declared.fault.ValidFault.TheVariants.{OutOfMemory as ValidityOutOfMemory, Outside}
 use Rattle.validate_typing.specs.declared.fault.ValidFault.TheVariants.{InBody}
-use Rattle.report_jobs.specs.declared.loading.Refusal.{Refusal}
+use Rattle.report_jobs.specs.declared.loading.ModuleRefusal.{ModuleRefusal}
 use Rattle.report_jobs.specs.declared.loading.Unready.{Unready}
 use Rattle.report_jobs.specs.declared.loading.Unready.TheVariants as unready
-use Rattle.report_jobs.specs.declared.loading.Refusal.TheVariants.{Read, Validity}
+use Rattle.report_jobs.specs.declared.loading.ModuleRefusal.TheVariants.{Read, Validity}
 
 -- The bytes are a valid module's text, and what was written says how many functions of its own it has.
 pub record IsAccepted (form : Form) (bytes : List ℕ) (old new : Option (List ℕ)) : Type 0 where
@@ -61,16 +61,12 @@ abbrev pub IsNoValidModule : List ℕ → Type 0
 IsNoValidModule bytes = (parts : Parts) → IsModuleText bytes parts → IsValid parts → ⊥
 
 -- What a refusal says of the bytes. Out of memory says nothing.
-abbrev pub IsRefused : List ℕ → Refusal → Type 0
+abbrev pub IsRefused : List ℕ → ModuleRefusal → Type 0
 IsRefused bytes (Read ReadOutOfMemory) = Unit {0}
 IsRefused bytes (Read (Malformed kind offset)) = IsNoModule bytes
 IsRefused bytes (Validity ValidityOutOfMemory) = Unit {0}
 IsRefused bytes (Validity (Outside kind)) = IsInvalid bytes
 IsRefused bytes (Validity (InBody kind function place)) = IsInvalid bytes
-
--- A status says of what was refused: with 2 no valid module is spelled.
-abbrev pub IsStatusOfRefusal : Refusal → ℕ → Type 0
-IsStatusOfRefusal refusal status = (bytes : List ℕ) → IsRefused bytes refusal → status ≡ 2 → IsNoValidModule bytes
 
 -- The bytes are a record's text, the record is of a run of the module, and the end of that run was printed.
 pub record PrintsReplay (m : Parts) (saved : List ℕ) (look : EndLook) (out err : WriterChange) (status : ℕ)
@@ -121,10 +117,6 @@ abbrev pub IsUnfitFor : ReplayFault → Unfit → Type 0
 IsUnfitFor fault unfit =
     (m : Parts) (r : RecordParts) (saved : List ℕ) → IsRecord r → saved ≡ record_text r → IsReplayFault m r fault
     → ShowsNoRun m r fault → IsUnfit m saved unfit
-
--- A status says of what was refused: with 4 the bytes are the text of no record of a run of the module.
-abbrev pub IsStatusOfUnfit : Unfit → ℕ → Type 0
-IsStatusOfUnfit unfit status = (m : Parts) (saved : List ℕ) → IsUnfit m saved unfit → status ≡ 4 → IsOfNoRun m saved
 
 -- The same of a record, of the bytes that are its text.
 abbrev pub PrintsReplayOf : Parts → RecordParts → EndLook → WriterChange → WriterChange → ℕ → Type 0
@@ -212,13 +204,6 @@ pub record CannotRun (bytes over : List ℕ) (job : RunJob) : Type 0 where
   pub valid : IsValid parts
   pub cannot : CannotCall (begun parts job.memory_in over) job.call.invoke.now (texts_in job.call.args.items)
       ⊎ CannotLay parts job.memory_in over
-
--- A status says of what was refused: with 2 no valid module is spelled, with 3 the bytes can't be laid over its memory.
-pub record IsStatusOfUnready (u : Unready) (status : ℕ) : Type 0 where
-  pub refused : (bytes over : List ℕ) (file : Option MemoryFile) → IsUnready bytes file over u → status ≡ 2
-      → IsNoValidModule bytes
-  pub cannot : (bytes over : List ℕ) (file : Option MemoryFile) → IsUnready bytes file over u → status ≡ 3
-      → (why : Unlaid) × CannotLayOver bytes file over why
 
 -- What the status of a check says: 0 of an accepted module, 2 of a refused one. 5 is that memory or a stream failed.
 pub record Checks (bytes : List ℕ) (form : Form) (out : WriterChange) (status : ℕ) : Type 0 where

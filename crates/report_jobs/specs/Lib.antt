@@ -7,3 +7,5 @@ pub mod Plain
 pub mod Silence
 pub mod Told
 pub mod Trapped
+pub mod Undone
+pub mod Why

@@ -17,7 +17,7 @@ use Rattle.search_endings.specs.Ends.{status_of}
 use Rattle.report_json.specs.Json.{json_line}
 use Rattle.report_json.specs.Refusals.{accepted_json}
 use Rattle.report_json.specs.Ends.{run_json}
-use Rattle.report_json.specs.declared.ends.RunEnd.{RunEnd}
+use Rattle.report_json.specs.declared.ends.RunEndObject.{RunEndObject}
 use Rattle.report_command.specs.declared.form.Form.{Form}
 use Rattle.report_command.specs.declared.form.Form.TheVariants.{Lines, Json}
 use Rattle.report_command.specs.declared.form.EndLook.{EndLook}
@@ -83,7 +83,7 @@ end_text units end dump =
 
 -- An object that has of a run how its threads ended and what they spent, the page count and the first bytes, so many or
 -- all if there are fewer. Its places and hints are any.
-pub record IsObjectOf (end : EndState) (dump : ℕ) (run : RunEnd) : Type 0 where
+pub record IsObjectOf (end : EndState) (dump : ℕ) (run : RunEndObject) : Type 0 where
   pub threads_are : run.threads.now ≡ end.threads.items
   pub pages_are : run.pages ≡ end.pages
   pub dump_is : run.dump ≡ dump
@@ -91,7 +91,7 @@ pub record IsObjectOf (end : EndState) (dump : ℕ) (run : RunEnd) : Type 0 wher
 
 -- Such an object was written.
 pub record WritesObject (end : EndState) (dump : ℕ) (out : WriterChange) : Type 0 where
-  pub run : RunEnd
+  pub run : RunEndObject
   pub is : IsObjectOf end dump run
   pub object : Appends out.old out.new (json_line (run_json run))
 
@@ -118,6 +118,10 @@ KeepsBytes is_wanted memory bytes = is_wanted ≡ true → Appends memory.old me
 pub record PrintsAll (job : RunJob) (end : EndState) (out err memory : WriterChange) (status : ℕ) : Type 0 where
   pub printed : PrintsEnd end job.look out err status
   pub kept : KeepsBytes (is_some job.memory_out) memory end.bytes.items
+
+-- The same of what all streams have before and after.
+abbrev pub PrintsAllIn : RunJob → EndState → Written → ℕ → Type 0
+PrintsAllIn job end w status = PrintsAll job end w.out w.err w.memory status
 
 -- So were they, and its record.
 abbrev pub PrintsAndKeeps : RunJob → RecordParts → EndState → Written → ℕ → Type 0

@@ -3,30 +3,25 @@ use Rattle.std.specs.Prelude.{ℕ, ◌≡◌, ◌≤◌, Bool, false, is_some}
 use Rattle.binary_wire.specs.declared.fault.ReadFault.TheVariants.{OutOfMemory as ReadOutOfMemory, Malformed}
 use Rattle.validate_typing.specs.declared.fault.ValidFault.TheVariants.{OutOfMemory as ValidityOutOfMemory, Outside}
 use Rattle.validate_typing.specs.declared.fault.ValidFault.TheVariants.{InBody}
+use Rattle.replay_text.specs.declared.fault.RecordFault.TheVariants as records
+use Rattle.replay.specs.declared.fault.ReplayFault.TheVariants as replays
 use Rattle.report_command.specs.declared.command_line.Job.{Job}
 use Rattle.report_command.specs.declared.command_line.Job.TheVariants as jobs
-use Rattle.report_jobs.specs.declared.loading.Refusal.{Refusal}
-use Rattle.report_jobs.specs.declared.loading.Refusal.TheVariants.{Read, Validity}
-use Rattle.report_jobs.specs.declared.loading.Unready.{Unready}
-use Rattle.report_jobs.specs.declared.loading.Unready.TheVariants as unreadies
+use Rattle.report_jobs.specs.declared.loading.ModuleRefusal.{ModuleRefusal}
+use Rattle.report_jobs.specs.declared.loading.ModuleRefusal.TheVariants.{Read, Validity}
 use Rattle.report_jobs.specs.declared.replaying.Unfit.{Unfit}
 use Rattle.report_jobs.specs.declared.replaying.Unfit.TheVariants as unfits
 use Rattle.report_jobs.specs.declared.running.Trouble.{Trouble}
 use Rattle.report_jobs.specs.declared.running.Trouble.TheVariants as troubles
+use Rattle.report_jobs.specs.declared.streams.Streams.{Streams}
 
 -- 2 for a module, and 5 where memory ran out.
-abbrev pub refusal_status : Refusal → ℕ
+abbrev pub refusal_status : ModuleRefusal → ℕ
 refusal_status (Read ReadOutOfMemory) = 5
 refusal_status (Read (Malformed kind offset)) = 2
 refusal_status (Validity ValidityOutOfMemory) = 5
 refusal_status (Validity (Outside kind)) = 2
 refusal_status (Validity (InBody kind function place)) = 2
-
--- The same, 3 for bytes that can't be laid over its memory, and 5 where memory ran out.
-abbrev pub unready_status : Unready → ℕ
-unready_status (unreadies.Refused refusal) = refusal_status refusal
-unready_status (unreadies.Unlaid why) = 3
-unready_status unreadies.NoMemory = 5
 
 -- 3 for a call, and 5 for memory, a thread or a stream.
 abbrev pub trouble_status : Trouble → ℕ
@@ -39,14 +34,22 @@ trouble_status troubles.SaveMemory = 5
 
 -- 4 for a record, and 5 for memory or a stream.
 abbrev pub unfit_status : Unfit → ℕ
-unfit_status (unfits.Unread fault) = 4
-unfit_status (unfits.Misfit fault) = 4
+unfit_status (unfits.Unread records.NoMemory) = 5
+unfit_status (unfits.Unread (records.Header line)) = 4
+unfit_status (unfits.Unread (records.Unreadable line)) = 4
+unfit_status (unfits.Unread records.EndMissing) = 4
+unfit_status (unfits.Misfit replays.NoMemory) = 5
+unfit_status (unfits.Misfit (replays.Line line)) = 4
+unfit_status (unfits.Misfit (replays.EndLine line)) = 4
 unfit_status unfits.NoMemory = 5
 unfit_status unfits.Output = 5
 
 -- What was there before is there still. A writer that is so was neither written to nor flushed.
 abbrev pub Stays : {X : Type 0} → X → X → Type 0
 Stays old new = new ≡ old
+
+abbrev pub AllStay : {W E S : Type 0} → Streams W E S → Streams W E S → Type 0
+AllStay old new = (Stays old.out new.out × Stays old.err new.err) × Stays old.save new.save × Stays old.memory new.memory
 
 -- Where no run is made all writers stay, and those of files where the lines can't be written.
 abbrev pub Leaves : Trouble → Type 0 → Type 0 → Type 0

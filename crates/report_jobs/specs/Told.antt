@@ -24,12 +24,8 @@ use Rattle.report_jobs.specs.Jobs.{IsRefused, IsUnfit}
 use Rattle.report_jobs.specs.Prints.{WriterChange}
 use Rattle.report_jobs.specs.Silence.{refusal_status, unfit_status}
 use Rattle.report_jobs.specs.Trapped.{Tells}
-use Rattle.report_jobs.specs.declared.loading.Refusal.{Refusal}
-use Rattle.report_jobs.specs.declared.loading.Refusal.TheVariants.{Read, Validity}
-use Rattle.report_jobs.specs.declared.loading.Unready.{Unready}
-use Rattle.report_jobs.specs.declared.loading.Unready.TheVariants as unreadies
-use Rattle.report_jobs.specs.declared.running.Trouble.{Trouble}
-use Rattle.report_jobs.specs.declared.running.Trouble.TheVariants as troubles
+use Rattle.report_jobs.specs.declared.loading.ModuleRefusal.{ModuleRefusal}
+use Rattle.report_jobs.specs.declared.loading.ModuleRefusal.TheVariants.{Read, Validity}
 use Rattle.report_jobs.specs.declared.replaying.Unfit.{Unfit}
 use Rattle.report_jobs.specs.declared.replaying.Unfit.TheVariants as unfits
 
@@ -39,20 +35,23 @@ memory_line = codes "no memory\n"
 abbrev pub output_line : List ℕ
 output_line = codes "file fault: standard output\n"
 
+abbrev pub thread_line : List ℕ
+thread_line = codes "no thread\n"
+
 -- The line that says which line of a text isn't that of a record.
 abbrev pub unread_line : RecordFault → List ℕ
 unread_line (records.Header line) = codes "record refused: header line " ++ (decimal line ++ 10 ∷ [])
 unread_line (records.Unreadable line) = codes "record refused: line "
     ++ (decimal line ++ (codes " unreadable" ++ 10 ∷ []))
 unread_line records.EndMissing = codes "record refused: end missing" ++ 10 ∷ []
-unread_line records.NoMemory = codes "record refused: no memory" ++ 10 ∷ []
+unread_line records.NoMemory = memory_line
 
 -- The line that says which line of a record doesn't fit.
 abbrev pub misfit_line : ReplayFault → List ℕ
 misfit_line (replays.Line line) = codes "record refused: line " ++ (decimal line ++ (codes " does not fit" ++ 10 ∷ []))
 misfit_line (replays.EndLine line) = codes "record refused: end line "
     ++ (decimal line ++ (codes " does not fit" ++ 10 ∷ []))
-misfit_line replays.NoMemory = codes "record refused: no memory" ++ 10 ∷ []
+misfit_line replays.NoMemory = memory_line
 
 abbrev pub unfit_line : Unfit → List ℕ
 unfit_line (unfits.Unread fault) = unread_line fault
@@ -72,7 +71,7 @@ pub record TellsWhatIsWrong (bytes saved : List ℕ) (err : WriterChange) : Type
   pub line : Tells err.old err.new (unfit_line unfit)
 
 -- The line that says why bytes give no valid module: with the number of what is wrong, and where that is.
-abbrev pub refusal_line : Refusal → List ℕ
+abbrev pub refusal_line : ModuleRefusal → List ℕ
 refusal_line (Read ReadOutOfMemory) = memory_line
 refusal_line (Read (Malformed kind offset)) = codes "module refused: read "
     ++ (decimal (kind_number kind) ++ (codes " at " ++ (decimal offset ++ 10 ∷ [])))
@@ -99,11 +98,6 @@ abbrev pub laid_from : Option MemoryFile → ℕ
 laid_from None = 0
 laid_from (Some file) = file.addr
 
-abbrev pub unready_line : Unready → Option MemoryFile → ℕ → List ℕ
-unready_line (unreadies.Refused refusal) file count = refusal_line refusal
-unready_line (unreadies.Unlaid why) file count = unlaid_line why (laid_from file) count
-unready_line unreadies.NoMemory file count = memory_line
-
 abbrev pub call_line : CallFault → List ℕ
 call_line calls.UnknownExport = codes "run refused: unknown export" ++ 10 ∷ []
 call_line calls.WrongArguments = codes "run refused: wrong arguments" ++ 10 ∷ []
@@ -113,18 +107,9 @@ abbrev pub path_or : Option (Bor (List ℕ)) → List ℕ
 path_or None = codes "the record"
 path_or (Some path) = path.now
 
--- The line that says why there was no run, or what couldn't be written.
-abbrev pub trouble_line : Trouble → List ℕ → List ℕ
-trouble_line (troubles.Call fault) path = call_line fault
-trouble_line troubles.NoThread path = codes "no thread" ++ 10 ∷ []
-trouble_line troubles.NoMemory path = memory_line
-trouble_line troubles.Output path = output_line
-trouble_line troubles.Save path = codes "file fault: " ++ (path ++ 10 ∷ [])
-trouble_line troubles.SaveMemory path = codes "file fault: " ++ (path ++ 10 ∷ [])
-
 -- The bytes are no valid module's text, this is what is wrong with them, and the line of it was told.
 pub record TellsRefusal (bytes : List ℕ) (err : WriterChange) : Type 0 where
-  pub refusal : Refusal
+  pub refusal : ModuleRefusal
   pub is : IsRefused bytes refusal
   pub refuses : refusal_status refusal ≡ 2
   pub line : Tells err.old err.new (refusal_line refusal)

@@ -34,12 +34,6 @@ IsTrouble m name texts troubles.Output = Unit {0}
 IsTrouble m name texts troubles.Save = Unit {0}
 IsTrouble m name texts troubles.SaveMemory = Unit {0}
 
--- A status says of what was refused: with 3 no function can be called so.
-abbrev pub IsStatusOfTrouble : Trouble → ℕ → Type 0
-IsStatusOfTrouble trouble status =
-    (m : Parts) (name : List ℕ) (texts : List (List ℕ)) → IsTrouble m name texts trouble → status ≡ 3
-    → CannotCall m name texts
-
 -- That of a call in words.
 abbrev pub IsTroubleOf : Parts → CallWords → Trouble → Type 0
 IsTroubleOf m call = IsTrouble m call.invoke.now (texts_in call.args.items)

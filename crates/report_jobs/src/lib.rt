@@ -26,12 +26,17 @@ mod running;
 mod streams;
 mod telling;
 mod trapped;
+mod undone;
 
-pub use job::{check, complain, refuse, reject, replay_saved, run};
-pub use loading::{Refusal, load, load_checked};
+pub use job::{check, replay_saved, run};
+pub use loading::{ModuleRefusal, load, load_checked};
 pub use plain::perform_plain;
 pub use printing::print;
 pub use replaying::{Unfit, misfit};
 pub use running::{Trouble, args_of, keep, request_of};
 pub use streams::Streams;
-pub use telling::{say, say_pieces};
+pub use telling::{say, say_pieces, tell, tell_ended};
+pub use undone::{
+    Absent, Advised, Done, Failed, JobResult, Misfit, Refused, Undone, of_refusal, of_trouble,
+    of_unfit, status_of,
+};

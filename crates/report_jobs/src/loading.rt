@@ -19,7 +19,7 @@ use validate_typing::ValidFault;
 
 /// Why bytes give no valid module.
 #[derive(Clone, Copy, Debug, PartialEq, Eq, Error)]
-pub enum Refusal {
+pub enum ModuleRefusal {
     /// The bytes are no module's text, or memory ran out.
     #[error("read {0}")]
     Read(ReadFault),
@@ -30,15 +30,15 @@ pub enum Refusal {
 
 /// Reads a module in the binary format (Core specification 1.0, chapter 5). A fault other than out of memory comes only
 /// where the bytes spell none.
-fn read_text(alloc: Global, bytes: &[u8]) -> Result<Module, Refusal>
+fn read_text(alloc: Global, bytes: &[u8]) -> Result<Module, ModuleRefusal>
     ensures ok { IfOk result (λ m. IsModuleText bytes.now m) }
     ensures err { IfErr result (λ e. IsRefused bytes.now e) }
 {
     match read(alloc, bytes) {
         Ok(module) => Ok(module),
-        Err(ReadFault::OutOfMemory) => Err(Refusal::Read(ReadFault::OutOfMemory)),
+        Err(ReadFault::OutOfMemory) => Err(ModuleRefusal::Read(ReadFault::OutOfMemory)),
         Err(ReadFault::Malformed { kind, offset }) => {
-            Err(Refusal::Read(ReadFault::Malformed { kind, offset }))
+            Err(ModuleRefusal::Read(ReadFault::Malformed { kind, offset }))
         }
     }
 }
@@ -47,19 +47,19 @@ fn read_text(alloc: Global, bytes: &[u8]) -> Result<Module, Refusal>
 ///
 /// The valid module is the one that the bytes spell. A fault of reading other than out of memory comes only where they
 /// spell none, and a fault of validity only where they spell one.
-pub fn load(alloc: Global, bytes: &[u8]) -> Result<ValidModule, Refusal>
+pub fn load(alloc: Global, bytes: &[u8]) -> Result<ValidModule, ModuleRefusal>
     ensures ok { IfOk result (λ v. IsModuleText bytes.now v.parts × IsValidated v) }
     ensures err { IfErr result (λ e. IsRefused bytes.now e) }
 {
     let module = read_text(alloc, bytes)?;
     match validate(alloc, module) {
         Ok(valid) => Ok(valid),
-        Err(fault) => Err(Refusal::Validity(fault)),
+        Err(fault) => Err(ModuleRefusal::Validity(fault)),
     }
 }
 
 /// Reads a module and checks that it is valid, as `load` does, but makes nothing that only a run wants.
-pub fn load_checked(alloc: Global, bytes: &[u8]) -> Result<Module, Refusal>
+pub fn load_checked(alloc: Global, bytes: &[u8]) -> Result<Module, ModuleRefusal>
     ensures ok { IfOk result (λ m. IsModuleText bytes.now m × IsValid m) }
     ensures err { IfErr result (λ e. IsRefused bytes.now e) }
 {
@@ -68,7 +68,7 @@ pub fn load_checked(alloc: Global, bytes: &[u8]) -> Result<Module, Refusal>
         Ok(()) => Ok(module),
         Err(fault) => {
             drop(module);
-            Err(Refusal::Validity(fault))
+            Err(ModuleRefusal::Validity(fault))
         }
     }
 }
@@ -76,7 +76,7 @@ pub fn load_checked(alloc: Global, bytes: &[u8]) -> Result<Module, Refusal>
 /// Why there is no module of which a run could be made.
 #[derive(Clone, Copy, PartialEq, Eq)]
 pub(crate) enum Unready {
-    Refused(Refusal),
+    Refused(ModuleRefusal),
     /// The bytes of the file can't be laid over its opening memory.
     Unlaid(Unlaid),
     /// The system had too little memory left.

@@ -10,8 +10,9 @@ ghost use Rattle.report_jobs.specs.declared.running.Trouble.TheVariants as troub
 
 use crate::running::Trouble;
 use crate::trapped::{Whence, say_traps, traps_of};
-use report_command::{ADVICE, EndLook, Form};
-use report_json::{Place, RunEnd, status_of};
+use crate::undone::{Advised, Done};
+use report_command::{EndLook, Form};
+use report_json::{PlaceObject, RunEndObject, status_of};
 use report_lines::write_run;
 use report_runs::EndState;
 use report_traps::Traps;
@@ -77,26 +78,12 @@ fn write_lines<W: Write>(out: &mut W, end: &EndState, dump: u32, units: bool) ->
     }
 }
 
-/// What to do about threads that were stopped.
-fn hints_of(alloc: Global, reports: &[ThreadReport]) -> Result<Vec<&'static str>, AllocError> {
-    let mut hints = Vec::new(alloc);
-    for advice in &ADVICE {
-        if reports
-            .iter()
-            .any(|report| report.outcome == advice.outcome)
-        {
-            hints.push(advice.words)?;
-        }
-    }
-    Ok(hints)
-}
-
 /// Where each of so many threads trapped, if it did.
 fn places_in<'t>(
     alloc: Global,
     traps: &'t Traps,
     count: usize,
-) -> Result<Vec<Option<Place<'t>>>, AllocError> {
+) -> Result<Vec<Option<PlaceObject<'t>>>, AllocError> {
     let mut places = Vec::with_capacity(alloc, count)?;
     for thread in 0..count {
         places.push(traps.place(thread))?;
@@ -105,7 +92,11 @@ fn places_in<'t>(
 }
 
 /// The same, as far as there is memory for it.
-fn places_of<'t>(alloc: Global, traps: Option<&'t Traps>, count: usize) -> Vec<Option<Place<'t>>> {
+fn places_of<'t>(
+    alloc: Global,
+    traps: Option<&'t Traps>,
+    count: usize,
+) -> Vec<Option<PlaceObject<'t>>> {
     match traps {
         Some(traps) => places_in(alloc, traps, count).unwrap_or(Vec::new(alloc)),
         None => Vec::new(alloc),
@@ -123,11 +114,11 @@ fn write_object<W: Write>(
     ensures object { OnOk result (WritesObject end.now dump (changed W.contents out.old out.new)) }
     ensures left { IfErr result (LeavesAs out.old out.new) }
 {
-    let Ok(hints) = hints_of(alloc, &end.threads) else {
+    let Ok(hints) = Advised::of_reports(&end.threads).lines(alloc) else {
         return Err(Unwritten::NoMemory);
     };
     let places = places_of(alloc, traps, end.threads.len());
-    let run = RunEnd {
+    let run = RunEndObject {
         threads: &end.threads,
         places: &places,
         pages: end.pages,
@@ -162,8 +153,8 @@ fn write_end<W: Write>(
     }
 }
 
-/// Prints how a run ended as is asked for, says which threads trapped where that is asked for, and answers the status: 0
-/// where all threads ended well, 1 for a trap or stop.
+/// Prints how a run ended as is asked for, says which threads trapped where that is asked for, and answers what came of
+/// it: the status is 0 where all threads ended well, 1 for a trap or stop.
 pub(crate) fn print_end<W: Write, E: Write>(
     alloc: Global,
     out: &mut W,
@@ -171,9 +162,9 @@ pub(crate) fn print_end<W: Write, E: Write>(
     end: &EndState,
     look: EndLook,
     whence: Whence,
-) -> Result<u8, Unwritten>
-    ensures prints { IfOk result (PrintsEnd end.now look (changed W.contents out.old out.new)
-        (changed E.contents err.old err.new)) }
+) -> Result<Done, Unwritten>
+    ensures prints { IfOk result (λ done. PrintsEnd end.now look (changed W.contents out.old out.new)
+        (changed E.contents err.old err.new) done.status) }
     ensures left { IfErr result (LeavesAs out.old out.new) }
     ensures unsaid { OnErr result (Stays err.old err.new) }
 {
@@ -181,7 +172,11 @@ pub(crate) fn print_end<W: Write, E: Write>(
     match write_end(alloc, out, end, look, traps.as_ref()) {
         Ok(()) => {
             say_traps(alloc, err, traps.as_ref(), &end.threads, look.traps);
-            Ok(status_of(&end.threads))
+            Ok(Done {
+                status: status_of(&end.threads),
+                advised: Advised::of_reports(&end.threads),
+                is_bare: false,
+            })
         }
         Err(unwritten) => Err(unwritten),
     }

@@ -8,13 +8,20 @@ ghost use Rattle.report_jobs.specs.Silence.{LeavesOut, Stays};
 
 use crate::printing::print_end;
 use crate::trapped::Whence;
+use crate::undone::Done;
+use interp::Thread;
+use interp_trait::Turn;
 use replay::{ReplayFault, replay_watched};
 use replay_text::{Record, RecordFault, read_record};
+use replay_walk::{Walk, Watch};
 use report_command::EndLook;
 use report_traps::{Frames, Replayed};
+use shared_memory_sequential::OneMemory;
+use show_rows::{NextStood, Stood};
 use show_text::Unwritten;
 use std::alloc::Global;
 use std::io::Write;
+use types::Entry;
 use validate::ValidModule;
 
 /// Why a record wasn't replayed, or what came of it couldn't be written.
@@ -30,68 +37,125 @@ pub enum Unfit {
     Output,
 }
 
-/// Replays the record whose text `saved` is, of the module whose text `bytes` are, and prints how its run ended.
-/// Answers the status: 0 where all threads ended well, 1 for a trap or stop.
+/// Sees where the threads of a replay trapped, and what the thread of the next entry does.
+#[derive(Drop)]
+struct TrapsAndNext<'a> {
+    traps: Replayed<'a>,
+    next: NextStood<'a>,
+}
+
+impl<'m> Watch<Thread<'m>> for TrapsAndNext<'_> {
+    ghost sees = { λ old moment new. Unit {0} };
+
+    fn came(&mut self, entries: usize, walk: &Walk<Thread<'m>>)
+        ensures { self.new.traps ≡ self.old.traps }
+    {
+        self.traps.came(entries, walk);
+        self.next.came(entries, walk);
+    }
+
+    fn event(&mut self, _entry: &Entry, _thread: &Thread<'m>, _memory: &OneMemory)
+        ensures { self.new ≡ self.old }
+    {}
+
+    fn settled(&mut self, thread: u32, turn: Turn)
+        ensures { self.new.traps ≡ self.old.traps }
+    {
+        self.next.settled(thread, turn);
+    }
+}
+
+/// Why a record wasn't replayed, and what the thread of the entry that doesn't fit does in place of it, where there is
+/// such an entry.
+#[derive(Clone, Copy)]
+pub(crate) struct Unreplayed {
+    pub(crate) unfit: Unfit,
+    pub(crate) stood: Option<Stood>,
+}
+
+impl Unreplayed {
+    /// Where no entry is one that doesn't fit.
+    fn alone(unfit: Unfit) -> Unreplayed
+        ensures { result.unfit ≡ unfit }
+    {
+        Unreplayed { unfit, stood: None }
+    }
+}
+
+/// A valid module, and the bytes of which it was read: they name its functions and the lines of its source.
+#[derive(Clone, Copy)]
+pub(crate) struct LoadedModule<'a> {
+    pub valid: &'a ValidModule,
+    pub bytes: &'a [u8],
+}
+
+/// Replays the record of a run of the module whose text `saved` is, and prints how that run ended. The status is 0 where
+/// all threads ended well, 1 for a trap or stop.
 pub(crate) fn replay_record<W: Write, E: Write>(
     alloc: Global,
-    module: &ValidModule,
-    bytes: &[u8],
+    loaded: LoadedModule,
     saved: &[u8],
     look: EndLook,
     out: &mut W,
     err: &mut E,
-) -> Result<u8, Unfit>
-    ensures prints { IfOk result (PrintsReplay «module».now.parts saved.now look (changed W.contents out.old out.new)
-        (changed E.contents err.old err.new)) }
-    ensures unfit { IfErr result (IsUnfit «module».now.parts saved.now) }
-    ensures silent { IfErr result (λ e. LeavesOut e (Stays out.old out.new)) }
+) -> Result<Done, Unreplayed>
+    ensures prints { IfOk result (λ done. PrintsReplay loaded.entry.valid.now.parts saved.now look
+        (changed W.contents out.old out.new) (changed E.contents err.old err.new) done.status) }
+    ensures unfit { IfErr result (λ e. IsUnfit loaded.entry.valid.now.parts saved.now e.unfit) }
+    ensures silent { IfErr result (λ e. LeavesOut e.unfit (Stays out.old out.new)) }
     ensures unsaid { OnErr result (Stays err.old err.new) }
 {
     match read_record(alloc, saved) {
         Ok(record) => {
-            let status = print_replay(alloc, module, bytes, &record, look, out, err);
+            let done = print_replay(alloc, loaded, &record, look, out, err);
             drop(record);
-            status
+            done
         }
-        Err(RecordFault::NoMemory) => Err(Unfit::NoMemory),
-        Err(fault) => Err(Unfit::Unread(fault)),
+        Err(RecordFault::NoMemory) => Err(Unreplayed::alone(Unfit::NoMemory)),
+        Err(fault) => Err(Unreplayed::alone(Unfit::Unread(fault))),
     }
 }
 
 /// The same of a record that was read.
 fn print_replay<W: Write, E: Write>(
     alloc: Global,
-    module: &ValidModule,
-    bytes: &[u8],
+    loaded: LoadedModule,
     recorded: &Record,
     look: EndLook,
     out: &mut W,
     err: &mut E,
-) -> Result<u8, Unfit>
+) -> Result<Done, Unreplayed>
     requires { IsRecord recorded.now }
     ensures prints { IfOk result
-        (PrintsReplayOf «module».now.parts recorded.now look (changed W.contents out.old out.new)
-        (changed E.contents err.old err.new)) }
-    ensures unfit { IfErr result (IsUnfitTextOf «module».now.parts recorded.now) }
-    ensures silent { IfErr result (λ e. LeavesOut e (Stays out.old out.new)) }
+        (λ done. PrintsReplayOf loaded.entry.valid.now.parts recorded.now look (changed W.contents out.old out.new)
+        (changed E.contents err.old err.new) done.status) }
+    ensures unfit { IfErr result (λ e. IsUnfitTextOf loaded.entry.valid.now.parts recorded.now e.unfit) }
+    ensures silent { IfErr result (λ e. LeavesOut e.unfit (Stays out.old out.new)) }
     ensures unsaid { OnErr result (Stays err.old err.new) }
 {
     let frames = Frames::new(alloc);
+    let LoadedModule { valid, bytes } = loaded;
     let whence = Whence {
-        parts: module.parts(),
+        parts: valid.parts(),
         bytes,
         frames: &frames,
     };
-    let mut watch = Replayed {
+    let log = recorded.parts().log.as_slice();
+    let traps = Replayed {
         frames: &frames,
-        entries: recorded.parts().log.len(),
+        entries: log.len(),
     };
-    match replay_watched(alloc, module, recorded, &mut watch) {
+    let next = NextStood::new(log);
+    let mut seen = TrapsAndNext { traps, next };
+    match replay_watched(alloc, valid, recorded, &mut seen) {
         Ok(end) => match print_end(alloc, out, err, &end, look, whence) {
-            Ok(status) => Ok(status),
-            Err(unwritten) => Err(unprinted(unwritten)),
+            Ok(done) => Ok(done),
+            Err(unwritten) => Err(Unreplayed::alone(unprinted(unwritten))),
         },
-        Err(fault) => Err(misfit(fault)),
+        Err(fault) => Err(Unreplayed {
+            unfit: misfit(fault),
+            stood: seen.next.stood,
+        }),
     }
 }
 

@@ -4,7 +4,7 @@ ghost use Rattle.std.specs.Io.KnownBytes.{Appends};
 ghost use Rattle.types.specs.declared.limits.TheConstants.{MOST_FUEL};
 ghost use Rattle.validate_typing.specs.Validity.{HasDistinctNames};
 ghost use Rattle.report_jobs.specs.Asked.{IsAskedBy};
-ghost use Rattle.report_jobs.specs.Prints.{changed, written, PrintsRun, PrintsAll, PrintsAndKeeps, KeepsRecord, KeepsBytes};
+ghost use Rattle.report_jobs.specs.Prints.{changed, written, PrintsRun, PrintsAllIn, PrintsAndKeeps, KeepsRecord, KeepsBytes};
 ghost use Rattle.report_jobs.specs.Silence.{Leaves, Stays};
 ghost use Rattle.report_jobs.specs.Troubles.{IsTroubleOf, IsUnwritten, AreArgumentsOf, trouble_of};
 ghost use Rattle.report_jobs.specs.Troubles.{trouble_of_recording, trouble_of_unwritten};
@@ -14,6 +14,7 @@ use crate::args::read_args;
 use crate::printing::print_end;
 use crate::streams::Streams;
 use crate::trapped::Whence;
+use crate::undone::Done;
 use replay_text::{Record, write_record};
 use report_command::{CallWords, RunJob};
 use report_runs::{Call, EndState, RecordRunFault, record_request, run_request_on_words};
@@ -153,8 +154,8 @@ pub fn request_of<'m, 'a>(
 }
 
 /// Runs the function, prints its end, and writes the record and the bytes of the memory where they are wanted. `bytes`
-/// have the names and the lines of the module. Answers the status: 0 where all threads ended well, 1 for a trap or
-/// stop.
+/// have the names and the lines of the module. Answers what came of it: the status is 0 where all threads ended well, 1
+/// for a trap or stop.
 pub(crate) fn print_run<R, W, E, S>(
     rt: &R,
     alloc: Global,
@@ -162,17 +163,18 @@ pub(crate) fn print_run<R, W, E, S>(
     bytes: &[u8],
     job: &RunJob,
     streams: &mut Streams<W, E, S>,
-) -> Result<u8, Trouble>
+) -> Result<Done, Trouble>
 where
     R: Threads + Wait + Sync,
     W: Write,
     E: Write,
     S: Write,
     requires fuel { job.now.call.fuel ≤ MOST_FUEL }
-    ensures made { IfOk result (PrintsRun «module».now.parts job.now
-        (written W.contents E.contents S.contents streams.old streams.new)) }
+    ensures made { IfOk result (λ done. PrintsRun «module».now.parts job.now
+        (written W.contents E.contents S.contents streams.old streams.new) done.status) }
     ensures trouble { IfErr result (IsTroubleOf «module».now.parts job.now.call) }
-    ensures silent { IfErr result (λ e. Leaves e (Stays streams.old.out streams.new.out)
+    ensures silent { IfErr result (λ e. Leaves e
+        (Stays streams.old.out streams.new.out × Stays streams.old.err streams.new.err)
         (Stays streams.old.save streams.new.save × Stays streams.old.memory streams.new.memory)) }
     ensures unwanted { is_some job.now.save ≡ false → Stays streams.old.save streams.new.save }
     ensures no_memory { is_some job.now.memory_out ≡ false → Stays streams.old.memory streams.new.memory }
@@ -200,7 +202,7 @@ fn print_on_words<R, W, E, S>(
     job: &RunJob,
     whence: Whence,
     streams: &mut Streams<W, E, S>,
-) -> Result<u8, Trouble>
+) -> Result<Done, Trouble>
 where
     R: Threads + Wait + Sync,
     W: Write,
@@ -208,25 +210,20 @@ where
     S: Write,
     requires memory { job.now.on_words ≡ true }
     requires asked { IsAskedBy job.now.call request.now }
-    ensures made { IfOk result (PrintsRun request.now.parts job.now
-        (written W.contents E.contents S.contents streams.old streams.new)) }
+    ensures made { IfOk result (λ done. PrintsRun request.now.parts job.now
+        (written W.contents E.contents S.contents streams.old streams.new) done.status) }
     ensures trouble { IfErr result (IsTroubleOf request.now.parts job.now.call) }
-    ensures silent { IfErr result (λ e. Leaves e (Stays streams.old.out streams.new.out)
+    ensures silent { IfErr result (λ e. Leaves e
+        (Stays streams.old.out streams.new.out × Stays streams.old.err streams.new.err)
         (Stays streams.old.save streams.new.save × Stays streams.old.memory streams.new.memory)) }
     ensures unrecorded { Stays streams.old.save streams.new.save }
     ensures no_memory { is_some job.now.memory_out ≡ false → Stays streams.old.memory streams.new.memory }
 {
     let mut gate = whence.frames;
     let end = run_request_on_words(rt, alloc, request, &mut gate)?;
-    let Streams {
-        out,
-        err,
-        memory,
-        ..
-    } = streams;
-    let status = print_and_write(alloc, &end, job, whence, out, err, memory);
+    let done = print_and_write(alloc, &end, job, whence, streams);
     drop(end);
-    status
+    done
 }
 
 /// The same over the memory that records.
@@ -237,7 +234,7 @@ fn print_recorded<R, W, E, S>(
     job: &RunJob,
     whence: Whence,
     streams: &mut Streams<W, E, S>,
-) -> Result<u8, Trouble>
+) -> Result<Done, Trouble>
 where
     R: Threads + Wait + Sync,
     W: Write,
@@ -246,20 +243,21 @@ where
     requires fuel { job.now.call.fuel ≤ MOST_FUEL }
     requires memory { job.now.on_words ≡ false }
     requires asked { IsAskedBy job.now.call request.now }
-    ensures made { IfOk result (PrintsRun request.now.parts job.now
-        (written W.contents E.contents S.contents streams.old streams.new)) }
+    ensures made { IfOk result (λ done. PrintsRun request.now.parts job.now
+        (written W.contents E.contents S.contents streams.old streams.new) done.status) }
     ensures trouble { IfErr result (IsTroubleOf request.now.parts job.now.call) }
-    ensures silent { IfErr result (λ e. Leaves e (Stays streams.old.out streams.new.out)
+    ensures silent { IfErr result (λ e. Leaves e
+        (Stays streams.old.out streams.new.out × Stays streams.old.err streams.new.err)
         (Stays streams.old.save streams.new.save × Stays streams.old.memory streams.new.memory)) }
     ensures unwanted { is_some job.now.save ≡ false → Stays streams.old.save streams.new.save }
     ensures no_memory { is_some job.now.memory_out ≡ false → Stays streams.old.memory streams.new.memory }
 {
     let mut gate = whence.frames;
     let (record, end) = record_request(rt, alloc, request, job.limit, &mut gate)?;
-    let status = print_and_keep(alloc, &record, &end, job, whence, streams);
+    let done = print_and_keep(alloc, &record, &end, job, whence, streams);
     drop(record);
     drop(end);
-    status
+    done
 }
 
 /// Prints the end of a recorded run, and writes the record and the bytes of the memory where they are wanted.
@@ -270,24 +268,19 @@ fn print_and_keep<W: Write, E: Write, S: Write>(
     job: &RunJob,
     whence: Whence,
     streams: &mut Streams<W, E, S>,
-) -> Result<u8, Trouble>
-    ensures made { IfOk result (PrintsAndKeeps job.now recorded.now end.now
-        (written W.contents E.contents S.contents streams.old streams.new)) }
+) -> Result<Done, Trouble>
+    ensures made { IfOk result (λ done. PrintsAndKeeps job.now recorded.now end.now
+        (written W.contents E.contents S.contents streams.old streams.new) done.status) }
     ensures trouble { IfErr result IsUnwritten }
-    ensures silent { IfErr result (λ e. Leaves e (Stays streams.old.out streams.new.out)
+    ensures silent { IfErr result (λ e. Leaves e
+        (Stays streams.old.out streams.new.out × Stays streams.old.err streams.new.err)
         (Stays streams.old.save streams.new.save × Stays streams.old.memory streams.new.memory)) }
     ensures unwanted { is_some job.now.save ≡ false → Stays streams.old.save streams.new.save }
     ensures no_memory { is_some job.now.memory_out ≡ false → Stays streams.old.memory streams.new.memory }
 {
-    let Streams {
-        out,
-        err,
-        save,
-        memory,
-    } = streams;
-    let status = print_and_write(alloc, end, job, whence, out, err, memory)?;
-    keep(recorded, job.save.is_some(), save)?;
-    Ok(status)
+    let done = print_and_write(alloc, end, job, whence, streams)?;
+    keep(recorded, job.save.is_some(), &mut streams.save)?;
+    Ok(done)
 }
 
 /// Prints the end of a run, and writes the bytes of its memory where they are wanted.
@@ -296,22 +289,29 @@ fn print_and_write<W: Write, E: Write, S: Write>(
     end: &EndState,
     job: &RunJob,
     whence: Whence,
-    out: &mut W,
-    err: &mut E,
-    memory: &mut S,
-) -> Result<u8, Trouble>
-    ensures made { IfOk result (PrintsAll job.now end.now (changed W.contents out.old out.new)
-        (changed E.contents err.old err.new) (changed S.contents memory.old memory.new)) }
+    streams: &mut Streams<W, E, S>,
+) -> Result<Done, Trouble>
+    ensures made { IfOk result (λ done. PrintsAllIn job.now end.now
+        (written W.contents E.contents S.contents streams.old streams.new) done.status) }
     ensures trouble { IfErr result IsUnwritten }
-    ensures silent { IfErr result (λ e. Leaves e (Stays out.old out.new) (Stays memory.old memory.new)) }
-    ensures no_memory { is_some job.now.memory_out ≡ false → Stays memory.old memory.new }
+    ensures silent { IfErr result (λ e. Leaves e
+        (Stays streams.old.out streams.new.out × Stays streams.old.err streams.new.err)
+        (Stays streams.old.memory streams.new.memory)) }
+    ensures unrecorded { Stays streams.old.save streams.new.save }
+    ensures no_memory { is_some job.now.memory_out ≡ false → Stays streams.old.memory streams.new.memory }
 {
-    let status = match print_end(alloc, out, err, end, job.look, whence) {
-        Ok(status) => status,
+    let Streams {
+        out,
+        err,
+        memory,
+        ..
+    } = streams;
+    let done = match print_end(alloc, out, err, end, job.look, whence) {
+        Ok(done) => done,
         Err(unwritten) => return Err(unprinted(unwritten)),
     };
     keep_bytes(&end.bytes, job.memory_out.is_some(), memory)?;
-    Ok(status)
+    Ok(done)
 }
 
 /// Writes the bytes of a memory to their file, where they are wanted; where they aren't the file's writer stays as it

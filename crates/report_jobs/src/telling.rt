@@ -1,20 +1,18 @@
 //! What is said on standard error of a module, a call or a record that is refused, and of what failed.
 ghost use Rattle.std.specs.Prelude.{◌≡◌, ◌++◌, true, OnOk};
 ghost use Rattle.std.specs.Io.KnownBytes.{Appends};
-ghost use Rattle.report_jobs.specs.Told.{call_line, refusal_line, unfit_line, unlaid_line};
+ghost use Rattle.report_jobs.specs.Told.{call_line, unlaid_line};
 ghost use Rattle.report_jobs.specs.Trapped.{Tells};
+ghost use Rattle.report_jobs.specs.Undone.{failed_line, refused_line, undone_line, TellsEnded};
+ghost use Rattle.report_jobs.specs.declared.undone.Refused.TheVariants as refused;
 
-use crate::loading::Refusal;
-use crate::replaying::Unfit;
+use crate::undone::{Failed, JobResult, Refused, Undone};
 use arrayvec::ArrayVec;
-use binary_wire::ReadFault;
-use replay::ReplayFault;
-use replay_text::RecordFault;
 use report_memory::Unlaid;
 use spawn_host::CallFault;
 use std::io::{self, ErrorKind, Write};
 use types::MOST_ITEMS;
-use validate_typing::ValidFault;
+use validate_typing::Fault;
 
 /// Says a text, as much of it as the writer takes, and answers whether that is all. Where it isn't there is nobody left
 /// to tell.
@@ -56,59 +54,7 @@ pub fn say_pieces<E: Write>(err: &mut E, front: &str, path: &str, behind: &str, 
     say(err, more.as_bytes());
 }
 
-/// Says why bytes give no valid module. It takes no memory.
-pub(crate) fn say_refusal<E: Write>(err: &mut E, refusal: Refusal)
-    ensures { Tells (E.contents err.old) (E.contents err.new) (refusal_line refusal) }
-{
-    let mut line: ArrayVec<u8, 128> = ArrayVec::new();
-    if write_refusal(&mut line, refusal).is_ok() {
-        say(err, line.as_slice());
-    }
-}
-
-/// Writes that line.
-fn write_refusal<W: Write>(to: &mut W, refusal: Refusal) -> io::Result<()>
-    ensures { OnOk result (Appends (W.contents to.old) (W.contents to.new) (refusal_line refusal)) }
-{
-    match refusal {
-        Refusal::Read(ReadFault::OutOfMemory) | Refusal::Validity(ValidFault::OutOfMemory) => {
-            to.write_all(b"no memory\n")
-        }
-        Refusal::Read(ReadFault::Malformed { kind, offset }) => {
-            let number = kind.number();
-            write!(to, "module refused: read {number} at {offset}\n")
-        }
-        Refusal::Validity(ValidFault::Outside(kind)) => {
-            let number = kind.number();
-            write!(to, "module refused: validity {number}\n")
-        }
-        Refusal::Validity(
-            ValidFault::InBody {
-                kind,
-                function,
-                instruction,
-            },
-        ) => {
-            let number = kind.number();
-            write!(
-                to,
-                "module refused: validity {number} in function {function} at {instruction}\n"
-            )
-        }
-    }
-}
-
-/// Says why so many bytes can't be laid over the memory of a module, from an address on. It takes no memory.
-pub(crate) fn say_unlaid<E: Write>(err: &mut E, why: Unlaid, addr: u32, count: usize)
-    ensures { Tells (E.contents err.old) (E.contents err.new) (unlaid_line why addr count) }
-{
-    let mut line: ArrayVec<u8, 192> = ArrayVec::new();
-    if write_unlaid(&mut line, why, addr, count).is_ok() {
-        say(err, line.as_slice());
-    }
-}
-
-/// Writes that line.
+/// Writes the line of why so many bytes can't be laid over the memory of a module, from an address on.
 fn write_unlaid<W: Write>(to: &mut W, why: Unlaid, addr: u32, count: usize) -> io::Result<()>
     ensures { OnOk result (Appends (W.contents to.old) (W.contents to.new) (unlaid_line why addr count)) }
 {
@@ -127,52 +73,110 @@ fn write_unlaid<W: Write>(to: &mut W, why: Unlaid, addr: u32, count: usize) -> i
     }
 }
 
-/// Says why a function can't be called so.
-pub(crate) fn say_call<E: Write>(err: &mut E, fault: CallFault)
-    ensures { Tells (E.contents err.old) (E.contents err.new) (call_line fault) }
+/// Writes the line of a rule that a module breaks in a body.
+fn write_in_body<W: Write>(
+    to: &mut W,
+    kind: Fault,
+    function: usize,
+    instruction: usize,
+) -> io::Result<()>
+    ensures { OnOk result (Appends (W.contents to.old) (W.contents to.new)
+        (refused_line (refused.RuleInBody kind function instruction))) }
+{
+    let number = kind.number();
+    write!(
+        to,
+        "module refused: validity {number} in function {function} at {instruction}\n"
+    )
+}
+
+/// Writes the line of why a function can't be called so.
+fn write_call<W: Write>(to: &mut W, fault: CallFault) -> io::Result<()>
+    ensures { OnOk result (Appends (W.contents to.old) (W.contents to.new) (call_line fault)) }
 {
     match fault {
-        CallFault::UnknownExport => {
-            say(err, b"run refused: unknown export\n");
-        }
-        CallFault::WrongArguments => {
-            say(err, b"run refused: wrong arguments\n");
-        }
+        CallFault::UnknownExport => to.write_all(b"run refused: unknown export\n"),
+        CallFault::WrongArguments => to.write_all(b"run refused: wrong arguments\n"),
     }
 }
 
-/// Says why a record was refused, or why its lines couldn't be written. It takes no memory.
-pub(crate) fn say_unfit<E: Write>(err: &mut E, unfit: Unfit)
-    ensures { Tells (E.contents err.old) (E.contents err.new) (unfit_line unfit) }
+/// Writes the line of what is refused.
+fn write_refused<W: Write>(to: &mut W, refused: &Refused) -> io::Result<()>
+    ensures { OnOk result (Appends (W.contents to.old) (W.contents to.new) (refused_line refused.now)) }
 {
-    let mut line: ArrayVec<u8, 64> = ArrayVec::new();
-    if write_unfit(&mut line, unfit).is_ok() {
+    match refused {
+        Refused::Read { kind, offset } => {
+            let number = kind.number();
+            write!(to, "module refused: read {number} at {offset}\n")
+        }
+        Refused::Rule(kind) => {
+            let number = kind.number();
+            write!(to, "module refused: validity {number}\n")
+        }
+        Refused::RuleInBody {
+            kind,
+            function,
+            instruction,
+        } => write_in_body(to, *kind, *function, *instruction),
+        Refused::Unlaid { why, addr, count } => write_unlaid(to, *why, *addr, *count),
+        Refused::Call { fault, module: _ } => write_call(to, *fault),
+        Refused::Absent(absent) => {
+            let words = absent.words();
+            write!(to, "show refused: {words}\n")
+        }
+        Refused::Header(line) => write!(to, "record refused: header line {line}\n"),
+        Refused::Unreadable(line) => write!(to, "record refused: line {line} unreadable\n"),
+        Refused::EndMissing => to.write_all(b"record refused: end missing\n"),
+        Refused::Line(line, _) => write!(to, "record refused: line {line} does not fit\n"),
+        Refused::EndLine(line, _) => write!(to, "record refused: end line {line} does not fit\n"),
+    }
+}
+
+/// Says what is refused. It takes no memory.
+fn tell_refused<E: Write>(err: &mut E, refused: &Refused)
+    ensures { Tells (E.contents err.old) (E.contents err.new) (refused_line refused.now) }
+{
+    let mut line: ArrayVec<u8, 192> = ArrayVec::new();
+    if write_refused(&mut line, refused).is_ok() {
         say(err, line.as_slice());
     }
 }
 
-/// Writes that line.
-fn write_unfit<W: Write>(to: &mut W, unfit: Unfit) -> io::Result<()>
-    ensures { OnOk result (Appends (W.contents to.old) (W.contents to.new) (unfit_line unfit)) }
+/// Says what failed.
+fn tell_failed<E: Write>(err: &mut E, failed: Failed)
+    ensures { Tells (E.contents err.old) (E.contents err.new) (failed_line failed.entry) }
 {
-    match unfit {
-        Unfit::Unread(RecordFault::Header(line)) => {
-            write!(to, "record refused: header line {line}\n")
+    match failed {
+        Failed::Memory => {
+            say(err, b"no memory\n");
         }
-        Unfit::Unread(RecordFault::Unreadable(line)) => {
-            write!(to, "record refused: line {line} unreadable\n")
+        Failed::Thread => {
+            say(err, b"no thread\n");
         }
-        Unfit::Unread(RecordFault::EndMissing) => to.write_all(b"record refused: end missing\n"),
-        Unfit::Misfit(ReplayFault::Line(line)) => {
-            write!(to, "record refused: line {line} does not fit\n")
+        Failed::Output => {
+            say(err, b"file fault: standard output\n");
         }
-        Unfit::Misfit(ReplayFault::EndLine(line)) => {
-            write!(to, "record refused: end line {line} does not fit\n")
+        Failed::File(path) => {
+            say_pieces(err, "file fault: ", path.unwrap_or("the record"), "\n", "");
         }
-        Unfit::Unread(RecordFault::NoMemory) | Unfit::Misfit(ReplayFault::NoMemory) => {
-            to.write_all(b"record refused: no memory\n")
-        }
-        Unfit::NoMemory => to.write_all(b"no memory\n"),
-        Unfit::Output => to.write_all(b"file fault: standard output\n"),
+    }
+}
+
+/// Says why a job isn't done. It takes no memory.
+pub fn tell<E: Write>(err: &mut E, undone: &Undone)
+    ensures { Tells (E.contents err.old) (E.contents err.new) (undone_line undone.now) }
+{
+    match undone {
+        Undone::Refused(refused) => tell_refused(err, refused),
+        Undone::Failed(failed) => tell_failed(err, *failed),
+    }
+}
+
+/// Says what came of a job: nothing of one that is done.
+pub fn tell_ended<E: Write>(err: &mut E, ended: &JobResult)
+    ensures { TellsEnded ended.now (E.contents err.old) (E.contents err.new) }
+{
+    if let Err(undone) = ended {
+        tell(err, undone);
     }
 }

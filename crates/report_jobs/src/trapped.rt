@@ -62,8 +62,7 @@ fn add_places(line: &mut String, traps: Option<&Traps>, thread: usize) -> Result
         return Ok(());
     };
     write!(line, " at {site}")?;
-    add_callers(line, traps, thread)?;
-    Ok(())
+    add_callers(line, traps, thread)
 }
 
 /// The line of a thread that trapped.

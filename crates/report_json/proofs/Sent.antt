@@ -1,5 +1,7 @@
 -- Objects and lists that are sent part by part.
-use Rattle.std.proofs.Common.{ℕ, suc, ◌≡◌, ◌+◌, ◌^◌, ◌<◌, ◌≤◌, List, [], ◌∷◌, Option, Some, None, Bool, true, false, ◌||◌, length, drop, get_or, decimal, if◌then◌else◌, nat_lt, refl, ap, sym, subst, ◌∙◌, arith, drop-cons, add-one}
+use Rattle.std.proofs.Common.{ℕ, suc, ◌≡◌, ◌+◌, ◌^◌, ◌<◌, ◌≤◌, List, [], ◌∷◌, Option, Some, None, Bool, true, false}
+use Rattle.std.proofs.Common.{◌||◌, length, drop, get_or, decimal, if◌then◌else◌, nat_lt, refl, ap, sym, subst, ◌∙◌}
+use Rattle.std.proofs.Common.{arith, drop-cons, add-one}
 use Rattle.std.proofs.lemmas.List.{drop_all}
 use Rattle.std.specs.Int.{from_bool}
 use Rattle.std.specs.Io.KnownBytes.{Appends}
@@ -9,7 +11,9 @@ use Rattle.serde_json.specs.Events.{SendsMembers, SendsItems, members_len, items
 use Rattle.serde_json.specs.Sent.{IsTextOf}
 use Rattle.serde_json.specs.Written.{has_float, items_have_float, members_have_float}
 use Rattle.serde_json.proofs.FreeTexts.{text_of_value}
-use Rattle.report_json.specs.Json.{Json, Items, Fields, Field, null, truth, number, text, list, object, no_items, item, no_fields, field, value_of, items_of, members_of, json_text, items, list_of, numbered, fields, object_of, is, is_given, are_some}
+use Rattle.report_json.specs.Json.{Json, Items, Fields, Field, null, truth, number, text, list, object, no_items, item}
+use Rattle.report_json.specs.Json.{no_fields, field, value_of, items_of, members_of, json_text, items, list_of}
+use Rattle.report_json.specs.Json.{numbered, fields, object_of, is, is_given, are_some}
 use Rattle.report_json.specs.Sent.{Sends, SendsField, SendsFields, given, some, count}
 use Rattle.report_json.specs.Ends.{bytes_field}
 
@@ -86,6 +90,18 @@ pub same_bytes : (v w : Bool) (xs ys : List ℕ) (a b : Log) → v ≡ w → xs 
     → SendsField (bytes_field w ys) a b
 same_bytes v w xs ys a b wanted are sent =
     subst (λ (zs : List ℕ). SendsField (bytes_field w zs) a b) are (subst (λ (u : Bool). SendsField (bytes_field u xs) a b) wanted sent)
+
+-- A list whose items are another one's by an equation, and a value that may be given.
+pub same_some : {A : Type 0} (name : List ℕ) (json : A → Json) (xs ys : List A) (a b : Log) → xs ≡ ys
+    → SendsField (are_some name json xs) a b → SendsField (are_some name json ys) a b
+same_some {A} name json xs ys a b are sent = subst (λ (zs : List A). SendsField (are_some name json zs) a b) are sent
+
+pub same_given : {A : Type 0} (name : List ℕ) (json : A → Json) (x y : Option A) (a b : Log) → x ≡ y
+    → SendsField (is_given name json x) a b → SendsField (is_given name json y) a b
+same_given {A} name json x y a b is sent = subst (λ (o : Option A). SendsField (is_given name json o) a b) is sent
+
+pub some_same : {A : Type 0} (xs ys : List A) → xs ≡ ys → some xs ≡ some ys
+some_same xs ys are = ap some are
 
 -- The items of a list: whatever ends the rest of them from here ends all of them from the start.
 numbered_len : {A : Type 0} (json : ℕ → A → Json) (n : ℕ) (xs : List A) → items_len (items_of (numbered json n xs)) ≡ length xs

@@ -6,7 +6,7 @@ use Rattle.search_reach.specs.declared.liveness.FairCycle.{FairCycle}
 use Rattle.search_reach.specs.declared.liveness.FairRuns.{FairRuns}
 use Rattle.search_reach.specs.declared.liveness.FairRuns.TheVariants.{AllEnd, GoOn, Unknown}
 use Rattle.search_reach.specs.declared.liveness.Liveness.{Liveness}
-use Rattle.report_json.specs.declared.complete.Complete.{Complete}
+use Rattle.report_json.specs.declared.complete.CompleteObject.{CompleteObject}
 use Rattle.report_json.specs.Json.{Json, Field, number, text, is, is_given, list_of, object_of}
 use Rattle.report_json.specs.Drawn.{ending_json}
 use Rattle.report_json.specs.Found.{found_json}
@@ -55,7 +55,7 @@ liveness_fields liveness =
 abbrev pub liveness_json : Liveness → Json
 liveness_json liveness = object_of (liveness_fields liveness)
 
-abbrev pub complete_fields : Complete → List Field
+abbrev pub complete_fields : CompleteObject → List Field
 complete_fields complete =
     is (codes "status") (number complete.status)
     ∷ is (codes "verdict") (text (verdict_words complete.all.now.verdict))
@@ -69,5 +69,5 @@ complete_fields complete =
     ∷ is_given (codes "found") found_json complete.found
     ∷ []
 
-abbrev pub complete_json : Complete → Json
+abbrev pub complete_json : CompleteObject → Json
 complete_json complete = object_of (complete_fields complete)

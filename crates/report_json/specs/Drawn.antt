@@ -7,7 +7,7 @@ use Rattle.report_json.specs.declared.drawn.Coverage.{Coverage}
 use Rattle.report_json.specs.declared.drawn.DrawnEnd.{DrawnEnd}
 use Rattle.report_json.specs.declared.drawn.DrawnEnd.TheVariants as ends
 use Rattle.report_json.specs.declared.drawn.DrawnRuns.{DrawnRuns}
-use Rattle.report_json.specs.declared.drawn.Drawn.{Drawn}
+use Rattle.report_json.specs.declared.drawn.DrawnObject.{DrawnObject}
 use Rattle.report_json.specs.Json.{Json, Field, number, text, is, list_of, object_of}
 use Rattle.report_json.specs.Ends.{outcomes_json, bytes_field}
 use Rattle.report_json.specs.Found.{found_json}
@@ -70,7 +70,7 @@ end_field (ends.Found found) = is (codes "found") (found_json found)
 end_field (ends.Told coverage) = is (codes "coverage") (coverage_json coverage)
 end_field (ends.AllMade coverage) = is (codes "coverage") (coverage_json coverage)
 
-abbrev pub drawn_fields : Drawn → List Field
+abbrev pub drawn_fields : DrawnObject → List Field
 drawn_fields drawn =
     is (codes "status") (number drawn.status)
     ∷ is (codes "verdict") (text (verdict_words drawn.halt))
@@ -81,5 +81,5 @@ drawn_fields drawn =
     ∷ end_field drawn.halt
     ∷ []
 
-abbrev pub drawn_json : Drawn → Json
+abbrev pub drawn_json : DrawnObject → Json
 drawn_json drawn = object_of (drawn_fields drawn)

@@ -11,8 +11,8 @@ use Rattle.types.specs.declared.outcome.ThreadReport.{ThreadReport}
 use Rattle.types.specs.Outcomes.{trap_words, trap_number, stop_words, stop_number}
 use Rattle.hex.specs.Hex.{encode_lower}
 use Rattle.search_endings.specs.Ends.{status_of}
-use Rattle.report_json.specs.declared.places.Place.{Place}
-use Rattle.report_json.specs.declared.ends.RunEnd.{RunEnd}
+use Rattle.report_json.specs.declared.places.PlaceObject.{PlaceObject}
+use Rattle.report_json.specs.declared.ends.RunEndObject.{RunEndObject}
 use Rattle.report_json.specs.Json.{Json, Field, null, number, text, list, is, is_given, are_some, numbered, object_of}
 use Rattle.report_json.specs.Places.{place_json}
 
@@ -39,7 +39,7 @@ abbrev pub outcome_json : Outcome → Json
 outcome_json outcome = object_of (outcome_fields outcome)
 
 -- A thread of a run: its number, how it ended, the units that it spent, and where it stood, if that is known.
-abbrev pub thread_fields : ℕ → ThreadReport → Option Place → List Field
+abbrev pub thread_fields : ℕ → ThreadReport → Option PlaceObject → List Field
 thread_fields thread report place =
     is (codes "thread") (number thread)
     ∷ is (codes "outcome") (outcome_json report.outcome)
@@ -48,14 +48,14 @@ thread_fields thread report place =
     ∷ []
 
 -- The place of a thread, of those that are known.
-abbrev pub place_at : List (Option Place) → ℕ → Option Place
+abbrev pub place_at : List (Option PlaceObject) → ℕ → Option PlaceObject
 place_at places thread = option_and_then (λ place. place) (slice_get places thread)
 
-abbrev pub thread_json : List (Option Place) → ℕ → ThreadReport → Json
+abbrev pub thread_json : List (Option PlaceObject) → ℕ → ThreadReport → Json
 thread_json places thread report = object_of (thread_fields thread report (place_at places thread))
 
 -- The threads of a run, from thread 0 on.
-abbrev pub threads_json : List (Option Place) → List ThreadReport → Json
+abbrev pub threads_json : List (Option PlaceObject) → List ThreadReport → Json
 threads_json places reports = list (numbered (thread_json places) 0 reports)
 
 -- Bytes, where they are wanted: two digits of base 16 for each.
@@ -65,7 +65,7 @@ bytes_field false bytes = None
 
 -- How a run ended: its status, its threads, the page count, the first bytes, so many or all if there are fewer, where
 -- some are wanted; and hints, where there are some.
-abbrev pub run_fields : RunEnd → List Field
+abbrev pub run_fields : RunEndObject → List Field
 run_fields run =
     is (codes "status") (number (status_of run.threads.now))
     ∷ is (codes "threads") (threads_json run.places.now run.threads.now)
@@ -74,7 +74,7 @@ run_fields run =
     ∷ are_some (codes "hints") (λ hint. text hint.now) run.hints.now
     ∷ []
 
-abbrev pub run_json : RunEnd → Json
+abbrev pub run_json : RunEndObject → Json
 run_json run = object_of (run_fields run)
 
 -- A thread of an ending: its number, and how it ended.

@@ -4,7 +4,7 @@ use Rattle.report_json.specs.declared.found.FoundAs.{FoundAs}
 use Rattle.report_json.specs.declared.found.FoundAs.TheVariants.{Run, Ending, NoEndAfter, ForEverAfter}
 use Rattle.report_json.specs.declared.found.RunSize.{RunSize}
 use Rattle.report_json.specs.declared.found.Shrunk.{Shrunk}
-use Rattle.report_json.specs.declared.found.Found.{Found}
+use Rattle.report_json.specs.declared.found.FoundObject.{FoundObject}
 use Rattle.report_json.specs.Json.{Json, Field, number, is, is_given, object_of}
 use Rattle.report_json.specs.Ends.{run_json}
 
@@ -25,12 +25,12 @@ abbrev pub shrunk_json : Shrunk → Json
 shrunk_json shrunk =
     object_of (is (codes "before") (size_json shrunk.before) ∷ is (codes "after") (size_json shrunk.after) ∷ [])
 
-abbrev pub found_fields : Found → List Field
+abbrev pub found_fields : FoundObject → List Field
 found_fields found =
     found_as found.found_as
     ∷ is_given (codes "shrunk") shrunk_json found.shrunk
     ∷ is_given (codes "end") run_json found.run
     ∷ []
 
-abbrev pub found_json : Found → Json
+abbrev pub found_json : FoundObject → Json
 found_json found = object_of (found_fields found)

@@ -1,5 +1,6 @@
 -- JSON values as they are printed, and the text of a value.
-use Rattle.std.specs.Prelude.{ℕ, suc, ◌^◌, nat_lt, if◌then◌else◌, Bool, List, [], ◌∷◌, ◌++◌, codes, Option, Some, None, decimal}
+use Rattle.std.specs.Prelude.{ℕ, suc, ◌^◌, nat_lt, if◌then◌else◌, Bool, List, [], ◌∷◌, ◌++◌, codes, Option, Some, None, String, decimal, string_bytes}
+use Rattle.std.specs.Global.{Global}
 use Rattle.serde_json.specs.Data as shaped
 use Rattle.serde_json.specs.Written.{compact_text}
 
@@ -45,6 +46,10 @@ json_text j = compact_text (value_of j)
 
 abbrev pub json_line : Json → List ℕ
 json_line j = json_text j ++ codes "\n"
+
+-- The text of a string.
+abbrev pub string_json : String Global → Json
+string_json s = text (string_bytes s)
 
 -- The values of the items of a list.
 abbrev pub items : {A : Type 0} → (A → Json) → List A → Items

@@ -9,3 +9,5 @@ pub mod Found
 pub mod Drawn
 pub mod Complete
 pub mod Rows
+pub mod Functions
+pub mod Moments

@@ -3,9 +3,9 @@ use Rattle.std.specs.Prelude.{false, List, [], ◌∷◌, ◌++◌, codes, decim
 use Rattle.std.specs.Fmt.{digits}
 use Rattle.show_places.specs.declared.names.FunctionName.{FunctionName}
 use Rattle.show_places.specs.declared.names.FunctionName.TheVariants.{Named, Exported, Numbered}
-use Rattle.report_json.specs.declared.places.Source.{Source}
+use Rattle.report_json.specs.declared.places.SourceObject.{SourceObject}
 use Rattle.report_json.specs.declared.places.Offset.{Offset}
-use Rattle.report_json.specs.declared.places.Place.{Place}
+use Rattle.report_json.specs.declared.places.PlaceObject.{PlaceObject}
 use Rattle.report_json.specs.Json.{Json, Field, text, is, is_given, object_of}
 
 -- A function by its name, or by its index.
@@ -19,15 +19,15 @@ abbrev pub offset_json : Offset → Json
 offset_json offset = text (codes "0x" ++ digits 16 false offset.0)
 
 -- The file and its line.
-abbrev pub source_json : Source → Json
+abbrev pub source_json : SourceObject → Json
 source_json source = text (source.file.now ++ codes ":" ++ decimal source.line)
 
-abbrev pub place_fields : Place → List Field
+abbrev pub place_fields : PlaceObject → List Field
 place_fields place =
     is (codes "function") (function_json place.function)
     ∷ is_given (codes "offset") offset_json place.offset
     ∷ is_given (codes "source") source_json place.source
     ∷ []
 
-abbrev pub place_json : Place → Json
+abbrev pub place_json : PlaceObject → Json
 place_json place = object_of (place_fields place)

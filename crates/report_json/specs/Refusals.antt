@@ -2,9 +2,10 @@
 use Rattle.std.specs.Prelude.{ℕ, List, [], ◌∷◌, codes}
 use Rattle.binary_wire.specs.Faults.{kind_number}
 use Rattle.validate_typing.specs.Faults.{fault_number}
-use Rattle.report_json.specs.declared.refusals.Refused.{Refused}
-use Rattle.report_json.specs.declared.refusals.Refused.TheVariants.{Read, Rule, RuleInBody, Call, Header, Unreadable, EndMissing, Line, EndLine}
-use Rattle.report_json.specs.declared.refusals.Refusal.{Refusal}
+use Rattle.report_json.specs.declared.refusals.RefusedObject.{RefusedObject}
+use Rattle.report_json.specs.declared.refusals.RefusedObject.TheVariants.{Read, Rule, RuleInBody, Call, Header}
+use Rattle.report_json.specs.declared.refusals.RefusedObject.TheVariants.{Unreadable, EndMissing, Line, EndLine}
+use Rattle.report_json.specs.declared.refusals.RefusalObject.{RefusalObject}
 use Rattle.report_json.specs.declared.refusals.Failure.{Failure}
 use Rattle.report_json.specs.declared.refusals.Failure.TheVariants.{Memory, Thread, File}
 use Rattle.report_json.specs.Json.{Json, Field, number, text, is, are_some, object_of}
@@ -16,7 +17,7 @@ abbrev pub fault : List ℕ → Field
 fault words = is (codes "fault") (text words)
 
 -- What is refused: the stage, and the number or the words of the fault, with its place.
-abbrev pub refused_fields : Refused → List Field
+abbrev pub refused_fields : RefusedObject → List Field
 refused_fields (Read kind offset) =
     stage (codes "read") ∷ is (codes "number") (number (kind_number kind)) ∷ is (codes "offset") (number offset) ∷ []
 refused_fields (Rule kind) = stage (codes "validity") ∷ is (codes "number") (number (fault_number kind)) ∷ []
@@ -36,11 +37,11 @@ refused_fields (Line line) =
 refused_fields (EndLine line) =
     stage (codes "replay") ∷ fault (codes "end line does not fit") ∷ is (codes "line") (number line) ∷ []
 
-abbrev pub refused_json : Refused → Json
+abbrev pub refused_json : RefusedObject → Json
 refused_json refused = object_of (refused_fields refused)
 
 -- The status: 2 of a module, 3 of a call, 4 of a record.
-abbrev pub status_of_refused : Refused → ℕ
+abbrev pub status_of_refused : RefusedObject → ℕ
 status_of_refused (Read kind offset) = 2
 status_of_refused (Rule kind) = 2
 status_of_refused (RuleInBody kind function instruction) = 2
@@ -51,14 +52,14 @@ status_of_refused EndMissing = 4
 status_of_refused (Line line) = 4
 status_of_refused (EndLine line) = 4
 
-abbrev pub refusal_fields : Refusal → List Field
+abbrev pub refusal_fields : RefusalObject → List Field
 refusal_fields refusal =
     is (codes "status") (number (status_of_refused refusal.refused))
     ∷ is (codes "refused") (refused_json refusal.refused)
     ∷ are_some (codes "hints") (λ hint. text hint.now) refusal.hints.now
     ∷ []
 
-abbrev pub refusal_json : Refusal → Json
+abbrev pub refusal_json : RefusalObject → Json
 refusal_json refusal = object_of (refusal_fields refusal)
 
 -- What failed: memory, a thread that couldn't be started, or a file.

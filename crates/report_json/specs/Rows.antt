@@ -1,28 +1,30 @@
 -- What is shown of a record: its entries, and its races.
 use Rattle.std.specs.Prelude.{ℕ, ◌≡◌, Bool, true, false, ◌&&◌, List, [], ◌∷◌, ◌++◌, codes}
 use Rattle.show_text.specs.Words.{words_text}
-use Rattle.report_json.specs.declared.rows.Row.{Row}
+use Rattle.report_json.specs.declared.rows.NamedRow.{NamedRow}
 use Rattle.report_json.specs.declared.races.RaceEntry.{RaceEntry}
 use Rattle.report_json.specs.declared.races.NextWrite.{NextWrite}
 use Rattle.report_json.specs.declared.races.RacePair.{RacePair}
 use Rattle.report_json.specs.declared.races.RacePairs.{RacePairs}
-use Rattle.report_json.specs.Json.{Json, Field, truth, number, text, is, is_given, list_of, object_of, json_text, json_line}
+use Rattle.report_json.specs.Json.{Json, Field, truth, number, text, is, is_given, list_of, object_of, json_text, json_line, string_json}
 use Rattle.report_json.specs.Places.{place_json}
 
--- An entry: its line of the record, its thread, its words, and where it was made, if that is known.
-abbrev pub row_fields : Row → List Field
-row_fields row =
-    is (codes "line") (number row.line)
-    ∷ is (codes "thread") (number row.words.entry.thread)
-    ∷ is (codes "words") (text (words_text row.words))
-    ∷ is_given (codes "at") place_json row.place
+-- An entry: its line of the record, its thread, its words, what the data is called that it is about, if that has a name,
+-- and where it was made, if that is known.
+abbrev pub row_fields : NamedRow → List Field
+row_fields named =
+    is (codes "line") (number named.row.line)
+    ∷ is (codes "thread") (number named.row.words.entry.thread)
+    ∷ is (codes "words") (text (words_text named.row.words))
+    ∷ is_given (codes "data") string_json named.name
+    ∷ is_given (codes "at") place_json named.row.place
     ∷ []
 
-abbrev pub row_json : Row → Json
-row_json row = object_of (row_fields row)
+abbrev pub row_json : NamedRow → Json
+row_json named = object_of (row_fields named)
 
 -- The entries of a record.
-abbrev pub rows_json : List Row → Json
+abbrev pub rows_json : List NamedRow → Json
 rows_json rows = object_of (is (codes "status") (number 0) ∷ is (codes "rows") (list_of row_json rows) ∷ [])
 
 -- The text of it in pieces: in front of the rows, each row, with a comma before it where it isn't the first one, and
@@ -34,17 +36,17 @@ abbrev pub separator : Bool → List ℕ
 separator true = []
 separator false = codes ","
 
-abbrev pub row_text : Bool → Row → List ℕ
+abbrev pub row_text : Bool → NamedRow → List ℕ
 row_text is_first row = separator is_first ++ json_text (row_json row)
 
 abbrev pub rows_back : List ℕ
 rows_back = codes "]}\n"
 
-abbrev pub later_rows : List Row → List ℕ
+abbrev pub later_rows : List NamedRow → List ℕ
 later_rows [] = []
 later_rows (row ∷ rows) = row_text false row ++ later_rows rows
 
-abbrev pub rows_text : List Row → List ℕ
+abbrev pub rows_text : List NamedRow → List ℕ
 rows_text [] = []
 rows_text (row ∷ rows) = row_text true row ++ later_rows rows
 
@@ -98,4 +100,4 @@ races_json races = object_of (races_fields races)
 
 -- The pieces are the text of the whole.
 abbrev pub AreWhole : Type 0
-AreWhole = (rows : List Row) → rows_front ++ (rows_text rows ++ rows_back) ≡ json_line (rows_json rows)
+AreWhole = (rows : List NamedRow) → rows_front ++ (rows_text rows ++ rows_back) ≡ json_line (rows_json rows)

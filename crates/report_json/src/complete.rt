@@ -8,7 +8,7 @@ ghost use Rattle.report_json.specs.Sent as counted;
 ghost use Rattle.report_json.specs.Json.{json_line};
 ghost use Rattle.report_json.specs.Sent.{SendsField};
 
-use crate::found::Found;
+use crate::found::FoundObject;
 use crate::object::{ToJson, given, put, put_if, put_list, write_line};
 use crate::raced::{RunRaces, count_races, put_races};
 use search_endings::Ending;
@@ -20,7 +20,7 @@ use std::io::Write;
 
 /// What a search through every order of entries comes to.
 #[derive(Clone, Copy)]
-pub struct Complete<'a> {
+pub struct CompleteObject<'a> {
     /// 0 where there is an ending, all are there, all threads ended well, none is looked for, every state can end, every
     /// fair run ends, and no run has a race or races are allowed, and else 1.
     pub status: u8,
@@ -29,7 +29,7 @@ pub struct Complete<'a> {
     pub all: &'a Ended<Ending>,
     /// What is known of races, where that was asked.
     pub races: Option<RunRaces<'a>>,
-    pub found: Option<Found<'a>>,
+    pub found: Option<FoundObject<'a>>,
 }
 
 impl ToJson for FairCycle {
@@ -43,7 +43,6 @@ impl ToJson for FairCycle {
     }
 }
 
-/// Whether every fair run ends, in words.
 fn fair_of(fair_runs: &FairRuns) -> &'static str
     ensures { result.now ≡ fair_words fair_runs.now }
 {
@@ -64,7 +63,6 @@ fn cycles(fair_runs: &FairRuns) -> usize
     }
 }
 
-/// Sends the fair run that goes on for ever, where one does.
 fn put_cycle<S: Serializer>(
     alloc: Global,
     out: &mut S,
@@ -90,7 +88,6 @@ impl ToJson for Liveness {
     }
 }
 
-/// Whether the endings are all, or why they aren't, in words.
 fn verdict_of(verdict: Verdict) -> &'static str
     ensures { result.now ≡ verdict_words verdict }
 {
@@ -113,7 +110,7 @@ fn levels_of(all: &Ended<Ending>) -> Option<u32>
     }
 }
 
-impl ToJson for Complete<'_> {
+impl ToJson for CompleteObject<'_> {
     ghost json = { complete_json };
 
     fn send<S: Serializer>(&self, alloc: Global, out: &mut S) -> Result<(), S::Error> {
@@ -141,7 +138,7 @@ impl ToJson for Complete<'_> {
 pub fn write_complete<W: Write>(
     alloc: Global,
     out: &mut W,
-    complete: &Complete,
+    complete: &CompleteObject,
 ) -> Result<(), Unwritten>
     ensures object { Wrote W.contents out.old out.new result (json_line (complete_json complete.now)) }
     ensures left { IfErr result (LeavesAs out.old out.new) }

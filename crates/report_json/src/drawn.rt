@@ -10,7 +10,7 @@ ghost use Rattle.report_json.specs.Json.{json_line, text};
 ghost use Rattle.report_json.specs.Sent.{SendsField, SendsFields, count};
 
 use crate::ends::{Outcomes, put_bytes};
-use crate::found::Found;
+use crate::found::FoundObject;
 use crate::object::{ToJson, put, put_list, send_two, write_line};
 use crate::raced::{RunRaces, count_races, put_races};
 use search_endings::Ending;
@@ -50,7 +50,7 @@ pub struct Coverage {
 #[derive(Clone, Copy)]
 pub enum DrawnEnd<'a> {
     /// One was found that is looked for.
-    Found(Found<'a>),
+    Found(FoundObject<'a>),
     /// It was told to end.
     Told(Coverage),
     AllMade(Coverage),
@@ -58,7 +58,7 @@ pub enum DrawnEnd<'a> {
 
 /// What a search of drawn runs comes to.
 #[derive(Clone, Copy)]
-pub struct Drawn<'a> {
+pub struct DrawnObject<'a> {
     /// 1 where a run was found, an ending has a trap or a stop, or no run was made, and else 0.
     pub status: u8,
     pub runs: DrawnRuns,
@@ -86,21 +86,18 @@ impl ToJson for Way {
     }
 }
 
-/// Whether there are bytes.
 fn has_some(bytes: &[u8]) -> bool
     ensures { result ≡ specified.has_some bytes.now }
 {
     !bytes.is_empty()
 }
 
-/// How many fields an ending has.
 fn count_fields(ending: &Ending) -> usize
     ensures { result ≡ count (ending_fields ending.now) }
 {
     2 + usize::from(has_some(ending.bytes()))
 }
 
-/// Sends the fields of an ending.
 fn put_ending<S: Serializer>(alloc: Global, out: &mut S, ending: &Ending) -> Result<(), S::Error>
     ensures { OnOk result (SendsFields (ending_fields ending.now) (S.written out.old) (S.written out.new)) }
 {
@@ -154,7 +151,6 @@ impl ToJson for Coverage {
     }
 }
 
-/// Why no further run was made, in words.
 fn verdict_of(halt: &DrawnEnd) -> &'static str
     ensures { result.now ≡ verdict_words halt.now }
 {
@@ -177,7 +173,7 @@ fn put_end<S: Serializer>(alloc: Global, out: &mut S, halt: &DrawnEnd) -> Result
     }
 }
 
-impl ToJson for Drawn<'_> {
+impl ToJson for DrawnObject<'_> {
     ghost json = { drawn_json };
 
     fn send<S: Serializer>(&self, alloc: Global, out: &mut S) -> Result<(), S::Error> {
@@ -196,7 +192,11 @@ impl ToJson for Drawn<'_> {
 ///
 /// # Errors
 /// Where memory is refused, and then nothing was written; that of the writer, and then what was written isn't said.
-pub fn write_drawn<W: Write>(alloc: Global, out: &mut W, drawn: &Drawn) -> Result<(), Unwritten>
+pub fn write_drawn<W: Write>(
+    alloc: Global,
+    out: &mut W,
+    drawn: &DrawnObject,
+) -> Result<(), Unwritten>
     ensures object { Wrote W.contents out.old out.new result (json_line (drawn_json drawn.now)) }
     ensures left { IfErr result (LeavesAs out.old out.new) }
 {

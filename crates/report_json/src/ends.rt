@@ -14,7 +14,7 @@ ghost use Rattle.report_json.specs.Sent.{Sends, SendsField};
 ghost use Rattle.types.specs.Outcomes.{trap_words, stop_words};
 
 use crate::object::{ToJson, given, put, put_if, put_some, send_one, send_two, some, write_line};
-use crate::places::Place;
+use crate::places::PlaceObject;
 use search_endings::is_done;
 use serde::Serializer;
 use show_text::Unwritten;
@@ -74,7 +74,7 @@ fn send_thread<S: Serializer>(
     out: &mut S,
     thread: usize,
     report: ThreadReport,
-    place: Option<Place>,
+    place: Option<PlaceObject>,
 ) -> Result<(), S::Error>
     ensures { OnOk result
         (Sends (object_of (thread_fields thread report place.entry)) (S.written out.old) (S.written out.new)) }
@@ -87,8 +87,7 @@ fn send_thread<S: Serializer>(
     out.end_map()
 }
 
-/// The place of a thread, if it is known.
-fn place_at<'a>(places: &[Option<Place<'a>>], thread: usize) -> Option<Place<'a>>
+fn place_at<'a>(places: &[Option<PlaceObject<'a>>], thread: usize) -> Option<PlaceObject<'a>>
     ensures { result ≡ ends.place_at places.now thread }
 {
     match places.get(thread) {
@@ -100,7 +99,7 @@ fn place_at<'a>(places: &[Option<Place<'a>>], thread: usize) -> Option<Place<'a>
 /// The threads of a run, from thread 0 on, and the places that are known of them.
 #[derive(Clone, Copy)]
 struct Threads<'a> {
-    places: &'a [Option<Place<'a>>],
+    places: &'a [Option<PlaceObject<'a>>],
     reports: &'a [ThreadReport],
 }
 
@@ -117,7 +116,6 @@ impl ToJson for Threads<'_> {
     }
 }
 
-/// Sends a thread of an ending: its number, and how it ended.
 fn send_ended<S: Serializer>(
     alloc: Global,
     out: &mut S,
@@ -148,7 +146,7 @@ impl ToJson for Outcomes<'_> {
 
 /// Bytes, which are printed as digits of base 16.
 #[derive(Clone, Copy)]
-struct Hex<'a>(&'a [u8]);
+pub(crate) struct Hex<'a>(pub(crate) &'a [u8]);
 
 impl ToJson for Hex<'_> {
     ghost json = { λ h. text (encode_lower h.0.now) };
@@ -184,7 +182,6 @@ fn first_bytes(dump: u32, bytes: &[u8]) -> &[u8]
     &bytes[..bytes.len().min(dump as usize)]
 }
 
-/// Whether all threads ended well.
 fn all_done(reports: &[ThreadReport]) -> bool
     ensures { result ≡ list_all (λ r. specified.is_done r.outcome) reports.now }
 {
@@ -200,11 +197,11 @@ pub fn status_of(reports: &[ThreadReport]) -> u8
 
 /// How a run ended.
 #[derive(Clone, Copy)]
-pub struct RunEnd<'a> {
+pub struct RunEndObject<'a> {
     /// From thread 0 on.
     pub threads: &'a [ThreadReport],
     /// Where threads stood as they ended, as far as that is known, from thread 0 on.
-    pub places: &'a [Option<Place<'a>>],
+    pub places: &'a [Option<PlaceObject<'a>>],
     pub pages: u32,
     /// How many first bytes are printed, or all if there are fewer; none and no field where it is 0.
     pub dump: u32,
@@ -213,11 +210,11 @@ pub struct RunEnd<'a> {
     pub hints: &'a [&'a str],
 }
 
-impl ToJson for RunEnd<'_> {
+impl ToJson for RunEndObject<'_> {
     ghost json = { run_json };
 
     fn send<S: Serializer>(&self, alloc: Global, out: &mut S) -> Result<(), S::Error> {
-        let RunEnd {
+        let RunEndObject {
             threads: reports,
             places,
             pages,
@@ -241,7 +238,7 @@ impl ToJson for RunEnd<'_> {
 /// # Errors
 /// Where memory is refused, and then nothing was written; that of the writer, and then what was written isn't said. So
 /// of each function here.
-pub fn write_run<W: Write>(alloc: Global, out: &mut W, end: &RunEnd) -> Result<u8, Unwritten>
+pub fn write_run<W: Write>(alloc: Global, out: &mut W, end: &RunEndObject) -> Result<u8, Unwritten>
     ensures object { Wrote W.contents out.old out.new result (json_line (run_json end.now)) }
     ensures left { IfErr result (LeavesAs out.old out.new) }
     ensures status { IfOk result (λ status. status ≡ status_of end.now.threads.now) }

@@ -4,7 +4,7 @@ ghost use Rattle.report_json.specs.Found as specified;
 ghost use Rattle.report_json.specs.Found.{size_json, shrunk_json, found_json};
 ghost use Rattle.report_json.specs.Sent.{SendsField};
 
-use crate::ends::RunEnd;
+use crate::ends::RunEndObject;
 use crate::object::{ToJson, given, put, put_if, send_two};
 use serde::Serializer;
 use std::alloc::Global;
@@ -38,15 +38,14 @@ pub struct Shrunk {
 
 /// What a search found.
 #[derive(Clone, Copy)]
-pub struct Found<'a> {
+pub struct FoundObject<'a> {
     pub found_as: FoundAs,
     /// Where the run was shrunk.
     pub shrunk: Option<Shrunk>,
     /// How the run ended that was made of it, if one was made.
-    pub run: Option<RunEnd<'a>>,
+    pub run: Option<RunEndObject<'a>>,
 }
 
-/// Sends as what something was found.
 fn put_found_as<S: Serializer>(
     alloc: Global,
     out: &mut S,
@@ -83,7 +82,7 @@ impl ToJson for Shrunk {
     }
 }
 
-impl ToJson for Found<'_> {
+impl ToJson for FoundObject<'_> {
     ghost json = { found_json };
 
     fn send<S: Serializer>(&self, alloc: Global, out: &mut S) -> Result<(), S::Error> {

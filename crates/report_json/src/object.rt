@@ -23,12 +23,10 @@ pub(crate) trait ToJson {
     /// That value.
     ghost json: { Self → Json };
 
-    /// Sends it.
     fn send<S: Serializer>(&self, alloc: Global, out: &mut S) -> Result<(), S::Error>
         ensures { OnOk result (Sends (json self.now) (S.written out.old) (S.written out.new)) };
 }
 
-/// Sends a number.
 fn send_number<S: Serializer>(out: &mut S, n: u64) -> Result<(), S::Error>
     ensures { OnOk result (Sends (number n) (S.written out.old) (S.written out.new)) }
 {
@@ -89,6 +87,16 @@ impl ToJson for &str {
     }
 }
 
+impl ToJson for String {
+    ghost use Rattle.report_json.specs.Json.{string_json};
+
+    ghost json = { string_json };
+
+    fn send<S: Serializer>(&self, _alloc: Global, out: &mut S) -> Result<(), S::Error> {
+        out.str(self.as_str())
+    }
+}
+
 /// Sends a field.
 pub(crate) fn put<S: Serializer, T: ToJson>(
     alloc: Global,
@@ -119,7 +127,7 @@ pub(crate) fn put_if<S: Serializer, T: ToJson>(
 }
 
 /// Sends values as a list.
-fn send_list<S: Serializer, T: ToJson>(
+pub(crate) fn send_list<S: Serializer, T: ToJson>(
     alloc: Global,
     out: &mut S,
     values: &[T],

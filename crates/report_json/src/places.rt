@@ -12,7 +12,7 @@ pub struct Offset(pub usize);
 
 /// A line of source.
 #[derive(Clone, Copy)]
-pub struct Source<'a> {
+pub struct SourceObject<'a> {
     pub file: &'a str,
     pub line: u64,
 }
@@ -20,10 +20,10 @@ pub struct Source<'a> {
 /// A place in a module: the function, how far the instruction is behind the start of its body, and the line of source,
 /// as far as they are known. Names are as they are in the module: control characters have escapes in JSON.
 #[derive(Clone, Copy)]
-pub struct Place<'a> {
+pub struct PlaceObject<'a> {
     pub function: FunctionName<'a>,
     pub offset: Option<Offset>,
-    pub source: Option<Source<'a>>,
+    pub source: Option<SourceObject<'a>>,
 }
 
 impl ToJson for FunctionName<'_> {
@@ -52,11 +52,11 @@ impl ToJson for Offset {
     }
 }
 
-impl ToJson for Source<'_> {
+impl ToJson for SourceObject<'_> {
     ghost json = { source_json };
 
     fn send<S: Serializer>(&self, alloc: Global, out: &mut S) -> Result<(), S::Error> {
-        let Source { file, line } = *self;
+        let SourceObject { file, line } = *self;
         match format!(in alloc; "{file}:{line}") {
             Ok(text) => out.str(text.as_str()),
             Err(_) => Err(out.custom("no memory")),
@@ -64,7 +64,7 @@ impl ToJson for Source<'_> {
     }
 }
 
-impl ToJson for Place<'_> {
+impl ToJson for PlaceObject<'_> {
     ghost json = { place_json };
 
     fn send<S: Serializer>(&self, alloc: Global, out: &mut S) -> Result<(), S::Error> {

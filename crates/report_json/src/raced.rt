@@ -42,7 +42,6 @@ impl ToJson for RacingThreads {
     }
 }
 
-/// Whether there are races, in words.
 fn words_of(races: &RunRaces) -> &'static str
     ensures { result.now ≡ specified.races_words races.now }
 {

@@ -7,7 +7,7 @@ ghost use Rattle.report_json.specs.Rows.{entry_json, write_json, pair_json, race
 ghost use Rattle.report_json.specs.Json.{json_line};
 
 use crate::object::{ToJson, given, put, put_if, put_list, send_two, write_line};
-use crate::rows::Row;
+use crate::rows::RowObject;
 use serde::Serializer;
 use show_text::Unwritten;
 use std::alloc::Global;
@@ -16,7 +16,7 @@ use std::io::Write;
 /// An entry that races.
 #[derive(Clone, Copy)]
 pub struct RaceEntry<'a> {
-    pub row: Row<'a>,
+    pub row: RowObject<'a>,
     /// Whether an atomic instruction made it.
     pub is_atomic: bool,
     /// The first byte that it touches, and how many.
@@ -54,7 +54,7 @@ impl ToJson for RaceEntry<'_> {
     ghost json = { entry_json };
 
     fn send<S: Serializer>(&self, alloc: Global, out: &mut S) -> Result<(), S::Error> {
-        let Row { line, words, place } = self.row;
+        let RowObject { line, words, place } = self.row;
         out.begin_map(Some(6 + given(&place)))?;
         put(alloc, out, "line", &line)?;
         put(alloc, out, "thread", &words.entry.thread)?;
@@ -80,7 +80,6 @@ impl ToJson for NextWrite {
     }
 }
 
-/// Whether both are so.
 fn both(one: bool, other: bool) -> bool
     ensures { result ≡ (one && other) }
 {

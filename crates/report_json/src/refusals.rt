@@ -17,7 +17,7 @@ use std::io::Write;
 
 /// What is refused, and why.
 #[derive(Clone, Copy)]
-pub enum Refused<'a> {
+pub enum RefusedObject<'a> {
     /// Bytes that can't be read as a module, and where.
     Read {
         kind: Fault,
@@ -45,7 +45,6 @@ pub enum Refused<'a> {
     EndLine(u32),
 }
 
-/// Sends a stage and words.
 fn send_words<S: Serializer>(
     alloc: Global,
     out: &mut S,
@@ -58,7 +57,6 @@ fn send_words<S: Serializer>(
     send_two(alloc, out, ("stage", &stage), ("fault", &fault))
 }
 
-/// Sends a stage, words, and a line.
 fn send_line_of<S: Serializer>(
     alloc: Global,
     out: &mut S,
@@ -76,14 +74,14 @@ fn send_line_of<S: Serializer>(
     out.end_map()
 }
 
-/// Sends the fault of bytes at an offset.
 fn send_read<S: Serializer>(
     alloc: Global,
     out: &mut S,
     kind: Fault,
     offset: usize,
 ) -> Result<(), S::Error>
-    ensures { OnOk result (Sends (refused_json (Refused.Read kind offset)) (S.written out.old) (S.written out.new)) }
+    ensures { OnOk result
+        (Sends (refused_json (RefusedObject.Read kind offset)) (S.written out.old) (S.written out.new)) }
 {
     out.begin_map(Some(3))?;
     put(alloc, out, "stage", &"read")?;
@@ -92,7 +90,6 @@ fn send_read<S: Serializer>(
     out.end_map()
 }
 
-/// Sends the rule that is broken in a body.
 fn send_rule_in_body<S: Serializer>(
     alloc: Global,
     out: &mut S,
@@ -101,7 +98,8 @@ fn send_rule_in_body<S: Serializer>(
     instruction: usize,
 ) -> Result<(), S::Error>
     ensures { OnOk result
-        (Sends (refused_json (Refused.RuleInBody kind function instruction)) (S.written out.old) (S.written out.new)) }
+        (Sends (refused_json (RefusedObject.RuleInBody kind function instruction)) (S.written out.old)
+        (S.written out.new)) }
 {
     out.begin_map(Some(4))?;
     put(alloc, out, "stage", &"validity")?;
@@ -111,13 +109,13 @@ fn send_rule_in_body<S: Serializer>(
     out.end_map()
 }
 
-impl ToJson for Refused<'_> {
+impl ToJson for RefusedObject<'_> {
     ghost json = { refused_json };
 
     fn send<S: Serializer>(&self, alloc: Global, out: &mut S) -> Result<(), S::Error> {
         match *self {
-            Refused::Read { kind, offset } => send_read(alloc, out, kind, offset),
-            Refused::Rule(kind) => {
+            RefusedObject::Read { kind, offset } => send_read(alloc, out, kind, offset),
+            RefusedObject::Rule(kind) => {
                 send_two(
                     alloc,
                     out,
@@ -125,35 +123,37 @@ impl ToJson for Refused<'_> {
                     ("number", &kind.number()),
                 )
             }
-            Refused::RuleInBody {
+            RefusedObject::RuleInBody {
                 kind,
                 function,
                 instruction,
             } => send_rule_in_body(alloc, out, kind, function, instruction),
-            Refused::Call(words) => send_words(alloc, out, "call", words),
-            Refused::Header(line) => send_line_of(alloc, out, "record", "header line", line),
-            Refused::Unreadable(line) => {
+            RefusedObject::Call(words) => send_words(alloc, out, "call", words),
+            RefusedObject::Header(line) => send_line_of(alloc, out, "record", "header line", line),
+            RefusedObject::Unreadable(line) => {
                 send_line_of(alloc, out, "record", "line unreadable", line)
             }
-            Refused::EndMissing => send_words(alloc, out, "record", "end missing"),
-            Refused::Line(line) => {
+            RefusedObject::EndMissing => send_words(alloc, out, "record", "end missing"),
+            RefusedObject::Line(line) => {
                 send_line_of(alloc, out, "replay", "line does not fit", line as usize)
             }
-            Refused::EndLine(line) => {
+            RefusedObject::EndLine(line) => {
                 send_line_of(alloc, out, "replay", "end line does not fit", line as usize)
             }
         }
     }
 }
 
-impl Refused<'_> {
+impl RefusedObject<'_> {
     /// The status of a job that is refused so: 2 of a module, 3 of a call, 4 of a record.
     pub fn status(&self) -> u8
         ensures { result ≡ specified.status_of_refused self.now }
     {
         match self {
-            Refused::Read { .. } | Refused::Rule(_) | Refused::RuleInBody { .. } => 2,
-            Refused::Call(_) => 3,
+            RefusedObject::Read { .. }
+            | RefusedObject::Rule(_)
+            | RefusedObject::RuleInBody { .. } => 2,
+            RefusedObject::Call(_) => 3,
             _ => 4,
         }
     }
@@ -161,16 +161,16 @@ impl Refused<'_> {
 
 /// What is refused, and what to do about it.
 #[derive(Clone, Copy)]
-pub struct Refusal<'a> {
-    pub refused: Refused<'a>,
+pub struct RefusalObject<'a> {
+    pub refused: RefusedObject<'a>,
     pub hints: &'a [&'a str],
 }
 
-impl ToJson for Refusal<'_> {
+impl ToJson for RefusalObject<'_> {
     ghost json = { refusal_json };
 
     fn send<S: Serializer>(&self, alloc: Global, out: &mut S) -> Result<(), S::Error> {
-        let Refusal { refused, hints } = *self;
+        let RefusalObject { refused, hints } = *self;
         out.begin_map(Some(2 + some(hints)))?;
         put(alloc, out, "status", &refused.status())?;
         put(alloc, out, "refused", &refused)?;
@@ -201,11 +201,10 @@ impl ToJson for Failure<'_> {
     }
 }
 
-/// A job that failed.
 #[derive(Clone, Copy)]
-struct Failed<'a>(Failure<'a>);
+struct FailedObject<'a>(Failure<'a>);
 
-impl ToJson for Failed<'_> {
+impl ToJson for FailedObject<'_> {
     ghost json = { λ f. failed_json f.0 };
 
     fn send<S: Serializer>(&self, alloc: Global, out: &mut S) -> Result<(), S::Error> {
@@ -233,7 +232,7 @@ impl ToJson for Accepted {
 pub fn write_refusal<W: Write>(
     alloc: Global,
     out: &mut W,
-    refusal: &Refusal,
+    refusal: &RefusalObject,
 ) -> Result<(), Unwritten>
     ensures object { Wrote W.contents out.old out.new result (json_line (refusal_json refusal.now)) }
     ensures left { IfErr result (LeavesAs out.old out.new) }
@@ -246,7 +245,7 @@ pub fn write_failed<W: Write>(alloc: Global, out: &mut W, failure: Failure) -> R
     ensures object { Wrote W.contents out.old out.new result (json_line (failed_json failure.entry)) }
     ensures left { IfErr result (LeavesAs out.old out.new) }
 {
-    write_line(alloc, out, &Failed(failure))
+    write_line(alloc, out, &FailedObject(failure))
 }
 
 /// Writes the object of a module that is accepted, with so many functions of its own.
@@ -263,9 +262,9 @@ pub fn write_accepted<W: Write>(
 
 /// A job that is done, of which nothing else is said.
 #[derive(Clone, Copy)]
-struct Done;
+struct DoneObject;
 
-impl ToJson for Done {
+impl ToJson for DoneObject {
     ghost use Rattle.report_json.specs.Refusals.{done_json};
 
     ghost json = { λ _. done_json };
@@ -280,5 +279,5 @@ pub fn write_done<W: Write>(alloc: Global, out: &mut W) -> Result<(), Unwritten>
     ensures object { Wrote W.contents out.old out.new result (json_line specified.done_json) }
     ensures left { IfErr result (LeavesAs out.old out.new) }
 {
-    write_line(alloc, out, &Done)
+    write_line(alloc, out, &DoneObject)
 }

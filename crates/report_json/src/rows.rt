@@ -6,7 +6,7 @@ ghost use Rattle.report_json.specs.Rows.{row_json, rows_front, separator, row_te
 ghost use Rattle.report_json.specs.Json.{json_line, text};
 
 use crate::object::{ToJson, given, put, put_if, write_text};
-use crate::places::Place;
+use crate::places::PlaceObject;
 use serde::Serializer;
 use show_text::{Unwritten, Words};
 use std::alloc::Global;
@@ -14,10 +14,10 @@ use std::io::{self, Write};
 
 /// An entry: its line of the record, its words, and where it was made, if that is known.
 #[derive(Clone, Copy)]
-pub struct Row<'a> {
+pub struct RowObject<'a> {
     pub line: u64,
     pub words: Words<'a>,
-    pub place: Option<Place<'a>>,
+    pub place: Option<PlaceObject<'a>>,
 }
 
 impl ToJson for Words<'_> {
@@ -31,15 +31,24 @@ impl ToJson for Words<'_> {
     }
 }
 
-impl ToJson for Row<'_> {
+/// An entry, with what the static data is called that it is about, if that has a name.
+#[derive(Drop)]
+pub struct NamedRow<'a> {
+    pub row: RowObject<'a>,
+    pub name: Option<String>,
+}
+
+impl ToJson for NamedRow<'_> {
     ghost json = { row_json };
 
     fn send<S: Serializer>(&self, alloc: Global, out: &mut S) -> Result<(), S::Error> {
-        out.begin_map(Some(3 + given(&self.place)))?;
-        put(alloc, out, "line", &self.line)?;
-        put(alloc, out, "thread", &self.words.entry.thread)?;
-        put(alloc, out, "words", &self.words)?;
-        put_if(alloc, out, "at", &self.place)?;
+        let RowObject { line, words, place } = self.row;
+        out.begin_map(Some(3 + given(&self.name) + given(&place)))?;
+        put(alloc, out, "line", &line)?;
+        put(alloc, out, "thread", &words.entry.thread)?;
+        put(alloc, out, "words", &words)?;
+        put_if(alloc, out, "data", &self.name)?;
+        put_if(alloc, out, "at", &place)?;
         out.end_map()
     }
 }
@@ -72,7 +81,7 @@ pub fn write_row<W: Write>(
     alloc: Global,
     out: &mut W,
     is_first: bool,
-    row: &Row,
+    row: &NamedRow,
 ) -> Result<(), Unwritten>
     ensures { Wrote W.contents out.old out.new result (row_text is_first row.now) }
 {
@@ -100,7 +109,7 @@ pub fn the_rows_are_one_object()
 ///
 /// # Errors
 /// Where memory is refused; that of the writer, and then what was written isn't said.
-pub fn write_rows<W: Write>(alloc: Global, out: &mut W, rows: &[Row]) -> Result<(), Unwritten>
+pub fn write_rows<W: Write>(alloc: Global, out: &mut W, rows: &[NamedRow]) -> Result<(), Unwritten>
     ensures { Wrote W.contents out.old out.new result (json_line (rows_json rows.now)) }
 {
     begin_rows(out)?;

@@ -1,13 +1,15 @@
 //! Refusals, and what failed.
 
-use report_json::{Failure, Refusal, Refused, write_accepted, write_failed, write_refusal};
+use report_json::{
+    Failure, RefusalObject, RefusedObject, write_accepted, write_failed, write_refusal,
+};
 use std::alloc::Global;
 use std::test::Fail;
 
 /// Whether a refusal is printed so.
-fn is_printed(alloc: Global, refused: Refused<'static>, text: &str) -> bool {
+fn is_printed(alloc: Global, refused: RefusedObject<'static>, text: &str) -> bool {
     let mut out = Vec::new(alloc);
-    let refusal = Refusal {
+    let refusal = RefusalObject {
         refused,
         hints: &[],
     };
@@ -15,20 +17,20 @@ fn is_printed(alloc: Global, refused: Refused<'static>, text: &str) -> bool {
 }
 
 /// Refusals, and how they are printed.
-static REFUSED: [(Refused<'static>, &str); 9] = [
+static REFUSED: [(RefusedObject<'static>, &str); 9] = [
     (
-        Refused::Read {
+        RefusedObject::Read {
             kind: binary_wire::Fault::UnknownByte,
             offset: 104,
         },
         "{\"status\":2,\"refused\":{\"stage\":\"read\",\"number\":7,\"offset\":104}}\n",
     ),
     (
-        Refused::Rule(validate_typing::Fault::UnknownImport),
+        RefusedObject::Rule(validate_typing::Fault::UnknownImport),
         "{\"status\":2,\"refused\":{\"stage\":\"validity\",\"number\":15}}\n",
     ),
     (
-        Refused::RuleInBody {
+        RefusedObject::RuleInBody {
             kind: validate_typing::Fault::TypeMismatch,
             function: 3,
             instruction: 17,
@@ -36,27 +38,27 @@ static REFUSED: [(Refused<'static>, &str); 9] = [
         "{\"status\":2,\"refused\":{\"stage\":\"validity\",\"number\":1,\"function\":3,\"instruction\":17}}\n",
     ),
     (
-        Refused::Call("unknown export"),
+        RefusedObject::Call("unknown export"),
         "{\"status\":3,\"refused\":{\"stage\":\"call\",\"fault\":\"unknown export\"}}\n",
     ),
     (
-        Refused::Header(2),
+        RefusedObject::Header(2),
         "{\"status\":4,\"refused\":{\"stage\":\"record\",\"fault\":\"header line\",\"line\":2}}\n",
     ),
     (
-        Refused::Unreadable(9),
+        RefusedObject::Unreadable(9),
         "{\"status\":4,\"refused\":{\"stage\":\"record\",\"fault\":\"line unreadable\",\"line\":9}}\n",
     ),
     (
-        Refused::EndMissing,
+        RefusedObject::EndMissing,
         "{\"status\":4,\"refused\":{\"stage\":\"record\",\"fault\":\"end missing\"}}\n",
     ),
     (
-        Refused::Line(10),
+        RefusedObject::Line(10),
         "{\"status\":4,\"refused\":{\"stage\":\"replay\",\"fault\":\"line does not fit\",\"line\":10}}\n",
     ),
     (
-        Refused::EndLine(12),
+        RefusedObject::EndLine(12),
         "{\"status\":4,\"refused\":{\"stage\":\"replay\",\"fault\":\"end line does not fit\",\"line\":12}}\n",
     ),
 ];

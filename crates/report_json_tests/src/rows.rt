@@ -1,7 +1,8 @@
 //! Entries and races.
 
 use report_json::{
-    NextWrite, Place, RaceEntry, RacePair, RacePairs, Row, Source, write_races, write_rows,
+    NamedRow, NextWrite, PlaceObject, RaceEntry, RacePair, RacePairs, RowObject, SourceObject,
+    write_races, write_rows,
 };
 use show_places::FunctionName;
 use show_text::{Context, Words};
@@ -9,8 +10,8 @@ use std::alloc::Global;
 use std::test::Fail;
 use types::{Entry, Event, Reply};
 
-/// A plain load of 4 bytes at 4096, on line 25.
-const LOAD: Row<'static> = Row {
+/// A plain load of 4 bytes at 4096, entry 25.
+const LOAD: RowObject<'static> = RowObject {
     line: 25,
     words: Words {
         entry: Entry {
@@ -32,32 +33,41 @@ const LOAD: Row<'static> = Row {
 };
 
 /// Whether entries are printed so.
-fn are_printed(alloc: Global, rows: &[Row], text: &str) -> bool {
+fn are_printed(alloc: Global, rows: &[NamedRow], text: &str) -> bool {
     let mut out = Vec::new(alloc);
     write_rows(alloc, &mut out, rows).is_ok() && out.as_slice() == text.as_bytes()
+}
+
+/// An entry without a name.
+fn nameless(row: RowObject<'static>) -> NamedRow<'static> {
+    NamedRow { row, name: None }
 }
 
 #[test]
 fn entries(rt: HostRuntime) -> Result<(), Fail> {
     let mut placed = LOAD;
     placed.line = 26;
-    placed.place = Some(Place {
+    placed.place = Some(PlaceObject {
         function: FunctionName::Exported("f"),
         offset: None,
-        source: Some(Source {
+        source: Some(SourceObject {
             file: "a \"b\".c",
             line: 7,
         }),
     });
+    let named = NamedRow {
+        row: LOAD,
+        name: Some(String::from_str(rt.alloc(), "queue.head")?),
+    };
     if !are_printed(rt.alloc(), &[], "{\"status\":0,\"rows\":[]}\n") {
         return Err(Fail::new("no entry"));
     }
     if !are_printed(
         rt.alloc(),
-        &[LOAD, placed, LOAD],
+        &[nameless(LOAD), nameless(placed), named],
         "{\"status\":0,\"rows\":[{\"line\":25,\"thread\":1,\"words\":\"load32 4096 = 0\"},\
         {\"line\":26,\"thread\":1,\"words\":\"load32 4096 = 0\",\"at\":{\"function\":\"f\",\"source\":\"a \\\"b\\\".c:7\"}},\
-        {\"line\":25,\"thread\":1,\"words\":\"load32 4096 = 0\"}]}\n",
+        {\"line\":25,\"thread\":1,\"words\":\"load32 4096 = 0\",\"data\":\"queue.head\"}]}\n",
     ) {
         return Err(Fail::new("three entries"));
     }

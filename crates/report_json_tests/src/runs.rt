@@ -1,6 +1,6 @@
 //! Runs.
 
-use report_json::{Offset, Place, RunEnd, Source, write_run};
+use report_json::{Offset, PlaceObject, RunEndObject, SourceObject, write_run};
 use show_places::FunctionName;
 use std::alloc::{AllocError, Global};
 use std::test::Fail;
@@ -8,8 +8,8 @@ use test_cases::hold;
 use types::{Outcome, Stop, ThreadReport, Trap, Value};
 
 /// Thread 0 alone, which comes to this; nothing of the memory.
-const fn alone(threads: &[ThreadReport]) -> RunEnd<'_> {
-    RunEnd {
+const fn alone(threads: &[ThreadReport]) -> RunEndObject<'_> {
+    RunEndObject {
         threads,
         places: &[],
         pages: 0,
@@ -20,7 +20,7 @@ const fn alone(threads: &[ThreadReport]) -> RunEnd<'_> {
 }
 
 /// Whether a run is printed so, with this status.
-fn is_printed(alloc: Global, end: &RunEnd, status: u8, text: &str) -> bool {
+fn is_printed(alloc: Global, end: &RunEndObject, status: u8, text: &str) -> bool {
     let mut out = Vec::new(alloc);
     match write_run(alloc, &mut out, end) {
         Ok(found) => found == status && out.as_slice() == text.as_bytes(),
@@ -112,20 +112,20 @@ const TWO: [ThreadReport; 2] = [
 #[test]
 fn places_bytes_and_hints(rt: HostRuntime) -> Result<(), Fail> {
     let alloc = rt.alloc();
-    let named = Place {
+    let named = PlaceObject {
         function: FunctionName::Named("a\"b\\c\n\u{1}\u{7f}é漢🙂"),
         offset: Some(Offset(33)),
-        source: Some(Source {
+        source: Some(SourceObject {
             file: "queue.c",
             line: 31,
         }),
     };
-    let numbered = Place {
+    let numbered = PlaceObject {
         function: FunctionName::Numbered(12),
         offset: None,
         source: None,
     };
-    let all = RunEnd {
+    let all = RunEndObject {
         threads: &TWO,
         places: &[None, Some(named)],
         pages: 1,
@@ -133,7 +133,7 @@ fn places_bytes_and_hints(rt: HostRuntime) -> Result<(), Fail> {
         bytes: &[0xa0, 0, 7, 9],
         hints: &["say \"no\"", "2"],
     };
-    let short = RunEnd {
+    let short = RunEndObject {
         threads: &TWO[1..],
         places: &[Some(numbered)],
         pages: 256,

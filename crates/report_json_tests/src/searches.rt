@@ -2,8 +2,8 @@
 
 use indexmap::IndexSet;
 use report_json::{
-    Complete, Coverage, Drawn, DrawnEnd, DrawnRuns, Found, FoundAs, RacingThreads, RunEnd,
-    RunRaces, RunSize, Shrunk, write_complete, write_drawn,
+    CompleteObject, Coverage, DrawnEnd, DrawnObject, DrawnRuns, FoundAs, FoundObject,
+    RacingThreads, RunEndObject, RunRaces, RunSize, Shrunk, write_complete, write_drawn,
 };
 use search_endings::Ending;
 use search_reach::{Ended, FairCycle, FairRuns, Liveness, Verdict};
@@ -24,7 +24,7 @@ const ENDED: [ThreadReport; 2] = [
 ];
 
 /// The run that ends so.
-const END: RunEnd<'static> = RunEnd {
+const END: RunEndObject<'static> = RunEndObject {
     threads: &ENDED,
     places: &[],
     pages: 1,
@@ -39,7 +39,7 @@ fn ending_of(alloc: Global, dump: usize) -> Result<Ending, AllocError> {
 }
 
 /// Whether a search of drawn runs is printed so.
-fn is_drawn(alloc: Global, drawn: &Drawn, text: &str) -> bool {
+fn is_drawn(alloc: Global, drawn: &DrawnObject, text: &str) -> bool {
     let mut out = Vec::new(alloc);
     write_drawn(alloc, &mut out, drawn).is_ok() && out.as_slice() == text.as_bytes()
 }
@@ -52,7 +52,7 @@ fn a_drawn_run_is_found(rt: HostRuntime) -> Result<(), Fail> {
         cut: 0,
         limit: 1,
     };
-    let found = Found {
+    let found = FoundObject {
         found_as: FoundAs::Run(17),
         shrunk: Some(Shrunk {
             before: RunSize {
@@ -66,7 +66,7 @@ fn a_drawn_run_is_found(rt: HostRuntime) -> Result<(), Fail> {
         }),
         run: Some(END),
     };
-    let drawn = Drawn {
+    let drawn = DrawnObject {
         status: 1,
         runs,
         met: &[],
@@ -89,7 +89,7 @@ fn a_drawn_run_is_found(rt: HostRuntime) -> Result<(), Fail> {
 
 #[test]
 fn no_drawn_run_has_a_race(rt: HostRuntime) -> Result<(), Fail> {
-    let drawn = Drawn {
+    let drawn = DrawnObject {
         status: 0,
         runs: DrawnRuns {
             made: 1,
@@ -142,11 +142,11 @@ fn is_complete(
     alloc: Global,
     all: &Ended<Ending>,
     races: Option<RunRaces>,
-    found: Option<Found>,
+    found: Option<FoundObject>,
     text: &str,
 ) -> bool {
     let mut out = Vec::new(alloc);
-    let complete = Complete {
+    let complete = CompleteObject {
         status: 1,
         most: 1_000_000,
         all,
@@ -171,7 +171,7 @@ fn every_order(rt: HostRuntime) -> Result<(), Fail> {
         fair_runs: FairRuns::GoOn(cycle),
     };
     let all = gone_through(alloc, true, Verdict::All, Some(liveness))?;
-    let found = Found {
+    let found = FoundObject {
         found_as: FoundAs::NoEndAfter(41),
         shrunk: None,
         run: None,

@@ -1,6 +1,4 @@
 mod Silent
-mod RacePairs
-pub mod Zipped
 mod Printed
-mod ObjectRows
 mod RunMoments
+pub mod Sightings

@@ -12,12 +12,11 @@ use Rattle.show_moments.specs.declared.moment.Moment.{Moment}
 use Rattle.show_moments.specs.Moments.{MomentSees}
 use Rattle.show_moments.proofs.Walked.{whole_asks, whole_sees}
 use Rattle.show_moments.specs.declared.scene.MomentView.{MomentView}
-use Rattle.show_moments.specs.Scenes.{WritesMoment}
 use Rattle.show_named.specs.declared.data_map.DataMap.{DataMap}
 use Rattle.show_rows.specs.declared.listing.Shown.{Shown}
-use Rattle.race_history.specs.declared.race.Race.{Race}
 use Rattle.report_looks.specs.declared.wanted.Here.{Here}
-use Rattle.report_looks.specs.RunMoments.{IsMomentIn, IsViewOf, WritesHere, WritesScene}
+use Rattle.report_objects.specs.Ends.{WritesEnd}
+use Rattle.report_looks.specs.RunMoments.{IsMomentIn, IsViewOf, WritesAt, WritesHere, WritesIn}
 
 pub seen_moment : (m : Parts) (r : RecordParts) (at : ℕ) (bytes : Bytes) (old new : Moment) (end : EndState) → old.at ≡ at
     → old.wanted ≡ bytes → SeesReplay MomentSees m r (Ok end) old new → new.is_short ≡ false → IsMomentIn m r at bytes new
@@ -46,21 +45,22 @@ moment_in m n r s at bytes moment e f is = subst (λ (p : Parts). IsMomentIn p s
 -- what is written of a moment, at the end and elsewhere
 module _ (m : Parts) (shown : Shown) (map : DataMap) (here : Here) (moment : Moment) (old new : Option (List ℕ))
     (view : MomentView) (is : IsViewOf m shown map here.is_raw view) where
-  pub end_here : here.is_end ≡ true → moment.is_short ≡ false → WritesHere m shown map here moment old new
-  end_here end whole = record {
+  pub end_here : here.is_end ≡ true → WritesEnd here.form view moment old new → moment.is_short ≡ false
+      → WritesHere m shown map here moment old new
+  end_here end says whole = record {
     view = view;
     view_is = is;
     whole = whole;
-    writes = subst (λ (b : Bool). WritesScene view b moment old new) (sym end) tt;
+    writes = subst (λ (b : Bool). WritesAt view b here.form moment old new) (sym end) says;
   }
 
-  pub scene_here : here.is_end ≡ false → (races : List Race) → WritesMoment view moment races old new → moment.is_short ≡ false
+  pub scene_here : here.is_end ≡ false → WritesIn here.form view moment old new → moment.is_short ≡ false
       → WritesHere m shown map here moment old new
-  scene_here inside races says whole = record {
+  scene_here inside says whole = record {
     view = view;
     view_is = is;
     whole = whole;
-    writes = subst (λ (b : Bool). WritesScene view b moment old new) (sym inside) (races, says);
+    writes = subst (λ (b : Bool). WritesAt view b here.form moment old new) (sym inside) says;
   }
 
 -- two things that hold where it goes well

@@ -1,6 +1,6 @@
 pub mod PageMoments
 pub mod RunMoments
-pub mod RaceObjects
 pub mod Raced
+pub mod Sighted
 pub mod Silent
 pub mod Looked

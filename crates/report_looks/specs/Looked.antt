@@ -15,24 +15,28 @@ use Rattle.replay_text.specs.declared.parts.RecordParts.{RecordParts}
 use Rattle.replay_text.specs.Versions.{header_count}
 use Rattle.selection.specs.declared.choice.Choice.{Choice}
 use Rattle.selection.specs.declared.choice.Look.{Look}
-use Rattle.selection.specs.declared.choice.Span.{Span}
+use Rattle.selection.specs.declared.choice.NumberSpan.{NumberSpan}
 use Rattle.selection.specs.Choices.{span_of}
+use Rattle.report_command.specs.declared.form.Form.{Form}
+use Rattle.report_command.specs.declared.form.Form.TheVariants.{Lines, Json}
 use Rattle.report_command.specs.declared.places.Data.{Data}
 use Rattle.report_command.specs.declared.places.Data.TheVariants.{At, Named}
 use Rattle.report_command.specs.declared.places.When.{When}
 use Rattle.report_command.specs.declared.places.When.TheVariants.{Line, End, Trap}
 use Rattle.report_command.specs.declared.show.At as At
 use Rattle.report_command.specs.declared.show.ShowLook.{ShowLook}
-use Rattle.report_command.specs.declared.show.View.{View}
-use Rattle.report_command.specs.declared.show.View.TheVariants as views
+use Rattle.report_command.specs.declared.show.RecordView.{RecordView}
+use Rattle.report_command.specs.declared.show.RecordView.TheVariants as views
 use Rattle.report_command.specs.Views.{path_of}
-use Rattle.report_jobs.specs.Prints.{WriterChange}
-use Rattle.dwarf_data.specs.declared.place.Place.{Place}
+use Rattle.report_jobs.specs.Prints.{WriterChange, changed}
+use Rattle.report_jobs.specs.declared.streams.Streams.{Streams}
+use Rattle.dwarf_data.specs.declared.place.ByteRange.{ByteRange}
 use Rattle.dwarf_data.specs.Within.{IsWithinOne}
 use Rattle.show_events.specs.Written.{WritesPage, WritesTrace}
 use Rattle.show_events.specs.declared.run.MomentText.{MomentText}
 use Rattle.show_moments.specs.declared.moment.Moment.{Moment}
 use Rattle.show_named.specs.declared.data_map.DataMap.{DataMap}
+use Rattle.show_named.specs.declared.lasts.SoughtWrite.{SoughtWrite}
 use Rattle.show_named.specs.Folds.{WritesFolded}
 use Rattle.show_named.specs.Rows.{WritesRows}
 use Rattle.show_rows.specs.declared.rows.Row.{Row}
@@ -41,14 +45,15 @@ use Rattle.show_rows.specs.declared.listing.Story.{Story}
 use Rattle.show_rows.specs.Listing.{IsStoryOf}
 use Rattle.show_named.specs.LastTexts.{WritesLast}
 use Rattle.show_waits.specs.Waits.{WritesWaits}
-use Rattle.report_looks.specs.declared.wanted.Asked.{Asked}
+use Rattle.report_looks.specs.declared.wanted.LookRequest.{LookRequest}
 use Rattle.report_looks.specs.declared.wanted.Here.{Here}
 use Rattle.report_looks.specs.declared.wanted.Wanted.{Wanted}
 use Rattle.report_looks.specs.declared.wanted.Wanted.TheVariants as wanted
 use Rattle.report_looks.specs.PageMoments.{AreOfPage}
-use Rattle.report_looks.specs.RaceObjects.{WritesObject}
+use Rattle.report_objects.specs.RaceObjects.{WritesObject}
 use Rattle.report_looks.specs.RunMoments.{IsMomentIn, WritesHere}
 use Rattle.report_looks.specs.Raced.{IsSeen}
+use Rattle.report_objects.specs.Scenes.{WritesLastObject}
 
 abbrev pub is_trap : Outcome → Bool
 is_trap (outcomes.Trap trap) = true
@@ -75,9 +80,9 @@ place_in r End = Some (length r.log)
 place_in r Trap = position (leaves_trapped r.ends) r.log
 
 -- The addresses are those, or all of the bytes of static data that words name.
-abbrev pub AreAddresses : DataMap → Data → Span → Type 0
+abbrev pub AreAddresses : DataMap → Data → NumberSpan → Type 0
 AreAddresses map (At addrs) span = span ≡ addrs
-AreAddresses map (Named words) span = (place : Place) × IsWithinOne map.spans.items.items place
+AreAddresses map (Named words) span = (place : ByteRange) × IsWithinOne map.spans.items.items place
     × (span ≡ span_of place.start place.size)
 
 abbrev pub is_end : When → Bool
@@ -92,16 +97,17 @@ pub record IsHere (r : RecordParts) (at : At.At) (here : Here) : Type 0 where
   pub addr : here.bytes.addr ≡ at.addr
   pub count : here.bytes.count ≡ at.count
   pub raw : here.is_raw ≡ at.is_raw
+  pub form_is : here.form ≡ at.form
 
 -- What is wanted of a view, with addresses and places of this record.
-abbrev pub IsWanted : RecordParts → DataMap → View → Wanted → Type 0
-IsWanted r map (views.Write write) w = (addrs : Span) × (before : ℕ) × (w ≡ wanted.Write addrs before)
-    × AreAddresses map write.bytes addrs × (place_in r write.before ≡ Some before)
+abbrev pub IsWanted : RecordParts → DataMap → RecordView → Wanted → Type 0
+IsWanted r map (views.Write write) w = (sought : SoughtWrite) × (w ≡ wanted.Write sought write.form)
+    × AreAddresses map write.bytes sought.addrs × (place_in r write.before ≡ Some sought.before)
 IsWanted r map (views.Moment at) w = (here : Here) × (w ≡ wanted.Moment here) × IsHere r at here
 IsWanted r map view w = w ≡ wanted.Entries view
 
 -- The look that is asked for, at these addresses.
-pub record IsLookAt (how : ShowLook) (addrs : List Span) (look : Look) : Type 0 where
+pub record IsLookAt (how : ShowLook) (addrs : List NumberSpan) (look : Look) : Type 0 where
   pub lines : look.choice.lines.items ≡ how.lines.items
   pub threads : look.choice.threads.items ≡ how.threads.items
   pub addrs_are : look.choice.addrs.items ≡ addrs
@@ -109,16 +115,18 @@ pub record IsLookAt (how : ShowLook) (addrs : List Span) (look : Look) : Type 0 
   pub color : look.color ≡ how.color
 
 -- What is shown of a record, and how.
-pub record IsAsked (r : RecordParts) (map : DataMap) (how : ShowLook) (asked : Asked) : Type 0 where
+pub record IsAsked (r : RecordParts) (map : DataMap) (how : ShowLook) (asked : LookRequest) : Type 0 where
   pub wanted_is : IsWanted r map how.view asked.wanted
-  pub addrs : List Span
+  pub addrs : List NumberSpan
   pub addrs_are : AllZip (AreAddresses map) how.bytes.items addrs
   pub look_is : IsLookAt how addrs asked.look
 
--- The words of the last entry before a place that writes there are written, or that none does.
-abbrev pub WritesLastOf : Shown → DataMap → ℕ → Span → Option (List ℕ) → Option (List ℕ) → Type 0
-WritesLastOf shown map before addrs old new = (story : Story) × IsStoryOf shown.record.now.log story
-    × WritesLast shown map story before addrs old new
+-- The words of the last entry before a place that writes there are written, or that none does: in lines, or as an object.
+abbrev pub WritesLastIn : Form → Shown → DataMap → SoughtWrite → Option (List ℕ) → Option (List ℕ) → Type 0
+WritesLastIn Lines shown map sought old new = (story : Story) × IsStoryOf shown.record.now.log story
+    × WritesLast shown map story sought old new
+WritesLastIn Json shown map sought old new = (story : Story) × IsStoryOf shown.record.now.log story
+    × WritesLastObject shown map story sought old new
 
 -- Whether all entries are chosen, and whether a thread was stopped.
 abbrev pub chooses_all : Choice → Bool
@@ -150,18 +158,25 @@ abbrev pub WritesFoldedOf : Shown → DataMap → Look → Option (List ℕ) →
 WritesFoldedOf shown map look old new = (between : Option (List ℕ)) × WritesFolded shown map look old between
     × WritesBelow (has_waits shown look) shown map between new
 
--- Entries as rows, as an object, as a page with these moments, or as a trace.
-abbrev pub WritesEntries : View → Shown → DataMap → Look → Option (List ℕ) → Option (List ℕ) → Type 0
-WritesEntries (views.Page path) shown map look old new = (races : List Race) × (moments : List MomentText)
+-- A page with its moments, and a trace, with the races that they mark.
+abbrev pub WritesPageOf : Shown → DataMap → Look → Option (List ℕ) → Option (List ℕ) → Type 0
+WritesPageOf shown map look old new = (races : List Race) × (moments : List MomentText)
     × AreOfPage shown map look races moments × WritesPage shown races moments look old new
-WritesEntries (views.Trace path) shown map look old new = (races : List Race) × WritesTrace shown races look old new
-WritesEntries views.Object shown map look old new = WritesObject shown look old new
+
+abbrev pub WritesTraceOf : Shown → Look → Option (List ℕ) → Option (List ℕ) → Type 0
+WritesTraceOf shown look old new = (races : List Race) × WritesTrace shown races look old new
+
+-- Entries as rows, as an object, as a page, or as a trace.
+abbrev pub WritesEntries : RecordView → Shown → DataMap → Look → Option (List ℕ) → Option (List ℕ) → Type 0
+WritesEntries (views.Page path) shown map look old new = WritesPageOf shown map look old new
+WritesEntries (views.Trace path) shown map look old new = WritesTraceOf shown look old new
+WritesEntries views.Object shown map look old new = WritesObject shown map look old new
 WritesEntries views.Unfolded shown map look old new = WritesRowsOf shown map look old new
 WritesEntries view shown map look old new = WritesFoldedOf shown map look old new
 
 -- What is wanted of a record is written.
 abbrev pub WritesWanted : Shown → DataMap → Look → Wanted → Option (List ℕ) → Option (List ℕ) → Type 0
-WritesWanted shown map look (wanted.Write addrs before) old new = WritesLastOf shown map before addrs old new
+WritesWanted shown map look (wanted.Write sought form) old new = WritesLastIn form shown map sought old new
 WritesWanted shown map look (wanted.Entries view) old new = WritesEntries view shown map look old new
 WritesWanted shown map look (wanted.Moment here) old new = (moment : Moment)
     × IsMomentIn shown.code.now.parts.now shown.record.now here.place here.bytes moment
@@ -174,7 +189,8 @@ pub record IsShown (m : Parts) (r : RecordParts) (rows : List (Option Row)) (sho
   pub of_module : shown.code.now.parts.now ≡ m
 
 -- What is asked for of it is written.
-abbrev pub PrintsAsked : Parts → RecordParts → List (Option Row) → DataMap → Asked → Option (List ℕ) → Option (List ℕ) → Type 0
+abbrev pub PrintsAsked : Parts → RecordParts → List (Option Row) → DataMap → LookRequest → Option (List ℕ)
+    → Option (List ℕ) → Type 0
 PrintsAsked m r rows map asked old new = (shown : Shown) × IsShown m r rows shown
     × WritesWanted shown map asked.look asked.wanted old new
 
@@ -184,10 +200,14 @@ pub record PrintsShow (how : ShowLook) (out : WriterChange) (m : Parts) (saved :
   pub rows : List (Option Row)
   pub seen : IsSeen m saved record_is rows
   pub map : DataMap
-  pub asked : Asked
+  pub asked : LookRequest
   pub asked_is : IsAsked record_is map how asked
   pub prints : PrintsAsked m record_is rows map asked out.old out.new
 
 -- A page and a trace are written to the file that is made, and all else to standard output.
-abbrev pub stream_of : View → WriterChange → WriterChange → WriterChange
+abbrev pub stream_of : RecordView → WriterChange → WriterChange → WriterChange
 stream_of view out save = cond (is_some (path_of view)) save out
+
+abbrev pub shown_on : {W E S : Type 0} → (W → Option (List ℕ)) → (S → Option (List ℕ)) → ShowLook → Streams W E S → Streams W E S
+    → WriterChange
+shown_on out save how old new = stream_of how.view (changed out old.out new.out) (changed save old.save new.save)

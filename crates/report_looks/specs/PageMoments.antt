@@ -3,19 +3,16 @@ use Rattle.std.specs.Prelude.{ℕ, ◌≡◌, ◌-◌, ◌/◌, max, min, false,
 use Rattle.std.specs.List.{AllZip}
 use Rattle.race_history.specs.declared.race.Race.{Race}
 use Rattle.selection.specs.declared.choice.Look.{Look}
-use Rattle.report_command.specs.declared.show.View.{View}
-use Rattle.report_command.specs.declared.show.View.TheVariants as views
 use Rattle.show_events.specs.Around.{failure, part_around}
 use Rattle.show_events.specs.declared.run.MomentText.{MomentText}
 use Rattle.show_moments.specs.declared.moment.Bytes.{Bytes}
 use Rattle.show_moments.specs.declared.moment.Moment.{Moment}
 use Rattle.show_moments.specs.declared.scene.MomentView.{MomentView}
-use Rattle.show_moments.specs.Scenes.{WritesMoment}
+use Rattle.show_moments.specs.Lines.{WritesMoment}
 use Rattle.show_named.specs.declared.data_map.DataMap.{DataMap}
 use Rattle.show_rows.specs.declared.listing.Shown.{Shown}
 use Rattle.show_rows.specs.Listing.{chosen}
 use Rattle.report_looks.specs.RunMoments.{IsMomentIn, IsViewOf}
-use Rattle.report_looks.specs.declared.moments.Marks.{Marks}
 use Rattle.report_looks.specs.declared.moments.TheConstants.{MOST_MOMENTS, MOST_STEPS}
 
 -- How many moments the page of a log has that has so many entries: each takes a replay.
@@ -41,8 +38,3 @@ pub record AreOfPage (shown : Shown) (map : DataMap) (look : Look) (races : List
   pub seen : MomentView
   pub view : IsViewOf shown.code.now.parts.now shown map false seen
   pub each : AreMomentsOf seen look races moments
-
--- The moments are those of a page, if one is wanted.
-abbrev pub AreMarks : View → Shown → DataMap → Look → Marks → Type 0
-AreMarks (views.Page path) shown map look marks = AreOfPage shown map look marks.races.items marks.moments.items
-AreMarks view shown map look marks = Unit {0}

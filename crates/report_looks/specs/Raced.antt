@@ -8,22 +8,22 @@ use Rattle.replay_text.specs.declared.parts.RecordParts.{RecordParts}
 use Rattle.replay_text.specs.Text.{IsRecord, record_text}
 use Rattle.spawn_host.specs.declared.end.EndState.{EndState}
 use Rattle.replay.specs.Runs.{IsRunOf}
-use Rattle.race_history.specs.declared.access.Kind.{Kind}
+use Rattle.race_history.specs.declared.access.AccessKind.{AccessKind}
 use Rattle.race_history.specs.declared.race.Race.{Race}
-use Rattle.race_history.specs.Races.{IsLastRace}
+use Rattle.race_history.specs.Races.{AreRaces, IsLastRace}
 use Rattle.show_rows.specs.declared.rows.Row.{Row}
 use Rattle.show_rows.specs.Listing.{IsStoryOf}
 use Rattle.show_rows.specs.declared.listing.Shown.{Shown}
 use Rattle.show_rows.specs.declared.listing.Story.{Story}
-use Rattle.search_races.specs.Rows.{AreRowsOf, kinds_of}
-use Rattle.show_races.specs.Told.{AreApart, HasNoRace, TellsEach}
+use Rattle.show_races.specs.Rows.{AreRowsOf, kinds_of}
+use Rattle.show_races.specs.Told.{AreApart, AreMany, HasNoRace, IsMore, TellsEach}
 use Rattle.show_races.specs.Written.{SaysRace, TellsRaces}
-use Rattle.show_races.specs.declared.found.Races.{Races}
+use Rattle.show_races.specs.declared.found.RecordRaces.{RecordRaces}
 use Rattle.report_command.specs.declared.form.Form.{Form}
 use Rattle.report_command.specs.declared.form.Form.TheVariants.{Lines, Json}
 use Rattle.report_jobs.specs.Prints.{WriterChange}
 use Rattle.report_json.specs.declared.races.RacePair.{RacePair}
-use Rattle.report_looks.specs.RaceObjects.{IsPairOf, WritesPairs}
+use Rattle.report_objects.specs.RaceObjects.{IsPairOf, WritesPairs}
 
 -- The text is that of this record, of a run of the module, and these are its rows.
 pub record IsSeen (m : Parts) (saved : List ℕ) (r : RecordParts) (rows : List (Option Row)) : Type 0 where
@@ -49,12 +49,13 @@ pub record IsRacy (m : Parts) (saved : List ℕ) : Type 0 where
   pub races : IsLastRace record_is.log (kinds_of m record_is rows) race
 
 -- They are told in lines, or in an object.
-abbrev pub TellsIn : Form → Shown → Story → Races → Option (List ℕ) → Option (List ℕ) → Type 0
+abbrev pub TellsIn : Form → Shown → Story → RecordRaces → Option (List ℕ) → Option (List ℕ) → Type 0
 TellsIn Lines shown story races old new = TellsRaces shown story races old new
 TellsIn Json shown story races old new = WritesPairs shown story races old new
 
--- What was written tells of so many races at most, no two of the same two places of the code, and of each race of the
--- run at its places, where it isn't said that they are not all.
+-- What was written tells of so many races at most, each one of the run and by the kinds of its entries, no two of the same
+-- two places of the code, and of each race of the run at its places, where it isn't said that they are not all; and where
+-- that is said there are more.
 pub record WritesRaces (m : Parts) (r : RecordParts) (rows : List (Option Row)) (most : ℕ) (form : Form)
     (out : WriterChange) : Type 0 where
   pub shown : Shown
@@ -63,9 +64,12 @@ pub record WritesRaces (m : Parts) (r : RecordParts) (rows : List (Option Row)) 
   pub of_module : shown.code.now.parts.now ≡ m
   pub story : Story
   pub is_story : IsStoryOf shown.record.now.log story
-  pub races : Races
+  pub races : RecordRaces
+  pub kinds : races.kinds.items ≡ kinds_of m r rows
+  pub race : AreRaces r.log (kinds_of m r rows) races.pairs.items
   pub each : races.is_cut ≡ false → TellsEach shown story races.pairs.items
   pub once : AreApart shown story races.pairs.items
+  pub cut : races.is_cut ≡ true → IsMore shown story races.pairs.items most ⊎ AreMany shown
   pub few : length races.pairs.items ≤ most
   pub tells : TellsIn form shown story races out.old out.new
 
@@ -91,7 +95,8 @@ pub record IsShownOf (m : Parts) (r : RecordParts) (rows : List (Option Row)) (s
   pub is_story : IsStoryOf shown.record.now.log story
 
 -- Two entries of a run's record race, and this is said of them.
-pub record HasPair (m : Parts) (r : RecordParts) (IsSaid : Shown → Story → List Kind → Race → Type 0) : Type 0 where
+pub record HasPair (m : Parts) (r : RecordParts)
+    (IsSaid : Shown → Story → List AccessKind → Race → Type 0) : Type 0 where
   pub rows : List (Option Row)
   pub end : EndState
   pub run : IsRunOf m r end
@@ -111,11 +116,6 @@ SaysPair m r text = HasPair m r (λ shown story kinds race. SaysRace shown story
 abbrev pub SaysObject : Parts → RecordParts → RacePair → Type 0
 SaysObject m r pair = HasPair m r (λ shown story kinds race. IsPairOf shown story kinds race pair)
 
--- The one or the other says of two entries of the run that they race.
-abbrev pub SaysRaceIn : Parts → RecordParts → Type 0
-SaysRaceIn m r = ((text : List ℕ) × SaysPair m r text) ⊎ ((pair : RacePair) × SaysObject m r pair)
-
--- So the first race of a run is written, where it has one.
-abbrev pub WritesPair : Parts → RecordParts → WriterChange → Bool → Type 0
-WritesPair m r out true = (text : List ℕ) × Appends out.old out.new text × SaysPair m r text
-WritesPair m r out false = out.new ≡ out.old
+-- A race of a run was written.
+abbrev pub WritesPair : Parts → RecordParts → WriterChange → Type 0
+WritesPair m r out = (text : List ℕ) × Appends out.old out.new text × SaysPair m r text

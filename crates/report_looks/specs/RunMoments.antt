@@ -12,9 +12,13 @@ use Rattle.show_moments.specs.declared.moment.Bytes.{Bytes}
 use Rattle.show_moments.specs.declared.moment.Moment.{Moment}
 use Rattle.show_moments.specs.declared.scene.MomentView.{MomentView}
 use Rattle.show_moments.specs.Moments.{IsRound}
-use Rattle.show_moments.specs.Scenes.{WritesMoment}
+use Rattle.show_moments.specs.Lines.{WritesMoment}
+use Rattle.report_command.specs.declared.form.Form.{Form}
+use Rattle.report_command.specs.declared.form.Form.TheVariants.{Lines, Json}
 use Rattle.show_named.specs.declared.data_map.DataMap.{DataMap}
 use Rattle.show_rows.specs.declared.listing.Shown.{Shown}
+use Rattle.report_objects.specs.Ends.{WritesEnd}
+use Rattle.report_objects.specs.Scenes.{WritesScene}
 use Rattle.report_looks.specs.declared.wanted.Here.{Here}
 
 -- The moment is of the module's run by a record, with these bytes wanted: its queue, its memory and where its threads stand
@@ -41,14 +45,19 @@ pub record IsViewOf (m : Parts) (shown : Shown) (map : DataMap) (is_raw : Bool) 
   pub of_data : view.map.now ≡ map
   pub raw : view.is_raw ≡ is_raw
 
--- What threads and memory are like before an entry is written; of the end nothing is said here.
-abbrev pub WritesScene : MomentView → Bool → Moment → Option (List ℕ) → Option (List ℕ) → Type 0
-WritesScene view true moment old new = Unit {0}
-WritesScene view false moment old new = (races : List Race) × WritesMoment view moment races old new
+-- What threads and memory are like before an entry is written, in lines or as an object, with what that entry races.
+abbrev pub WritesIn : Form → MomentView → Moment → Option (List ℕ) → Option (List ℕ) → Type 0
+WritesIn Lines view moment old new = (races : List Race) × WritesMoment view moment races old new
+WritesIn Json view moment old new = (races : List Race) × WritesScene view moment races old new
+
+-- That, or what the end is like.
+abbrev pub WritesAt : MomentView → Bool → Form → Moment → Option (List ℕ) → Option (List ℕ) → Type 0
+WritesAt view true form moment old new = WritesEnd form view moment old new
+WritesAt view false form moment old new = WritesIn form view moment old new
 
 pub record WritesHere (m : Parts) (shown : Shown) (map : DataMap) (here : Here) (moment : Moment)
     (old new : Option (List ℕ)) : Type 0 where
   pub view : MomentView
   pub view_is : IsViewOf m shown map here.is_raw view
   pub whole : moment.is_short ≡ false
-  pub writes : WritesScene view here.is_end moment old new
+  pub writes : WritesAt view here.is_end here.form moment old new

@@ -3,22 +3,22 @@ ghost use Rattle.std.specs.Prelude.{◌≡◌, ◌++◌, ◌∷◌, [], All, IfO
 ghost use Rattle.std.specs.List.{AllZip};
 ghost use Rattle.show_races.specs.Told.{IsWithin};
 ghost use Rattle.report_looks.specs.PageMoments as specified;
-ghost use Rattle.report_looks.specs.PageMoments.{AreMarks, AreMomentsOf, IsMomentAt};
+ghost use Rattle.report_looks.specs.Looked.{WritesPageOf};
+ghost use Rattle.report_looks.specs.PageMoments.{AreMomentsOf, IsMomentAt};
 
-use crate::printing::{MOST_MARKS, moment_of, races_in};
+use crate::printing::{moment_of, races_in};
 use crate::wanted::Here;
 use race_history::Race;
 use replay_text::Record;
-use report_command::View;
+use report_command::Form;
 use selection::{Look, touched};
-use show_events::{MomentText, failure_of, part_around};
+use show_events::{MomentText, failure_of, part_around, write_page};
 use show_moments::{Bytes, MomentView, write_moment};
-use show_named::DataMap;
-use show_rows::{Shown, chosen_entries};
+use show_rows::chosen_entries;
 use show_text::Unwritten;
 use std::alloc::{AllocError, Global};
+use std::io::Write;
 use types::Event;
-use validate_module::ValidModule;
 
 /// How many races a page marks at most, so that it stays below 20 MB.
 const MOST_OF_PAGE: usize = 40_000;
@@ -68,6 +68,7 @@ fn moment_text(
         is_end: false,
         bytes,
         is_raw: seen.is_raw,
+        form: Form::Lines,
     };
     let moment = moment_of(alloc, seen.valid, record, here)?;
     let mut written = Vec::new(alloc);
@@ -125,48 +126,24 @@ fn moments_of(
     moments_at(alloc, seen, record, races, places)
 }
 
-/// What a page or a trace marks: entries that race, and of a page its moments.
-#[derive(Drop)]
-pub(crate) struct Marks {
-    pub races: Vec<Race>,
-    pub moments: Vec<MomentText>,
-}
-
-/// The marks of a view.
-pub(crate) fn marks_of(
+/// Writes a page, with the races that it marks and its moments.
+pub(crate) fn print_page<W: Write>(
     alloc: Global,
-    module: &ValidModule,
+    seen: MomentView,
     record: &Record,
-    shown: Shown,
-    map: &DataMap,
     look: &Look,
-    view: View,
-) -> Result<Marks, Unwritten>
-    requires of_module { shown.code.now.parts.now ≡ «module».now.parts }
-    requires of_record { «record».now ≡ shown.record.now }
-    ensures { IfOk result (AreMarks view.entry shown.entry map.now look.now) }
+    out: &mut W,
+) -> Result<(), Unwritten>
+    requires of_module { seen.shown.code.now.parts.now ≡ seen.valid.now.parts }
+    requires of_record { «record».now ≡ seen.shown.record.now }
+    ensures { OnOk result (WritesPageOf seen.entry.shown seen.entry.map.now look.now (W.contents out.old) (W.contents out.new)) }
 {
-    match view {
-        View::Page(_) => {
-            let races = races_in(alloc, shown, MOST_OF_PAGE)?;
-            let seen = MomentView {
-                valid: module,
-                shown,
-                map,
-                is_raw: false,
-            };
-            let moments = moments_of(alloc, seen, record, look, &races)?;
-            Ok(Marks { races, moments })
-        }
-        View::Trace(_) => Ok(Marks {
-            races: races_in(alloc, shown, MOST_MARKS)?,
-            moments: Vec::new(alloc),
-        }),
-        View::Rows | View::Unfolded | View::Object | View::Moment(_) | View::Write(_) => Ok(
-            Marks {
-                races: Vec::new(alloc),
-                moments: Vec::new(alloc),
-            },
-        ),
-    }
+    let view = MomentView {
+        is_raw: false,
+        ..seen
+    };
+    let races = races_in(alloc, view.shown, MOST_OF_PAGE)?;
+    let raced = races.as_slice();
+    let moments = moments_of(alloc, view, record, look, raced)?;
+    write_page(alloc, view.shown, look, raced, moments.as_slice(), out)
 }

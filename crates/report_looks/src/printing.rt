@@ -2,25 +2,23 @@
 ghost use Rattle.std.specs.Prelude.{◌≡◌, false, All, IfOk, OnOk};
 ghost use Rattle.show_races.specs.Told.{IsWithin};
 ghost use Rattle.report_looks.specs.Looked as looked;
-ghost use Rattle.report_looks.specs.PageMoments.{AreMarks};
-ghost use Rattle.report_looks.specs.RunMoments.{IsMomentIn, WritesHere};
-ghost use Rattle.report_looks.specs.Looked.{PrintsAsked, WritesBelow, WritesEntries, WritesFoldedOf, WritesLastOf, WritesRowsOf};
+ghost use Rattle.report_looks.specs.RunMoments.{IsMomentIn, WritesHere, WritesIn};
+ghost use Rattle.report_looks.specs.Looked.{WritesBelow, WritesEntries, WritesFoldedOf, WritesLastIn, WritesRowsOf};
+ghost use Rattle.report_looks.specs.Looked.{WritesTraceOf, WritesWanted};
 
-use crate::ends::write_end;
-use crate::moments::{Marks, marks_of};
-use crate::objects::write_entries;
-use crate::showing::SeenRun;
-use crate::wanted::{Asked, Here, Wanted};
+use crate::moments::print_page;
+use crate::wanted::{Here, LookRequest, Wanted};
 use race_history::{Race, is_history};
 use replay::replay_watched;
 use replay_text::Record;
-use report_command::View;
-use selection::{Choice, Look, Span};
-use show_events::{write_page, write_trace};
+use report_command::{Form, RecordView};
+use report_objects::{write_end, write_entries, write_last_object, write_scene};
+use selection::{Choice, Look};
+use show_events::write_trace;
 use show_moments::{Moment, MomentView, write_moment};
-use show_named::{DataMap, write_folded, write_last, write_rows};
+use show_named::{DataMap, SoughtWrite, write_folded, write_last, write_rows};
 use show_races::racing_pairs;
-use show_rows::{CodeMap, Shown, Story};
+use show_rows::{Shown, Story};
 use show_text::Unwritten;
 use show_waits::write_waits;
 use std::alloc::{AllocError, Global};
@@ -44,70 +42,83 @@ pub(crate) fn races_in(alloc: Global, shown: Shown, most: usize) -> Result<Vec<R
 /// Writes of a record what is asked for.
 pub(crate) fn print_asked<W: Write>(
     alloc: Global,
-    module: &ValidModule,
-    seen: &SeenRun,
-    code: &CodeMap,
-    map: &DataMap,
-    asked: &Asked,
+    seen: MomentView,
+    record: &Record,
+    asked: &LookRequest,
     out: &mut W,
 ) -> Result<(), Unwritten>
-    requires { code.now.parts.now ≡ «module».now.parts }
-    ensures { OnOk result (PrintsAsked «module».now.parts seen.now.«record» seen.now.rows.items map.now asked.now
+    requires of_module { seen.shown.code.now.parts.now ≡ seen.valid.now.parts }
+    requires of_record { «record».now ≡ seen.shown.record.now }
+    ensures { OnOk result (WritesWanted seen.entry.shown seen.entry.map.now asked.now.look asked.now.wanted
         (W.contents out.old) (W.contents out.new)) }
 {
-    let shown = Shown {
-        record: seen.record.parts(),
-        rows: seen.rows.as_slice(),
-        code,
-    };
     match asked.wanted {
-        Wanted::Write { addrs, before } => print_last(alloc, shown, map, before, addrs, out),
+        Wanted::Write { sought, form } => print_last(
+            alloc, seen.shown, seen.map, sought, form, out,
+        ),
         Wanted::Moment(here) => {
-            let moment = moment_of(alloc, module, &seen.record, here)?;
-            print_moment(alloc, module, shown, map, &moment, here, out)
-        },
-        Wanted::Entries(view) => {
-            let marks = marks_of(alloc, module, &seen.record, shown, map, &asked.look, view)?;
-            print_entries(alloc, shown, map, &asked.look, view, &marks, out)
+            let moment = moment_of(alloc, seen.valid, record, here)?;
+            print_moment(alloc, seen, &moment, here, out)
         }
+        Wanted::Entries(view) => print_entries(alloc, seen, record, &asked.look, view, out),
     }
 }
 
-/// Writes the words of the last entry before a place that writes a byte at these addresses.
+/// Writes the words of the last write that is sought, in lines or as an object.
 fn print_last<W: Write>(
     alloc: Global,
     shown: Shown,
     map: &DataMap,
-    before: usize,
-    addrs: Span,
+    sought: SoughtWrite,
+    form: Form,
     out: &mut W,
 ) -> Result<(), Unwritten>
-    ensures { OnOk result (WritesLastOf shown.entry map.now before addrs (W.contents out.old) (W.contents out.new)) }
+    ensures { OnOk result (WritesLastIn form shown.entry map.now sought (W.contents out.old) (W.contents out.new)) }
 {
     let story = Story::new(alloc, shown.record.log.as_slice())?;
-    write_last(alloc, shown, map, &story, before, addrs, out)
+    match form {
+        Form::Lines => write_last(alloc, shown, map, &story, sought, out),
+        Form::Json => write_last_object(alloc, shown, map, &story, sought, out),
+    }
 }
 
 /// Writes the rows, or the object, the page or the trace that has them.
 fn print_entries<W: Write>(
     alloc: Global,
-    shown: Shown,
-    map: &DataMap,
+    seen: MomentView,
+    record: &Record,
     look: &Look,
-    view: View,
-    marks: &Marks,
+    view: RecordView,
     out: &mut W,
 ) -> Result<(), Unwritten>
-    requires { AreMarks view shown map.now look.now marks.now }
-    ensures { OnOk result (WritesEntries view.entry shown.entry map.now look.now (W.contents out.old) (W.contents out.new)) }
+    requires of_module { seen.shown.code.now.parts.now ≡ seen.valid.now.parts }
+    requires of_record { «record».now ≡ seen.shown.record.now }
+    ensures { OnOk result
+        (WritesEntries view.entry seen.entry.shown seen.entry.map.now look.now (W.contents out.old) (W.contents out.new)) }
 {
+    let (shown, map) = (seen.shown, seen.map);
     match view {
-        View::Page(_) => write_page(alloc, shown, look, &marks.races, &marks.moments, out),
-        View::Trace(_) => write_trace(alloc, shown, look, &marks.races, out),
-        View::Object => write_entries(alloc, shown, look, out),
-        View::Unfolded => print_rows(alloc, shown, map, look, out),
-        View::Rows | View::Moment(_) | View::Write(_) => print_folded(alloc, shown, map, look, out),
+        RecordView::Page(_) => print_page(alloc, seen, record, look, out),
+        RecordView::Trace(_) => print_trace(alloc, shown, look, out),
+        RecordView::Object => write_entries(alloc, shown, map, look, out),
+        RecordView::Unfolded => print_rows(alloc, shown, map, look, out),
+        RecordView::Rows | RecordView::Moment(_) | RecordView::Write(_) => print_folded(
+            alloc, shown, map, look, out,
+        ),
     }
+}
+
+/// Writes a trace, with the races that it marks.
+fn print_trace<W: Write>(
+    alloc: Global,
+    shown: Shown,
+    look: &Look,
+    out: &mut W,
+) -> Result<(), Unwritten>
+    ensures { OnOk result (WritesTraceOf shown.entry look.now (W.contents out.old) (W.contents out.new)) }
+{
+    let races = races_in(alloc, shown, MOST_MARKS)?;
+    write_trace(alloc, shown, look, races.as_slice(), out)
 }
 
 /// Whether all entries are chosen.
@@ -204,25 +215,38 @@ pub(crate) fn moment_of<'r>(
 /// Writes what threads and memory are like at a moment.
 fn print_moment<W: Write>(
     alloc: Global,
-    module: &ValidModule,
-    shown: Shown,
-    map: &DataMap,
+    seen: MomentView,
     moment: &Moment,
     here: Here,
     out: &mut W,
 ) -> Result<(), Unwritten>
-    ensures { OnOk result (WritesHere «module».now.parts shown.entry map.now here moment.now
+    ensures { OnOk result (WritesHere seen.entry.valid.now.parts seen.entry.shown seen.entry.map.now here moment.now
         (W.contents out.old) (W.contents out.new)) }
 {
     let view = MomentView {
-        valid: module,
-        shown,
-        map,
         is_raw: here.is_raw,
+        ..seen
     };
     if here.is_end {
-        return write_end(alloc, view, moment, out);
+        return write_end(alloc, view, moment, here.form, out);
     }
-    let races = races_in(alloc, shown, MOST_MARKS)?;
-    write_moment(alloc, view, moment, &races, out)
+    print_scene(alloc, view, moment, here.form, out)
+}
+
+/// Writes what threads and memory are like before an entry, in lines or as an object.
+fn print_scene<W: Write>(
+    alloc: Global,
+    view: MomentView,
+    moment: &Moment,
+    form: Form,
+    out: &mut W,
+) -> Result<(), Unwritten>
+    ensures says { OnOk result (WritesIn form view.entry moment.now (W.contents out.old) (W.contents out.new)) }
+    ensures whole { OnOk result (moment.now.is_short ≡ false) }
+{
+    let races = races_in(alloc, view.shown, MOST_MARKS)?;
+    match form {
+        Form::Lines => write_moment(alloc, view, moment, &races, out),
+        Form::Json => write_scene(alloc, view, moment, &races, out),
+    }
 }

@@ -1,70 +1,78 @@
 //! The races of a recorded run by the program: what is printed, or why there is nothing to print.
 ghost use Rattle.std.specs.Prelude.{◌≡◌, ◌≤◌, ◌<◌, ◌⊎◌, true, false, length, All, IfOk, IfErr, OnOk};
+ghost use Rattle.report_looks.specs.Sighted.{AreTold};
 ghost use Rattle.show_races.specs.Told.{IsWithin};
 ghost use Rattle.report_jobs.specs.Jobs.{IsNoRecordOf, IsNoValidModule, IsUnfit};
 ghost use Rattle.report_jobs.specs.Silence.{IsRefusal, Stays};
+ghost use Rattle.report_jobs.specs.Undone.{ended_status, undone_status};
+ghost use Rattle.report_jobs.specs.Why.{RefusesModule, RefusesRecord};
 ghost use Rattle.report_looks.specs.Silent.{IfRefusedRecord};
 ghost use Rattle.report_jobs.specs.Prints.{changed};
-ghost use Rattle.report_jobs.specs.Told.{TellsWhatIsWrong};
-ghost use Rattle.search_races.specs.Races.{Says};
-ghost use Rattle.search_races.specs.Rows.{kinds_of};
+ghost use Rattle.show_races.specs.Races.{Says};
+ghost use Rattle.show_races.specs.Rows.{kinds_of};
 ghost use Rattle.report_looks.specs.Raced.{IsRaceFree, IsRacy, OfModule, PrintsRaces, SaysOf, TellsIn, WritesRaces};
 
-use crate::pairing::write_pairs;
-use crate::showing::{CodeBytes, SeenRun, rows_of, unfit_of};
-use race_history::is_history;
-use report_command::Form;
-use report_jobs::{Streams, Unfit, load, refuse, reject};
-use show_races::{Races, races_shown, write_races};
+use crate::showing::{CodeBytes, SeenRun, UnseenRecord, seen_of, unfit_of};
+use crate::sighting::races_in;
+use report_command::{Form, RacesJob};
+use report_jobs::{Done, Streams, Undone, load, of_refusal, of_unfit};
+use report_objects::write_pairs;
+use show_races::{RecordRaces, write_races};
 use show_rows::{CodeMap, Shown, Story};
 use show_text::Unwritten;
 use std::alloc::Global;
 use std::io::Write;
 use validate_module::ValidModule;
 
-/// Tells the races of the run whose record's text `saved` is, `most` at most, in lines or as an object. `names` are the
-/// bytes that have the names of functions and the lines of source, as for `show_saved`.
+/// Tells the races of the run whose record's text `saved` is, as many at most as are asked for, in lines or as an object.
+/// `names` are the bytes that have the names of functions and the lines of source, as for `show_saved`. No path of what is
+/// asked for is read.
 ///
-/// Answers 0 only where the record is of a run of the module in which no two accesses race, 1 only of one in which some
-/// do, 4 only where the bytes are the text of no record of a run of it, 2 for a refused module, and 5 where memory or a
-/// stream failed. At 2 and 4 nothing is written but to `err`.
+/// It is done with status 0 only where the record is of a run of the module in which no two accesses race, with 1 only of
+/// one in which some do. A refusal is of the module (status 2), or of bytes that are the text of no record of a run of it
+/// (4); then nothing is written.
+///
+/// # Errors
+/// The refusal; or that memory or a stream failed.
 pub fn races_saved<W: Write, E: Write, S: Write>(
     alloc: Global,
     module: &[u8],
     names: &[u8],
     saved: &[u8],
-    most: u32,
-    form: Form,
+    asked: &RacesJob,
     streams: &mut Streams<W, E, S>,
-) -> u8
-    requires { 1 ≤ most }
-    ensures free { result ≡ 0 → OfModule IsRaceFree «module».now saved.now }
-    ensures racy { result ≡ 1 → OfModule IsRacy «module».now saved.now }
-    ensures prints { result ≤ 1 → OfModule (PrintsRaces most form (changed W.contents streams.old.out streams.new.out))
+) -> Result<Done, Undone<'static>>
+    requires { 1 ≤ asked.now.most }
+    ensures free { ended_status result ≡ 0 → OfModule IsRaceFree «module».now saved.now }
+    ensures racy { ended_status result ≡ 1 → OfModule IsRacy «module».now saved.now }
+    ensures prints { ended_status result ≤ 1 → OfModule
+        (PrintsRaces asked.now.most asked.now.form (changed W.contents streams.old.out streams.new.out))
         «module».now saved.now }
-    ensures refused { result ≡ 2 → IsNoValidModule «module».now }
-    ensures none { result ≡ 4 → IsNoRecordOf «module».now saved.now }
-    ensures told { result ≡ 4
-        → TellsWhatIsWrong «module».now saved.now (changed E.contents streams.old.err streams.new.err) }
-    ensures status { (result ≤ 2) ⊎ (result ≡ 4) ⊎ (result ≡ 5) }
-    ensures silent { IsRefusal result → Stays streams.old.out streams.new.out }
+    ensures done { IfOk result (λ done. done.status ≤ 1) }
+    ensures refused { ended_status result ≡ 2 → IsNoValidModule «module».now }
+    ensures why { IfErr result (λ why. undone_status why ≡ 2 → RefusesModule «module».now why) }
+    ensures none { ended_status result ≡ 4 → IsNoRecordOf «module».now saved.now }
+    ensures wrong { IfErr result (λ why. undone_status why ≡ 4 → RefusesRecord «module».now saved.now why) }
+    ensures status { (ended_status result ≤ 2) ⊎ (ended_status result ≡ 4) ⊎ (ended_status result ≡ 5) }
+    ensures silent { IsRefusal (ended_status result) → Stays streams.old.out streams.new.out }
     ensures unwanted { Stays streams.old.save streams.new.save }
     ensures no_memory { Stays streams.old.memory streams.new.memory }
+    ensures unsaid { Stays streams.old.err streams.new.err }
 {
-    let Streams { out, err, .. } = streams;
+    let Streams { out, .. } = streams;
     let valid = match load(alloc, module) {
         Ok(valid) => valid,
-        Err(refusal) => return refuse(err, refusal),
+        Err(refusal) => return Err(of_refusal(refusal)),
     };
     let code = CodeBytes {
         module,
         names,
         sources: &[],
     };
-    match tell_races(alloc, &valid, code, saved, most, form, out) {
-        Ok(true) => 1,
-        Ok(false) => 0,
-        Err(unfit) => reject(err, unfit),
+    match tell_races(alloc, &valid, code, saved, asked, out) {
+        Ok(true) => Ok(Done::with(1)),
+        Ok(false) => Ok(Done::with(0)),
+        Err(UnseenRecord { unfit, stood }) => Err(of_unfit(unfit, valid, stood)),
     }
 }
 
@@ -74,26 +82,31 @@ fn tell_races<W: Write>(
     module: &ValidModule,
     code: CodeBytes,
     saved: &[u8],
-    most: u32,
-    form: Form,
+    asked: &RacesJob,
     out: &mut W,
-) -> Result<bool, Unfit>
-    requires { 1 ≤ most }
+) -> Result<bool, UnseenRecord>
+    requires { 1 ≤ asked.now.most }
     ensures races { IfOk result (SaysOf «module».now.parts saved.now) }
     ensures prints { IfOk result
-        (λ _. PrintsRaces most form (changed W.contents out.old out.new) «module».now.parts saved.now) }
-    ensures unfit { IfErr result (λ unfit. IsUnfit «module».now.parts saved.now unfit) }
-    ensures silent { IfErr result (λ unfit. IfRefusedRecord unfit (Stays out.old out.new)) }
+        (λ _. PrintsRaces asked.now.most asked.now.form (changed W.contents out.old out.new) «module».now.parts saved.now) }
+    ensures unfit { IfErr result (λ e. IsUnfit «module».now.parts saved.now e.unfit) }
+    ensures silent { IfErr result (λ e. IfRefusedRecord e.unfit (Stays out.old out.new)) }
 {
-    let seen = rows_of(alloc, module, saved)?;
-    match write_seen(alloc, module, &seen, code, most, form, out) {
+    let seen = match seen_of(alloc, module, saved) {
+        Ok(seen) => seen,
+        Err(unseen) => return Err(unseen),
+    };
+    match write_seen(alloc, module, &seen, code, asked, out) {
         Ok(is_racy) => Ok(is_racy),
-        Err(unwritten) => Err(unfit_of(unwritten)),
+        Err(unwritten) => Err(UnseenRecord {
+            unfit: unfit_of(unwritten),
+            stood: None,
+        }),
     }
 }
 
 /// Whether there is a race.
-fn is_racy(races: &Races) -> bool
+fn is_racy(races: &RecordRaces) -> bool
     ensures some { result ≡ true → 1 ≤ length races.now.pairs.items }
     ensures none { result ≡ false → length races.now.pairs.items < 1 }
 {
@@ -105,7 +118,7 @@ fn write_told<W: Write>(
     alloc: Global,
     shown: Shown,
     story: &Story,
-    races: &Races,
+    races: &RecordRaces,
     form: Form,
     out: &mut W,
 ) -> Result<(), Unwritten>
@@ -119,21 +132,20 @@ fn write_told<W: Write>(
     }
 }
 
-/// Writes the races of a run, and answers whether there are any. A log of more threads than 64 is none of `races_of`'s.
+/// Writes the races of a run, and answers whether there are any.
 fn write_seen<W: Write>(
     alloc: Global,
     module: &ValidModule,
     seen: &SeenRun,
     code: CodeBytes,
-    most: u32,
-    form: Form,
+    asked: &RacesJob,
     out: &mut W,
 ) -> Result<bool, Unwritten>
-    requires { 1 ≤ most }
+    requires { 1 ≤ asked.now.most }
     ensures says { IfOk result
         (Says seen.now.«record».log (kinds_of «module».now.parts seen.now.«record» seen.now.rows.items)) }
-    ensures writes { IfOk result (λ _. WritesRaces «module».now.parts seen.now.«record» seen.now.rows.items most form
-        (changed W.contents out.old out.new)) }
+    ensures writes { IfOk result (λ _. WritesRaces «module».now.parts seen.now.«record» seen.now.rows.items asked.now.most
+        asked.now.form (changed W.contents out.old out.new)) }
 {
     let code = CodeMap::read(alloc, module.parts(), code.module, code.names)?;
     let shown = Shown {
@@ -141,12 +153,7 @@ fn write_seen<W: Write>(
         rows: seen.rows.as_slice(),
         code: &code,
     };
-    let log = shown.record.log.as_slice();
-    if !is_history(log) {
-        return Err(Unwritten::NoMemory);
-    }
-    let story = Story::new(alloc, log)?;
-    let races = races_shown(alloc, shown, &story, most as usize)?;
-    write_told(alloc, shown, &story, &races, form, out)?;
-    Ok(is_racy(&races))
+    let told = races_in(alloc, shown, asked.most as usize)?;
+    write_told(alloc, shown, &told.story, &told.races, asked.form, out)?;
+    Ok(is_racy(&told.races))
 }

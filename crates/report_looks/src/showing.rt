@@ -1,98 +1,102 @@
 //! The entries of a record by the program, in words: what is printed, or why there is nothing to print.
-ghost use Rattle.std.specs.Prelude.{◌≡◌, ◌⊎◌, ℕ, List, IfOk, IfErr, is_some, false};
+ghost use Rattle.std.specs.Prelude.{◌≡◌, ℕ, List, IfOk, IfErr, is_some, false};
 ghost use Rattle.types.specs.declared.parts.Parts.{Parts};
 ghost use Rattle.report_jobs.specs.Jobs.{IsNoRecordOf, IsNoValidModule, IsUnfit, IsRecordOf, IsOfRun};
 ghost use Rattle.report_jobs.specs.Prints.{changed};
-ghost use Rattle.report_jobs.specs.Told.{TellsWhatIsWrong};
 ghost use Rattle.report_command.specs.Views.{path_of};
 ghost use Rattle.report_jobs.specs.Silence.{IsRefusal, Stays};
-ghost use Rattle.report_looks.specs.Looked.{PrintsShow, stream_of};
+ghost use Rattle.report_jobs.specs.Undone.{ended_status, undone_status};
+ghost use Rattle.report_jobs.specs.Why.{RefusesModule, RefusesRecord};
+ghost use Rattle.report_looks.specs.Looked.{PrintsShow, shown_on};
 ghost use Rattle.report_looks.specs.Raced.{IsSeen, OfModule};
-ghost use Rattle.report_looks.specs.Silent.{IfUnshown, IsNoRefusal, IsUnshown};
+ghost use Rattle.report_looks.specs.Silent.{IfUnshown, IsNoRefusal, IsShowStatus, IsUnshown};
 
 use crate::printing::print_asked;
-use crate::wanted::{Unshown, asked_of};
+use crate::wanted::{Unshown, asked_of, no_memory};
 use dwarf_lines::{SourceFile, Sources};
 use replay_text::{Record, RecordFault, read_record};
 use report_command::ShowLook;
-use report_jobs::{Streams, Unfit, load, misfit, refuse, reject};
-use search_races::watched;
+use report_jobs::{Done, Refused, Streams, Undone, Unfit, load, misfit, of_refusal, of_unfit};
+use show_moments::MomentView;
 use show_named::DataMap;
-use show_rows::{CodeMap, Row};
+use show_races::rows_seen;
+use show_rows::{CodeMap, Row, Shown, Stood};
 use show_text::Unwritten;
 use std::alloc::{AllocError, Global};
 use std::io::Write;
 use validate_module::ValidModule;
 
-/// The status where a record has not what is asked for.
-const SHOW_REFUSED: u8 = 3;
-
-/// Shows the entries of the record whose text `saved` is: each in words, with its place in the module. `how` may ask for what threads and memory are like at a moment, for the last write of some bytes, for a page
-/// or for a trace, in place of rows. A page and a trace are the file that it makes.
+/// Shows the entries of the record whose text `saved` is: each in words, with its place in the module. `how` may ask for
+/// what threads and memory are like at a moment, for the last write of some bytes, for a page or for a trace, in place of
+/// rows. A page and a trace are the file that it makes.
 ///
-/// Answers 0 only where the record is of a run of the module, 3 only where it is one and has not what is asked for, 4 only
-/// where the bytes are the text of no record of a run of it, 2 for a refused module, and 5 where memory or a stream failed.
-/// At 2, 3 and 4 nothing is written but to `err`, and where no page and no trace is asked for the file's writer stays as it
-/// is.
+/// It is done only where the record is of a run of the module. A refusal is of the module (status 2), of bytes that are
+/// the text of no record of a run of it (4), or says that the record is one and has not what is asked for (3). Then nothing
+/// is written, and where no page and no trace is asked for the file's writer stays as it is.
+///
+/// # Errors
+/// The refusal; or that memory or a stream failed.
 pub fn show_saved<W: Write, E: Write, S: Write>(
     alloc: Global,
     code: CodeBytes,
     saved: &[u8],
     how: &ShowLook,
     streams: &mut Streams<W, E, S>,
-) -> u8
-    ensures shown { result ≡ 0 → IsRecordOf code.entry.«module».now saved.now }
-    ensures prints { result ≡ 0 → OfModule (PrintsShow how.now (stream_of how.now.view
-        (changed W.contents streams.old.out streams.new.out) (changed S.contents streams.old.save streams.new.save)))
+) -> Result<Done, Undone<'static>>
+    ensures shown { ended_status result ≡ 0 → IsRecordOf code.entry.«module».now saved.now }
+    ensures prints { ended_status result ≡ 0
+        → OfModule (PrintsShow how.now (shown_on W.contents S.contents how.now streams.old streams.new))
         code.entry.«module».now saved.now }
-    ensures refused { result ≡ 2 → IsNoValidModule code.entry.«module».now }
-    ensures absent { result ≡ 3 → IsRecordOf code.entry.«module».now saved.now }
-    ensures none { result ≡ 4 → IsNoRecordOf code.entry.«module».now saved.now }
-    ensures told { result ≡ 4
-        → TellsWhatIsWrong code.entry.«module».now saved.now (changed E.contents streams.old.err streams.new.err) }
-    ensures status { (result ≡ 0) ⊎ (result ≡ 2) ⊎ (result ≡ 3) ⊎ (result ≡ 4) ⊎ (result ≡ 5) }
-    ensures silent { IsRefusal result → Stays streams.old.out streams.new.out × Stays streams.old.save streams.new.save }
+    ensures done { IfOk result (λ done. done.status ≡ 0) }
+    ensures refused { ended_status result ≡ 2 → IsNoValidModule code.entry.«module».now }
+    ensures why { IfErr result (λ why. undone_status why ≡ 2 → RefusesModule code.entry.«module».now why) }
+    ensures absent { ended_status result ≡ 3 → IsRecordOf code.entry.«module».now saved.now }
+    ensures none { ended_status result ≡ 4 → IsNoRecordOf code.entry.«module».now saved.now }
+    ensures wrong { IfErr result
+        (λ why. undone_status why ≡ 4 → RefusesRecord code.entry.«module».now saved.now why) }
+    ensures status { IsShowStatus (ended_status result) }
+    ensures silent { IsRefusal (ended_status result)
+        → Stays streams.old.out streams.new.out × Stays streams.old.save streams.new.save }
     ensures unwanted { is_some (path_of how.now.view) ≡ false → Stays streams.old.save streams.new.save }
     ensures no_memory { Stays streams.old.memory streams.new.memory }
+    ensures unsaid { Stays streams.old.err streams.new.err }
 {
-    let Streams { out, err, save, .. } = streams;
+    let Streams { out, save, .. } = streams;
     if how.view.path().is_some() {
-        return show_to(alloc, code, saved, how, save, err);
+        return show_to(alloc, code, saved, how, save);
     }
-    show_to(alloc, code, saved, how, out, err)
+    show_to(alloc, code, saved, how, out)
 }
 
 /// The same on one of the streams.
-fn show_to<W: Write, E: Write>(
+fn show_to<W: Write>(
     alloc: Global,
     code: CodeBytes,
     saved: &[u8],
     how: &ShowLook,
     out: &mut W,
-    err: &mut E,
-) -> u8
-    ensures shown { result ≡ 0 → IsRecordOf code.entry.«module».now saved.now }
-    ensures prints { result ≡ 0
+) -> Result<Done, Undone<'static>>
+    ensures shown { ended_status result ≡ 0 → IsRecordOf code.entry.«module».now saved.now }
+    ensures prints { ended_status result ≡ 0
         → OfModule (PrintsShow how.now (changed W.contents out.old out.new)) code.entry.«module».now saved.now }
-    ensures refused { result ≡ 2 → IsNoValidModule code.entry.«module».now }
-    ensures absent { result ≡ 3 → IsRecordOf code.entry.«module».now saved.now }
-    ensures none { result ≡ 4 → IsNoRecordOf code.entry.«module».now saved.now }
-    ensures told { result ≡ 4
-        → TellsWhatIsWrong code.entry.«module».now saved.now (changed E.contents err.old err.new) }
-    ensures status { (result ≡ 0) ⊎ (result ≡ 2) ⊎ (result ≡ 3) ⊎ (result ≡ 4) ⊎ (result ≡ 5) }
-    ensures silent { IsRefusal result → Stays out.old out.new }
+    ensures done { IfOk result (λ done. done.status ≡ 0) }
+    ensures refused { ended_status result ≡ 2 → IsNoValidModule code.entry.«module».now }
+    ensures why { IfErr result (λ why. undone_status why ≡ 2 → RefusesModule code.entry.«module».now why) }
+    ensures absent { ended_status result ≡ 3 → IsRecordOf code.entry.«module».now saved.now }
+    ensures none { ended_status result ≡ 4 → IsNoRecordOf code.entry.«module».now saved.now }
+    ensures wrong { IfErr result
+        (λ why. undone_status why ≡ 4 → RefusesRecord code.entry.«module».now saved.now why) }
+    ensures status { IsShowStatus (ended_status result) }
+    ensures silent { IsRefusal (ended_status result) → Stays out.old out.new }
 {
     let valid = match load(alloc, code.module) {
         Ok(valid) => valid,
-        Err(refusal) => return refuse(err, refusal),
+        Err(refusal) => return Err(of_refusal(refusal)),
     };
     match show_record(alloc, &valid, code, saved, how, out) {
-        Ok(()) => 0,
-        Err(Unshown::Unfit(unfit)) => reject(err, unfit),
-        Err(Unshown::Absent(absent)) => {
-            let _ = write!(err, "show refused: {absent}\n");
-            SHOW_REFUSED
-        }
+        Ok(()) => Ok(Done::with(0)),
+        Err(Unshown::Unfit { unfit, stood }) => Err(of_unfit(unfit, valid, stood)),
+        Err(Unshown::Absent(absent)) => Err(Undone::Refused(Refused::Absent(absent))),
     }
 }
 
@@ -134,25 +138,38 @@ fn show_record<W: Write>(
     ensures unshown { IfErr result (IsUnshown «module».now.parts saved.now) }
     ensures silent { IfErr result (λ why. IfUnshown why (Stays out.old out.new)) }
 {
-    let seen = match rows_of(alloc, module, saved) {
+    let seen = match seen_of(alloc, module, saved) {
         Ok(seen) => seen,
-        Err(unfit) => return Err(Unshown::Unfit(unfit)),
+        Err(UnseenRecord { unfit, stood }) => return Err(Unshown::Unfit { unfit, stood }),
     };
     let places = match code_of(alloc, module, code) {
         Ok(places) => places,
-        Err(_) => return Err(Unshown::Unfit(Unfit::NoMemory)),
+        Err(_) => return Err(no_memory()),
     };
     let map = match DataMap::read(alloc, code.names) {
         Ok(map) => map,
-        Err(_) => return Err(Unshown::Unfit(Unfit::NoMemory)),
+        Err(_) => return Err(no_memory()),
     };
     let asked = match asked_of(alloc, seen.record.parts(), &map, how) {
         Ok(asked) => asked,
         Err(why) => return Err(why),
     };
-    match print_asked(alloc, module, &seen, &places, &map, &asked, out) {
+    let view = MomentView {
+        valid: module,
+        shown: Shown {
+            record: seen.record.parts(),
+            rows: seen.rows.as_slice(),
+            code: &places,
+        },
+        map: &map,
+        is_raw: false,
+    };
+    match print_asked(alloc, view, &seen.record, &asked, out) {
         Ok(()) => Ok(()),
-        Err(unwritten) => Err(Unshown::Unfit(unfit_of(unwritten))),
+        Err(unwritten) => Err(Unshown::Unfit {
+            unfit: unfit_of(unwritten),
+            stood: None,
+        }),
     }
 }
 
@@ -174,19 +191,43 @@ pub(crate) struct SeenRun {
     pub rows: Vec<Option<Row>>,
 }
 
+/// Why a record isn't seen, and what the thread of the entry that doesn't fit does in place of it, where there is such an
+/// entry.
+#[derive(Clone, Copy)]
+pub(crate) struct UnseenRecord {
+    pub unfit: Unfit,
+    pub stood: Option<Stood>,
+}
+
+impl UnseenRecord {
+    /// Where no entry is one that doesn't fit.
+    fn alone(unfit: Unfit) -> UnseenRecord
+        ensures { result.unfit ≡ unfit }
+    {
+        UnseenRecord { unfit, stood: None }
+    }
+}
+
 /// Replays the record whose text the bytes are, and sees where its entries are made.
-pub(crate) fn rows_of(alloc: Global, module: &ValidModule, saved: &[u8]) -> Result<SeenRun, Unfit>
+pub(crate) fn seen_of(
+    alloc: Global,
+    module: &ValidModule,
+    saved: &[u8],
+) -> Result<SeenRun, UnseenRecord>
     ensures seen { IfOk result (λ s. IsSeen «module».now.parts saved.now s.«record» s.rows.items) }
     ensures shown { IfOk result (λ _. IsOfRun «module».now.parts saved.now) }
-    ensures unfit { IfErr result (λ unfit. IsUnfit «module».now.parts saved.now unfit) }
+    ensures unfit { IfErr result (λ e. IsUnfit «module».now.parts saved.now e.unfit) }
 {
     let record = match read_record(alloc, saved) {
         Ok(record) => record,
-        Err(RecordFault::NoMemory) => return Err(Unfit::NoMemory),
-        Err(fault) => return Err(Unfit::Unread(fault)),
+        Err(RecordFault::NoMemory) => return Err(UnseenRecord::alone(Unfit::NoMemory)),
+        Err(fault) => return Err(UnseenRecord::alone(Unfit::Unread(fault))),
     };
-    match watched(alloc, module, &record) {
+    match rows_seen(alloc, module, &record) {
         Ok(rows) => Ok(SeenRun { record, rows }),
-        Err(fault) => Err(misfit(fault)),
+        Err(unseen) => Err(UnseenRecord {
+            unfit: misfit(unseen.fault),
+            stood: unseen.stood,
+        }),
     }
 }

@@ -1,50 +1,44 @@
 //! What is asked for of a record, with its own places and addresses; or why it has no such thing.
-ghost use Rattle.std.specs.Prelude.{◌≡◌, ◌++◌, ◌∷◌, [], IfErr, IfOk, OnOk, position};
+ghost use Rattle.std.specs.Prelude.{◌≡◌, ◌++◌, ◌∷◌, [], IfErr, IfOk, None, OnOk, position};
 ghost use Rattle.std.specs.List.{AllZip};
 ghost use Rattle.selection.specs.Choices as chosen;
-ghost use Rattle.report_command.specs.declared.show.View.TheVariants as views;
+ghost use Rattle.report_command.specs.declared.show.RecordView.TheVariants as views;
 ghost use Rattle.show_named.specs.declared.data_map.DataMap.{DataMap};
+ghost use Rattle.report_jobs.specs.declared.replaying.Unfit.TheVariants as unfits;
+ghost use Rattle.report_looks.specs.declared.wanted.Unshown.TheVariants as unshown;
 ghost use Rattle.report_looks.specs.Looked as looked;
 ghost use Rattle.report_looks.specs.Looked.{AreAddresses, IsAsked, IsLookAt, IsWanted};
 ghost use Rattle.report_looks.specs.Silent.{IsUnrefused};
 
-use dwarf_data::{Place, Sought};
+use dwarf_data::{ByteRange, NamedBytes};
 use replay_text::RecordParts;
-use report_command::{At, Data, LastWrite, ShowLook, View, When};
-use report_jobs::Unfit;
-use selection::{Choice, Look, Span};
+use report_command::{At, Data, Form, LastWrite, RecordView, ShowLook, When};
+use report_jobs::{Absent, Unfit};
+use selection::{Choice, Look, NumberSpan};
 use show_moments::Bytes;
-use show_named::DataMap;
+use show_named::{DataMap, SoughtWrite};
+use show_rows::Stood;
 use std::alloc::{AllocError, Global};
-use std::fmt::{self, Formatter, Write};
 use types::{Entry, Event, Outcome, Question, ThreadReport};
 
-/// What a record of a run has not that is asked for.
-#[derive(Clone, Copy, PartialEq, Eq, Debug)]
-pub(crate) enum Absent {
-    /// No static data has the name, or the module has no debug section.
-    NoData,
-    /// Data at different places has it.
-    SeveralData,
-    /// No thread trapped.
-    NoTrap,
-}
-
-impl fmt::Display for Absent {
-    fn fmt<W: Write>(&self, f: &mut Formatter<W>) -> fmt::Result {
-        f.write_str(match self {
-            Absent::NoData => "no static data of this name; a debug section has names",
-            Absent::SeveralData => "data at several addresses has this name",
-            Absent::NoTrap => "no thread trapped",
-        })
-    }
-}
-
 /// Why nothing is shown.
-#[derive(Drop)]
+#[derive(Clone, Copy)]
 pub(crate) enum Unshown {
-    Unfit(Unfit),
+    /// The record is of no run, or memory or the stream failed; and what the thread of the entry that doesn't fit does in
+    /// place of it, where there is such an entry.
+    Unfit { unfit: Unfit, stood: Option<Stood> },
+    /// The record has not what is asked for.
     Absent(Absent),
+}
+
+/// Too little memory was left.
+pub(crate) fn no_memory() -> Unshown
+    ensures { result ≡ unshown.Unfit unfits.NoMemory None }
+{
+    Unshown::Unfit {
+        unfit: Unfit::NoMemory,
+        stood: None,
+    }
 }
 
 /// A moment of a record: how many entries are before it, whether it is the end, and the bytes that are shown of it.
@@ -55,11 +49,13 @@ pub(crate) struct Here {
     pub bytes: Bytes,
     /// Whether all locals and operands are shown as they are.
     pub is_raw: bool,
+    /// In which form it is printed.
+    pub form: Form,
 }
 
 /// What is shown of a record, and how.
 #[derive(Drop)]
-pub(crate) struct Asked<'a> {
+pub(crate) struct LookRequest<'a> {
     pub wanted: Wanted<'a>,
     pub look: Look,
 }
@@ -68,11 +64,11 @@ pub(crate) struct Asked<'a> {
 #[derive(Clone, Copy)]
 pub(crate) enum Wanted<'a> {
     /// Its entries, in the form of this view.
-    Entries(View<'a>),
+    Entries(RecordView<'a>),
     /// A moment of it.
     Moment(Here),
-    /// The last entry before the one of this place that writes a byte at these addresses.
-    Write { addrs: Span, before: usize },
+    /// The last write of some bytes, in this form.
+    Write { sought: SoughtWrite, form: Form },
 }
 
 /// Whether a thread leaves that trapped.
@@ -112,17 +108,17 @@ pub(crate) fn place_in(parts: &RecordParts, when: When) -> Option<usize>
 }
 
 /// The addresses of bytes.
-fn addresses_of(place: Place) -> Span
+fn addresses_of(place: ByteRange) -> NumberSpan
     ensures { result ≡ chosen.span_of place.start place.size }
 {
-    Span {
+    NumberSpan {
         first: place.start,
         last: place.start.saturating_add(place.size.saturating_sub(1)),
     }
 }
 
 /// The addresses of data.
-pub(crate) fn span_of(alloc: Global, map: &DataMap, data: Data) -> Result<Span, Unshown>
+pub(crate) fn span_of(alloc: Global, map: &DataMap, data: Data) -> Result<NumberSpan, Unshown>
     ensures addresses { IfOk result (AreAddresses map.now «data».entry) }
     ensures why { IfErr result IsUnrefused }
 {
@@ -131,10 +127,10 @@ pub(crate) fn span_of(alloc: Global, map: &DataMap, data: Data) -> Result<Span, 
         Data::Named(words) => words,
     };
     match map.named(alloc, words) {
-        Ok(Sought::One(place)) => Ok(addresses_of(place)),
-        Ok(Sought::Nothing) => Err(Unshown::Absent(Absent::NoData)),
-        Ok(Sought::Several) => Err(Unshown::Absent(Absent::SeveralData)),
-        Err(_) => Err(Unshown::Unfit(Unfit::NoMemory)),
+        Ok(NamedBytes::One(place)) => Ok(addresses_of(place)),
+        Ok(NamedBytes::Nothing) => Err(Unshown::Absent(Absent::NoData)),
+        Ok(NamedBytes::Several) => Err(Unshown::Absent(Absent::SeveralData)),
+        Err(_) => Err(no_memory()),
     }
 }
 
@@ -153,7 +149,10 @@ fn write_of<'a>(
         Err(why) => return Err(why),
     };
     match place_in(parts, write.before) {
-        Some(before) => Ok(Wanted::Write { addrs, before }),
+        Some(before) => Ok(Wanted::Write {
+            sought: SoughtWrite { addrs, before },
+            form: write.form,
+        }),
         None => Err(Unshown::Absent(Absent::NoTrap)),
     }
 }
@@ -174,6 +173,7 @@ fn moment_of<'a>(parts: &RecordParts, at: At) -> Result<Wanted<'a>, Unshown>
             count: at.count,
         },
         is_raw: at.is_raw,
+        form: at.form,
     }))
 }
 
@@ -182,24 +182,24 @@ fn wanted_of<'a>(
     alloc: Global,
     parts: &RecordParts,
     map: &DataMap,
-    view: View<'a>,
+    view: RecordView<'a>,
 ) -> Result<Wanted<'a>, Unshown>
     ensures wanted { IfOk result (IsWanted parts.now map.now view.entry) }
     ensures why { IfErr result IsUnrefused }
 {
     match view {
-        View::Write(write) => write_of(alloc, parts, map, write),
-        View::Moment(at) => moment_of(parts, at),
-        View::Rows => Ok(Wanted::Entries(View::Rows)),
-        View::Unfolded => Ok(Wanted::Entries(View::Unfolded)),
-        View::Object => Ok(Wanted::Entries(View::Object)),
-        View::Page(path) => Ok(Wanted::Entries(View::Page(path))),
-        View::Trace(path) => Ok(Wanted::Entries(View::Trace(path))),
+        RecordView::Write(write) => write_of(alloc, parts, map, write),
+        RecordView::Moment(at) => moment_of(parts, at),
+        RecordView::Rows => Ok(Wanted::Entries(RecordView::Rows)),
+        RecordView::Unfolded => Ok(Wanted::Entries(RecordView::Unfolded)),
+        RecordView::Object => Ok(Wanted::Entries(RecordView::Object)),
+        RecordView::Page(path) => Ok(Wanted::Entries(RecordView::Page(path))),
+        RecordView::Trace(path) => Ok(Wanted::Entries(RecordView::Trace(path))),
     }
 }
 
 /// Puts a span behind the others.
-fn put(spans: &mut Vec<Span>, span: Span) -> Result<(), AllocError>
+fn put(spans: &mut Vec<NumberSpan>, span: NumberSpan) -> Result<(), AllocError>
     ensures { OnOk result (spans.new.items ≡ spans.old.items ++ span ∷ []) }
 {
     spans.push(span)?;
@@ -207,7 +207,7 @@ fn put(spans: &mut Vec<Span>, span: Span) -> Result<(), AllocError>
 }
 
 /// The addresses of each of these data, in order.
-fn spans_of(alloc: Global, map: &DataMap, all: &[Data]) -> Result<Vec<Span>, Unshown>
+fn spans_of(alloc: Global, map: &DataMap, all: &[Data]) -> Result<Vec<NumberSpan>, Unshown>
     ensures addresses { IfOk result (λ spans. AllZip (AreAddresses map.now) all.now spans.items) }
     ensures why { IfErr result IsUnrefused }
 {
@@ -219,14 +219,14 @@ fn spans_of(alloc: Global, map: &DataMap, all: &[Data]) -> Result<Vec<Span>, Uns
         };
         match put(&mut spans, span) {
             Ok(()) => {}
-            Err(_) => return Err(Unshown::Unfit(Unfit::NoMemory)),
+            Err(_) => return Err(no_memory()),
         }
     }
     Ok(spans)
 }
 
 /// How entries are shown at these addresses.
-fn look_at(alloc: Global, how: &ShowLook, addrs: Vec<Span>) -> Result<Look, AllocError>
+fn look_at(alloc: Global, how: &ShowLook, addrs: Vec<NumberSpan>) -> Result<Look, AllocError>
     ensures { IfOk result (IsLookAt how.now addrs.items) }
 {
     Ok(Look {
@@ -246,7 +246,7 @@ pub(crate) fn asked_of<'a>(
     parts: &RecordParts,
     map: &DataMap,
     how: &ShowLook<'a>,
-) -> Result<Asked<'a>, Unshown>
+) -> Result<LookRequest<'a>, Unshown>
     ensures asked { IfOk result (IsAsked parts.now map.now how.now) }
     ensures why { IfErr result IsUnrefused }
 {
@@ -259,7 +259,7 @@ pub(crate) fn asked_of<'a>(
         Err(why) => return Err(why),
     };
     match look_at(alloc, how, addrs) {
-        Ok(look) => Ok(Asked { wanted, look }),
-        Err(_) => Err(Unshown::Unfit(Unfit::NoMemory)),
+        Ok(look) => Ok(LookRequest { wanted, look }),
+        Err(_) => Err(no_memory()),
     }
 }

@@ -1,5 +1,6 @@
 -- A module with bytes laid over its memory is a module, valid where it is, and opens with them.
-use Rattle.std.proofs.Common.{◌≡◌, ℕ, ◌+◌, ◌*◌, ◌≤◌, ◌<◌, nat_le, nat_lt, if◌then◌else◌, Bool, true, false, List, [], ◌∷◌, ◌++◌, length, replicate, Option, Some, None, refl, arith, length-append}
+use Rattle.std.proofs.Common.{◌≡◌, ℕ, ◌+◌, ◌*◌, ◌≤◌, ◌<◌, nat_le, nat_lt, if◌then◌else◌, Bool, true, false, List, []}
+use Rattle.std.proofs.Common.{◌∷◌, ◌++◌, length, replicate, Option, Some, None, refl, arith, length-append}
 use Rattle.std.proofs.lemmas.Bool.Decides.{nat_tests}
 use Rattle.std.proofs.lemmas.List.Elements.{All-append, All-nil, All-cons}
 use Rattle.std.proofs.lemmas.List.Sums.{fold-append}
@@ -77,7 +78,8 @@ module _ (m : Parts) (addr : ℕ) (bytes : List ℕ) (can : unlaid m addr (lengt
     initial_values = x.initial_values;
     element_offsets = x.element_offsets;
     data_offsets = All-append (λ (d : DataSegment). IsExpression d.offset) m.«data» (segment_at addr bytes ∷ []) x.data_offsets
-        (All-cons (λ (d : DataSegment). IsExpression d.offset) (segment_at addr bytes) [] (offset_is_expression addr) (All-nil (λ (d : DataSegment). IsExpression d.offset)));
+        (All-cons (λ (d : DataSegment). IsExpression d.offset) (segment_at addr bytes) [] (offset_is_expression addr)
+        (All-nil (λ (d : DataSegment). IsExpression d.offset)));
     code = x.code;
   }
 

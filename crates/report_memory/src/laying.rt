@@ -22,7 +22,6 @@ pub enum Unlaid {
     Segments,
 }
 
-/// The memory of a module, if it has one.
 fn memory_of(alloc: Global, parts: &Parts) -> Result<Option<Limits>, AllocError>
     ensures { IfOk result (λ memory. memory ≡ slice_get (memories_of parts.now) 0) }
 {

@@ -3,9 +3,9 @@ use Rattle.std.specs.Prelude.{ℕ, ◌≡◌, Bool, List}
 use Rattle.selection.specs.declared.choice.Color.{Color}
 use Rattle.report_command.specs.declared.command_line.Job.{Job}
 use Rattle.report_command.specs.declared.command_line.Job.TheVariants.{Check, Run, Replay, Show, Races, Search}
-use Rattle.report_command.specs.declared.command_line.Order.{Order}
+use Rattle.report_command.specs.declared.command_line.JobOrder.{JobOrder}
 use Rattle.report_command.specs.Options.{IsAskedBy, is_explained}
-use Rattle.report_program.specs.declared.order.Plan.{Plan}
+use Rattle.report_program.specs.declared.order.JobPlan.{JobPlan}
 
 -- The same job, but for when threads of a show have colors, and whether the end of a run has the calls of a thread that trapped.
 abbrev pub IsColored : Bool → Job → Job → Type 0
@@ -18,8 +18,8 @@ IsColored explain (Races job) new = new ≡ Races job
 IsColored explain (Search s) new = new ≡ Search s
 
 -- What the words ask for, where standard error is a terminal or isn't; but for colors.
-pub record IsPlanOf (words : List (List ℕ)) (new : Plan) : Type 0 where
-  pub order : Order
+pub record IsPlanOf (words : List (List ℕ)) (new : JobPlan) : Type 0 where
+  pub order : JobOrder
   pub asked : IsAskedBy words order
   pub is_terminal : Bool
   pub explain : new.explain ≡ is_explained order.explain is_terminal

@@ -16,8 +16,8 @@ use Rattle.report_program.specs.declared.closing.Lost.{Lost}
 use Rattle.report_program.specs.declared.closing.Lost.TheVariants as losts
 use Rattle.report_program.specs.declared.reading.Unread.{Unread}
 use Rattle.report_program.specs.declared.reading.Unread.TheVariants as unreads
-use Rattle.report_program.specs.declared.stop.Stop.{Stop}
-use Rattle.report_program.specs.declared.stop.Stop.TheVariants as stops
+use Rattle.report_program.specs.declared.stop.JobStop.{JobStop}
+use Rattle.report_program.specs.declared.stop.JobStop.TheVariants as stops
 
 abbrev pub unkept_text : List ℕ → List ℕ
 unkept_text path = codes "note: no run was found to keep: " ++ path ++ codes " is as it was\n"
@@ -55,12 +55,12 @@ unread_by kinds.OutOfMemory = unreads.NoMemory
 unread_by kind = unreads.File kind
 
 -- Why a job isn't done that wants the file at this path.
-abbrev pub stop_by : Bor (List ℕ) → Unread → Stop
+abbrev pub stop_by : Bor (List ℕ) → Unread → JobStop
 stop_by path unreads.NoMemory = stops.NoMemory
 stop_by path (unreads.File kind) = stops.File path kind
 
 -- What is said of a job that isn't done. Of wrong words that is the text of their error.
-abbrev pub TellsStop : Stop → Bool → Option (List ℕ) → Option (List ℕ) → Type 0
+abbrev pub TellsStop : JobStop → Bool → Option (List ℕ) → Option (List ℕ) → Type 0
 TellsStop stops.NoMemory explain old new = Tells old new memory_line
 TellsStop (stops.File path kind) explain old new = Tells old new (file_text path.now (why_if explain kind))
 TellsStop (stops.Usage usage) explain old new = Unit {0}
@@ -71,7 +71,7 @@ IsUsageStatus (usages.Wrong error) status = (status ≡ 3) ⊎ (status ≡ 5)
 IsUsageStatus (usages.Help error) status = (status ≡ 0) ⊎ (status ≡ 5)
 IsUsageStatus usages.NoMemory status = status ≡ 5
 
-abbrev pub IsStopStatus : Stop → ℕ → Type 0
+abbrev pub IsStopStatus : JobStop → ℕ → Type 0
 IsStopStatus stops.NoMemory status = status ≡ 5
 IsStopStatus (stops.File path kind) status = status ≡ 5
 IsStopStatus (stops.Usage usage) status = IsUsageStatus usage status

@@ -31,7 +31,6 @@ impl Beside {
         Ok(Beside { front, path })
     }
 
-    /// The path with a number.
     fn number(&mut self, number: u32) -> io::Result<()> {
         self.path.clear();
         self.path.push_str(self.front.as_str())?;

@@ -1,5 +1,5 @@
 //! The streams of a job that was done: what they hold back is handed on, or it is known that it wasn't.
-ghost use Rattle.std.specs.Prelude.{◌≡◌, ◌≤◌, ◌<◌, OnOk, None, Some, true, false};
+ghost use Rattle.std.specs.Prelude.{◌≡◌, OnOk, None, Some, true, false};
 ghost use Rattle.report_program.specs.Closing.{HasAll, HasNoMore};
 ghost use Rattle.report_program.specs.declared.closing.Lost.TheVariants.{Lines};
 
@@ -32,23 +32,34 @@ fn hand_on<W: Write + Drop>(buffer: BufWriter<W>) -> (W, io::Result<()>)
     (stream, flushed)
 }
 
-/// Hands on the lines of a job that came to this status, and behind them what it wrote to the file that it makes; of a
-/// job that made none, which has a status above 1, the file gets nothing more.
+/// Hands on the lines of a job, and behind them what it wrote to the file that it makes; of a job that isn't done the file
+/// gets nothing more, and no line is lost.
 pub fn close<W: Write + Drop, S: Write + Drop>(
-    status: u8,
+    is_done: bool,
     out: BufWriter<W>,
     save: BufWriter<S>,
 ) -> Closed<W, S>
-    ensures lines { status ≤ 1 → result.lost ≡ None → HasAll W.contents out result.out }
-    ensures file { status ≤ 1 → result.lost ≡ None → HasAll S.contents save result.save }
-    ensures refused { 1 < status → HasNoMore save result.save }
+    ensures lines { is_done ≡ true → result.lost ≡ None → HasAll W.contents out result.out }
+    ensures file { is_done ≡ true → result.lost ≡ None → HasAll S.contents save result.save }
+    ensures undone { is_done ≡ false → (result.lost ≡ None) × HasNoMore save result.save }
     ensures behind { result.lost ≡ Some Lines → HasNoMore save result.save }
 {
     let (out, lines) = hand_on(out);
-    if status > 1 || lines.is_err() {
+    if !is_done {
         let (save, _) = save.into_parts();
-        let lost = if status > 1 { None } else { Some(Lost::Lines) };
-        return Closed { out, save, lost };
+        return Closed {
+            out,
+            save,
+            lost: None,
+        };
+    }
+    if lines.is_err() {
+        let (save, _) = save.into_parts();
+        return Closed {
+            out,
+            save,
+            lost: Some(Lost::Lines),
+        };
     }
     let (save, file) = hand_on(save);
     let lost = if file.is_err() {

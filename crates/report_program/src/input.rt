@@ -1,7 +1,7 @@
 //! What a job reads.
 
 use crate::sources::{FoundSources, SourcePlace, read_sources};
-use crate::stop::Stop;
+use crate::stop::JobStop;
 use crate::{Unread, read_memory, read_module, read_saved};
 use dwarf_lines::SourceFile;
 use report_command::{Job, RacesJob, RunJob, Search};
@@ -23,10 +23,10 @@ pub struct Input {
 }
 
 /// The bytes that were read of the file at this path, or why that stops the job.
-fn bytes_of(path: &str, read: Result<Vec<u8>, Unread>) -> Result<Vec<u8>, Stop<'_>> {
+fn bytes_of(path: &str, read: Result<Vec<u8>, Unread>) -> Result<Vec<u8>, JobStop<'_>> {
     match read {
         Ok(bytes) => Ok(bytes),
-        Err(why) => Err(Stop::unread(path, why)),
+        Err(why) => Err(JobStop::unread(path, why)),
     }
 }
 
@@ -36,7 +36,7 @@ fn sources_of<'a>(
     job: &Job<'a>,
     path: &'a str,
     module: &[u8],
-) -> Result<FoundSources, Stop<'a>> {
+) -> Result<FoundSources, JobStop<'a>> {
     let Job::Show { how, .. } = job else {
         return Ok(FoundSources::none(rt.alloc()));
     };
@@ -49,7 +49,7 @@ fn sources_of<'a>(
     };
     match read_sources(rt, place, module) {
         Ok(found) => Ok(found),
-        Err(why) => Err(Stop::unread(folder, why)),
+        Err(why) => Err(JobStop::unread(folder, why)),
     }
 }
 
@@ -62,7 +62,7 @@ fn names_path<'a>(job: &Job<'a>) -> Option<&'a str> {
 }
 
 /// Reads what a job wants.
-pub(crate) fn read<'a>(rt: &HostRuntime, job: &Job<'a>) -> Result<Input, Stop<'a>> {
+pub(crate) fn read<'a>(rt: &HostRuntime, job: &Job<'a>) -> Result<Input, JobStop<'a>> {
     let (Job::Check { file, .. }
     | Job::Run(RunJob { file, .. })
     | Job::Replay { file, .. }

@@ -5,7 +5,7 @@ ghost use Rattle.report_command.specs.Jobs.{IsInRange};
 ghost use Rattle.report_command.specs.Options.{is_explained, texts_in};
 ghost use Rattle.report_program.specs.Coloring.{IsColored, IsPlanOf};
 
-use report_command::{Color, EndLook, Job, Misuse, Order, ShowLook, Usage, asked, misused};
+use report_command::{Color, EndLook, Job, JobOrder, ShowLook, Usage, asked, not_text};
 use std::env;
 use std::io::{ErrorKind, IsTerminal};
 
@@ -17,7 +17,7 @@ pub fn words_of(rt: &HostRuntime) -> Result<Vec<String>, Usage> {
     match env::args(rt) {
         Ok(words) => Ok(words.collect(rt.alloc())?),
         Err(error) if error.kind() == ErrorKind::OutOfMemory => Err(Usage::NoMemory),
-        Err(_) => Err(misused(rt.alloc(), Misuse::NotText)),
+        Err(_) => Err(not_text(rt.alloc())),
     }
 }
 
@@ -32,7 +32,7 @@ fn color_on(color: Color, is_terminal: bool) -> Color {
 
 /// What is done, and whether more is said of what goes wrong.
 #[derive(Drop)]
-pub struct Plan<'a> {
+pub struct JobPlan<'a> {
     pub job: Job<'a>,
     pub explain: bool,
 }
@@ -79,15 +79,15 @@ fn colored<'a>(job: Job<'a>, is_terminal: bool, explain: bool) -> Job<'a>
 }
 
 /// An order, with colors and explained as these streams are terminals.
-fn plan_of<'a>(order: Order<'a>, out: bool, err: bool) -> Plan<'a>
+fn plan_of<'a>(order: JobOrder<'a>, out: bool, err: bool) -> JobPlan<'a>
     requires { IsInRange order.job }
     ensures range { IsInRange result.job }
     ensures explain { result.explain ≡ is_explained order.entry.explain err }
     ensures same { IsColored result.explain order.entry.job result.job }
 {
-    let Order { job, explain } = order;
+    let JobOrder { job, explain } = order;
     let explain = explain.is_on(err);
-    Plan {
+    JobPlan {
         job: colored(job, out, explain),
         explain,
     }
@@ -97,7 +97,7 @@ fn plan_of<'a>(order: Order<'a>, out: bool, err: bool) -> Plan<'a>
 ///
 /// # Errors
 /// As those of `report_command::asked`.
-pub fn order_of<'a>(rt: &HostRuntime, words: &'a [&'a str]) -> Result<Plan<'a>, Usage>
+pub fn order_of<'a>(rt: &HostRuntime, words: &'a [&'a str]) -> Result<JobPlan<'a>, Usage>
     ensures range { IfOk result (λ plan. IsInRange plan.job) }
     ensures asks { IfOk result (IsPlanOf (texts_in words.now)) }
 {

@@ -37,9 +37,8 @@ pub fn is_one_place(rt: &HostRuntime, one: &str, other: &str) -> bool {
     }
 }
 
-/// Where a record goes.
 #[derive(Drop)]
-enum Target {
+enum RecordTarget {
     /// A file that takes the place of what has this path, once all of it is there.
     File {
         path: String,
@@ -56,7 +55,7 @@ enum Target {
 /// Where a record goes, found before there is one: all memory that writing it takes is taken then.
 #[derive(Drop)]
 pub struct SavePlace {
-    target: Target,
+    target: RecordTarget,
 }
 
 /// The place of a file at a path, if a file can be made beside it.
@@ -69,7 +68,7 @@ fn of_file(
     beside.create(rt)?;
     beside.remove(rt)?;
     Ok(SavePlace {
-        target: Target::File {
+        target: RecordTarget::File {
             path,
             beside,
             permissions,
@@ -92,7 +91,7 @@ impl SavePlace {
         if path == STANDARD {
             let path = String::from_str(rt.alloc(), STANDARD_OUTPUT)?;
             return Ok(SavePlace {
-                target: Target::Stream { path },
+                target: RecordTarget::Stream { path },
             });
         }
         let found = match fs::metadata(rt, path) {
@@ -108,7 +107,7 @@ impl SavePlace {
         if !found.is_file() {
             let path = String::from_str(rt.alloc(), path)?;
             return Ok(SavePlace {
-                target: Target::Stream { path },
+                target: RecordTarget::Stream { path },
             });
         }
         OpenOptions::new().write(true).open(rt, path)?;
@@ -118,7 +117,7 @@ impl SavePlace {
 
     /// Whether it is no file, and takes what is written as it is written.
     pub(crate) fn is_stream(&self) -> bool {
-        matches!(self.target, Target::Stream { .. })
+        matches!(self.target, RecordTarget::Stream { .. })
     }
 }
 
@@ -126,7 +125,7 @@ impl SavePlace {
 #[derive(Drop)]
 pub struct SavedFile<'a> {
     rt: &'a HostRuntime,
-    target: Option<Target>,
+    target: Option<RecordTarget>,
     file: Option<File>,
 }
 
@@ -148,8 +147,8 @@ impl<'a> SavedFile<'a> {
     /// Makes the file, or opens what is there.
     fn open(&mut self) -> io::Result<File> {
         match &mut self.target {
-            Some(Target::File { beside, .. }) => beside.create(self.rt),
-            Some(Target::Stream { path }) => {
+            Some(RecordTarget::File { beside, .. }) => beside.create(self.rt),
+            Some(RecordTarget::Stream { path }) => {
                 OpenOptions::new().append(true).open(self.rt, path.as_str())
             }
             None => Err(Error::from(ErrorKind::NotFound)),
@@ -165,7 +164,7 @@ impl<'a> SavedFile<'a> {
         let (
             Some(file),
             Some(
-                Target::File {
+                RecordTarget::File {
                     path,
                     beside,
                     permissions,
@@ -197,7 +196,7 @@ impl<'a> SavedFile<'a> {
     /// Takes away what was written of a record that isn't all there.
     pub fn give_up(self) {
         let SavedFile { rt, target, file } = self;
-        if let (Some(_), Some(Target::File { beside, .. })) = (file, target) {
+        if let (Some(_), Some(RecordTarget::File { beside, .. })) = (file, target) {
             let _ = beside.remove(rt);
         }
     }

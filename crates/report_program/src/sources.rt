@@ -58,7 +58,6 @@ impl FoundSources {
     }
 }
 
-/// The text of a file, and its path.
 #[derive(Drop)]
 struct FoundText {
     path: String,

@@ -2,7 +2,7 @@
 ghost use Rattle.std.specs.Prelude.{◌≡◌};
 ghost use Rattle.std.specs.IoError.{error_kind};
 ghost use Rattle.report_program.specs.Messages.{stop_by, unread_by, TellsStop, IsStopStatus};
-ghost use Rattle.report_program.specs.declared.stop.Stop.TheVariants as stops;
+ghost use Rattle.report_program.specs.declared.stop.JobStop.TheVariants as stops;
 
 use crate::telling::{say_usage, tell_file_fault, tell_no_memory, why_if};
 use crate::{Noted, Unread};
@@ -13,53 +13,52 @@ use std::io::{self, ErrorKind, Write};
 
 /// Why a job isn't done.
 #[derive(Drop)]
-pub(crate) enum Stop<'a> {
+pub(crate) enum JobStop<'a> {
     Usage(Usage),
     /// The file at this path failed, for this reason.
     File(&'a str, ErrorKind),
     NoMemory,
 }
 
-impl From<io::Error> for Stop<'_> {
+impl From<io::Error> for JobStop<'_> {
     ghost from_gives = { λ _ e. e ≡ stops.NoMemory };
 
     /// The error of a buffer, which is that of memory.
     fn from(_: io::Error) -> Self {
-        Stop::NoMemory
+        JobStop::NoMemory
     }
 }
 
-impl<'a> Stop<'a> {
+impl<'a> JobStop<'a> {
     /// The file at the path couldn't be read.
-    pub(crate) fn unread(path: &'a str, why: Unread) -> Stop<'a>
+    pub(crate) fn unread(path: &'a str, why: Unread) -> JobStop<'a>
         ensures { result ≡ stop_by path.entry why }
     {
         match why {
-            Unread::NoMemory => Stop::NoMemory,
-            Unread::File(kind) => Stop::File(path, kind),
+            Unread::NoMemory => JobStop::NoMemory,
+            Unread::File(kind) => JobStop::File(path, kind),
         }
     }
 
     /// The file at the path can't be made.
-    pub(crate) fn unmade(path: &'a str, error: io::Error) -> Stop<'a>
+    pub(crate) fn unmade(path: &'a str, error: io::Error) -> JobStop<'a>
         ensures { result ≡ stop_by path.entry (unread_by (error_kind error)) }
     {
-        Stop::unread(path, Unread::from(error))
+        JobStop::unread(path, Unread::from(error))
     }
 
     /// Writes the object of what failed, where one is asked for and the words are right.
     fn print<W: Write>(&self, alloc: Global, out: &mut W, form: Form) {
         let failure = match self {
-            Stop::NoMemory => Failure::Memory,
-            Stop::File(path, _) => Failure::File(*path),
-            Stop::Usage(_) => return,
+            JobStop::NoMemory => Failure::Memory,
+            JobStop::File(path, _) => Failure::File(*path),
+            JobStop::Usage(_) => return,
         };
         if form == Form::Json {
             let _ = write_failed(alloc, out, failure);
         }
     }
 
-    /// Says it on these streams, as `tell` says.
     fn say<W: Write, E: Write>(
         &self,
         alloc: Global,
@@ -73,9 +72,9 @@ impl<'a> Stop<'a> {
     {
         self.print(alloc, out, form);
         match self {
-            Stop::NoMemory => tell_no_memory(err),
-            Stop::File(path, kind) => tell_file_fault(alloc, err, path, why_if(explain, *kind)),
-            Stop::Usage(usage) => say_usage(alloc, out, err, usage),
+            JobStop::NoMemory => tell_no_memory(err),
+            JobStop::File(path, kind) => tell_file_fault(alloc, err, path, why_if(explain, *kind)),
+            JobStop::Usage(usage) => say_usage(alloc, out, err, usage),
         }
     }
 

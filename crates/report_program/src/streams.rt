@@ -2,10 +2,11 @@
 
 use std::io::{self, ErrorKind, Write};
 
-/// A stream, and whether a write to it failed since nobody is left to read it.
+/// A stream, whether it took anything, and whether a write to it failed since nobody is left to read it.
 #[derive(Drop)]
 pub struct Noted<W> {
     stream: W,
+    is_untouched: bool,
     is_closed: bool,
 }
 
@@ -14,8 +15,14 @@ impl<W> Noted<W> {
     pub fn new(stream: W) -> Noted<W> {
         Noted {
             stream,
+            is_untouched: true,
             is_closed: false,
         }
+    }
+
+    /// Whether it took nothing yet.
+    pub fn is_untouched(&self) -> bool {
+        self.is_untouched
     }
 
     /// Whether a write failed since nobody is left to read it.
@@ -27,8 +34,9 @@ impl<W> Noted<W> {
 impl<W: Write> Write for Noted<W> {
     fn write(&mut self, bytes: &[u8]) -> io::Result<usize> {
         let wrote = self.stream.write(bytes);
-        if let Err(error) = &wrote {
-            self.is_closed = error.kind() == ErrorKind::BrokenPipe;
+        match &wrote {
+            Ok(count) => self.is_untouched = self.is_untouched && *count == 0,
+            Err(error) => self.is_closed = error.kind() == ErrorKind::BrokenPipe,
         }
         wrote
     }

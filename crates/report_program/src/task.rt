@@ -7,13 +7,12 @@ ghost use Rattle.report_program.specs.Messages.{MayReplace, TellsLost};
 ghost use Rattle.report_command.specs.declared.command_line.Job.TheVariants as jobs;
 
 use crate::closing::{Closed, Lost, close, close_behind};
-use crate::copied::Copied;
 use crate::input::{Input, read};
-use crate::stop::Stop;
+use crate::stop::JobStop;
 use crate::telling::{tell_file_fault, tell_output_fault, tell_unkept, why_if};
 use crate::{Noted, SavePlace, SavedFile, is_one_file, is_one_place};
-use report_command::{Form, Job, Misuse, RunJob, Search, misused};
-use report_jobs::{Streams, say};
+use report_command::{Job, Misuse, RunJob, Search, misused};
+use report_jobs::{JobResult, Streams, say, status_of};
 use std::alloc::Global;
 use std::io::{self, BufWriter, Write};
 
@@ -34,7 +33,7 @@ pub struct Task<'a, W: Write + Drop> {
     pub input: Input,
     /// Whether it is to explain.
     explain: bool,
-    pub streams: Streams<BufWriter<Copied<Noted<W>>>, Vec<u8>, BufWriter<SavedFile<'a>>>,
+    pub streams: Streams<BufWriter<Noted<W>>, Vec<u8>, BufWriter<SavedFile<'a>>>,
 }
 
 /// The path of the file that a job makes, a record, a page or a trace, or none.
@@ -58,7 +57,6 @@ fn memory_of<'a>(job: &Job<'a>) -> Option<&'a str>
     }
 }
 
-/// A path as it is said, or nothing.
 fn path_text(path: Option<&str>) -> &str
     ensures { result.now ≡ path_text path.entry }
 {
@@ -66,13 +64,13 @@ fn path_text(path: Option<&str>) -> &str
 }
 
 /// Where the file with this path goes, if there is to be one.
-fn place_of<'a>(rt: &HostRuntime, path: Option<&'a str>) -> Result<Option<SavePlace>, Stop<'a>> {
+fn place_of<'a>(rt: &HostRuntime, path: Option<&'a str>) -> Result<Option<SavePlace>, JobStop<'a>> {
     let Some(path) = path else {
         return Ok(None);
     };
     match SavePlace::new(rt, path) {
         Ok(place) => Ok(Some(place)),
-        Err(error) => Err(Stop::unmade(path, error)),
+        Err(error) => Err(JobStop::unmade(path, error)),
     }
 }
 
@@ -144,9 +142,9 @@ fn replaced(rt: &HostRuntime, job: &Job) -> Option<Misuse>
 }
 
 /// Refuses a file that would take the place of one that is read.
-fn keep_module<'a>(rt: &HostRuntime, job: &Job<'a>) -> Result<(), Stop<'a>> {
+fn keep_module<'a>(rt: &HostRuntime, job: &Job<'a>) -> Result<(), JobStop<'a>> {
     match replaced(rt, job) {
-        Some(misuse) => Err(Stop::Usage(misused(rt.alloc(), misuse))),
+        Some(misuse) => Err(JobStop::Usage(misused(rt.alloc(), misuse))),
         None => Ok(()),
     }
 }
@@ -226,20 +224,6 @@ fn room_for(paths: &[Option<&str>]) -> usize {
     room
 }
 
-/// How a job's outcome is told.
-#[derive(Clone, Copy)]
-struct Told {
-    form: Form,
-    explain: bool,
-}
-
-impl Told {
-    /// Whether a copy of what it prints is wanted: to explain it, or to see whether an object was printed.
-    fn is_copied(self) -> bool {
-        self.explain || self.form == Form::Json
-    }
-}
-
 /// Begins a job with what was read for it, and with the places of the files that it makes. Standard error has so much
 /// room. An error is that of memory.
 fn begin<'a, W: Write + Drop>(
@@ -248,19 +232,18 @@ fn begin<'a, W: Write + Drop>(
     input: Input,
     room: usize,
     places: (Option<SavePlace>, Option<SavePlace>),
-    told: Told,
+    explain: bool,
 ) -> io::Result<Task<'a, W>> {
     let alloc = rt.alloc();
     let (place, memory) = places;
     let mut err = Vec::with_capacity(alloc, room.saturating_add(input.notes.len()))?;
     err.extend_from_slice(input.notes.as_bytes())?;
-    let stdout = Copied::new(alloc, Noted::new(stdout), told.is_copied());
-    let out = BufWriter::with_capacity(alloc, OUT, stdout)?;
+    let out = BufWriter::with_capacity(alloc, OUT, Noted::new(stdout))?;
     let save = BufWriter::with_capacity(alloc, RECORD, SavedFile::new(rt, place))?;
     let memory = BufWriter::with_capacity(alloc, RECORD, SavedFile::new(rt, memory))?;
     Ok(Task {
         input,
-        explain: told.explain,
+        explain,
         streams: Streams {
             out,
             err,
@@ -275,17 +258,16 @@ fn prepare<'a, 'j, W: Write + Drop>(
     rt: &'a HostRuntime,
     stdout: W,
     job: &Job<'j>,
-    told: Told,
-) -> Result<Task<'a, W>, Stop<'j>> {
+    explain: bool,
+) -> Result<Task<'a, W>, JobStop<'j>> {
     keep_module(rt, job)?;
     let input = read(rt, job)?;
     let places = (place_of(rt, record_of(job))?, place_of(rt, memory_of(job))?);
     let room = room_for(&[record_of(job), memory_of(job)]);
-    Ok(begin(rt, stdout, input, room, places, told)?)
+    Ok(begin(rt, stdout, input, room, places, explain)?)
 }
 
-/// Begins a job: reads its files, and takes the places of the files that it makes and the memory of its streams. Where
-/// it is to explain, or to print an object, a copy of what it prints is kept.
+/// Begins a job: reads its files, and takes the places of the files that it makes and the memory of its streams.
 ///
 /// # Errors
 /// The status, once it was said on standard error why: 3 where a file would take the place of one that is read, 5
@@ -296,54 +278,57 @@ pub fn open_task<'a, W: Write + Drop>(
     job: &Job,
     explain: bool,
 ) -> Result<Task<'a, W>, u8> {
-    let form = job.form();
-    match prepare(rt, stdout, job, Told { form, explain }) {
+    match prepare(rt, stdout, job, explain) {
         Ok(task) => Ok(task),
-        Err(stop) => Err(stop.tell(rt, form, explain)),
+        Err(stop) => Err(stop.tell(rt, job.form(), explain)),
     }
 }
 
 /// Says of a search that was to keep a run that it kept none.
-fn note_unkept(rt: &HostRuntime, job: &Job, status: u8, save: &SavedFile) {
+fn note_unkept(rt: &HostRuntime, job: &Job, save: &SavedFile) {
     if let Job::Search(
         Search {
             save: Some(path),
             ..
         },
     ) = job
-        && status <= 1
         && save.is_untouched()
     {
         tell_unkept(rt.alloc(), &mut rt.stderr(), path);
     }
 }
 
-/// The files of a job, and which stream didn't get all.
 #[derive(Drop)]
-struct Ended<'a> {
+struct JobFiles<'a> {
     save: SavedFile<'a>,
     memory: SavedFile<'a>,
 }
 
-impl Ended<'_> {
-    /// Takes away what there is of both.
+impl JobFiles<'_> {
     fn give_up(self) {
         self.save.give_up();
         self.memory.give_up();
     }
 
-    /// Gives both their paths, if the status is one with which there are files. Answers the status, or 5.
+    /// Gives both their paths, if the status is one with which there are files, 0 or 1. Answers the status, or 5.
     fn finish(self, rt: &HostRuntime, job: &Job, status: u8, explain: bool) -> u8 {
-        note_unkept(rt, job, status, &self.save);
+        if explain && status <= 1 {
+            note_unkept(rt, job, &self.save);
+        }
         let status = finish(rt, job, status, self.save, explain);
         finish_memory(rt, job, status, self.memory, explain)
     }
 }
 
 impl<W: Write + Drop> Task<'_, W> {
-    /// Hands on what the job wrote, says what went wrong, and keeps the files that it made, if it came to a status with
-    /// which there are some. Answers the status: the job's, or 5 where a stream didn't get all.
-    pub fn end(self, rt: &HostRuntime, job: &Job, status: u8) -> u8 {
+    /// Whether nothing was written to standard output.
+    pub fn is_silent(&self) -> bool {
+        self.streams.out.buffer().is_empty() && self.streams.out.get_ref().is_untouched()
+    }
+
+    /// Hands on what the job wrote, says what went wrong, and keeps the files that it made, if it is done. Answers the
+    /// status: the job's, or 5 where a stream didn't get all.
+    pub fn end(self, rt: &HostRuntime, job: &Job, ended: &JobResult) -> u8 {
         let Task {
             streams,
             explain,
@@ -355,10 +340,11 @@ impl<W: Write + Drop> Task<'_, W> {
             save,
             memory,
         } = streams;
-        let Closed { out, save, lost } = close(status, out, save);
-        let (memory, lost_memory) = close_behind(status <= 1 && lost.is_none(), memory);
-        let files = Ended { save, memory };
-        let is_closed = out.stream().is_closed();
+        let is_done = ended.is_ok();
+        let Closed { out, save, lost } = close(is_done, out, save);
+        let (memory, lost_memory) = close_behind(is_done && lost.is_none(), memory);
+        let files = JobFiles { save, memory };
+        let is_closed = out.is_closed();
         if !is_closed {
             say(&mut rt.stderr(), &err);
         }
@@ -369,7 +355,7 @@ impl<W: Write + Drop> Task<'_, W> {
             (lost, lost_memory),
             is_closed,
         ) {
-            None => files.finish(rt, job, status, explain),
+            None => files.finish(rt, job, status_of(ended), explain),
             Some(fault) => {
                 files.give_up();
                 fault

@@ -63,7 +63,6 @@ fn reason_of(kind: ErrorKind) -> &'static str
     }
 }
 
-/// The same, or nothing.
 fn reason_if(why: Option<ErrorKind>) -> &'static str
     ensures { result.now ≡ why_text why }
 {

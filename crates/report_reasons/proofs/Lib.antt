@@ -1,0 +1,3 @@
+mod Explaining
+pub mod LineTexts
+pub mod Shown

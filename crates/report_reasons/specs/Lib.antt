@@ -1,2 +1,4 @@
 pub mod Added
-pub mod Misfits
+pub mod Lines
+pub mod Objects
+pub mod Reasons

@@ -25,7 +25,6 @@ pub(crate) fn add_reading(
     add_hint(out, bytes, kind, offset)
 }
 
-/// Whether bytes look like a text.
 fn is_text(bytes: &[u8]) -> bool {
     let front = bytes.get(..FRONT).unwrap_or(bytes);
     !front.is_empty()
@@ -48,7 +47,6 @@ fn add_front(out: &mut String, bytes: &[u8]) -> Result<(), AllocError> {
     write!(out, "{words}\n")
 }
 
-/// The byte at a place, if there is one.
 fn byte_at(bytes: &[u8], offset: usize) -> Option<u8> {
     bytes.get(offset).copied()
 }
@@ -90,7 +88,6 @@ fn add_byte(out: &mut String, bytes: &[u8], kind: Fault, offset: usize) -> Resul
     out.push_str(" ")
 }
 
-/// Adds what to do.
 fn add_hint(out: &mut String, bytes: &[u8], kind: Fault, offset: usize) -> Result<(), AllocError> {
     if let Some(unserved) = unserved_at(bytes, kind, offset) {
         let hint = unserved.hint;

@@ -49,7 +49,6 @@ pub(crate) fn add_call(
     }
 }
 
-/// Adds the names under which functions are exported.
 fn add_exports(out: &mut String, exports: &[Export]) -> Result<(), AllocError> {
     let mut told = 0usize;
     for export in exports {

@@ -1,19 +1,22 @@
-//! The lines behind the one line on standard error, for which `--explain` asks: why a job's module, call or record is
-//! refused or its threads were stopped, and what to do.
+//! What is said of a job behind its one line: the lines for which `--explain` asks, why its module, call or record is
+//! refused or its threads were stopped and what to do; and the JSON object of a job that isn't done, which has these lines
+//! as hints. Both are made of what came of the job, `report_jobs::JobResult`; nothing is read, validated or replayed again.
 //!
-//! Proved: `explain` and `explain_done` add to a text, or leave it as it was.
+//! Proved: `write_undone` writes exactly the object of what is refused, with its status, its numbers and the hints, or of
+//! what failed; `explain` adds to a text, or leaves it as it was, and of a refused record first the line
+//! that is refused. Which other lines explain what, cases say.
 #![tactic(auto)]
 
 mod bytes;
 mod calls;
-mod done;
-mod ends;
-mod misfit;
+mod explained;
+mod lines;
+mod object;
 mod opcodes;
 mod records;
-mod refused;
 mod site;
 mod validity;
 
-pub use done::{Done, explain_done};
-pub use refused::{Instead, Misfit, Refused, explain};
+pub use explained::{JobInputs, call_of, explain};
+pub use object::write_undone;
+pub use records::{UnfitThread, add_misfit};

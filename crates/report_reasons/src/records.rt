@@ -1,30 +1,15 @@
 //! Records that are refused.
 
-use crate::refused::{Instead, Misfit};
-use replay_text::{EventWords, RecordFault};
+ghost use Rattle.std.specs.Prelude.{IfOk};
+ghost use Rattle.std.specs.String.{string_bytes};
+ghost use Rattle.report_reasons.specs.Added.{IsAddedTo};
+ghost use Rattle.report_reasons.specs.Lines.{BeginsWithLine};
+
+use crate::lines::add_line;
+use interp_trait::Turn;
+use replay_text::EventWords;
 use show_text::Plain;
 use std::alloc::AllocError;
-
-/// Adds a line of a record, by its number, from 1 on.
-fn add_line(out: &mut String, saved: &[u8], number: usize) -> Result<(), AllocError> {
-    let at = number.saturating_sub(1);
-    let Some(line) = saved.split(|byte| *byte == b'\n').nth(at) else {
-        return Ok(());
-    };
-    write!(out, "line {number}: the record has ")?;
-    if line.first().is_some_and(|byte| byte.is_ascii_digit()) {
-        out.push('t')?;
-    }
-    for byte in line.iter().take(200) {
-        let c = char::from(*byte);
-        out.push(if c.is_ascii() && !c.is_control() {
-            c
-        } else {
-            '?'
-        })?;
-    }
-    out.push('\n')
-}
 
 /// What the lines of a header are that both versions have.
 const CALL: [&str; 4] = [
@@ -59,41 +44,66 @@ fn header_words(saved: &[u8], number: usize) -> &'static str {
     }
 }
 
-/// Adds why bytes are no record's text.
-pub(crate) fn add_unread(
-    out: &mut String,
-    saved: &[u8],
-    fault: RecordFault,
-) -> Result<(), AllocError> {
-    match fault {
-        RecordFault::Header(number) => {
-            add_line(out, saved, number)?;
-            let words = header_words(saved, number);
-            write!(out, "{words}\n")
-        }
-        RecordFault::Unreadable(number) => {
-            add_line(out, saved, number)?;
-            out.push_str(
-                "it is no line that may stand there: an entry, an end, the pages or finish, with one spelling each\n",
-            )
-        }
-        RecordFault::EndMissing => {
-            out.push_str("the text ends before the line finish: it may be cut\n")
-        }
-        RecordFault::NoMemory => Ok(()),
-    }
+/// Adds why a line of a record's header, by its number from 1 on, can't be one.
+pub(crate) fn add_header(out: &mut String, saved: &[u8], number: usize) -> Result<(), AllocError>
+    ensures { IfOk result (λ _. BeginsWithLine saved.now number (string_bytes out.old) (string_bytes out.new)) }
+{
+    add_line(out, saved, number)?;
+    let words = header_words(saved, number);
+    write!(out, "{words}\n")
 }
 
-/// Adds why a line of a record is of no run of the module.
-pub(crate) fn add_misfit(
+/// Adds why a line of a record behind its header, by its number from 1 on, can't be one.
+pub(crate) fn add_unreadable(
     out: &mut String,
     saved: &[u8],
     number: usize,
-    misfit: Option<Misfit>,
-) -> Result<(), AllocError> {
+) -> Result<(), AllocError>
+    ensures { IfOk result (λ _. BeginsWithLine saved.now number (string_bytes out.old) (string_bytes out.new)) }
+{
     add_line(out, saved, number)?;
-    if let Some(misfit) = misfit {
-        add_instead(out, misfit)?;
+    add_none_such(out)
+}
+
+/// Adds that the line is none that may stand there.
+fn add_none_such(out: &mut String) -> Result<(), AllocError>
+    ensures { IfOk result (λ _. IsAddedTo (string_bytes out.old) (string_bytes out.new)) }
+{
+    out.push_str(
+        "it is no line that may stand there: an entry, an end, the pages or finish, with one spelling each\n",
+    )
+}
+
+/// The thread of a line that doesn't fit.
+#[derive(Clone, Copy)]
+pub struct UnfitThread<'a> {
+    pub number: u32,
+    /// What it comes to in place of the line, where that is known.
+    pub turn: Option<Turn>,
+    /// Where it stands behind its last entry, as it is printed.
+    pub spot: &'a str,
+}
+
+/// Adds why a line of a record, by its number from 1 on, is of no run of the module, with what its thread does in place of
+/// it, where that is known.
+pub fn add_misfit(
+    out: &mut String,
+    saved: &[u8],
+    number: usize,
+    thread: Option<UnfitThread>,
+) -> Result<(), AllocError>
+    ensures { IfOk result (λ _. BeginsWithLine saved.now number (string_bytes out.old) (string_bytes out.new)) }
+{
+    add_line(out, saved, number)?;
+    add_no_run(out, thread)
+}
+
+/// Adds that no run goes on so, and what the thread of the line does in place of it, where that is known.
+fn add_no_run(out: &mut String, thread: Option<UnfitThread>) -> Result<(), AllocError>
+    ensures { IfOk result (λ _. IsAddedTo (string_bytes out.old) (string_bytes out.new)) }
+{
+    if let Some(thread) = thread {
+        add_instead(out, thread)?;
     }
     out.push_str(
         "no run of this module goes on so: is the record of another module, or of another build of it?\n",
@@ -101,22 +111,19 @@ pub(crate) fn add_misfit(
 }
 
 /// Adds what a thread does in place of the record's line, and where it stands.
-fn add_instead(out: &mut String, misfit: Misfit) -> Result<(), AllocError> {
-    let thread = misfit.thread;
-    match misfit.instead {
-        Some(Instead::Wants(event)) => {
+fn add_instead(out: &mut String, thread: UnfitThread) -> Result<(), AllocError>
+    ensures { IfOk result (λ _. IsAddedTo (string_bytes out.old) (string_bytes out.new)) }
+{
+    let UnfitThread { number, turn, spot } = thread;
+    match turn {
+        Some(Turn::Wants(event)) => {
             let words = EventWords(event);
-            write!(out, "t{thread} would do {words}\n")?;
+            write!(out, "t{number} would do {words}\n")?;
         }
-        Some(Instead::Awaits) => write!(out, "t{thread} waits for an answer\n")?,
-        Some(Instead::Ended(outcome)) => write!(out, "t{thread} has ended: {outcome}\n")?,
-        None => {}
+        Some(Turn::Awaits) => write!(out, "t{number} waits for an answer\n")?,
+        Some(Turn::Ended(outcome)) => write!(out, "t{number} has ended: {outcome}\n")?,
+        Some(Turn::Moved) | None => {}
     }
-    match misfit.spot {
-        Some(spot) => {
-            let spot = Plain(spot);
-            write!(out, "t{thread} stands at {spot} before it\n")
-        }
-        None => Ok(()),
-    }
+    let spot = Plain(spot);
+    write!(out, "t{number} stands at {spot} before it\n")
 }

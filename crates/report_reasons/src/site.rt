@@ -41,35 +41,50 @@ fn skip_limits(reader: &mut Reader) -> Option<()> {
     Some(())
 }
 
-/// Goes past an import, and says whether it is a function.
-fn skip_import(reader: &mut Reader) -> Option<bool> {
-    reader.read_name().ok()?;
-    reader.read_name().ok()?;
-    match reader.read_byte().ok()? {
-        0 => {
+/// The kinds of imports of which a module may have one (Core specification 1.0, section 5.5.5).
+pub(crate) const FUNCTION: u8 = 0;
+
+pub(crate) const MEMORY: u8 = 2;
+
+/// An import: its names, and the byte that says of what kind it is.
+#[derive(Clone, Copy)]
+pub(crate) struct ImportNames<'a> {
+    pub(crate) module: &'a str,
+    pub(crate) name: &'a str,
+    pub(crate) kind: u8,
+}
+
+/// Goes past what is imported, which is of this kind.
+fn skip_description(reader: &mut Reader, kind: u8) -> Option<()> {
+    match kind {
+        FUNCTION => {
             reader.read_u32().ok()?;
-            Some(true)
         }
         1 => {
             reader.read_byte().ok()?;
             skip_limits(reader)?;
-            Some(false)
         }
-        2 => {
-            skip_limits(reader)?;
-            Some(false)
-        }
+        MEMORY => skip_limits(reader)?,
         3 => {
             reader.read_byte().ok()?;
             reader.read_byte().ok()?;
-            Some(false)
         }
-        _ => None,
+        _ => return None,
     }
+    Some(())
+}
+
+/// The import at the front of what is left.
+pub(crate) fn next_import<'a>(reader: &mut Reader<'a>) -> Option<ImportNames<'a>> {
+    let module = reader.read_name().ok()?;
+    let name = reader.read_name().ok()?;
+    let kind = reader.read_byte().ok()?;
+    skip_description(reader, kind)?;
+    Some(ImportNames { module, name, kind })
 }
 
 /// How many functions are imported.
-fn imported_functions(bytes: &[u8]) -> Option<u32> {
+pub(crate) fn imported_functions(bytes: &[u8]) -> Option<u32> {
     let Some(section) = section_of(bytes, 2) else {
         return Some(0);
     };
@@ -77,14 +92,13 @@ fn imported_functions(bytes: &[u8]) -> Option<u32> {
     let count = reader.read_u32().ok()?;
     let mut functions = 0u32;
     for _ in 0..count {
-        if skip_import(&mut reader)? {
+        if next_import(&mut reader)?.kind == FUNCTION {
             functions = functions.saturating_add(1);
         }
     }
     Some(functions)
 }
 
-/// What a section is called.
 fn section_name(id: u8) -> &'static str {
     match id {
         0 => "custom",

@@ -1,43 +1,46 @@
 //! Modules that aren't valid.
 
-use crate::site::add_function;
-use show_places::{code_places, section_of};
+use crate::site::{FUNCTION, ImportNames, MEMORY, add_function, imported_functions, next_import};
+use binary_wire::Reader;
+use show_places::{read_places, section_of};
 use show_text::Plain;
 use std::alloc::{AllocError, Global};
-use types::{Import, ImportDesc, Parts};
-use validate_typing::{Fault, ValidFault};
+use validate_typing::Fault;
 
-/// Adds why a module isn't valid, and what to do. The parts are those that its bytes spell.
-pub(crate) fn add_validity(
+/// Adds which rule outside its bodies a module breaks, and what to do.
+pub(crate) fn add_rule(
     alloc: Global,
     out: &mut String,
     bytes: &[u8],
-    parts: &Parts,
-    fault: ValidFault,
+    kind: Fault,
 ) -> Result<(), AllocError> {
-    match fault {
-        ValidFault::OutOfMemory => Ok(()),
-        ValidFault::Outside(kind) => {
-            write!(out, "{kind}\n")?;
-            match kind {
-                Fault::UnknownImport => add_imports(out, parts.imports.as_slice()),
-                Fault::StartSection => add_start(alloc, out, bytes, parts.start),
-                _ => add_rule(out, kind),
-            }
-        }
-        ValidFault::InBody {
-            kind,
-            function,
-            instruction,
-        } => {
-            add_place(alloc, out, bytes, parts, function, instruction)?;
-            write!(out, ": {kind}\n")
-        }
+    write!(out, "{kind}\n")?;
+    match kind {
+        Fault::UnknownImport => add_imports(out, bytes),
+        Fault::StartSection => add_start(alloc, out, bytes),
+        _ => add_words(out, kind),
     }
 }
 
-/// Adds what a rule outside bodies asks for.
-fn add_rule(out: &mut String, kind: Fault) -> Result<(), AllocError> {
+/// Adds which rule a module breaks in a body: of the function with this index, at this instruction.
+pub(crate) fn add_in_body(
+    alloc: Global,
+    out: &mut String,
+    bytes: &[u8],
+    kind: Fault,
+    function: usize,
+    instruction: usize,
+) -> Result<(), AllocError> {
+    let index = u32::try_from(function).unwrap_or(u32::MAX);
+    write!(out, "instruction {instruction}")?;
+    if let Some(offset) = offset_of(alloc, bytes, index, instruction) {
+        write!(out, " at {offset:#x}")?;
+    }
+    add_function(alloc, out, bytes, index)?;
+    write!(out, ": {kind}\n")
+}
+
+fn add_words(out: &mut String, kind: Fault) -> Result<(), AllocError> {
     let words = match kind {
         Fault::MoreThanOne => {
             "a module has one memory and one table at most, and a function and a block one result; \
@@ -58,23 +61,29 @@ fn add_rule(out: &mut String, kind: Fault) -> Result<(), AllocError> {
     write!(out, "{words}\n")
 }
 
-/// Whether an import is one of the two that there are, by its names.
-fn is_served(import: &Import) -> bool {
-    let names = (import.module.as_str(), import.name.as_str());
-    match import.desc {
-        ImportDesc::Func(_) => names == ("wasi", "thread-spawn"),
-        ImportDesc::Memory(_) => names == ("env", "memory"),
-        ImportDesc::Table(_) | ImportDesc::Global(_) => false,
+/// Whether an import is one of the two that there are.
+fn is_served(import: &ImportNames) -> bool {
+    let ImportNames { module, name, kind } = *import;
+    match kind {
+        FUNCTION => module == "wasi" && name == "thread-spawn",
+        MEMORY => module == "env" && name == "memory",
+        _ => false,
     }
 }
 
 /// Adds the imports that there are none of.
-fn add_imports(out: &mut String, imports: &[Import]) -> Result<(), AllocError> {
-    for import in imports {
-        if !is_served(import) {
-            let module = Plain(import.module.as_str());
-            let name = Plain(import.name.as_str());
-            write!(out, "the module imports {module} {name}\n")?;
+fn add_imports(out: &mut String, bytes: &[u8]) -> Result<(), AllocError> {
+    if let Some(section) = section_of(bytes, 2) {
+        let mut reader = Reader::new(section.contents);
+        let count = reader.read_u32().unwrap_or(0);
+        for _ in 0..count {
+            let Some(import) = next_import(&mut reader) else {
+                break;
+            };
+            if !is_served(&import) {
+                let (module, name) = (Plain(import.module), Plain(import.name));
+                write!(out, "the module imports {module} {name}\n")?;
+            }
         }
     }
     out.push_str(
@@ -82,15 +91,14 @@ fn add_imports(out: &mut String, imports: &[Import]) -> Result<(), AllocError> {
     )
 }
 
-/// Adds the start function.
-fn add_start(
-    alloc: Global,
-    out: &mut String,
-    bytes: &[u8],
-    start: Option<u32>,
-) -> Result<(), AllocError> {
+fn start_in(bytes: &[u8]) -> Option<u32> {
+    let section = section_of(bytes, 8)?;
+    Reader::new(section.contents).read_u32().ok()
+}
+
+fn add_start(alloc: Global, out: &mut String, bytes: &[u8]) -> Result<(), AllocError> {
     out.push_str("the start section")?;
-    if let Some(index) = start {
+    if let Some(index) = start_in(bytes) {
         add_function(alloc, out, bytes, index)?;
     }
     out.push_str(
@@ -99,56 +107,29 @@ fn add_start(
     )
 }
 
-/// How many functions are imported.
-fn count_imported(parts: &Parts) -> usize {
-    let mut count = 0usize;
-    for import in parts.imports.as_slice() {
-        if let ImportDesc::Func(_) = import.desc {
-            count = count.saturating_add(1);
-        }
+/// What is left of a code section from the body of this number on, the first being that of the first function of the
+/// module itself.
+fn body_in(contents: &[u8], own: u32) -> Option<Reader<'_>> {
+    let mut reader = Reader::new(contents);
+    reader.read_u32().ok()?;
+    for _ in 0..own {
+        reader.read_bytes().ok()?;
     }
-    count
+    let mut body = reader.read_block().ok()?;
+    let groups = body.read_u32().ok()?;
+    for _ in 0..groups {
+        body.read_u32().ok()?;
+        body.read_byte().ok()?;
+    }
+    Some(body)
 }
 
-/// Adds the place of an instruction, by its function's index and its number in the body.
-fn add_place(
-    alloc: Global,
-    out: &mut String,
-    bytes: &[u8],
-    parts: &Parts,
-    function: usize,
-    instruction: usize,
-) -> Result<(), AllocError> {
-    write!(out, "instruction {instruction}")?;
-    if let Some(offset) = offset_of(alloc, bytes, parts, function, instruction)? {
-        write!(out, " at {offset:#x}")?;
-    }
-    add_function(
-        alloc,
-        out,
-        bytes,
-        u32::try_from(function).unwrap_or(u32::MAX),
-    )
-}
-
-/// The offset in the file of an instruction.
-fn offset_of(
-    alloc: Global,
-    bytes: &[u8],
-    parts: &Parts,
-    function: usize,
-    instruction: usize,
-) -> Result<Option<usize>, AllocError> {
-    let Some(code) = section_of(bytes, 10) else {
-        return Ok(None);
-    };
-    let Ok(bodies) = code_places(alloc, code.contents) else {
-        return Ok(None);
-    };
-    let own = function.saturating_sub(count_imported(parts));
-    let Some(body) = bodies.as_slice().get(own) else {
-        return Ok(None);
-    };
-    let place = body.instrs.as_slice().get(instruction);
-    Ok(place.map(|place| place.saturating_add(code.offset)))
+/// The offset in the file of an instruction, by its function's index and its number in the body.
+fn offset_of(alloc: Global, bytes: &[u8], function: u32, instruction: usize) -> Option<usize> {
+    let code = section_of(bytes, 10)?;
+    let own = function.checked_sub(imported_functions(bytes)?)?;
+    let mut body = body_in(code.contents, own)?;
+    let places = read_places(&mut body, alloc).ok()?;
+    let place = places.get(instruction)?;
+    Some(place.saturating_add(code.offset))
 }

@@ -1,6 +1,6 @@
 //! Each front of a module under `check`, and command lines as jobs.
 use report_command::{Form, Job, RunJob, command};
-use report_jobs::check;
+use report_jobs::{check, tell_ended};
 use std::alloc::{AllocError, Global};
 use std::test::Fail;
 
@@ -15,7 +15,8 @@ const ATOMIC_ADD: [u8; 46] = [
 fn checked(alloc: Global, module: &[u8]) -> (Vec<u8>, Vec<u8>) {
     let mut out = Vec::new(alloc);
     let mut err = Vec::new(alloc);
-    let _ = check(alloc, module, Form::Lines, &mut out, &mut err);
+    let ended = check(alloc, module, Form::Lines, &mut out);
+    tell_ended(&mut err, &ended);
     (out, err)
 }
 

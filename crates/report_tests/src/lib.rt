@@ -1,21 +1,15 @@
 //! What cases can't say of the program's jobs, of files and streams, and of schedules. Each front of a module is
-//! tried, and command lines as values, the modules of one atomic add, long runs and long records, and writers that
-//! fail; files of which a front is read, records that take the place of a file once all of them is there, streams that
-//! nobody reads, and buffers of which not all gets out; what a record holds. `report_cases` has command lines and what
-//! they print.
+//! tried, and command lines as values, the modules of one atomic add, and writers that fail; files of which a front is
+//! read, records that take the place of a file once all of them is there, streams that nobody reads, and buffers of
+//! which not all gets out; what a record holds. `cases` has command lines and what they print.
 //!
-//! The scheduled machine is stepped along the schedules of real runs, and each law of schedules and of walks is called
-//! once.
+//! The scheduled machine is stepped along the schedules of real runs.
 #![tactic(auto)]
 
 #[cfg(test)]
 mod checks;
 #[cfg(test)]
 mod first;
-#[cfg(test)]
-mod laws;
-#[cfg(test)]
-mod long;
 #[cfg(test)]
 mod reading;
 #[cfg(test)]
@@ -30,9 +24,5 @@ mod schedules;
 mod streams;
 #[cfg(test)]
 mod tasks;
-#[cfg(test)]
-mod units;
-#[cfg(test)]
-mod walk_laws;
 #[cfg(test)]
 mod writers;

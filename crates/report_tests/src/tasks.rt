@@ -3,6 +3,7 @@
 use crate::room::{count_in, make_room, path_in};
 use crate::writers::Narrow;
 use report_command::{CallWords, EndLook, Job, RunJob, command};
+use report_jobs::{Done, JobResult, Refused, Undone};
 use report_program::{Lost, close, open_task};
 use std::alloc::Global;
 use std::fs;
@@ -20,18 +21,18 @@ fn held(alloc: Global, text: &[u8], room: usize) -> io::Result<BufWriter<Narrow>
     Ok(buffer)
 }
 
-/// Ends a job of this status that wrote both texts, before writers with so much room. Answers whether this is lost, and
+/// Ends a job that is done or isn't and wrote both texts, before writers with so much room. Answers whether this is lost, and
 /// the file got so many bytes.
 fn ends(
     alloc: Global,
-    status: u8,
+    is_done: bool,
     rooms: (usize, usize),
     lost: Option<Lost>,
     kept: usize,
 ) -> io::Result<bool> {
     let out = held(alloc, b"lines of a job", rooms.0)?;
     let save = held(alloc, b"what it keeps", rooms.1)?;
-    let closed = close(status, out, save);
+    let closed = close(is_done, out, save);
     let file = b"what it keeps".get(..kept).unwrap_or(b"");
     Ok(closed.lost == lost && closed.out.has_front(b"lines of a job") && closed.save.has(file))
 }
@@ -40,19 +41,18 @@ fn ends(
 fn what_is_held_back_gets_out_or_is_lost(rt: HostRuntime) -> Result<(), Fail> {
     let alloc = rt.alloc();
     hold(&[
-        ("all gets out", ends(alloc, 0, (64, 64), None, 13)?),
-        ("at status 1 too", ends(alloc, 1, (64, 64), None, 13)?),
+        ("all gets out", ends(alloc, true, (64, 64), None, 13)?),
         (
             "no room for the lines",
-            ends(alloc, 0, (13, 64), Some(Lost::Lines), 0)?,
+            ends(alloc, true, (13, 64), Some(Lost::Lines), 0)?,
         ),
         (
             "no room for the file",
-            ends(alloc, 0, (64, 12), Some(Lost::File), 12)?,
+            ends(alloc, true, (64, 12), Some(Lost::File), 12)?,
         ),
         (
             "a refusal keeps nothing",
-            ends(alloc, 4, (64, 64), None, 0)?,
+            ends(alloc, false, (64, 64), None, 0)?,
         ),
     ])
 }
@@ -75,9 +75,9 @@ fn running<'a>(alloc: Global, file: &'a str, save: &'a str) -> Job<'a> {
     })
 }
 
-/// Ends a run with this status that wrote a record, where standard output has so much room. Answers the status, if it
-/// was begun.
-fn end_with(rt: &HostRuntime, job: &Job, status: u8, room: usize) -> Result<u8, Fail> {
+/// Ends a run of which this came, and that wrote a record, where standard output has so much room. Answers the status, if
+/// it was begun.
+fn end_with(rt: &HostRuntime, job: &Job, ended: &JobResult, room: usize) -> Result<u8, Fail> {
     let stdout = Narrow::new(rt.alloc(), room, 64);
     let mut task = match open_task(rt, stdout, job, false) {
         Ok(task) => task,
@@ -85,7 +85,7 @@ fn end_with(rt: &HostRuntime, job: &Job, status: u8, room: usize) -> Result<u8, 
     };
     task.streams.out.write_all(b"lines")?;
     task.streams.save.write_all(b"a record")?;
-    Ok(task.end(rt, job, status))
+    Ok(task.end(rt, job, ended))
 }
 
 /// Whether the record is there, with its text, beside the module.
@@ -99,12 +99,14 @@ fn is_kept(rt: &HostRuntime, room: &PathBuf, path: &str) -> Result<bool, Fail> {
 /// Ends runs in a room with a module.
 fn end_all(rt: &HostRuntime, room: &PathBuf, file: &str, path: &str) -> Result<(), Fail> {
     let job = running(rt.alloc(), file, path);
+    let refused: JobResult = Err(Undone::Refused(Refused::EndMissing));
+    let (well, trapped): (JobResult, JobResult) = (Ok(Done::with(0)), Ok(Done::with(1)));
     hold(&[
-        ("a refusal", end_with(rt, &job, 4, 64)? == 4),
+        ("a refusal", end_with(rt, &job, &refused, 64)? == 4),
         ("it leaves no record", count_in(rt, room)? == 1),
-        ("no room for the lines", end_with(rt, &job, 0, 4)? == 5),
+        ("no room for the lines", end_with(rt, &job, &well, 4)? == 5),
         ("they leave no record", count_in(rt, room)? == 1),
-        ("a trap", end_with(rt, &job, 1, 64)? == 1),
+        ("a trap", end_with(rt, &job, &trapped, 64)? == 1),
         ("its record", is_kept(rt, room, path)?),
     ])
 }
@@ -130,7 +132,7 @@ fn end_without_bytes(rt: &HostRuntime, file: &str, path: &str) -> u8 {
         ..run
     });
     match open_task(rt, Narrow::new(rt.alloc(), 64, 64), &job, false) {
-        Ok(task) => task.end(rt, &job, 0),
+        Ok(task) => task.end(rt, &job, &Ok(Done::with(0))),
         Err(status) => status,
     }
 }
@@ -152,7 +154,7 @@ fn a_memory_without_bytes_leaves_an_empty_file(rt: HostRuntime) -> Result<(), Fa
 fn status_of_link(rt: &HostRuntime, file: &str, link: &str) -> Result<u8, Fail> {
     symlink(rt, file, link)?;
     let job = running(rt.alloc(), file, link);
-    end_with(rt, &job, 0, 64)
+    end_with(rt, &job, &Ok(Done::with(0)), 64)
 }
 
 #[test]

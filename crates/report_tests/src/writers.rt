@@ -4,7 +4,7 @@ ghost use Rattle.std.specs.Prelude.{◌≤◌};
 ghost use Rattle.types.specs.declared.limits.TheConstants.{MOST_FUEL};
 
 use report_command::{CallWords, EndLook, RunJob};
-use report_jobs::{Streams, run};
+use report_jobs::{Streams, run, status_of, tell_ended};
 use std::alloc::Global;
 use std::io::{self, Write};
 use std::sync::Wait;
@@ -101,14 +101,23 @@ fn is_said<R: Threads + Wait + Sync>(
         memory: Narrow::new(alloc, 0, at_once),
     };
     let job = adding(alloc);
-    let given = run(rt, alloc, &job, ATOMIC_ADD, b"", &mut streams);
-    let Streams { out, err, save, .. } = streams;
+    let ended = run(rt, alloc, &job, ATOMIC_ADD, b"", &mut streams);
+    let Streams {
+        out,
+        mut err,
+        save,
+        ..
+    } = streams;
+    tell_ended(&mut err, &ended);
     let record = if rooms.0 < OUT.len() {
         b"".as_slice()
     } else {
         RECORD
     };
-    out.has_front(OUT) && save.has_front(record) && given == status && err.as_slice() == said
+    out.has_front(OUT)
+        && save.has_front(record)
+        && status_of(&ended) == status
+        && err.as_slice() == said
 }
 
 /// The whole record, and the lines on standard output, also where a write takes less than there is.

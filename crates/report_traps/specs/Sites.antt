@@ -2,8 +2,8 @@
 use Rattle.std.specs.Prelude.{ℕ, List, ◌++◌, codes, Option, Some, None}
 use Rattle.std.specs.Fmt.{decimal}
 use Rattle.show_text.specs.Plain.{plain_text}
-use Rattle.show_rows.specs.Spots.{spot_text}
-use Rattle.show_rows.specs.declared.spot.Spot.{Spot}
+use Rattle.show_spots.specs.Spots.{spot_text}
+use Rattle.show_spots.specs.declared.spot.Spot.{Spot}
 
 -- The file and the line, in parentheses.
 abbrev pub line_text : List ℕ → ℕ → List ℕ

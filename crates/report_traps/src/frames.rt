@@ -11,7 +11,7 @@ const KEPT: usize = 16;
 
 /// A function that was under way.
 #[derive(Drop)]
-struct Frame {
+struct HeardFrame {
     /// The function of the module itself, from 1 on; 0 where nothing was heard.
     function: AtomicU64,
     /// The number of an instruction in its flat code.
@@ -22,14 +22,13 @@ struct Frame {
 /// it lets each thread through, and hears where it trapped.
 #[derive(Drop)]
 pub struct Frames {
-    frames: Vec<Frame>,
+    frames: Vec<HeardFrame>,
 }
 
-/// Room for the functions of all threads.
-fn room(alloc: Global) -> Result<Vec<Frame>, AllocError> {
+fn room(alloc: Global) -> Result<Vec<HeardFrame>, AllocError> {
     let mut frames = Vec::with_capacity(alloc, MOST_THREADS * KEPT)?;
     for _ in 0..MOST_THREADS * KEPT {
-        frames.push(Frame {
+        frames.push(HeardFrame {
             function: AtomicU64::new(0),
             instr: AtomicU64::new(0),
         })?;
@@ -40,29 +39,18 @@ fn room(alloc: Global) -> Result<Vec<Frame>, AllocError> {
 impl Frames {
     /// None yet. Where memory is refused there is no room for any.
     pub fn new(alloc: Global) -> Frames {
-        let frames = match room(alloc) {
-            Ok(frames) => frames,
-            Err(_) => Vec::new(alloc),
-        };
-        Frames { frames }
+        Frames {
+            frames: room(alloc).unwrap_or(Vec::new(alloc)),
+        }
     }
 
     /// That of a thread at a depth, if it is kept.
-    fn frame(&self, thread: usize, depth: usize) -> Option<&Frame> {
+    fn frame(&self, thread: usize, depth: usize) -> Option<&HeardFrame> {
         if depth >= KEPT {
             return None;
         }
         self.frames
             .get(thread.saturating_mul(KEPT).saturating_add(depth))
-    }
-
-    /// Keeps a function of a thread.
-    fn keep(&self, thread: usize, heard: TrapFrame) {
-        if let Some(frame) = self.frame(thread, heard.depth) {
-            let number = (heard.function as u64).saturating_add(1);
-            frame.instr.store(heard.instr as u64, Ordering::SeqCst);
-            frame.function.store(number, Ordering::SeqCst);
-        }
     }
 
     /// Where a thread trapped, at depth 0, or where the call stands by which that function was called, itself or
@@ -96,7 +84,12 @@ impl Gate for &Frames {
     #[inline]
     fn gather(&mut self, _other: &Frames) {}
 
-    fn trapped(&self, thread: u32, frame: TrapFrame) {
-        self.keep(thread as usize, frame);
+    /// Keeps a function of a thread.
+    fn trapped(&self, thread: u32, heard: TrapFrame) {
+        if let Some(frame) = self.frame(thread as usize, heard.depth) {
+            let number = (heard.function as u64).saturating_add(1);
+            frame.instr.store(heard.instr as u64, Ordering::SeqCst);
+            frame.function.store(number, Ordering::SeqCst);
+        }
     }
 }

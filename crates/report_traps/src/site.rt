@@ -1,6 +1,6 @@
 //! A place in a module, as it is printed of a trap.
 
-use show_rows::Spot;
+use show_spots::Spot;
 use show_text::Plain;
 use std::fmt::{self, Formatter, Write};
 
@@ -17,20 +17,13 @@ impl fmt::Display for Site<'_> {
 
     /// As `enqueue+0x2f (queue.c:20)`.
     fn fmt<W: Write>(&self, f: &mut Formatter<W>) -> fmt::Result {
-        let Spot {
-            name,
-            offset,
-            source,
-            text: _,
-        } = self.0;
         let front = Spot {
-            name,
-            offset,
             source: None,
             text: None,
+            ..self.0
         };
         write!(f, "{front}")?;
-        if let Some((file, line)) = source {
+        if let Some((file, line)) = self.0.source {
             let file = Plain(file);
             write!(f, " ({file}:{line})")?;
         }

@@ -2,8 +2,9 @@
 
 use crate::frames::Frames;
 use crate::site::Site;
-use report_json::{Offset, Place, Source};
-use show_rows::{CodeMap, Spot};
+use report_json::{Offset, PlaceObject, SourceObject};
+use show_rows::CodeMap;
+use show_spots::Spot;
 use std::alloc::{AllocError, Global};
 use types::Parts;
 
@@ -14,18 +15,11 @@ pub struct Traps<'m, 'n> {
     code: CodeMap<'m, 'n>,
 }
 
-/// A place, as an object has it.
-fn place_of(spot: Spot<'_>) -> Place<'_> {
-    let Spot {
-        name,
-        offset,
-        source,
-        text: _,
-    } = spot;
-    Place {
-        function: name,
-        offset: offset.map(Offset),
-        source: source.map(|(file, line)| Source { file, line }),
+fn place_of(spot: Spot<'_>) -> PlaceObject<'_> {
+    PlaceObject {
+        function: spot.name,
+        offset: spot.offset.map(Offset),
+        source: spot.source.map(|(file, line)| SourceObject { file, line }),
     }
 }
 
@@ -53,7 +47,7 @@ impl<'m, 'n> Traps<'m, 'n> {
     }
 
     /// Where a thread trapped, as an object has it, if it did.
-    pub fn place(&self, thread: usize) -> Option<Place<'_>> {
+    pub fn place(&self, thread: usize) -> Option<PlaceObject<'_>> {
         match self.frames.place(thread, 0) {
             Some(place) => Some(place_of(self.code.spot(place))),
             None => None,

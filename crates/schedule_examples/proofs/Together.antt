@@ -150,7 +150,8 @@ nobody_else k = refl
 all_ran : AllHaveRun start false (Some 2) history outcomes_of lefts_of
 all_ran zero c is = let same : main ≡ c = cc is in subst (λ (d : State). HasRun start false (Some 2) history 0 d (outcomes_of 0) 7) same first_run
 all_ran (suc zero) c is =
-    let same : spawned_example 1 7 ≡ c = cc (is, begins_last) in subst (λ (d : State). HasRun start false (Some 2) history 1 d (outcomes_of 1) 10) same other_run
+    let same : spawned_example 1 7 ≡ c = cc (is, begins_last) in subst (λ (d : State). HasRun start false (Some 2) history 1 d (outcomes_of 1) 10)
+    same other_run
 all_ran (suc (suc k)) c is = absurd (cc (is, nobody_else k))
 
 abbrev AreApart : ℕ → List entries.Entry → Type 0

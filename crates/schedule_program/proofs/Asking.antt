@@ -99,7 +99,8 @@ module _ {S : Type 0} (meaning : S → Meaning)
 
   threads_are : (m : ℕ) → after.threads m ≡ started_by s asking q n question v m
   threads_are m =
-      ap (λ o. or_started o (hears_any (system_by s) (asking m) (answer_due (queue_step q n (events.Ask question) reply) m))) (starts_is s w.shared at.orderly.dues question m)
+      ap (λ o. or_started o (hears_any (system_by s) (asking m) (answer_due (queue_step q n (events.Ask question) reply) m)))
+      (starts_is s w.shared at.orderly.dues question m)
       ∙ ap (λ z. or_started (started_at s (next_id q) question m) (hears_any (system_by s) (asking m) (answer_due z m))) step_is
 
   pub at_question : (new : Machine S) → IsAsked new → IsAt meaning s new after

@@ -37,4 +37,5 @@ idle_from mem q (e ∷ H) n legal sound past =
 
 pub idle : (b : Start) (H : List entries.Entry) (n : ℕ) → IsStarted b.opening H → next_id (queue_after H) ≤ n → acts_of n (as_acts H) ≡ []
 idle b H n legal past =
-    idle_from b.opening (first_queue MOST_THREADS) H n (legal_from b.opening H legal) IsSound-first (subst (λ (q : WaitQueue). next_id q ≤ n) (queue_after-all H) past)
+    idle_from b.opening (first_queue MOST_THREADS) H n (legal_from b.opening H legal) IsSound-first
+    (subst (λ (q : WaitQueue). next_id q ≤ n) (queue_after-all H) past)

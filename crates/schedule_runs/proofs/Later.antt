@@ -19,7 +19,8 @@ use Rattle.schedule_runs.proofs.Linked.{rest_legal, queue_after-all}
 
 -- the queue after both parts of a list
 whole : (xs ys : List entries.Entry) → queue_after (xs ++ ys) ≡ queue_from (queue_after xs) ys
-whole xs ys = queue_after-all (xs ++ ys) ∙ (queue_from-append (first_queue MOST_THREADS) xs ys ∙ ap (λ (q : WaitQueue). queue_from q ys) (sym (queue_after-all xs)))
+whole xs ys = queue_after-all (xs ++ ys) ∙
+    (queue_from-append (first_queue MOST_THREADS) xs ys ∙ ap (λ (q : WaitQueue). queue_from q ys) (sym (queue_after-all xs)))
 
 pub beginnings_stay : BeginningsStay
 beginnings_stay b xs ys zero c is = is
@@ -54,7 +55,8 @@ over_from q (e ∷ H) legal over =
 
 legal_rest : (xs ys : List entries.Entry) → IsQueueLegal (xs ++ ys) → IsQueueLegalFrom (queue_after xs) (of_queue ys)
 unfolding IsQueueLegal queue_after
-legal_rest xs ys legal = IsQueueLegalFrom-rest (first_queue MOST_THREADS) (of_queue xs) (of_queue ys) (subst (IsQueueLegalFrom (first_queue MOST_THREADS)) (of_queue-append xs ys) legal)
+legal_rest xs ys legal = IsQueueLegalFrom-rest (first_queue MOST_THREADS) (of_queue xs) (of_queue ys)
+    (subst (IsQueueLegalFrom (first_queue MOST_THREADS)) (of_queue-append xs ys) legal)
 
 pub nobody_later : NobodyBeginsLater
 nobody_later b xs ys zero legal over none = absurd (cc none)

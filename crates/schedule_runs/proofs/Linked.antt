@@ -138,7 +138,8 @@ first_stand = first_stand_for MOST_THREADS
 
 -- so a legal history is one
 pub linked : (b : Start) (H : List entries.Entry) → IsStarted b.opening H → Linked b b.opening (first_queue MOST_THREADS) first_places (first_shared b) H
-linked b H legal = linked_from b b.opening (first_queue MOST_THREADS) first_places (first_shared b) H (legal_from b.opening H legal) IsSound-first first_stand (first_is b)
+linked b H legal = linked_from b b.opening (first_queue MOST_THREADS) first_places (first_shared b) H (legal_from b.opening H legal) IsSound-first first_stand
+    (first_is b)
 
 -- after it threads stand where its queue has them
 pub stand_after : (b : Start) (H : List entries.Entry) → IsStarted b.opening H

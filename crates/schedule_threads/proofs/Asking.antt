@@ -183,7 +183,8 @@ module _ (p : Program) where
   atomics_waits : (c : Config) (op : AtomicOp) (arg : MemArg) (rest : Code) (operands : List Value) → IsWell p (atomics p c op arg rest operands)
   atomics_waits c atomic.Notify arg rest operands =
       number_waits types.I32 operands _ (λ (count : ℕ) (more : List Value).
-      aligned_waits more arg 4 (λ addr below. Asks (events.Ask (Notify addr count)) (λ _. waits c rest below)) (λ addr below. record { waits = λ n. (refl, refl) }))
+      aligned_waits more arg 4 (λ addr below. Asks (events.Ask (Notify addr count)) (λ _. waits c rest below))
+      (λ addr below. record { waits = λ n. (refl, refl) }))
   atomics_waits c (atomic.Wait t) arg rest operands =
       number_waits types.I64 operands _ (λ (timeout : ℕ) (more : List Value). number_waits t more _ (λ (expected : ℕ) (further : List Value).
       aligned_waits further arg (type_bytes t) _ (λ addr below. wait_waits c rest below addr t expected timeout)))

@@ -1,5 +1,5 @@
 //! The strongly connected components of a graph, by Tarjan's search. It is proved to be safe and to end.
-use search_graph::{Graph, Grouped, number_at, put_at};
+use search_graph::{Graph, Grouped, number_or_0, put_at};
 use std::alloc::{AllocError, Global};
 
 /// The components, by numbers: each move leads to a component of no greater number.
@@ -18,15 +18,15 @@ pub struct Components {
 /// No component.
 const NONE: u32 = u32::MAX;
 
-/// A state on the search's path, and where in the groups the next of its moves stands.
+/// A state on the search's path, and which of its moves is the next.
 #[derive(Clone, Copy)]
-struct Call {
+struct PathState {
     state: u32,
     at: usize,
 }
 
 #[derive(Drop)]
-struct Search {
+struct ComponentSearch {
     /// When each state was met, from 1 on, or 0.
     met: Vec<u32>,
     /// How many were.
@@ -35,22 +35,22 @@ struct Search {
     low: Vec<u32>,
     /// The states whose components are not closed.
     open: Vec<u32>,
-    path: Vec<Call>,
+    path: Vec<PathState>,
     found: Components,
 }
 
-impl Search {
-    fn visit(&mut self, state: u32, at: usize) -> Result<(), AllocError> {
+impl ComponentSearch {
+    fn visit(&mut self, state: u32) -> Result<(), AllocError> {
         self.count = self.count.wrapping_add(1);
         put_at(&mut self.met, state as usize, self.count);
         put_at(&mut self.low, state as usize, self.count);
         self.open.push(state)?;
-        self.path.push(Call { state, at })?;
+        self.path.push(PathState { state, at: 0 })?;
         Ok(())
     }
 
     fn lower(&mut self, state: u32, low: u32) {
-        if low < number_at(&self.low, state as usize) {
+        if low < number_or_0(&self.low, state as usize) {
             put_at(&mut self.low, state as usize, low);
         }
     }
@@ -74,11 +74,11 @@ impl Search {
     /// The state that the next move of the one at the path's end leads to, if it wasn't met yet.
     fn go_on(&mut self, graph: &Graph, from: u32, index: u32) -> Option<u32> {
         let m = graph.moves.get(index as usize)?;
-        let met = number_at(&self.met, m.next as usize);
+        let met = number_or_0(&self.met, m.next as usize);
         if met == 0 {
             return Some(m.next);
         }
-        if number_at(&self.found.of, m.next as usize) == NONE {
+        if number_or_0(&self.found.of, m.next as usize) == NONE {
             self.lower(from, met);
         }
         None
@@ -86,8 +86,8 @@ impl Search {
 
     /// Goes back from a state whose moves are all gone along.
     fn go_back(&mut self, state: u32) -> Result<(), AllocError> {
-        let low = number_at(&self.low, state as usize);
-        if low == number_at(&self.met, state as usize) {
+        let low = number_or_0(&self.low, state as usize);
+        if low == number_or_0(&self.met, state as usize) {
             self.close(state)?;
         }
         if let Some(before) = self.path.last() {
@@ -102,16 +102,16 @@ impl Search {
         let Some(call) = self.path.pop() else {
             return Ok(false);
         };
-        if call.at >= out.end(call.state) {
+        let Some(index) = out.moves_of(call.state).get(call.at) else {
             self.go_back(call.state)?;
             return Ok(true);
-        }
-        self.path.push(Call {
+        };
+        self.path.push(PathState {
             state: call.state,
             at: call.at.saturating_add(1),
         })?;
-        if let Some(next) = self.go_on(graph, call.state, out.index_at(call.at)) {
-            self.visit(next, out.start(next))?;
+        if let Some(next) = self.go_on(graph, call.state, *index) {
+            self.visit(next)?;
         }
         Ok(true)
     }
@@ -123,7 +123,7 @@ pub fn find_components(
     graph: &Graph,
     out: &Grouped,
 ) -> Result<Components, AllocError> {
-    let mut search = Search {
+    let mut search = ComponentSearch {
         met: vec![in alloc; 0u32; graph.states]?,
         count: 0,
         low: vec![in alloc; 0u32; graph.states]?,
@@ -142,8 +142,8 @@ pub fn find_components(
         .saturating_add(graph.moves.len());
     let mut root = 0u32;
     for _ in 0..graph.states {
-        if number_at(&search.met, root as usize) == 0 {
-            search.visit(root, out.start(root))?;
+        if number_or_0(&search.met, root as usize) == 0 {
+            search.visit(root)?;
             for _ in 0..=most {
                 if !search.step(graph, out)? {
                     break;

@@ -1,6 +1,9 @@
-//! What may show whether every fair run ends. It is proved to be safe and to end.
-use crate::components::{Components, find_components};
-use crate::movers::{Tally, members_of, mover_of};
+//! What may show whether every fair run ends.
+ghost use Rattle.std.specs.Prelude.{IfOk};
+ghost use Rattle.search_fairness.specs.Hints.{IsHint};
+
+use crate::components::find_components;
+use crate::parted::Parted;
 use crate::walks::fair_walk;
 use search_graph::{Graph, Key, group_moves};
 use std::alloc::{AllocError, Global};
@@ -14,29 +17,27 @@ pub enum Hint {
     Walk { start: u32, walk: Vec<u32> },
 }
 
-/// The first state of the component: a search met it before the others, so the way to it is short.
-fn first_member(found: &Components, component: u32) -> u32 {
-    let mut first = u32::MAX;
-    for state in members_of(found, component) {
-        first = first.min(*state);
-    }
-    first
-}
-
-/// Finds ranks, or a walk.
-pub fn find_hint(alloc: Global, graph: &Graph) -> Result<Hint, AllocError> {
+/// Finds ranks, if each component has a thread that leaves it, or no moves; or a walk round one that has neither.
+pub fn find_hint(alloc: Global, graph: &Graph) -> Result<Hint, AllocError>
+    ensures { IfOk result (IsHint graph.now.moves.items) }
+{
     let out = group_moves(alloc, graph, Key::From)?;
     let found = find_components(alloc, graph, &out)?;
-    let mut tally = Tally::new(alloc, graph)?;
+    let parted = Parted { graph, out, found };
     let mut movers = Vec::new(alloc);
-    for component in 0..found.count {
-        let Some(mover) = mover_of(graph, &out, &found, &mut tally, component) else {
-            let start = first_member(&found, component);
-            let walk = fair_walk(alloc, graph, &out, &found, &tally, start)?;
+    for component in 0..parted.found.count {
+        let Some(mover) = parted.mover_of(component) else {
+            let start = parted.first_member(component);
+            let walk = fair_walk(alloc, &parted, start)?;
             return Ok(Hint::Walk { start, walk });
         };
         movers.push(mover)?;
     }
+    let Parted {
+        graph: _,
+        out: _,
+        found,
+    } = parted;
     Ok(Hint::Ranks {
         ranks: found.of,
         movers,

@@ -4,7 +4,7 @@ ghost use Rattle.search_graph.specs.Graph.{IsWithin};
 ghost use Rattle.search_graph.specs.Round.{IsFairRound};
 ghost use Rattle.search_fairness.specs.Judged.{AreEachOnce, IsCycle, Says};
 
-use crate::{Hint, find_hint};
+use crate::Hint;
 use search_graph::{Graph, every_fair_run_ends, is_fair_cycle};
 use std::alloc::{AllocError, Global};
 
@@ -61,12 +61,13 @@ fn cycle_of(alloc: Global, graph: &Graph, start: u32, walk: Vec<u32>) -> Result<
     })
 }
 
-/// Whether every fair run ends: where it says so, or says that one does not, that is a theorem.
-pub fn judge(alloc: Global, graph: &Graph) -> Result<Fairness, AllocError>
+/// Whether every fair run ends, by a hint: where it says so, or says that one does not, that is a theorem. That it isn't
+/// known is said only where the checks refuse the hint. Whoever made that is not trusted.
+pub fn judge(alloc: Global, graph: &Graph, hint: Hint) -> Result<Fairness, AllocError>
     requires { All (IsWithin graph.now.states) graph.now.moves.items }
-    ensures { IfOk result (Says graph.now.moves.items) }
+    ensures { IfOk result (Says graph.now hint) }
 {
-    match find_hint(alloc, graph)? {
+    match hint {
         Hint::Ranks { ranks, movers } => {
             let all_end = every_fair_run_ends(alloc, graph, ranks.as_slice(), movers.as_slice())?;
             if all_end {

@@ -1,7 +1,6 @@
 //! A walk round a component on which each thread gets a turn. It is proved to be safe and to end.
-use crate::components::Components;
-use crate::movers::{Tally, members_of};
-use search_graph::{Graph, Grouped, number_at, put_at};
+use crate::parted::Parted;
+use search_graph::{number_or_0, put_at};
 use std::alloc::{AllocError, Global};
 
 /// Goes through a component from state to state.
@@ -18,35 +17,28 @@ struct Walker {
 
 impl Walker {
     /// Meets the states of the component that are near, until it meets this one.
-    fn look_for(
-        &mut self,
-        graph: &Graph,
-        out: &Grouped,
-        of: &[u32],
-        goal: u32,
-    ) -> Result<(), AllocError> {
-        let component = number_at(of, goal as usize);
+    fn look_for(&mut self, parted: &Parted, goal: u32) -> Result<(), AllocError> {
+        let component = parted.component_of(goal);
         self.queue.clear();
         self.queue.push(self.at)?;
-        for place in 0..graph.states {
+        for place in 0..parted.graph.states {
             let Some(state) = self.queue.get(place) else {
                 break;
             };
             let state = *state;
-            for k in out.start(state)..out.end(state) {
-                let index = out.index_at(k);
-                if let Some(m) = graph.moves.get(index as usize) {
+            for index in parted.out.moves_of(state) {
+                if let Some(m) = parted.graph.moves.get(*index as usize) {
                     let next = m.next as usize;
                     if m.next != self.at
-                        && number_at(of, next) == component
-                        && number_at(&self.met_by, next) == 0
+                        && parted.component_of(m.next) == component
+                        && number_or_0(&self.met_by, next) == 0
                     {
                         put_at(&mut self.met_by, next, index.wrapping_add(1));
                         self.queue.push(m.next)?;
                     }
                 }
             }
-            if number_at(&self.met_by, goal as usize) != 0 {
+            if number_or_0(&self.met_by, goal as usize) != 0 {
                 break;
             }
         }
@@ -54,27 +46,20 @@ impl Walker {
     }
 
     /// Goes to the state, which is of the same component.
-    fn go_to(
-        &mut self,
-        alloc: Global,
-        graph: &Graph,
-        out: &Grouped,
-        of: &[u32],
-        goal: u32,
-    ) -> Result<(), AllocError> {
+    fn go_to(&mut self, alloc: Global, parted: &Parted, goal: u32) -> Result<(), AllocError> {
         if self.at == goal {
             return Ok(());
         }
-        self.look_for(graph, out, of, goal)?;
+        self.look_for(parted, goal)?;
         let mut back = Vec::new(alloc);
         let mut at = goal;
-        for _ in 0..graph.states {
+        for _ in 0..parted.graph.states {
             if at == self.at {
                 break;
             }
-            let index = number_at(&self.met_by, at as usize).wrapping_sub(1);
+            let index = number_or_0(&self.met_by, at as usize).wrapping_sub(1);
             back.push(index)?;
-            match graph.moves.get(index as usize) {
+            match parted.graph.moves.get(index as usize) {
                 Some(m) => at = m.from,
                 None => break,
             }
@@ -90,16 +75,9 @@ impl Walker {
     }
 
     /// Goes to where the move is from, and makes it.
-    fn make(
-        &mut self,
-        alloc: Global,
-        graph: &Graph,
-        out: &Grouped,
-        of: &[u32],
-        index: u32,
-    ) -> Result<(), AllocError> {
-        if let Some(m) = graph.moves.get(index as usize) {
-            self.go_to(alloc, graph, out, of, m.from)?;
+    fn make(&mut self, alloc: Global, parted: &Parted, index: u32) -> Result<(), AllocError> {
+        if let Some(m) = parted.graph.moves.get(index as usize) {
+            self.go_to(alloc, parted, m.from)?;
             self.walk.push(index)?;
             self.at = m.next;
         }
@@ -107,56 +85,42 @@ impl Walker {
     }
 }
 
-fn has_move(graph: &Graph, out: &Grouped, state: u32, thread: u32) -> bool {
-    for k in out.start(state)..out.end(state) {
-        if let Some(m) = graph.moves.get(out.index_at(k) as usize) {
-            if m.thread == thread {
-                return true;
-            }
+/// The first state of the component at which the thread has no move, or else this one.
+fn resting_place(parted: &Parted, component: u32, thread: u32, otherwise: u32) -> u32 {
+    for state in parted.members_of(component) {
+        if !parted.has_move(thread, *state) {
+            return *state;
         }
     }
-    false
+    otherwise
 }
 
 /// A walk from the state round its component and back to it: of each thread with a move at the state it makes one, or
 /// comes through a state where the thread has none.
-pub fn fair_walk(
-    alloc: Global,
-    graph: &Graph,
-    out: &Grouped,
-    found: &Components,
-    tally: &Tally,
-    start: u32,
-) -> Result<Vec<u32>, AllocError> {
-    let component = number_at(&found.of, start as usize);
+pub fn fair_walk(alloc: Global, parted: &Parted, start: u32) -> Result<Vec<u32>, AllocError> {
+    let component = parted.component_of(start);
     let mut walker = Walker {
         walk: Vec::new(alloc),
         at: start,
-        met_by: vec![in alloc; 0u32; graph.states]?,
+        met_by: vec![in alloc; 0u32; parted.graph.states]?,
         queue: Vec::new(alloc),
     };
     let mut done = Vec::new(alloc);
-    for k in out.start(start)..out.end(start) {
-        if let Some(m) = graph.moves.get(out.index_at(k) as usize) {
+    for index in parted.out.moves_of(start) {
+        if let Some(m) = parted.graph.moves.get(*index as usize) {
             if !done.contains(&m.thread) {
                 done.push(m.thread)?;
-                match tally.inside(m.thread) {
-                    Some(index) => walker.make(alloc, graph, out, &found.of, index)?,
+                match parted.inside(component, m.thread) {
+                    Some(index) => walker.make(alloc, parted, index)?,
                     None => {
-                        let mut goal = start;
-                        for state in members_of(found, component) {
-                            if !has_move(graph, out, *state, m.thread) {
-                                goal = *state;
-                                break;
-                            }
-                        }
-                        walker.go_to(alloc, graph, out, &found.of, goal)?;
+                        let goal = resting_place(parted, component, m.thread, start);
+                        walker.go_to(alloc, parted, goal)?;
                     }
                 }
             }
         }
     }
-    walker.go_to(alloc, graph, out, &found.of, start)?;
+    walker.go_to(alloc, parted, start)?;
     let Walker {
         walk,
         at: _,

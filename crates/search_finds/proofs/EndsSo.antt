@@ -7,7 +7,7 @@ use Rattle.search_finds.specs.Finds.{EndsAsLookedFor, HasNoneLookedFor, IsFound,
 use Rattle.search_finds.specs.Judged.{IsFindBy, IsPassed}
 use Rattle.search_finds.specs.Halts.{IfFound}
 use Rattle.search_finds.specs.Noted.{AreNotedBy}
-use Rattle.search_finds.specs.declared.met.Table.{Table}
+use Rattle.search_finds.specs.declared.met.EndingTable.{EndingTable}
 use Rattle.search_finds.specs.declared.finding.Halt.{Halt}
 use Rattle.search_finds.specs.declared.finding.Halt.TheVariants as halts
 use Rattle.search_finds.proofs.Noting.{rows_of}
@@ -25,7 +25,7 @@ found_so q s halts.Told found = tt
 unsought : (s : Sought) (made : MadeRun) → EndsAsLookedFor s s.dump made.end → ends_so s made false → ⊥
 unsought s made looked says = true≢false (sym (says.1 looked))
 
-pub none_so : (q : Requested) (s : Sought) (t : Table) (h : Halt) → AreNotedBy (IsPassed (ends_so s) s h) q s t → h ≡ halts.AllMade
+pub none_so : (q : Requested) (s : Sought) (t : EndingTable) (h : Halt) → AreNotedBy (IsPassed (ends_so s) s h) q s t → h ≡ halts.AllMade
     → IsTrue s.stops → HasNoneLookedFor s t
 none_so q s t halts.AllMade noted is stops = λ k d within looked.
     let met = rows_of (IsPassed (ends_so s) s halts.AllMade) q s t noted k d within in

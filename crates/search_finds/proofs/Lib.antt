@@ -3,3 +3,4 @@ mod InRow
 mod Led
 mod Pieces
 pub mod Noting
+mod Smaller

@@ -4,7 +4,7 @@ use Rattle.std.proofs.lemmas.List.Elements.{All-nil, All-push, All-same, All-set
 use Rattle.search_scheduled.specs.declared.running.MadeRun.{MadeRun}
 use Rattle.search_endings.specs.Endings.{Ending}
 use Rattle.search_finds.specs.declared.met.Met.{Met}
-use Rattle.search_finds.specs.declared.met.Table.{Table}
+use Rattle.search_finds.specs.declared.met.EndingTable.{EndingTable}
 use Rattle.search_finds.specs.Tables.{IsNoted}
 use Rattle.search_finds.specs.Noted.{AreMet, AreNoted, AreNotedBy, IsTableOf}
 use Rattle.search_finds.specs.Noted.IsTableOf.{none, more}
@@ -13,7 +13,7 @@ use Rattle.spawn_host.specs.Requests.{Requested}
 use Rattle.selection.specs.declared.sought.Sought.{Sought}
 use Rattle.search_finds.proofs.InRow.{one_more, last_of}
 
-pub noted_all : (P : ℕ → Ending → Type 0) (run : ℕ) (e : Ending) (is_new : Bool) (old new : Table) → IsNoted run e is_new old new → P run e
+pub noted_all : (P : ℕ → Ending → Type 0) (run : ℕ) (e : Ending) (is_new : Bool) (old new : EndingTable) → IsNoted run e is_new old new → P run e
     → All (λ m. P m.first m.ending) old.met.items → All (λ m. P m.first m.ending) new.met.items
 noted_all P run e true old new noted p all =
     subst (λ (l : List Met). All (λ m. P m.first m.ending) l) (sym noted.met.list)
@@ -26,11 +26,11 @@ noted_all P run e false old new noted p all =
 
 module _ (P : ℕ → MadeRun → Type 0) (q : Requested) (s : Sought) where
   -- A table of no runs.
-  pub noted_none : (t : Table) → t.runs ≡ 0 → t.met.items ≡ [] → AreNotedBy P q s t
+  pub noted_none : (t : EndingTable) → t.runs ≡ 0 → t.met.items ≡ [] → AreNotedBy P q s t
   noted_none t runs met = record { endings = []; noted = none t runs met; met = tt; count = sym runs }
 
   -- One run more.
-  pub noted_more : (run : ℕ) (e : Ending) (is_new : Bool) (old new : Table) → AreNotedBy P q s old
+  pub noted_more : (run : ℕ) (e : Ending) (is_new : Bool) (old new : EndingTable) → AreNotedBy P q s old
       → old.runs + s.from ≡ run → IsMetBy P q s run e → IsNoted run e is_new old new → AreNotedBy P q s new
   noted_more run e is_new old new a at met noted =
       let count = a.count in
@@ -45,7 +45,7 @@ module _ (P : ℕ → MadeRun → Type 0) (q : Requested) (s : Sought) where
       }
 
   -- Each row has its first run.
-  rows_by : (es : List Ending) (t : Table) → IsTableOf s.from es t → AreOfRunsBy P q s s.from es
+  rows_by : (es : List Ending) (t : EndingTable) → IsTableOf s.from es t → AreOfRunsBy P q s s.from es
       → All (λ m. IsMetBy P q s m.first m.ending) t.met.items
   rows_by [] _ (none t runs met) all =
       All-same (λ (m : Met). IsMetBy P q s m.first m.ending) _ [] met (All-nil (λ (m : Met). IsMetBy P q s m.first m.ending))
@@ -53,10 +53,10 @@ module _ (P : ℕ → MadeRun → Type 0) (q : Requested) (s : Sought) where
       let split = last_of q s P s.from es e all in
       noted_all (IsMetBy P q s) (s.from + length es) e is_new old t noted split.1 (rows_by es old before split.0)
 
-  pub rows_of : (t : Table) → AreNotedBy P q s t → All (λ m. IsMetBy P q s m.first m.ending) t.met.items
+  pub rows_of : (t : EndingTable) → AreNotedBy P q s t → All (λ m. IsMetBy P q s m.first m.ending) t.met.items
   rows_of t a = rows_by a.endings t a.noted a.met
 
-  pub met_of_noted : (t : Table) → AreNotedBy P q s t → AreMet q s t
+  pub met_of_noted : (t : EndingTable) → AreNotedBy P q s t → AreMet q s t
   met_of_noted t a = λ k d within. let met = rows_of t a k d within in record { made = met.made; drawn = met.drawn; ending = met.ending }
 
   -- Of each number and run more may be said.
@@ -65,7 +65,7 @@ module _ (P : ℕ → MadeRun → Type 0) (q : Requested) (s : Sought) where
   runs_plain run (e ∷ es) all =
       (record { made = all.0.made; drawn = all.0.drawn; ending = all.0.ending }, runs_plain (run + 1) es all.1)
 
-  pub plainly_noted : (t : Table) → AreNotedBy P q s t → AreNoted q s t
+  pub plainly_noted : (t : EndingTable) → AreNotedBy P q s t → AreNoted q s t
   plainly_noted t a =
       record { endings = a.endings; noted = a.noted; met = runs_plain s.from a.endings a.met; count = a.count }
 
@@ -77,6 +77,6 @@ module _ (P Q : ℕ → MadeRun → Type 0) (f : (run : ℕ) (made : MadeRun) �
     runs_weaker (run + 1) es all.1,
   )
 
-  pub noted_weaker : (t : Table) → AreNotedBy P q s t → AreNotedBy Q q s t
+  pub noted_weaker : (t : EndingTable) → AreNotedBy P q s t → AreNotedBy Q q s t
   noted_weaker t a =
       record { endings = a.endings; noted = a.noted; met = runs_weaker s.from a.endings a.met; count = a.count }

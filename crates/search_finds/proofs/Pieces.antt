@@ -1,30 +1,31 @@
 -- The pieces that jobs made ahead, of which the last one is taken away.
-use Rattle.std.proofs.Common.{ℕ, ◌≡◌, ◌+◌, ◌*◌, ◌≤◌, Bool, List, [], ◌∷◌, ◌++◌, Option, Some, IfOk, Result, length, length-append, get_or, ap, subst, ◌∙◌, arith}
+use Rattle.std.proofs.Common.{ℕ, ◌≡◌, ◌+◌, ◌*◌, ◌≤◌, Bool, List, [], ◌∷◌, ◌++◌, Option, Some, IfOk, Result, length}
+use Rattle.std.proofs.Common.{length-append, get_or, ap, subst, ◌∙◌, arith}
 use Rattle.std.specs.Global.{Vec}
 use Rattle.std.specs.Option.{option_to_list}
 use Rattle.std.proofs.lemmas.List.{get_or_append_left}
 use Rattle.std.proofs.Math.Seq.{get_or-append_seam}
 use Rattle.search_scheduled.specs.declared.fault.SearchFault.{SearchFault}
 use Rattle.search_scheduled.specs.declared.running.MadeRun.{MadeRun}
-use Rattle.search_finds.specs.declared.ahead.Ahead.{Ahead}
+use Rattle.search_finds.specs.declared.ahead.RunsAhead.{RunsAhead}
 use Rattle.search_finds.specs.declared.search.JudgedEnding.{JudgedEnding}
-use Rattle.search_finds.specs.declared.search.RunMaker.{RunMaker}
+use Rattle.search_finds.specs.declared.maker.RunMaker.{RunMaker}
 use Rattle.search_finds.specs.Searching.{AreMetIn, ArePiecesIn, first_of}
 
 -- one job more makes as many again
 one_job_more : (job piece : ℕ) → (job + 1) * piece ≡ job * piece + piece
 one_job_more job piece = grind arith
 
-pub first_on : (a : Ahead) (job : ℕ) → first_of a job ≤ first_of a (job + 1)
+pub first_on : (a : RunsAhead) (job : ℕ) → first_of a job ≤ first_of a (job + 1)
 first_on a job = let more = one_job_more job a.piece in omega (arith, more)
 
-pub first_at_none : (a : Ahead) → first_of a 0 ≡ a.from
+pub first_at_none : (a : RunsAhead) → first_of a 0 ≡ a.from
 first_at_none a = grind arith
 
 abbrev Made : Type 0
 Made = Result (Vec JudgedEnding) SearchFault
 
-module _ (Says : MadeRun → Bool → Type 0) (s : RunMaker) (a : Ahead) (old new : List Made) (o : Option Made) (last : Made)
+module _ (Says : MadeRun → Bool → Type 0) (s : RunMaker) (a : RunsAhead) (old new : List Made) (o : Option Made) (last : Made)
     (is : old ≡ new ++ option_to_list o) (some : o ≡ Some last) where
   with_last : old ≡ new ++ last ∷ []
   with_last = rw some at is

@@ -7,19 +7,22 @@ use Rattle.replay.specs.Runs.{IsRunOf}
 use Rattle.spawn_host.specs.Requests.{Requested}
 use Rattle.search_endings.specs.Ends.{is_done}
 use Rattle.search_scheduled.specs.Headers.{IsOfRequest}
+use Rattle.search_scheduled.specs.Heard.{IsHeardRun}
 use Rattle.search_scheduled.specs.declared.running.MadeRun.{MadeRun}
 use Rattle.search_endings.specs.Endings.{Ending}
-use Rattle.search_finds.specs.declared.met.Table.{Table}
+use Rattle.search_finds.specs.declared.met.EndingTable.{EndingTable}
 use Rattle.search_finds.specs.Endings.{ending_left}
 use Rattle.search_finds.specs.Words.{HasLineWith}
 use Rattle.selection.specs.declared.sought.Find.{Find}
 use Rattle.selection.specs.declared.sought.Find.TheVariants as finds
 use Rattle.selection.specs.declared.sought.Sought.{Sought}
 
--- Its record is of a run of the module by the call that is requested, which left what it says.
+-- Its record is of a run of the module by the call that is requested, which left what it says; and what it says that was
+-- heard was heard of that run.
 pub record IsFind (q : Requested) (limit : ℕ) (made : MadeRun) : Type 0 where
   pub run : IsRunOf q.parts made.record made.end
   pub of_call : IsOfRequest q limit made.record
+  pub heard : IsHeardRun q limit made.record made.heard
 
 -- Some thread trapped or was stopped.
 abbrev pub HasFailure : List Outcome → Type 0
@@ -54,5 +57,5 @@ abbrev pub IsFound : Requested → Sought → MadeRun → Type 0
 IsFound q s made = IsFind q s.limit made × EndsAsLookedFor s s.dump made.end
 
 -- None of them is looked for.
-abbrev pub HasNoneLookedFor : Sought → Table → Type 0
+abbrev pub HasNoneLookedFor : Sought → EndingTable → Type 0
 HasNoneLookedFor s table = All (λ met. IsLookedFor s met.ending → ⊥) table.met.items

@@ -5,9 +5,9 @@ use Rattle.search_scheduled.specs.SpareThreads.{HoldsSpares}
 use Rattle.search_scheduled.specs.declared.running.MadeRun.{MadeRun}
 use Rattle.search_scheduled.specs.declared.fault.SearchFault.{SearchFault}
 use Rattle.search_scheduled.specs.declared.threads.Spares.{Spares}
-use Rattle.search_finds.specs.declared.ahead.Ahead.{Ahead}
+use Rattle.search_finds.specs.declared.ahead.RunsAhead.{RunsAhead}
 use Rattle.search_finds.specs.declared.search.JudgedEnding.{JudgedEnding}
-use Rattle.search_finds.specs.declared.search.RunMaker.{RunMaker}
+use Rattle.search_finds.specs.declared.maker.RunMaker.{RunMaker}
 use Rattle.search_finds.specs.Drawing.{AreOfRunsBack, IsDrawnAmong, IsEndingAmong}
 use Rattle.search_finds.specs.Judged.{IsFindBy}
 use Rattle.search_finds.specs.Shares.{first_behind}
@@ -33,10 +33,11 @@ abbrev pub AreSparesIn : RunMaker → Spares → Type 0
 AreSparesIn s spares = HoldsSpares s.request.now.parts s.request.now.fuel spares
 
 -- The number of the first run behind those that so many jobs make ahead.
-abbrev pub first_of : Ahead → ℕ → ℕ
+abbrev pub first_of : RunsAhead → ℕ → ℕ
 first_of a jobs = first_behind a.from a.count a.piece jobs
 
 -- The pieces of jobs, in order: endings of runs from a job's first one on.
-abbrev pub ArePiecesIn : (MadeRun → Bool → Type 0) → RunMaker → Ahead → List (Result (Vec JudgedEnding) SearchFault) → Type 0
+abbrev pub ArePiecesIn : (MadeRun → Bool → Type 0) → RunMaker → RunsAhead
+    → List (Result (Vec JudgedEnding) SearchFault) → Type 0
 ArePiecesIn Says s a pieces = (job : ℕ) (d : Result (Vec JudgedEnding) SearchFault) → job < length pieces
     → IfOk (slice_index_or pieces job d) (λ made. AreMetIn Says s (first_of a job) made.items)

@@ -3,14 +3,14 @@ use Rattle.std.specs.Prelude.{ℕ, ◌≡◌, ◌≢◌, ◌+◌, ◌<◌, ◌++
 use Rattle.std.specs.Bool.{MatchBool}
 use Rattle.search_endings.specs.Endings.{Ending}
 use Rattle.search_finds.specs.declared.met.Met.{Met}
-use Rattle.search_finds.specs.declared.met.Table.{Table}
+use Rattle.search_finds.specs.declared.met.EndingTable.{EndingTable}
 
 -- No row of a table has this ending.
-abbrev pub IsNewTo : Table → Ending → Type 0
+abbrev pub IsNewTo : EndingTable → Ending → Type 0
 IsNewTo table e = All (λ m. m.ending ≢ e) table.met.items
 
 -- The row at a place has it.
-abbrev pub HasRowAt : Table → Ending → ℕ → Type 0
+abbrev pub HasRowAt : EndingTable → Ending → ℕ → Type 0
 HasRowAt table e place =
     (place < length table.met.items) × (m : Met) × (slice_index_or table.met.items place m ≡ m)
     × (m.ending ≡ e)
@@ -31,6 +31,6 @@ pub record IsMetFirst (run : ℕ) (e : Ending) (old new : List Met) : Type 0 whe
   pub list : new ≡ old ++ record { ending = e; times = 1; first = run } ∷ []
 
 -- A table has one run more, with this ending.
-pub record IsNoted (run : ℕ) (e : Ending) (is_new : Bool) (old new : Table) : Type 0 where
+pub record IsNoted (run : ℕ) (e : Ending) (is_new : Bool) (old new : EndingTable) : Type 0 where
   pub runs : new.runs ≡ old.runs + 1
   pub met : MatchBool is_new (IsMetFirst run e old.met.items new.met.items) (IsMetAgain e old.met.items new.met.items)

@@ -4,7 +4,7 @@ ghost use Rattle.std.specs.Prelude.{◌≡◌};
 use crate::size::Size;
 use replay_text::Record;
 use search_reach::{Follows, Wish};
-use search_strategies::Watch;
+use search_strategies::EndWatch;
 
 /// Follows a search of drawn runs: it also hears how far the shrinking of a run came, and gives those who make runs
 /// something to look at, by which a run is given up.
@@ -12,7 +12,7 @@ pub trait Hears: Follows {
     ghost use Rattle.search_reach.specs.declared.follows.Wish.{Wish};
 
     /// What is looked at from any thread.
-    type Watch: Watch + Sync + Drop;
+    type Watch: EndWatch + Sync + Drop;
 
     /// That, by which runs are given up where it is to end.
     fn watch(&self) -> Self::Watch;

@@ -1,25 +1,37 @@
 //! Who says of a run whether it is looked for.
-ghost use Rattle.std.specs.Prelude.{◌≡◌, ◌↔◌, Bool, IfOk, true};
+ghost use Rattle.std.specs.Prelude.{◌≡◌, ◌↔◌, ℕ, Bool, IfOk, true};
+ghost use Rattle.search_finds.specs.Finds.{IsFind};
 
 use crate::{ending_of, is_looked_for};
 use search_endings::Ending;
 use search_scheduled::MadeRun;
 use selection::Sought;
+use spawn_host::Request;
 use std::alloc::{AllocError, Global};
 
 /// Says of each run that is made whether it is the one that is looked for.
 pub trait Judges {
+    ghost use Rattle.spawn_host.specs.Requests.{Requested};
     ghost use Rattle.search_scheduled.specs.declared.running.MadeRun.{MadeRun};
 
-    /// What its answer says of a run.
-    ghost judges: { Self → MadeRun → Bool → Type 0 };
+    /// What its answer says of a run of what is requested.
+    ghost judges: { Self → Requested → MadeRun → Bool → Type 0 };
 
-    /// Whether a run is looked for.
+    /// Whether it is to be heard where threads stand, while a run is made.
+    fn hears(&self) -> bool;
+
+    /// Whether a run of what is requested is looked for.
     ///
     /// # Errors
     /// Where memory is refused.
-    fn is_sought(&self, alloc: Global, made: &MadeRun) -> Result<bool, AllocError>
-        ensures { IfOk result (judges self.now made.now) };
+    fn is_sought(
+        &self,
+        alloc: Global,
+        request: &Request,
+        made: &MadeRun,
+    ) -> Result<bool, AllocError>
+        requires { (limit : ℕ) × IsFind request.now limit made.now }
+        ensures { IfOk result (judges self.now request.now made.now) };
 }
 
 /// Looks for a run that ends so.
@@ -31,9 +43,18 @@ pub(crate) struct EndsSo<'a> {
 impl Judges for EndsSo<'_> {
     ghost use Rattle.search_finds.specs.Finds.{EndsAsLookedFor};
 
-    ghost judges = { λ j made is. (is ≡ true) ↔ EndsAsLookedFor j.sought.now j.sought.now.dump made.end };
+    ghost judges = { λ j q made is. (is ≡ true) ↔ EndsAsLookedFor j.sought.now j.sought.now.dump made.end };
 
-    fn is_sought(&self, alloc: Global, made: &MadeRun) -> Result<bool, AllocError> {
+    fn hears(&self) -> bool {
+        false
+    }
+
+    fn is_sought(
+        &self,
+        alloc: Global,
+        _request: &Request,
+        made: &MadeRun,
+    ) -> Result<bool, AllocError> {
         let ending = ending_of(alloc, &made.end, self.sought.dump)?;
         is_looked_for(alloc, self.sought, &ending)
     }
@@ -49,9 +70,18 @@ pub(crate) struct EndsAlike<'a> {
 impl Judges for EndsAlike<'_> {
     ghost use Rattle.search_finds.specs.Endings.{ending_left};
 
-    ghost judges = { λ j made is. (is ≡ true) ↔ (ending_left j.dump made.end ≡ j.ending.now) };
+    ghost judges = { λ j q made is. (is ≡ true) ↔ (ending_left j.dump made.end ≡ j.ending.now) };
 
-    fn is_sought(&self, alloc: Global, made: &MadeRun) -> Result<bool, AllocError> {
+    fn hears(&self) -> bool {
+        false
+    }
+
+    fn is_sought(
+        &self,
+        alloc: Global,
+        _request: &Request,
+        made: &MadeRun,
+    ) -> Result<bool, AllocError> {
         let ending = ending_of(alloc, &made.end, self.dump)?;
         Ok(ending == *self.ending)
     }

@@ -8,7 +8,7 @@
 //! The size of a run is exact, and `shrunk` answers a run by the same call that ends alike and is no larger.
 //!
 //! - `selection::Sought` says which runs are made, and what is looked for; `is_looked_for` whether an ending is.
-//! - `Table` counts the endings that were met (`search_endings::Ending`).
+//! - `EndingTable` counts the endings that were met (`search_endings::Ending`).
 //! - `first_found` makes them one by one and notes their endings, up to the first that is looked for, or until it is
 //!   told to end; `Halt` says which. `run_of_number` makes one of them.
 //! - `shrunk` leaves out the rounds of waits in loops, found by moments in which the run is the same (`Moments`), and
@@ -16,7 +16,7 @@
 //!   entries, takes its place. So nothing rests on how what is left out was found.
 //! - `run_to` follows choices to an ending: it answers their run only where that ends so, and none only where it ends
 //!   otherwise.
-//! - `Hears` follows a search on its way, and gives what runs look at in their middle (`search_strategies::Watch`).
+//! - `Hears` follows a search on its way, and gives what runs look at in their middle (`search_strategies::EndWatch`).
 //!
 //! All runs are `search_scheduled::run_along`'s: so what is found, and what becomes of it, is a run of the module
 //! (`IsFind`, specs/Finds.antt), and which run that is follows from the strategy (`IsRunOfNumber`, specs/Drawing.antt).
@@ -24,11 +24,13 @@
 
 mod ahead;
 mod ending;
+mod finder;
 mod finding;
 mod following;
 mod hears;
 mod judging;
 mod leading;
+mod maker;
 mod met;
 mod moments;
 mod rounds;
@@ -41,12 +43,14 @@ mod table;
 mod words;
 
 pub use ending::{ending_of, have_one_ending};
-pub use finding::{Found, Halt, SearchResult, first_found, first_judged, run_of_number};
+pub use finding::{
+    Crew, Halt, NumberedRun, SearchResult, first_found, first_judged, run_of_number,
+};
 pub use following::{run_round, run_to};
 pub use hears::Hears;
 pub use judging::Judges;
 pub use leading::entries_leading;
-pub use met::{Met, Table};
+pub use met::{EndingTable, Met};
 pub use shrinking::{shrunk, shrunk_by};
 pub use size::{Size, size_of};
 pub use sought::is_looked_for;

@@ -15,7 +15,7 @@ pub struct Met {
 
 /// The endings that were met, in the order of their first runs.
 #[derive(Debug, Drop)]
-pub struct Table {
+pub struct EndingTable {
     pub met: Vec<Met>,
     /// How many runs were made.
     pub runs: u64,

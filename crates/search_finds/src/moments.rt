@@ -14,7 +14,7 @@ use waiters::KeptQueue;
 
 /// Before an event of a run.
 #[derive(Clone, Copy)]
-pub(crate) struct Moment {
+pub(crate) struct BeforeEvent {
     /// Who makes the event.
     pub thread: u32,
     /// The number of the memory, the queue and all threads.
@@ -74,8 +74,8 @@ fn word_of(event: Event) -> Option<u64> {
     }
 }
 
-/// The number of the word at an address, with that.
-fn number_at(memory: &OneMemory, addr: u64) -> u64 {
+/// The hash of the word at an address, with that.
+fn hash_of_word(memory: &OneMemory, addr: u64) -> u64 {
     let first = usize::try_from(addr).unwrap_or(usize::MAX);
     let last = first.saturating_add(8);
     match memory.bytes().get(first..last) {
@@ -105,7 +105,7 @@ pub(crate) struct Moments<'a> {
     before: u64,
     /// What each thread has changed of it.
     changed: [u64; MOST_THREADS],
-    pub seen: Vec<Moment>,
+    pub seen: Vec<BeforeEvent>,
     /// Whether memory was refused for any of this.
     pub is_short: bool,
 }
@@ -138,7 +138,7 @@ impl<'a> Moments<'a> {
     /// Sees what threads share behind an event.
     fn see_shared<'m>(&mut self, event: Event, walk: &Walk<Thread<'m>>) -> Result<(), AllocError> {
         if let Some(addr) = word_of(event) {
-            self.memory = self.memory.wrapping_add(number_at(&walk.memory, addr));
+            self.memory = self.memory.wrapping_add(hash_of_word(&walk.memory, addr));
         }
         match event {
             Event::Ask(_) | Event::Told(_) => {
@@ -175,11 +175,11 @@ impl<'a> Moments<'a> {
     }
 
     /// The moment before the next event of a thread.
-    fn moment(&self, thread: u32) -> Moment {
+    fn moment(&self, thread: u32) -> BeforeEvent {
         let n = thread as usize;
         let number = self.threads.get(n).copied().unwrap_or(0);
         let changed = self.changed.get(n).copied().unwrap_or(0);
-        Moment {
+        BeforeEvent {
             thread,
             run: mixed(self.shared(), self.all),
             own: mixed(number, changed),
@@ -215,7 +215,7 @@ impl<'a, 'm> Watch<Thread<'m>> for Moments<'a> {
 
     fn event(&mut self, entry: &Entry, _thread: &Thread<'m>, memory: &OneMemory) {
         if let Some(addr) = word_of(entry.event) {
-            self.memory = self.memory.wrapping_sub(number_at(memory, addr));
+            self.memory = self.memory.wrapping_sub(hash_of_word(memory, addr));
         }
     }
 

@@ -1,6 +1,6 @@
 //! What of a run lies between two moments in which it is the same.
 
-use crate::moments::{Moment, Moments};
+use crate::moments::{BeforeEvent, Moments};
 use replay::{ReplayFault, replay_watched};
 use search_scheduled::{MadeRun, SearchFault};
 use std::alloc::{AllocError, Global};
@@ -16,7 +16,7 @@ pub(crate) fn moments_of(
     alloc: Global,
     module: &ValidModule,
     made: &MadeRun,
-) -> Result<Vec<Moment>, SearchFault> {
+) -> Result<Vec<BeforeEvent>, SearchFault> {
     let mut units = 0u64;
     for thread in made.end.threads.iter() {
         units = units.saturating_add(thread.spent);
@@ -63,7 +63,7 @@ fn without_rounds(alloc: Global, moments: &[Numbered]) -> Result<Vec<Numbered>, 
 /// The threads of the moments at these places, in order.
 fn threads_at(
     alloc: Global,
-    moments: &[Moment],
+    moments: &[BeforeEvent],
     kept: &[Numbered],
 ) -> Result<Vec<u32>, AllocError> {
     let mut places = Vec::with_capacity(alloc, kept.len())?;
@@ -80,39 +80,42 @@ fn threads_at(
     Ok(schedule)
 }
 
-/// The threads of a run's events in order, without what lies between two moments in which all is the same.
-pub(crate) fn without_repeats(alloc: Global, moments: &[Moment]) -> Result<Vec<u32>, AllocError> {
+/// The moments by the number of the run; or those of one thread, by its own number.
+fn numbers_by(
+    alloc: Global,
+    moments: &[BeforeEvent],
+    by: Option<u32>,
+) -> Result<Vec<Numbered>, AllocError> {
     let mut all = Vec::with_capacity(alloc, moments.len())?;
     for (place, moment) in moments.iter().enumerate() {
-        let number = moment.run;
+        let number = match by {
+            None => moment.run,
+            Some(thread) if thread == moment.thread => moment.own,
+            Some(_) => continue,
+        };
         all.push(Numbered { place, number })?;
     }
-    let kept = without_rounds(alloc, &all)?;
-    threads_at(alloc, moments, &kept)
+    Ok(all)
 }
 
-/// The moments of one thread.
-fn moments_by(alloc: Global, moments: &[Moment], thread: u32) -> Result<Vec<Numbered>, AllocError> {
-    let mut own = Vec::new(alloc);
-    for (place, moment) in moments.iter().enumerate() {
-        if moment.thread == thread {
-            let number = moment.own;
-            own.push(Numbered { place, number })?;
-        }
-    }
-    Ok(own)
+/// The threads of a run's events in order, without what lies between two moments in which all is the same.
+pub(crate) fn without_repeats(
+    alloc: Global,
+    moments: &[BeforeEvent],
+) -> Result<Vec<u32>, AllocError> {
+    let kept = without_rounds(alloc, &numbers_by(alloc, moments, None)?)?;
+    threads_at(alloc, moments, &kept)
 }
 
 /// The threads of a run's events in order, without those of one thread that lie between two moments in which it is the
 /// same and has changed the same.
 pub(crate) fn without_own_repeats(
     alloc: Global,
-    moments: &[Moment],
+    moments: &[BeforeEvent],
 ) -> Result<Vec<u32>, AllocError> {
     let mut kept = Vec::new(alloc);
     for thread in 0..MOST_THREADS as u32 {
-        let own = moments_by(alloc, moments, thread)?;
-        let mut own = without_rounds(alloc, &own)?;
+        let mut own = without_rounds(alloc, &numbers_by(alloc, moments, Some(thread))?)?;
         kept.append(&mut own)?;
     }
     threads_at(alloc, moments, &kept)

@@ -2,16 +2,16 @@
 ghost use Rattle.std.specs.Prelude.{◌≡◌, ◌<◌, ◌^◌, ◌-◌, IfOk, IfErr, MatchOption, []};
 ghost use Rattle.search_finds.specs.Tables.{IsNewTo, HasRowAt, IsNoted, IsMetAgain};
 
-use crate::met::{Met, Table};
+use crate::met::{EndingTable, Met};
 use search_endings::Ending;
 use std::alloc::{AllocError, Global};
 
-impl Table {
+impl EndingTable {
     /// Before the first run.
-    pub fn new(alloc: Global) -> Table
+    pub fn new(alloc: Global) -> EndingTable
         ensures { (result.runs ≡ 0) × (result.met.items ≡ []) }
     {
-        Table {
+        EndingTable {
             met: Vec::new(alloc),
             runs: 0,
         }

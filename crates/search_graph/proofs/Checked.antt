@@ -29,10 +29,12 @@ module _ (moves : List Move) (ranks movers : List ℕ) (states : ℕ) (marks : L
 -- The moves of indices are among the moves.
 pub among-moves : (moves : List Move) (indices : List ℕ) → All (λ k. k < length moves) indices → All (Contains moves) (moves_at moves indices)
 among-moves moves indices within = All-map (Contains moves) (move_at moves) indices
-    (All-weaker (λ k. k < length moves) (λ k. Contains moves (move_at moves k)) (λ k h. Contains-get_or moves k (record { from = 0; thread = 0; next = 0 }) h) indices within)
+    (All-weaker (λ k. k < length moves) (λ k. Contains moves (move_at moves k)) (λ k h. Contains-get_or moves k (record { from = 0; thread = 0; next = 0 }) h)
+    indices within)
 
 -- So they are between states where all are.
 pub within-states : (moves : List Move) (states : ℕ) (indices : List ℕ) → All (IsWithin states) moves → All (λ k. k < length moves) indices
     → All (IsWithin states) (moves_at moves indices)
 within-states moves states indices all within =
-    All-weaker (Contains moves) (IsWithin states) (λ m h. All-contains (IsWithin states) moves m all h) (moves_at moves indices) (among-moves moves indices within)
+    All-weaker (Contains moves) (IsWithin states) (λ m h. All-contains (IsWithin states) moves m all h) (moves_at moves indices)
+    (among-moves moves indices within)

@@ -49,7 +49,8 @@ module _ (moves : List Move) (states : ℕ) (ranks movers : List ℕ) (ok : AreR
     ends (suc bound) k h = by (ends-or-moves moves (run.at k)) (λ j g. ends bound j g)
       where
         -- The named thread moves at this moment or has no move, and the rank is still the same.
-        same : (j : ℕ) → rank j ≡ rank k → IsStill moves (run.at j) ⊎ ((t : ℕ) × CanMove moves (run.at j) t) → (run.by j ≡ Some (named k)) ⊎ (CanMove moves (run.at j) (named k) → ⊥)
+        same : (j : ℕ) → rank j ≡ rank k → IsStill moves (run.at j) ⊎ ((t : ℕ) × CanMove moves (run.at j) t) →
+            (run.by j ≡ Some (named k)) ⊎ (CanMove moves (run.at j) (named k) → ⊥)
             → ((i : ℕ) → rank i < bound → Ends moves run) → Ends moves run
         same j e (inl end) g rest = record { moment = j; is = end }
         same j e (inr c) (inl q) rest =
@@ -60,7 +61,8 @@ module _ (moves : List Move) (states : ℕ) (ranks movers : List ℕ) (ok : AreR
             let to : named j ≡ named k = ap (slice_index movers) e in
             absurd (not (subst (λ v. CanMove moves (run.at j) v) to (can (run.at j) c.0 c.1)))
 
-        later : (g : GetsTurn moves run k (named k)) → (rank g.later < rank k) ⊎ (rank k ≤ rank g.later) → ((i : ℕ) → rank i < bound → Ends moves run) → Ends moves run
+        later : (g : GetsTurn moves run k (named k)) → (rank g.later < rank k) ⊎ (rank k ≤ rank g.later) → ((i : ℕ) → rank i < bound → Ends moves run) →
+            Ends moves run
         later g (inl less) rest = rest g.later (omega arith)
         later g (inr not) rest =
             let e : rank g.later ≡ rank k = omega (arith, sinks-to k g.later g.since) in

@@ -33,7 +33,8 @@ pub decide : (moves : List Move) (s t : ℕ) → CanMove moves s t ⊎ (CanMove 
 decide [] s t = inr (λ c. omega (arith, c.is.1))
 decide (m ∷ moves) s t = by (cases_eq m.from s) (cases_eq m.thread t) (decide moves s t)
   where
-    by : (m.from ≡ s) ⊎ (m.from ≢ s) → (m.thread ≡ t) ⊎ (m.thread ≢ t) → CanMove moves s t ⊎ (CanMove moves s t → ⊥) → CanMove (m ∷ moves) s t ⊎ (CanMove (m ∷ moves) s t → ⊥)
+    by : (m.from ≡ s) ⊎ (m.from ≢ s) → (m.thread ≡ t) ⊎ (m.thread ≢ t) → CanMove moves s t ⊎ (CanMove moves s t → ⊥) → CanMove (m ∷ moves) s t ⊎
+        (CanMove (m ∷ moves) s t → ⊥)
     by f h (inl c) = inl (longer m moves s t c)
     by (inl f) (inl h) (inr r) = inl (first m moves s t f h)
     by (inr f) h (inr r) = inr (λ c. shorter m moves s t c (λ e. f (ap (λ v. v.from) e)) r)

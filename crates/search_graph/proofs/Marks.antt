@@ -23,7 +23,8 @@ pub unmarked : (marks : List Bool) (n s : ℕ) → marks ≡ replicate n false �
 unmarked marks n s e h = true≢false (sym h ∙ (ap (λ l. slice_index_or l s false) e ∙ no_mark n s))
 
 -- One more is marked.
-pub mark-more : (P : ℕ → Type 0) (marks new : List Bool) (i : ℕ) → new ≡ set marks i true → ((s : ℕ) → IsMarked marks s → P s) → P i → (s : ℕ) → IsMarked new s → P s
+pub mark-more : (P : ℕ → Type 0) (marks new : List Bool) (i : ℕ) → new ≡ set marks i true → ((s : ℕ) → IsMarked marks s → P s) → P i →
+    (s : ℕ) → IsMarked new s → P s
 mark-more P marks new i e old here s h = by (cases_eq s i)
   where
     by : (s ≡ i) ⊎ (s ≢ i) → P s

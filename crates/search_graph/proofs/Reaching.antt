@@ -1,5 +1,6 @@
 -- Marks of the states from which one that has ended can be reached.
-use Rattle.std.specs.Prelude.{◌≡◌, ◌≢◌, ◌<◌, ◌≤◌, ◌+◌, ◌⊎◌, ◌↔◌, ℕ, zero, suc, Bool, true, false, List, [], ◌∷◌, ◌++◌, Contains, length, drop, slice_index, slice_index_or, refl}
+use Rattle.std.specs.Prelude.{◌≡◌, ◌≢◌, ◌<◌, ◌≤◌, ◌+◌, ◌⊎◌, ◌↔◌, ℕ, zero, suc, Bool, true, false, List, [], ◌∷◌, ◌++◌}
+use Rattle.std.specs.Prelude.{Contains, length, drop, slice_index, slice_index_or, refl}
 use Rattle.std.specs.List.Sorted.{IsStrictlyIncreasing}
 use Rattle.std.proofs.Common.{subst, sym, ◌∙◌, inl, inr, arith, true≢false, length-append}
 use Rattle.std.proofs.lemmas.Bool.{cases_eq, cases_lt}
@@ -77,11 +78,14 @@ module _ (moves : List Move) (ended : List Bool) where
         by (inr m) = inr ((exact s).0 m)
 
 -- One more move is gone along.
-pub closed-more : (moves : List Move) (marks : List Bool) (i k : ℕ) → k ≡ suc i → i < length moves → (IsMarked marks (move_at moves i).next → IsMarked marks (move_at moves i).from)
+pub closed-more : (moves : List Move) (marks : List Bool) (i k : ℕ) → k ≡ suc i → i < length moves →
+    (IsMarked marks (move_at moves i).next → IsMarked marks (move_at moves i).from)
     → IsClosed (drop k moves) marks → IsClosed (drop i moves) marks
 closed-more moves marks i k e h here rest =
-    All-same (λ m. IsMarked marks m.next → IsMarked marks m.from) (drop i moves) (move_at moves i ∷ drop (suc i) moves) (drop-cons moves i (record { from = 0; thread = 0; next = 0 }) h)
-    (All-cons (λ m. IsMarked marks m.next → IsMarked marks m.from) (move_at moves i) (drop (suc i) moves) here (subst (λ j. IsClosed (drop j moves) marks) e rest))
+    All-same (λ m. IsMarked marks m.next → IsMarked marks m.from) (drop i moves) (move_at moves i ∷ drop (suc i) moves)
+    (drop-cons moves i (record { from = 0; thread = 0; next = 0 }) h)
+    (All-cons (λ m. IsMarked marks m.next → IsMarked marks m.from) (move_at moves i) (drop (suc i) moves) here
+    (subst (λ j. IsClosed (drop j moves) marks) e rest))
 
 -- One more state is gone past.
 module _ (marks : List Bool) (found new : List ℕ) (s : ℕ) (u : AreUnmarked marks s found) where
@@ -120,7 +124,12 @@ pub rises : (xs new : List ℕ) (n : ℕ) → ((v : ℕ) → Contains xs v → v
 rises xs new n below is old = subst IsStrictlyIncreasing (sym is) up
   where
     last : (k : ℕ) → k + 1 ≡ length xs → slice_index (xs ++ n ∷ []) k < slice_index (xs ++ n ∷ []) (k + 1)
-    last k e = omega (arith, get_or-append xs (n ∷ []) 0 k (omega arith), get_or_push xs n 0 (k + 1) (sym e), below (slice_index xs k) (Contains-get_or xs k 0 (omega arith)))
+    last k e = omega (
+      arith,
+      get_or-append xs (n ∷ []) 0 k (omega arith),
+      get_or_push xs n 0 (k + 1) (sym e),
+      below (slice_index xs k) (Contains-get_or xs k 0 (omega arith)),
+    )
 
     by : (k : ℕ) → k + 1 < length (xs ++ n ∷ []) → (k + 1 < length xs) ⊎ (length xs ≤ k + 1) → slice_index (xs ++ n ∷ []) k < slice_index (xs ++ n ∷ []) (k + 1)
     by k l (inl h) = omega (arith, get_or-append xs (n ∷ []) 0 k (omega arith), get_or-append xs (n ∷ []) 0 (k + 1) h, old k h)

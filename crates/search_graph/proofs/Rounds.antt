@@ -159,7 +159,8 @@ module _ {W : Type 0} (worlds : Worlds W) (rests : ℕ → W → Type 0) (among 
         record { later = suc n; since = omega arith; can = can; rest = b.0; moment = b.1; mine = b.2 }
 
     -- A thread that can go on makes a step before the next move begins, or can go on there.
-    to-end : (left n u : ℕ) → (place n).going.count ≤ left → worlds.can (place n).world u → GetsStep worlds world-run n u ⊎ Fresh n (suc ((place n).going.moment)) u
+    to-end : (left n u : ℕ) → (place n).going.count ≤ left → worlds.can (place n).world u → GetsStep worlds world-run n u ⊎ Fresh n
+        (suc ((place n).going.moment)) u
     to-end zero n u b can = by (cases_eq u (place n).going.thread)
       where
         by : (u ≡ (place n).going.thread) ⊎ (u ≢ (place n).going.thread) → GetsStep worlds world-run n u ⊎ Fresh n (suc ((place n).going.moment)) u
@@ -167,20 +168,24 @@ module _ {W : Type 0} (worlds : Worlds W) (rests : ℕ → W → Type 0) (among 
         by (inr m) = inr (fresh-next n u (can-after n u m can) (omega arith))
     to-end (suc left) n u b can = by (cases_eq u (place n).going.thread) (λ l c. to-end left (suc n) u l c)
       where
-        carry : (place (suc n)).going.moment ≡ (place n).going.moment → GetsStep worlds world-run (suc n) u ⊎ Fresh (suc n) (suc ((place (suc n)).going.moment)) u
+        carry : (place (suc n)).going.moment ≡ (place n).going.moment → GetsStep worlds world-run (suc n) u ⊎ Fresh (suc n)
+            (suc ((place (suc n)).going.moment)) u
             → GetsStep worlds world-run n u ⊎ Fresh n (suc ((place n).going.moment)) u
         carry e (inl g) = inl (sooner n u g)
         carry e (inr f) = inr (fresh-sooner n (suc ((place n).going.moment)) (suc ((place (suc n)).going.moment)) u (ap suc e) f)
 
         on : worlds.can (place (suc n)).world u
-            → ((place n).going.count ≡ 0) ⊎ ((c : ℕ) × ((place n).going.count ≡ suc c) × ((place (suc n)).going.count ≡ c) × ((place (suc n)).going.moment ≡ (place n).going.moment))
-            → ((place (suc n)).going.count ≤ left → worlds.can (place (suc n)).world u → GetsStep worlds world-run (suc n) u ⊎ Fresh (suc n) (suc ((place (suc n)).going.moment)) u)
+            → ((place n).going.count ≡ 0) ⊎ ((c : ℕ) × ((place n).going.count ≡ suc c) × ((place (suc n)).going.count ≡ c) ×
+            ((place (suc n)).going.moment ≡ (place n).going.moment))
+            → ((place (suc n)).going.count ≤ left → worlds.can (place (suc n)).world u → GetsStep worlds world-run (suc n) u ⊎ Fresh (suc n)
+            (suc ((place (suc n)).going.moment)) u)
             → GetsStep worlds world-run n u ⊎ Fresh n (suc ((place n).going.moment)) u
         on c (inl e) rest = inr (fresh-next n u c e)
         on c (inr p) rest = let e = p.1 in let i = p.2 in carry p.3 (rest (omega arith) c)
 
         by : (u ≡ (place n).going.thread) ⊎ (u ≢ (place n).going.thread)
-            → ((place (suc n)).going.count ≤ left → worlds.can (place (suc n)).world u → GetsStep worlds world-run (suc n) u ⊎ Fresh (suc n) (suc ((place (suc n)).going.moment)) u)
+            → ((place (suc n)).going.count ≤ left → worlds.can (place (suc n)).world u → GetsStep worlds world-run (suc n) u ⊎ Fresh (suc n)
+            (suc ((place (suc n)).going.moment)) u)
             → GetsStep worlds world-run n u ⊎ Fresh n (suc ((place n).going.moment)) u
         by (inl e) rest = inl (record { later = n; since = omega arith; is = sym e })
         by (inr m) rest = on (can-after n u m can) (passes (place n).going (place n).going.count (place n).going.path) rest

@@ -70,7 +70,8 @@ module _ {W : Type 0} (worlds : Worlds W) (stands : ℕ → W → (ℕ → ℕ) 
       within : stands state (run.at k) left
 
     abbrev step : (k : ℕ) (h : Here k) → Follows h.state (run.by k) (run.at (suc k)) h.left
-    step k h = follows h.state (run.by k) (run.at (suc k)) h.left (graph.step h.state (run.by k) (run.at k) (run.at (suc k)) h.left h.within (run.goes k) (run.makes k))
+    step k h = follows h.state (run.by k) (run.at (suc k)) h.left (graph.step h.state (run.by k) (run.at k) (run.at (suc k)) h.left h.within (run.goes k)
+        (run.makes k))
 
     abbrev here : (k : ℕ) → Here k
     here zero = record { state = s; left = first; within = begins }
@@ -84,7 +85,8 @@ module _ {W : Type 0} (worlds : Worlds W) (stands : ℕ → W → (ℕ → ℕ) 
     rests-or-falls : (k t : ℕ) → GetsTurn moves shadow k t ⊎ ((here (suc k)).left t ≤ (here k).left t)
     rests-or-falls k t = by (cases_eq t (run.by k)) (decide moves (here k).state t)
       where
-        mine : t ≡ run.by k → (shadow.by k ≡ Some (run.by k)) ⊎ (((here (suc k)).state ≡ (here k).state) × ((here (suc k)).left (run.by k) < (here k).left (run.by k)))
+        mine : t ≡ run.by k → (shadow.by k ≡ Some (run.by k)) ⊎ (((here (suc k)).state ≡ (here k).state) ×
+            ((here (suc k)).left (run.by k) < (here k).left (run.by k)))
             → GetsTurn moves shadow k t ⊎ ((here (suc k)).left t ≤ (here k).left t)
         mine e (inl q) = inl (record { later = k; since = omega arith; is = inl (subst (λ v. shadow.by k ≡ Some v) (sym e) q) })
         mine e (inr p) =
@@ -126,7 +128,8 @@ module _ {W : Type 0} (worlds : Worlds W) (stands : ℕ → W → (ℕ → ℕ) 
 
           mine : (j : ℕ) → run.by j ≡ t → (shadow.by j ≡ Some t) ⊎ (((here (suc j)).state ≡ (here j).state) × ((here (suc j)).left t < (here j).left t))
           mine j e =
-              subst (λ v. (shadow.by j ≡ Some v) ⊎ (((here (suc j)).state ≡ (here j).state) × ((here (suc j)).left v < (here j).left v))) e ((step j (here j)).own)
+              subst (λ v. (shadow.by j ≡ Some v) ⊎ (((here (suc j)).state ≡ (here j).state) × ((here (suc j)).left v < (here j).left v))) e
+              ((step j (here j)).own)
 
           still : (j : ℕ) → k ≤ j → run.by j ≡ t → (here j).left t ≤ (here k).left t → CanMove moves (here j).state t ⊎ (CanMove moves (here j).state t → ⊥)
               → ((i : ℕ) → (here i).left t < bound → CanMove moves (here i).state t → GetsTurn moves shadow i t) → GetsTurn moves shadow k t
@@ -138,19 +141,25 @@ module _ {W : Type 0} (worlds : Worlds W) (stands : ℕ → W → (ℕ → ℕ) 
           waited g (inl r) rest = r
           waited g (inr l) rest = still g.later g.since g.is l (decide moves (here g.later).state t) rest
 
-          found : GetsStep worlds run k t → ((i : ℕ) → (here i).left t < bound → CanMove moves (here i).state t → GetsTurn moves shadow i t) → GetsTurn moves shadow k t
+          found : GetsStep worlds run k t → ((i : ℕ) → (here i).left t < bound → CanMove moves (here i).state t → GetsTurn moves shadow i t) →
+              GetsTurn moves shadow k t
           found g rest = waited g (let since = g.since in waits (g.later - k) k g.later t (omega arith)) rest
 
       shadow-fair : IsFair moves shadow
       shadow-fair k t c = gets (suc ((here k).left t)) k t (omega arith) c
 
     -- Where no thread has a move, each step leaves the state, and the steps that are left get fewer.
-    falls-there : (k : ℕ) → IsStill moves (here k).state → ((here (suc k)).state ≡ (here k).state) × (sum_below (here (suc k)).left most < sum_below (here k).left most)
+    falls-there : (k : ℕ) → IsStill moves (here k).state → ((here (suc k)).state ≡ (here k).state) ×
+        (sum_below (here (suc k)).left most < sum_below (here k).left most)
     falls-there k still = by ((step k (here k)).own)
       where
         by : (shadow.by k ≡ Some (run.by k)) ⊎ (((here (suc k)).state ≡ (here k).state) × ((here (suc k)).left (run.by k) < (here k).left (run.by k)))
             → ((here (suc k)).state ≡ (here k).state) × (sum_below (here (suc k)).left most < sum_below (here k).left most)
-        by (inl q) = absurd (still (run.by k) (record { next = (here (suc k)).state; is = subst (λ o. Turns moves (here k).state o (here (suc k)).state) q (shadow.turns k) }))
+        by (inl q) = absurd (still (run.by k) (record {
+          next = (here (suc k)).state;
+          is = subst (λ o. Turns moves (here k).state o (here (suc k)).state) q
+              (shadow.turns k);
+        }))
         by (inr p) = (
           p.0,
           sum-falls (here (suc k)).left (here k).left most (run.by k)

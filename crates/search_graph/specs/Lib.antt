@@ -5,3 +5,4 @@ pub mod Runs
 pub mod Round
 pub mod Ranks
 pub mod Marking
+pub mod Groups

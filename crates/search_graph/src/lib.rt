@@ -14,8 +14,9 @@
 //!   falls.
 //! - `is_fair_cycle` checks of a walk that it comes back to its start, and that each thread that has a move there makes
 //!   one on the way, or comes by a state where it has none.
-//! - Whoever made ranks or a walk is not trusted (crate `search_fairness` looks for them). `Grouped` and `order_back`
-//!   are hints of that kind, of which it is proved that they are safe and end.
+//! - Whoever made ranks or a walk is not trusted (crate `search_fairness` looks for them). `group_moves` and `order_back`
+//!   give hints of that kind, of which it is proved that making them is safe and ends. `Grouped::moves_of` gives a part of
+//!   such a hint, and which one is exact (`specs/Groups.antt`).
 //! - `specs/Worlds.antt`: what a search goes through, and which of its graph's states stands for what. The laws of
 //!   `laws.rt` carry both answers over: there is no fair run without end of the one where there is none of the other,
 //!   and where there is one, there is one.
@@ -31,6 +32,6 @@ mod ranks;
 pub use cycles::is_fair_cycle;
 pub use ends::cannot_end;
 pub use graph::{Graph, Move, is_graph};
-pub use grouped::{Grouped, Key, group_moves, number_at, order_back, put_at};
+pub use grouped::{Grouped, Key, group_moves, number_or_0, order_back, put_at};
 pub use laws::{StandsFor, a_fair_run_begins_before, a_fair_run_goes_round, no_fair_run_goes_on};
 pub use ranks::every_fair_run_ends;

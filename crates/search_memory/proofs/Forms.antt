@@ -9,7 +9,8 @@ use Rattle.search_memory.specs.Memories.{memory_of, padded, with_change, is_belo
 use Rattle.search_memory.proofs.Putting.{length_memory, length_padded, opened_at}
 
 -- one change within other bounds
-moved : (opening : List ℕ) (from end low high : ℕ) (c : ChangedByte) → low ≤ c.at → c.at < high → IsDifference opening from end c → IsDifference opening low high c
+moved : (opening : List ℕ) (from end low high : ℕ) (c : ChangedByte) → low ≤ c.at → c.at < high → IsDifference opening from end c →
+    IsDifference opening low high c
 moved opening from end low high c since before d = record { since = since; before = before; other = d.other }
 
 -- from a lower address on
@@ -23,9 +24,11 @@ pub lower : (opening : List ℕ) (from end at : ℕ) (cs : List ChangedByte) →
     → AreDifferences opening from at (filter (is_below at) cs)
 lower opening from end at [] ds = tt
 lower opening from end at (c ∷ cs) ds = elim (cases_lt c.at at) [
-  | inl lt ↦ subst (AreDifferences opening from at) (sym (cond-true (is_below at c) (c ∷ filter (is_below at) cs) (filter (is_below at) cs) (lt-ltb c.at at lt)))
+  | inl lt ↦ subst (AreDifferences opening from at)
+      (sym (cond-true (is_below at c) (c ∷ filter (is_below at) cs) (filter (is_below at) cs) (lt-ltb c.at at lt)))
       (moved opening from end from at c (ds.0).since lt ds.0, lower opening (suc c.at) end at cs ds.1)
-  | inr le ↦ subst (AreDifferences opening from at) (sym (cond-false (is_below at c) (c ∷ filter (is_below at) cs) (filter (is_below at) cs) (le-ltb c.at at le)))
+  | inr le ↦ subst (AreDifferences opening from at)
+      (sym (cond-false (is_below at c) (c ∷ filter (is_below at) cs) (filter (is_below at) cs) (le-ltb c.at at le)))
       (earlier opening from (suc c.at) at (filter (is_below at) cs) (omega (arith, (ds.0).since)) (lower opening (suc c.at) end at cs ds.1))
 ]
 
@@ -34,9 +37,11 @@ pub higher : (opening : List ℕ) (from end at : ℕ) (cs : List ChangedByte) �
     → AreDifferences opening (suc at) end (filter (is_above at) cs)
 higher opening from end at [] ds = tt
 higher opening from end at (c ∷ cs) ds = elim (cases_lt at c.at) [
-  | inl lt ↦ subst (AreDifferences opening (suc at) end) (sym (cond-true (is_above at c) (c ∷ filter (is_above at) cs) (filter (is_above at) cs) (lt-ltb at c.at lt)))
+  | inl lt ↦ subst (AreDifferences opening (suc at) end)
+      (sym (cond-true (is_above at c) (c ∷ filter (is_above at) cs) (filter (is_above at) cs) (lt-ltb at c.at lt)))
       (moved opening from end (suc at) end c (omega (arith, lt)) (ds.0).before ds.0, later c.at lt)
-  | inr le ↦ subst (AreDifferences opening (suc at) end) (sym (cond-false (is_above at c) (c ∷ filter (is_above at) cs) (filter (is_above at) cs) (le-ltb at c.at le)))
+  | inr le ↦ subst (AreDifferences opening (suc at) end)
+      (sym (cond-false (is_above at c) (c ∷ filter (is_above at) cs) (filter (is_above at) cs) (le-ltb at c.at le)))
       (higher opening (suc c.at) end at cs ds.1)
 ]
   where
@@ -44,7 +49,8 @@ higher opening from end at (c ∷ cs) ds = elim (cases_lt at c.at) [
     all_above : (from : ℕ) (ds : List ChangedByte) → at < from → AreDifferences opening from end ds → AreDifferences opening from end (filter (is_above at) ds)
     all_above from [] lt h = tt
     all_above from (d ∷ ds) lt h =
-        subst (AreDifferences opening from end) (sym (cond-true (is_above at d) (d ∷ filter (is_above at) ds) (filter (is_above at) ds) (lt-ltb at d.at (omega (arith, lt, (h.0).since)))))
+        subst (AreDifferences opening from end) (sym (cond-true (is_above at d) (d ∷ filter (is_above at) ds) (filter (is_above at) ds)
+        (lt-ltb at d.at (omega (arith, lt, (h.0).since)))))
         (h.0, all_above (suc d.at) ds (omega (arith, lt, (h.0).since)) h.1)
 
     later : (k : ℕ) → at < c.at → AreDifferences opening (suc c.at) end (filter (is_above at) cs)
@@ -87,8 +93,10 @@ module _ (opening : List ℕ) (len at byte : ℕ) (cs : List ChangedByte) (withi
   pub with_one : byte ≢ get_or opening at 0
       → AreDifferences opening 0 len ((filter (is_below at) cs ++ record { at = at; byte = byte } ∷ []) ++ filter (is_above at) cs)
   with_one other =
-      behind opening 0 (suc at) len (filter (is_below at) cs ++ record { at = at; byte = byte } ∷ []) (filter (is_above at) cs) (omega arith) (omega (arith, within))
-      (behind opening 0 at (suc at) (filter (is_below at) cs) (record { at = at; byte = byte } ∷ []) (omega arith) (omega arith) low (only opening at byte other)) high
+      behind opening 0 (suc at) len (filter (is_below at) cs ++ record { at = at; byte = byte } ∷ []) (filter (is_above at) cs) (omega arith)
+      (omega (arith, within))
+      (behind opening 0 at (suc at) (filter (is_below at) cs) (record { at = at; byte = byte } ∷ []) (omega arith) (omega arith) low
+      (only opening at byte other)) high
 
   pub with_none : AreDifferences opening 0 len (filter (is_below at) cs ++ filter (is_above at) cs)
   with_none =
@@ -128,7 +136,8 @@ Opened opening bytes from end = (k : ℕ) → from ≤ k → k < end → get_or 
 none_there : (opening bytes : List ℕ) (from end : ℕ) (c : ChangedByte) (cs ys : List ChangedByte) → length bytes ≡ end → Opened opening bytes from end
     → AreDifferences opening from end (c ∷ cs) → AreDifferences opening (suc c.at) end ys → fold with_change bytes (c ∷ cs) ≡ fold with_change bytes ys → ⊥
 none_there opening bytes from end c cs ys long opened ds es same =
-    (ds.0).other (sym (there opening bytes from end c cs long ds) ∙ ap (λ bs. get_or bs c.at 0) same ∙ stays opening bytes (suc c.at) end ys es c.at (omega arith)
+    (ds.0).other (sym (there opening bytes from end c cs long ds) ∙ ap (λ bs. get_or bs c.at 0) same ∙ stays opening bytes (suc c.at) end ys es c.at
+    (omega arith)
     ∙ opened c.at (ds.0).since (ds.0).before)
 
 one_list : (opening bytes : List ℕ) (from end : ℕ) (xs ys : List ChangedByte) → length bytes ≡ end → Opened opening bytes from end
@@ -137,9 +146,17 @@ one_list opening bytes from end [] [] long opened ds es same = refl
 one_list opening bytes from end [] (y ∷ ys) long opened ds es same = absurd (none_there opening bytes from end y ys [] long opened es tt (sym same))
 one_list opening bytes from end (x ∷ xs) [] long opened ds es same = absurd (none_there opening bytes from end x xs [] long opened ds tt same)
 one_list opening bytes from end (x ∷ xs) (y ∷ ys) long opened ds es same = elim (cases_lt x.at y.at) [
-  | inl lt ↦ absurd (none_there opening bytes from end x xs (y ∷ ys) long opened ds (moved opening from end (suc x.at) end y (omega (arith, lt)) (es.0).before es.0, es.1) same)
+  | inl lt ↦ absurd (none_there opening bytes from end x xs (y ∷ ys) long opened ds (
+    moved opening from end (suc x.at) end y (omega (arith, lt))
+        (es.0).before es.0,
+    es.1,
+  ) same)
   | inr le ↦ elim (cases_lt y.at x.at) [
-    | inl gt ↦ absurd (none_there opening bytes from end y ys (x ∷ xs) long opened es (moved opening from end (suc y.at) end x (omega (arith, gt)) (ds.0).before ds.0, ds.1) (sym same))
+    | inl gt ↦ absurd (none_there opening bytes from end y ys (x ∷ xs) long opened es (
+      moved opening from end (suc y.at) end x (omega (arith, gt))
+          (ds.0).before ds.0,
+      ds.1,
+    ) (sym same))
     | inr ge ↦ at_one (omega (arith, le, ge)) (λ bytes from. one_list opening bytes from end xs ys)
   ]
 ]
@@ -165,7 +182,8 @@ pub record AreAlike (x y : Changes) : Type 0 where
   pub max : x.max ≡ y.max
   pub changes : x.changes.items ≡ y.changes.items
 
-pub one_form : (opening : List ℕ) (x y : Changes) → HasDifferences opening x → HasDifferences opening y → memory_of opening x ≡ memory_of opening y → AreAlike x y
+pub one_form : (opening : List ℕ) (x y : Changes) → HasDifferences opening x → HasDifferences opening y → memory_of opening x ≡ memory_of opening y →
+    AreAlike x y
 one_form opening x y ds es same =
     let len : x.len ≡ y.len = sym (length_memory opening x) ∙ ap (λ m. length m.bytes) same ∙ length_memory opening y in
     record {

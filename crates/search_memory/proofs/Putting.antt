@@ -105,14 +105,20 @@ length_changed bytes (c ∷ cs) = length_changed (with_change bytes c) cs ∙ le
 
 pub length_padded : (opening : List ℕ) (len : ℕ) → length (padded opening len) ≡ len
 length_padded opening len =
-    omega (arith, length-append (take len opening) (replicate (len - length opening) 0), length-take len opening, length-replicate {A = ℕ} (len - length opening) 0)
+    omega (
+      arith,
+      length-append (take len opening) (replicate (len - length opening) 0),
+      length-take len opening,
+      length-replicate {A = ℕ} (len - length opening) 0,
+    )
 
 module _ (opening : List ℕ) (len at : ℕ) (low : at < len) where
   pub opened_at : get_or opening at 0 ≡ get_or (padded opening len) at 0
   opened_at =
       let few = length-take len opening in
       elim (cases_lt at (length opening)) [
-        | inl lt ↦ sym (get_or_append_left (take len opening) (replicate (len - length opening) 0) 0 at (omega (arith, few, lt, low)) ∙ get_or-take len opening at 0 low)
+        | inl lt ↦ sym (get_or_append_left (take len opening) (replicate (len - length opening) 0) 0 at (omega (arith, few, lt, low)) ∙
+            get_or-take len opening at 0 low)
         | inr le ↦ get_or_past opening at 0 le
             ∙ sym (get_or-append_right (take len opening) (replicate (len - length opening) 0) (length opening) at 0 (omega (arith, few, le, low)) le
             ∙ get_or-replicate {A = ℕ} (len - length opening) (at - length opening) 0 0 (omega (arith, le, low)))
@@ -120,9 +126,11 @@ module _ (opening : List ℕ) (len at : ℕ) (low : at < len) where
 
   module _ (changes : List ChangedByte) (i : ℕ) (d : ChangedByte) (lt : i < length changes) where
     one_more : changed_bytes opening len (take (i + 1) changes) ≡ with_change (changed_bytes opening len (take i changes)) (get_or changes i d)
-    one_more = ap (fold with_change (padded opening len)) (take_more changes i d lt) ∙ fold_more with_change (padded opening len) (take i changes) (get_or changes i d)
+    one_more = ap (fold with_change (padded opening len)) (take_more changes i d lt) ∙ fold_more with_change (padded opening len) (take i changes)
+        (get_or changes i d)
 
-    pub byte_here : ChangedByte.at (get_or changes i d) ≡ at → ChangedByte.byte (get_or changes i d) ≡ get_or (changed_bytes opening len (take (i + 1) changes)) at 0
+    pub byte_here : ChangedByte.at (get_or changes i d) ≡ at → ChangedByte.byte (get_or changes i d) ≡ get_or
+        (changed_bytes opening len (take (i + 1) changes)) at 0
     byte_here e =
         let bytes = changed_bytes opening len (take i changes) in
         let long : length bytes ≡ len = length_changed (padded opening len) (take i changes) ∙ length_padded opening len in

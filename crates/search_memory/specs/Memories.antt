@@ -4,7 +4,7 @@ use Rattle.types.specs.declared.event.Event.{Event}
 use Rattle.shared_memory.specs.Memory.{Memory, state_after, written}
 use Rattle.search_memory.specs.declared.beside.ChangedByte.{ChangedByte}
 use Rattle.search_memory.specs.declared.beside.Changes.{Changes}
-use Rattle.search_memory.specs.declared.looking.Beside.{Beside}
+use Rattle.search_memory.specs.declared.looking.ChangedMemory.{ChangedMemory}
 
 -- So many bytes, which begin as the opening memory's, with zeros behind those.
 abbrev pub padded : List ℕ → ℕ → List ℕ
@@ -33,11 +33,11 @@ abbrev pub is_above : ℕ → ChangedByte → Bool
 is_above at change = nat_lt at change.at
 
 -- The memory that is looked at.
-abbrev pub memory_at : Beside → Memory
+abbrev pub memory_at : ChangedMemory → Memory
 memory_at b = memory_of b.opening.now b.changed.now
 
 -- The changes are those once a number is written to so many bytes at an address.
-abbrev pub AreWritten : Beside → ℕ → ℕ → ℕ → Changes → Type 0
+abbrev pub AreWritten : ChangedMemory → ℕ → ℕ → ℕ → Changes → Type 0
 AreWritten b addr width value after = memory_of b.opening.now after ≡ written (memory_at b) addr width value
 
 -- One byte more is changed.

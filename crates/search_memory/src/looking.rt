@@ -13,12 +13,12 @@ use types::{Event, PAGE_SIZE, Question, Reply};
 
 /// A memory: what differs, and the opening memory's bytes.
 #[derive(Clone, Copy)]
-pub(crate) struct Beside<'o> {
+pub(crate) struct ChangedMemory<'o> {
     pub(crate) opening: &'o [u8],
     pub(crate) changed: &'o Changes,
 }
 
-impl Beside<'_> {
+impl ChangedMemory<'_> {
     /// How many bytes there are.
     #[tactic(auto, using(crate::proofs::Putting::length_memory))]
     fn len(&self) -> usize

@@ -7,7 +7,7 @@ ghost use Rattle.shared_memory_sequential.specs.Opening.{IsSized};
 ghost use Rattle.search_memory.specs.Memories.{memory_of, with_change, AreAfter, StayDifferences};
 
 use crate::beside::{ChangedByte, Changes, changes_in, padded};
-use crate::looking::Beside;
+use crate::looking::ChangedMemory;
 use shared_memory_sequential::{OneMemory, OpenFault, combine};
 use std::alloc::{AllocError, Global};
 use types::{Event, Reply};
@@ -53,7 +53,7 @@ pub fn holds(opening: &[u8], changed: &Changes, addr: u64, width: u8, number: u6
     ensures { result ≡ (nat_le (addr + width) (length (memory_of opening.now changed.now).bytes)
         && (loaded (memory_of opening.now changed.now) addr width == number)) }
 {
-    let beside = Beside { opening, changed };
+    let beside = ChangedMemory { opening, changed };
     beside.is_within(addr, width) && beside.number_at(addr, width) == number
 }
 
@@ -88,7 +88,7 @@ fn after(
     ensures sized { IfOk result (λ c. IsSized (memory_of opening.now c)) }
     ensures differences { IfOk result (StayDifferences opening.now changed.now) }
 {
-    let beside = Beside { opening, changed };
+    let beside = ChangedMemory { opening, changed };
     match *event {
         Event::Store {
             addr,
@@ -135,6 +135,6 @@ pub fn step(
     ensures differences { IfOk result (λ r. StayDifferences opening.now changed.now r.0) }
     ensures reply { IfOk result (λ r. r.1 ≡ reply_of (memory_of opening.now changed.now) event.now) }
 {
-    let reply = Beside { opening, changed }.reply(event);
+    let reply = ChangedMemory { opening, changed }.reply(event);
     Ok((after(alloc, opening, changed, event)?, reply))
 }

@@ -12,7 +12,7 @@ use Rattle.search_threads.specs.Budgets.{first_without}
 use Rattle.search_settled.specs.Settled.{Settles}
 use Rattle.search_settled.specs.Next.{IsBeginning}
 use Rattle.search_runs.specs.Called.{Called, Walker as Thread, system_of, first_state, first_shared}
-use Rattle.search_settled.specs.declared.flat.Flat.{Flat}
+use Rattle.search_settled.specs.declared.flat.RestingState.{RestingState}
 use Rattle.search_parts.specs.Walkers.{RestsAt}
 use Rattle.search_parts.specs.declared.walker.RestingThread.{RestingThread}
 use Rattle.search_parts.specs.declared.walker.RestingThread.TheVariants as standings
@@ -56,7 +56,7 @@ module _ (w : WithTables) (b : Called) (opening : List ℕ) (main : RestingThrea
     }
   ]
 
-  pub begun : (c : Flat Common HashedThread) → Shares opening c.shared (first_shared b)
+  pub begun : (c : RestingState Common HashedThread) → Shares opening c.shared (first_shared b)
       → (t : HashedThread) × (c.threads.items ≡ t ∷ []) × (t.standing ≡ main)
       → IsBeginning (threads_of w b opening) c
   unfolding first_queue

@@ -11,7 +11,7 @@ use Rattle.search_graph.specs.Paths.{Reaches}
 use Rattle.search_reach.specs.Search.{StepSystem, HasAllEnds, AreEnds, CanGetStuck}
 use Rattle.search_settled.specs.Settled.{StepsBy}
 use Rattle.search_settled.specs.Turns.{turn_steps}
-use Rattle.search_settled.specs.declared.flat.Flat.{Flat}
+use Rattle.search_settled.specs.declared.flat.RestingState.{RestingState}
 use Rattle.search_runs.specs.Called.{Called, Walker as Thread, system_of, first_state}
 use Rattle.search_endings.specs.Endings.{Ending, reported_ending, is_same_ending}
 use Rattle.search_endings.specs.Equal.{equal_ones}
@@ -32,7 +32,7 @@ use Rattle.search_modules.specs.Moved.{called, threads, IsStuck}
 use Rattle.search_modules.specs.Endings.{HasEveryEnding, HasEveryEndingWithin, HasSought, AllCanEndSo, IsWorkerOf, BeginsUnknown, CanBeLost}
 
 -- what is gone through
-abbrev pub gone : Searched → StepSystem (Flat Common SharedWalker) (systems.State Shared Thread) Ending
+abbrev pub gone : Searched → StepSystem (RestingState Common SharedWalker) (systems.State Shared Thread) Ending
 gone s = turn_steps (threads s) (HasEndedSo s.dump) (IsStuck s)
 
 module _ (m : Parts) (entry : List ℕ) (args : List Value) (s : Searched) (call : IsCall m entry args (called s)) (dump : ℕ)

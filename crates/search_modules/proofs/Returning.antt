@@ -98,8 +98,10 @@ module _ (m : Parts) (distinct : HasDistinctNames m.exports) (entry : List ℕ) 
   within = every_run_ends_within b fuel loses limit history is_history.outcomes is_history.lefts together dump ends_so ending
 
 -- And by no more events than the run has entries.
-pub what_runs_return_is_within : (m : Parts) → HasDistinctNames m.exports → (entry : List ℕ) (args : List Value) (b : Called) → IsCall m entry args b → (fuel : ℕ)
-    (loses : Bool) (limit : Option ℕ) (history : List Entry) (end : EndState) → EndsRun m entry args fuel loses limit history end → AllHadEnough end → (dump : ℕ)
+pub what_runs_return_is_within : (m : Parts) → HasDistinctNames m.exports → (entry : List ℕ) (args : List Value) (b : Called) → IsCall m entry args b →
+    (fuel : ℕ)
+    (loses : Bool) (limit : Option ℕ) (history : List Entry) (end : EndState) → EndsRun m entry args fuel loses limit history end →
+    AllHadEnough end → (dump : ℕ)
     → (w : systems.State Shared Walker) × ComesWithin (system_of b) (length history) (first_state b) w
     × HasEndedSo dump w (reported_ending dump end.threads.items end.pages end.bytes.items)
 what_runs_return_is_within m distinct entry args b call fuel loses limit history end ends out dump =

@@ -6,8 +6,8 @@ use Rattle.search_runs.specs.Ends.{HasEndedSo}
 use Rattle.search_settled.specs.Parts.{HasParts}
 use Rattle.search_settled.specs.Next.{HasEnded, IsSomewhere}
 use Rattle.search_settled.specs.Flat.{IsEventAt}
-use Rattle.search_settled.specs.declared.flat.Flat.{Flat}
-use Rattle.search_settled.specs.declared.access.Access.{Access}
+use Rattle.search_settled.specs.declared.flat.RestingState.{RestingState}
+use Rattle.search_settled.specs.declared.access.NextAccess.{NextAccess}
 use Rattle.search_race_free.specs.Search.{IsAccessOf}
 use Rattle.search_parts.specs.Threads.{IsAccessIn, threads_of, IsEventIn, IsSettled, HasEndedIn}
 use Rattle.search_parts.specs.declared.event.Effect.{Effect}
@@ -33,7 +33,7 @@ module _ (s : Searched) where
 
   -- of what a thread does with the memory
   pub access_told : {E : Type 0} (opening : List ℕ) → opening ≡ s.opening.items → (shared : Common) (read thread : HashedThread) → read ≡ thread
-      → (n : ℕ) (r : Result (Option Access) E) → IfOk r (IsAccessIn s.valid.now opening shared read.standing n)
+      → (n : ℕ) (r : Result (Option NextAccess) E) → IfOk r (IsAccessIn s.valid.now opening shared read.standing n)
       → IfOk r (IsAccessOf (threads s) shared thread n)
   access_told opening same shared read thread is n r h =
       if_ok_so r (IsAccessIn s.valid.now s.opening.items shared thread.standing n) (IsAccessOf (threads s) shared thread n)
@@ -42,19 +42,19 @@ module _ (s : Searched) where
       (subst (λ l. IfOk r (IsAccessIn s.valid.now l shared read.standing n)) same h))
 
   -- of an ending
-  abbrev EndTold : Flat Common HashedThread → Option Ending → Type 0
+  abbrev EndTold : RestingState Common HashedThread → Option Ending → Type 0
   EndTold flat o = HasEnded (threads s) (HasEndedSo s.dump) flat o
 
   pub end_told : {E : Type 0} (opening : List ℕ) → opening ≡ s.opening.items → (shared : Common) (ts : List HashedThread) (r : Result (Option Ending) E)
-      → IfOk r (λ o. (flat : Flat Common HashedThread) → HasParts shared ts flat → HasEndedIn opening s.dump flat o)
-      → IfOk r (λ o. (flat : Flat Common HashedThread) → HasParts shared ts flat → EndTold flat o)
+      → IfOk r (λ o. (flat : RestingState Common HashedThread) → HasParts shared ts flat → HasEndedIn opening s.dump flat o)
+      → IfOk r (λ o. (flat : RestingState Common HashedThread) → HasParts shared ts flat → EndTold flat o)
   end_told opening same shared ts r h =
-      if_ok_so r (λ o. (flat : Flat Common HashedThread) → HasParts shared ts flat → HasEndedIn s.opening.items s.dump flat o)
-      (λ o. (flat : Flat Common HashedThread) → HasParts shared ts flat → EndTold flat o)
+      if_ok_so r (λ o. (flat : RestingState Common HashedThread) → HasParts shared ts flat → HasEndedIn s.opening.items s.dump flat o)
+      (λ o. (flat : RestingState Common HashedThread) → HasParts shared ts flat → EndTold flat o)
       (λ o by flat parts. by flat parts s.valid.now (called s))
-      (subst (λ l. IfOk r (λ o. (flat : Flat Common HashedThread) → HasParts shared ts flat → HasEndedIn l s.dump flat o)) same h)
+      (subst (λ l. IfOk r (λ o. (flat : RestingState Common HashedThread) → HasParts shared ts flat → HasEndedIn l s.dump flat o)) same h)
 
-  pub end_asked : (opening : List ℕ) → opening ≡ s.opening.items → (flat : Flat Common HashedThread) → IsSomewhere (threads s) flat
+  pub end_asked : (opening : List ℕ) → opening ≡ s.opening.items → (flat : RestingState Common HashedThread) → IsSomewhere (threads s) flat
       → IsSettled opening flat
   end_asked opening same flat at = (
     s.valid.now,

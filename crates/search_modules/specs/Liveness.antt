@@ -17,7 +17,7 @@ use Rattle.search_reach.specs.declared.search.Verdict.TheVariants as verdicts
 use Rattle.search_settled.specs.Settled.{StepsBy, turning}
 use Rattle.search_settled.specs.Next.{StandsForState}
 use Rattle.search_settled.specs.Same.{flat_eq}
-use Rattle.search_settled.specs.declared.flat.Flat.{Flat}
+use Rattle.search_settled.specs.declared.flat.RestingState.{RestingState}
 use Rattle.search_race_free.specs.declared.owning.Owning.{Owning}
 use Rattle.search_race_free.specs.Reduced.{StandsBefore}
 use Rattle.search_race_free.specs.Same.{owning_eq}
@@ -51,7 +51,7 @@ SaysOfRuns b Unknown = Unit {0}
 
 -- A state of the search: what is shared, and each thread at rest.
 abbrev pub Searching : Type 0
-Searching = Flat Common HashedThread
+Searching = RestingState Common HashedThread
 
 -- They are equal.
 abbrev pub is_same_state : Searching → Searching → Bool

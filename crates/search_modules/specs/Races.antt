@@ -6,14 +6,14 @@ use Rattle.spawn_host.specs.Requests.{Requested}
 use Rattle.search_endings.specs.Endings.{Ending}
 use Rattle.search_reach.specs.Found.{Claims}
 use Rattle.search_race_free.specs.Races.{HasRace, NoneRace}
-use Rattle.search_race_free.specs.declared.race.Race.{Race}
+use Rattle.search_race_free.specs.declared.race.ThreadRace.{ThreadRace}
 use Rattle.search_runs.specs.Accesses.{access_of}
 use Rattle.search_runs.specs.Called.{Called, system_of, first_state}
 use Rattle.search_modules.specs.Endings.{HasEveryEnding, AllCanEndSo, CanBeLost}
 use Rattle.search_modules.specs.Returned.{IsCall}
 
 -- By this call threads without budgets come to where these two race.
-abbrev pub CanRaceSo : Parts → List ℕ → List Value → Race → Type 0
+abbrev pub CanRaceSo : Parts → List ℕ → List Value → ThreadRace → Type 0
 CanRaceSo m entry args r =
     (b : Called) × IsCall m entry args b × HasRace (system_of b) (first_state b) access_of r.one r.other
 
@@ -26,5 +26,5 @@ abbrev pub race_free_claims_of : Requested → ℕ → Claims Ending
 race_free_claims_of r dump = record {
   complete = HasEveryEnding r.parts r.name r.args dump;
   sound = AllCanEndSo r.parts r.name r.args dump;
-  lost = CanBeLost r.parts r.name r.args ⊎ ((race : Race) × CanRaceSo r.parts r.name r.args race);
+  lost = CanBeLost r.parts r.name r.args ⊎ ((race : ThreadRace) × CanRaceSo r.parts r.name r.args race);
 }

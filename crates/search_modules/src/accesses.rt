@@ -3,7 +3,7 @@
 use crate::called::Searched;
 use search_parts::{Common, SharedWalker, next_access};
 use search_race_free::Accesses;
-use search_settled::Access;
+use search_settled::NextAccess;
 use std::alloc::{AllocError, Global};
 
 impl Accesses for Searched<'_> {
@@ -22,7 +22,7 @@ impl Accesses for Searched<'_> {
         shared: &Common,
         thread: &SharedWalker,
         n: usize,
-    ) -> Result<Option<Access>, AllocError> {
+    ) -> Result<Option<NextAccess>, AllocError> {
         next_access(
             alloc,
             self.valid,

@@ -7,7 +7,7 @@ ghost use Rattle.search_settled.specs.Flat.{IsStuckByStart};
 ghost use Rattle.search_modules.specs.Moved.{threads, IsAfterSome, ThreadRestsThen, IsStuckThen, IsStuck};
 
 use crate::called::Searched;
-use search_parts::{Effect, RestingThread, SharedWalker, is_untouched, rest_after};
+use search_parts::{Effect, MadeBy, RestingThread, SharedWalker, is_untouched, rest_after};
 use std::alloc::{AllocError, Global};
 
 /// Where thread m comes to rest that stood so before an event of thread n, or nothing where that can't be told.
@@ -27,8 +27,9 @@ fn rested(
     ensures rests { IfOk result (λ o. IfSome o (ThreadRestsThen searched.now made.now n standing.now m)) }
     ensures gives_up { IfOk result (λ o. o ≡ None → IsStuckThen searched.now made.now n standing.now m) }
 {
-    let Some(rest) = rest_after(alloc, searched.valid, searched.worker, made, n, standing, m)?
-    else {
+    let event = MadeBy { made, n };
+    let (valid, worker) = (searched.valid, searched.worker);
+    let Some(rest) = rest_after(alloc, valid, worker, &event, standing, m)? else {
         return Ok(None);
     };
     let walker = SharedWalker::new(alloc, rest)?;

@@ -11,13 +11,13 @@ ghost use Rattle.search_modules.specs.Ways.{HasWaysOf};
 
 use crate::calling::searched;
 use search_endings::Ending;
-use search_reach::{Ended, Follows, Order, Seeks};
+use search_reach::{Ended, Follows, SearchPlan, Seeks};
 use search_settled::search_all;
 use spawn_host::Request;
 use std::alloc::{AllocError, Global};
 
 /// All endings of a call of an exported function, each with so many first bytes of the memory: its threads are gone
-/// through in every order of their events, until there are no more states, more than `most_states` were met, or the
+/// through in every order of their events, until there are no more states, more than the plan's most were met, or the
 /// follower tells it to end.
 ///
 /// At `Verdict::All` the list has the ending of every run of the module by this call, over either memory, whatever its
@@ -25,7 +25,7 @@ use std::alloc::{AllocError, Global};
 /// verdict, threads can end by this call as each of the list says, and the machine of a run comes there along some
 /// turns, with some budget (`search_runs::every_end_is_scheduled`). Beside each stands a path, which leads from state to
 /// state of the search to one that has ended so (`HasWaysOf`); `search_finds::run_to` makes a run along it. It says
-/// `Verdict::TooMany` only where it met more than `most_states` states, and `Verdict::CannotTell` only where threads can
+/// `Verdict::TooMany` only where it met more than the plan's most states, and `Verdict::CannotTell` only where threads can
 /// come by this call to where one makes a million turns of its own without coming to rest, or stands where a spawned one
 /// begins in a module that can start none (`CanBeLost`), and `Verdict::Told` only where the follower's last wish is that
 /// it ends; and where it didn't wish that before, it says so, and met no state behind the wish (`Obeys`).
@@ -46,24 +46,22 @@ use std::alloc::{AllocError, Global};
 pub fn all_endings<Q: Seeks<Ending>, F: Follows>(
     alloc: Global,
     request: &Request,
-    order: Order,
-    most_states: u32,
+    plan: &SearchPlan<Q>,
     dump: usize,
-    sought: &Q,
     follower: &mut F,
 ) -> Result<Ended<Ending>, AllocError>
-    ensures found { IfOk result (AreListed (claims_of request.now dump) most_states (F.wish follower.new)) }
+    ensures found { IfOk result (AreListed (claims_of request.now dump) plan.now.most (F.wish follower.new)) }
     ensures paths { IfOk result (λ r. vec_len r.paths ≡ index_set_len r.endings) }
     ensures ways { IfOk result (HasWaysOf request.now dump) }
     ensures count { IfOk result (λ r. CountsStates request.now r.states) }
     ensures live { IfOk result (λ r. SaysWhereAll request.now dump r.states r.verdict r.liveness) }
-    ensures seeks { IfOk result (λ r. HasSought (Q.sought sought.now) r.verdict r.endings.keys) }
+    ensures seeks { IfOk result (λ r. HasSought (Q.sought plan.now.sought) r.verdict r.endings.keys) }
     ensures levels { IfOk result (λ r. IfSome r.levels
         (HasEveryEndingWithin request.now.parts request.now.name request.now.args dump r.endings.keys)) }
-    ensures leveled { IfOk result (λ r. IsLeveled order r.levels (r.states ≡ 0)) }
+    ensures leveled { IfOk result (λ r. IsLeveled plan.now.order r.levels (r.states ≡ 0)) }
     ensures obeys { IfOk result (λ r.
         Obeys (F.wish follower.old) (F.wish follower.new) (F.told_at follower.new) r.verdict r.states) }
 {
     let searched = searched(alloc, request, dump)?;
-    search_all(alloc, &searched, order, most_states, sought, follower)
+    search_all(alloc, &searched, plan, follower)
 }

@@ -6,7 +6,7 @@ ghost use Rattle.search_modules.specs.Moved.{threads, IsStuck};
 
 use crate::called::Searched;
 use search_parts::{Common, SharedWalker, begin, first_common, first_threads};
-use search_settled::Flat;
+use search_settled::RestingState;
 use std::alloc::{AllocError, Global};
 
 /// Where all threads come to rest in the beginning, or nothing where that can't be told, since thread 0 has spent its
@@ -17,7 +17,7 @@ use std::alloc::{AllocError, Global};
 pub(crate) fn first_flat(
     alloc: Global,
     searched: &Searched,
-) -> Result<Option<Flat<Common, SharedWalker>>, AllocError>
+) -> Result<Option<RestingState<Common, SharedWalker>>, AllocError>
     ensures first { IfOk result (λ o. IfSome o (IsBeginning (threads searched.now))) }
     ensures gives_up { IfOk result (λ o. o ≡ None → IsStuck searched.now (threads searched.now).first) }
 {
@@ -32,5 +32,5 @@ pub(crate) fn first_flat(
     };
     let shared = first_common(alloc, searched.opening.as_slice(), searched.max)?;
     let threads = first_threads(alloc, main)?;
-    Ok(Some(Flat { shared, threads }))
+    Ok(Some(RestingState { shared, threads }))
 }

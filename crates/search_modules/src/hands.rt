@@ -2,7 +2,7 @@
 
 use crate::called::Searched;
 use search_parts::{Common, SharedWalker};
-use search_race_free::{Ahead, Crew, Table, made_ahead};
+use search_race_free::{Ahead, MakesAhead, StateTable, made_ahead};
 use std::alloc::{AllocError, Global};
 use std::thread::Threads;
 
@@ -13,7 +13,7 @@ pub struct Hands<'r, R> {
     pub jobs: usize,
 }
 
-impl<R: Threads + Sync> Crew<Searched<'_>> for Hands<'_, R> {
+impl<R: Threads + Sync> MakesAhead<Searched<'_>> for Hands<'_, R> {
     ghost use denote.Param.Send.{IsSync};
     ghost use Rattle.search_race_free.proofs.Crossing.{sync-fact};
 
@@ -25,7 +25,7 @@ impl<R: Threads + Sync> Crew<Searched<'_>> for Hands<'_, R> {
         &self,
         alloc: Global,
         system: &Searched<'_>,
-        table: &Table<Common, SharedWalker>,
+        table: &StateTable<Common, SharedWalker>,
         from: usize,
         most_plain: u32,
     ) -> Result<Ahead<Common, SharedWalker>, AllocError> {

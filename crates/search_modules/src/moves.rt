@@ -5,7 +5,7 @@ use crate::beginning::first_flat;
 use crate::called::Searched;
 use search_endings::Ending;
 use search_parts::{Common, Effect, SharedWalker, ending_at, is_untouched, make_event};
-use search_settled::{Flat, Moves};
+use search_settled::{Moves, RestingState};
 use std::alloc::{AllocError, Global};
 
 impl Moves for Searched<'_> {
@@ -53,7 +53,10 @@ impl Moves for Searched<'_> {
 
     ghost same_thread = { λ t. same_thread t.valid.now (called t) };
 
-    fn first(&self, alloc: Global) -> Result<Option<Flat<Common, SharedWalker>>, AllocError> {
+    fn first(
+        &self,
+        alloc: Global,
+    ) -> Result<Option<RestingState<Common, SharedWalker>>, AllocError> {
         first_flat(alloc, self)
     }
 

@@ -14,9 +14,9 @@ use crate::called::Searched;
 use crate::calling::searched;
 use search_endings::Ending;
 use search_race_free::{
-    Crew, RaceFree, all_choices, race_choices as choices_to_race, search_race_free,
+    MakesAhead, RaceFree, all_choices, race_choices as choices_to_race, search_race_free,
 };
-use search_reach::{Follows, Order, Seeks};
+use search_reach::{Follows, SearchPlan, Seeks};
 use spawn_host::Request;
 use std::alloc::{AllocError, Global};
 
@@ -39,19 +39,17 @@ const MOST_PLAIN: u32 = 10_000;
 ///
 /// # Errors
 /// Where memory is refused.
-pub fn race_free_endings<'m, C: Crew<Searched<'m>>, Q: Seeks<Ending>, F: Follows>(
+pub fn race_free_endings<'m, C: MakesAhead<Searched<'m>>, Q: Seeks<Ending>, F: Follows>(
     alloc: Global,
     request: &Request<'m, '_>,
     crew: &C,
-    order: Order,
-    most_states: u32,
+    plan: &SearchPlan<Q>,
     dump: usize,
-    sought: &Q,
     follower: &mut F,
 ) -> Result<RaceFree<Ending>, AllocError>
     requires { C.ready crew.now }
     ensures found { IfOk result
-        (λ r. AreListed (race_free_claims_of request.now dump) most_states (F.wish follower.new) r.ended) }
+        (λ r. AreListed (race_free_claims_of request.now dump) plan.now.most (F.wish follower.new) r.ended) }
     ensures paths { IfOk result (λ r. vec_len r.ended.paths ≡ index_set_len r.ended.endings) }
     ensures ways { IfOk result (λ r. HasWaysFreely request.now dump r.ended) }
     ensures count { IfOk result (λ r. CountsOwned request.now r.ended.states) }
@@ -61,21 +59,12 @@ pub fn race_free_endings<'m, C: Crew<Searched<'m>>, Q: Seeks<Ending>, F: Follows
         → NeverRaces request.now.parts request.now.name request.now.args) }
     ensures race { IfOk result
         (λ r. IfSome r.race (CanRaceSo request.now.parts request.now.name request.now.args)) }
-    ensures seeks { IfOk result (λ r. HasSought (Q.sought sought.now) r.ended.verdict r.ended.endings.keys) }
+    ensures seeks { IfOk result (λ r. HasSought (Q.sought plan.now.sought) r.ended.verdict r.ended.endings.keys) }
     ensures obeys { IfOk result (λ r.
         Obeys (F.wish follower.old) (F.wish follower.new) (F.told_at follower.new) r.ended.verdict r.ended.states) }
 {
     let searched = searched(alloc, request, dump)?;
-    search_race_free(
-        alloc,
-        &searched,
-        crew,
-        order,
-        most_states,
-        MOST_PLAIN,
-        sought,
-        follower,
-    )
+    search_race_free(alloc, &searched, crew, plan, MOST_PLAIN, follower)
 }
 
 /// The choices of each turn along choices that `race_free_endings` gives with an ending, or with what never ends: which

@@ -11,7 +11,8 @@ use Rattle.search_runs.specs.Accesses.{in_bounds, no_bytes, access_of}
 use Rattle.search_runs.specs.Called.{Called, Walker, system_of}
 
 -- who wants an event makes its access
-pub by-event : (b : Called) (x : Shared) (t : Walker) (w : Want Event) (e : Event) → Some e ≡ called w → access_by (system_of b) access_of x t w ≡ Some (access_of x t e)
+pub by-event : (b : Called) (x : Shared) (t : Walker) (w : Want Event) (e : Event) → Some e ≡ called w → access_by (system_of b) access_of x t w ≡ Some
+    (access_of x t e)
 by-event b x t Turns e h = absurd (cc h)
 by-event b x t (Calls f) e h = let same : e ≡ f = cc h in ap (λ y. Some (access_of x t y)) (sym same)
 by-event b x t Awaits e h = absurd (cc h)

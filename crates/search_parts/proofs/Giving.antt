@@ -56,13 +56,25 @@ taken : (b : Called) (c : Config) (r : ℕ) (v : Reply) (e : Event) (w : Wish Ev
     → After b (At c) r (takes_by (machine_of b.program) w (At c) (suc r) v) (reply_by (machine_of b.program) w (At c) v)
 taken b c r v e Goes is wants = absurd (cc wants)
 taken b c r v e Waits is wants = absurd (cc wants)
-taken b c r v e (Asks event) is wants = record { state = (machine_of b.program).takes (At c) v; left = suc r - 1; few = inl (omega arith); is = refl; same = refl }
+taken b c r v e (Asks event) is wants = record {
+  state = (machine_of b.program).takes (At c) v;
+  left = suc r - 1;
+  few = inl (omega arith);
+  is = refl;
+  same = refl;
+}
 taken b c r v e (Ends o) is wants = absurd (never_ends (next b.program c) o is)
 
 pub after_given : (b : Called) (c : Config) (r : ℕ) (g : Given) → IsSomething g → IsGiven b.program (Runs (At c) (suc r)) g
     → After b (At c) r (after_turn b.program (Runs (At c) (suc r)) g) (given_to b (Going (At c)) g)
 after_given b c r given.Nothing some may = absurd some
-after_given b c r (given.Told answer) some may = record { state = (machine_of b.program).hears (At c) answer; left = suc r; few = inr refl; is = refl; same = refl }
+after_given b c r (given.Told answer) some may = record {
+  state = (machine_of b.program).hears (At c) answer;
+  left = suc r;
+  few = inr refl;
+  is = refl;
+  same = refl;
+}
 after_given b c r (given.Reply reply) some may =
     let k = taken b c r reply may.1 (wishes b.program (At c)) refl may.2 in
     record { state = k.state; left = k.left; few = k.few; is = made_reply b.program (Runs (At c) (suc r)) reply some ∙ k.is; same = k.same }

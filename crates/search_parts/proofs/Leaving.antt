@@ -11,7 +11,7 @@ use Rattle.schedule_threads.specs.Shared.{Shared}
 use Rattle.search_memory.specs.Memories.{memory_of}
 use Rattle.search_threads.specs.Unlimited.{Unlimited.Away as Left}
 use Rattle.search_settled.specs.Next.{IsAt}
-use Rattle.search_settled.specs.declared.flat.Flat.{Flat}
+use Rattle.search_settled.specs.declared.flat.RestingState.{RestingState}
 use Rattle.search_runs.specs.Called.{Called, Walker as Thread}
 use Rattle.search_endings.specs.Endings.{Ending}
 use Rattle.search_runs.specs.Ends.{HasEndedSo}
@@ -87,7 +87,7 @@ one_ending dump z x y one other =
     let bytes_so = one.bytes_are ∙ sym other.bytes_are in
     λ i. record { outcomes = outcomes i; pages = pages_so i; bytes = bytes_so i }
 
-module _ (w : WithTables) (b : Called) (opening : List ℕ) (flat : Flat Common HashedThread) (z : systems.State Shared Thread)
+module _ (w : WithTables) (b : Called) (opening : List ℕ) (flat : RestingState Common HashedThread) (z : systems.State Shared Thread)
     (at : IsAt (threads_of w b opening) flat z) where
   abbrev threads : List HashedThread
   threads = flat.threads.items

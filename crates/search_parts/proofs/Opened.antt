@@ -21,7 +21,8 @@ with_bytes bytes max = record { bytes = bytes; max = max }
 pub unchanged : (opening : List ℕ) (max : ℕ) (changes : List ChangedByte) → changes ≡ []
     → with_bytes (fold with_change (padded opening (length opening)) changes) max ≡ with_bytes opening max
 unchanged opening max changes none =
-    let bytes : fold with_change (padded opening (length opening)) changes ≡ opening = ap (fold with_change (padded opening (length opening))) none ∙ as_opened opening in
+    let bytes : fold with_change (padded opening (length opening)) changes ≡ opening = ap (fold with_change (padded opening (length opening))) none ∙
+    as_opened opening in
     λ i. record { bytes = bytes i; max = max }
 
 pub none_due : (most : ℕ) → without_answers (first_queue most) ≡ first_queue most

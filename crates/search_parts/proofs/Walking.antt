@@ -118,7 +118,8 @@ spends b (suc l) (suc n) x each none =
     (ap left_of (first_own b.program n start) ∙ none) in
     record { last = k.last; comes = (sym (same_wants b x l) ∙ each 0 (omega arith), k.comes) }
 
-pub spent_all : (b : Called) (p : Program) → p ≡ b.program → (x : State) (l : ℕ) (turn : Turn) (Stands : Running → Type 0) → IsPaused p (Runs x l) turn (λ k. Stands)
+pub spent_all : (b : Called) (p : Program) → p ≡ b.program → (x : State) (l : ℕ) (turn : Turn) (Stands : Running → Type 0) → IsPaused p (Runs x l) turn
+    (λ k. Stands)
     → ((t : Running) → Stands t → left_of t ≡ 0) → MakesTurns (system_of b) l (Going x)
 spent_all b p same x l turn Stands paused none =
     let q : IsPaused b.program (Runs x l) turn (λ k. Stands) = subst (λ z. IsPaused z (Runs x l) turn (λ k. Stands)) same paused in

@@ -11,8 +11,8 @@ use Rattle.search_runs.specs.Accesses.{access_of}
 use Rattle.search_runs.specs.Called.{Called, Walker as Thread, system_of, first_state}
 use Rattle.search_endings.specs.Endings.{Ending}
 use Rattle.search_runs.specs.Ends.{HasEndedSo}
-use Rattle.search_settled.specs.declared.access.Access.{Access}
-use Rattle.search_settled.specs.declared.flat.Flat.{Flat}
+use Rattle.search_settled.specs.declared.access.NextAccess.{NextAccess}
+use Rattle.search_settled.specs.declared.flat.RestingState.{RestingState}
 use Rattle.search_settled.specs.Threads.{ThreadSystem}
 use Rattle.search_settled.specs.Next.{IsSomewhere, HasEnded}
 use Rattle.search_settled.specs.Flat.{IsEventOf}
@@ -45,14 +45,14 @@ IsEventIn w opening c s n o = (b : Called) (z : State Shared Thread) → IsThrea
     → IsEventOf (threads_of w b opening) z n o
 
 -- This is what it does with the memory next, if it can go on.
-abbrev pub IsAccessIn : WithTables → List ℕ → Common → RestingThread → ℕ → Option Access → Type 0
+abbrev pub IsAccessIn : WithTables → List ℕ → Common → RestingThread → ℕ → Option NextAccess → Type 0
 IsAccessIn w opening c s n o = (b : Called) (z : State Shared Thread) → IsThreadIn w opening c s n b z
     → o ≡ next_access (system_of b) access_of z n
 
 -- A settled state of a call, and how it has ended.
-abbrev pub IsSettled : List ℕ → Flat Common HashedThread → Type 0
+abbrev pub IsSettled : List ℕ → RestingState Common HashedThread → Type 0
 IsSettled opening flat = (w : WithTables) × (b : Called) × IsSomewhere (threads_of w b opening) flat
 
-abbrev pub HasEndedIn : List ℕ → ℕ → Flat Common HashedThread → Option Ending → Type 0
+abbrev pub HasEndedIn : List ℕ → ℕ → RestingState Common HashedThread → Option Ending → Type 0
 HasEndedIn opening dump flat o = (w : WithTables) (b : Called)
     → HasEnded (threads_of w b opening) (HasEndedSo dump) flat o

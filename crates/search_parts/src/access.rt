@@ -12,16 +12,16 @@ use crate::plain::is_plain;
 use crate::shared::{Common, HashedThread};
 use crate::wants::wanted;
 use search_memory::{Changes, holds};
-use search_settled::Access;
+use search_settled::NextAccess;
 use std::alloc::{AllocError, Global};
 use types::{Event, Question};
 use validate_module::ValidModule;
 
 /// No byte.
-fn no_bytes() -> Access
+fn no_bytes() -> NextAccess
     ensures { result ≡ no_bytes }
 {
-    Access {
+    NextAccess {
         plain: false,
         writes: false,
         addr: 0,
@@ -37,11 +37,18 @@ fn ends_by(addr: u64, width: u8, end: u64) -> bool
 }
 
 /// A load or a store, whose whole access ends at `reach`, in a memory of so many bytes.
-fn load_or_store(len: u64, plain: bool, writes: bool, addr: u64, width: u8, reach: u64) -> Access
+fn load_or_store(
+    len: u64,
+    plain: bool,
+    writes: bool,
+    addr: u64,
+    width: u8,
+    reach: u64,
+) -> NextAccess
     ensures { (m : Memory) → length m.bytes ≡ len → result ≡ in_bounds m plain writes addr width reach }
 {
     if reach <= len {
-        Access {
+        NextAccess {
             plain: plain && ends_by(addr, width, reach),
             writes,
             addr,
@@ -53,11 +60,11 @@ fn load_or_store(len: u64, plain: bool, writes: bool, addr: u64, width: u8, reac
 }
 
 /// An atomic access in a memory of so many bytes.
-fn atomic(len: u64, writes: bool, addr: u64, width: u8) -> Access
+fn atomic(len: u64, writes: bool, addr: u64, width: u8) -> NextAccess
     ensures { (m : Memory) → length m.bytes ≡ len → result ≡ in_bounds m false writes addr width (addr + width) }
 {
     if ends_by(addr, width, len) {
-        Access {
+        NextAccess {
             plain: false,
             writes,
             addr,
@@ -69,7 +76,7 @@ fn atomic(len: u64, writes: bool, addr: u64, width: u8) -> Access
 }
 
 /// A compare-exchange: it writes where what it expects is there.
-fn exchange(opening: &[u8], memory: &Changes, addr: u64, width: u8, expected: u64) -> Access
+fn exchange(opening: &[u8], memory: &Changes, addr: u64, width: u8, expected: u64) -> NextAccess
     requires { width ≤ 8 }
     ensures { result ≡ in_bounds (memory_of opening.now memory.now) false
         (loaded (memory_of opening.now memory.now) addr width == expected) addr width (addr + width) }
@@ -79,7 +86,7 @@ fn exchange(opening: &[u8], memory: &Changes, addr: u64, width: u8, expected: u6
 }
 
 /// What a question does with a memory of so many bytes: a wait reads.
-fn asked(len: u64, question: Question) -> Access
+fn asked(len: u64, question: Question) -> NextAccess
     ensures { (m : Memory) (plain : Bool) → length m.bytes ≡ len → result ≡ access_by m plain (Ask question) }
 {
     match question {
@@ -89,7 +96,7 @@ fn asked(len: u64, question: Question) -> Access
 }
 
 /// What an event does with the memory, by an instruction that is a load or a store, or by an atomic one.
-fn access_by(opening: &[u8], memory: &Changes, plain: bool, event: &Event) -> Access
+fn access_by(opening: &[u8], memory: &Changes, plain: bool, event: &Event) -> NextAccess
     requires { IsEvent event.now }
     ensures { result ≡ access_by (memory_of opening.now memory.now) plain event.now }
 {
@@ -127,7 +134,7 @@ pub fn next_access(
     shared: &Common,
     thread: &HashedThread,
     n: usize,
-) -> Result<Option<Access>, AllocError>
+) -> Result<Option<NextAccess>, AllocError>
     requires { IsInCall valid.now opening.now shared.now thread.now.standing n }
     ensures { IfOk result (IsAccessIn valid.now opening.now shared.now thread.now.standing n) }
 {

@@ -5,7 +5,7 @@ ghost use Rattle.search_parts.specs.Endings.{outcome_away, HaveLeft, IsOneHere};
 ghost use Rattle.search_parts.specs.Threads.{IsSettled, HasEndedIn};
 ghost use Rattle.search_parts.specs.declared.shared.HashedThread.{HashedThread};
 ghost use Rattle.search_settled.specs.Parts.{HasParts};
-ghost use Rattle.search_settled.specs.declared.flat.Flat.{Flat};
+ghost use Rattle.search_settled.specs.declared.flat.RestingState.{RestingState};
 
 use crate::shared::Common;
 use crate::shared_walker::SharedWalker;
@@ -52,9 +52,10 @@ pub fn ending_at(
     threads: &[SharedWalker],
     dump: usize,
 ) -> Result<Option<Ending>, AllocError>
-    requires { (c : Flat Common HashedThread) × HasParts shared.now threads.now c × IsSettled opening.now c }
+    requires { (c : RestingState Common HashedThread) × HasParts shared.now threads.now c × IsSettled opening.now c }
     ensures { IfOk result
-        (λ o. (c : Flat Common HashedThread) → HasParts shared.now threads.now c → HasEndedIn opening.now dump c o) }
+        (λ o. (c : RestingState Common HashedThread) → HasParts shared.now threads.now c
+        → HasEndedIn opening.now dump c o) }
 {
     let Some(outcomes) = outcomes_of(alloc, threads)? else {
         return Ok(None);

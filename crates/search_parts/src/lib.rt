@@ -35,7 +35,7 @@ pub use beginning::begin;
 pub use ended::ending_at;
 pub use event::{Begun, Effect};
 pub use opening::{first_common, first_threads};
-pub use resting::rest_after;
+pub use resting::{MadeBy, rest_after};
 pub use same::{
     equal_memories_are_the_same, equal_queues_are_the_same, equal_standings_are_the_same,
     the_same_memories_are_equal, the_same_queues_are_equal, the_same_standings_are_equal,

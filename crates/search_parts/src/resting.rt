@@ -67,21 +67,28 @@ fn told(
     Ok(Some(after))
 }
 
-/// Where thread m comes to rest with the reply to the event of thread n, if it is its own; or nothing where it makes
-/// more turns of its own then than there is patience for.
+/// An event of thread n, by what it made.
+#[derive(Clone, Copy)]
+pub struct MadeBy<'e> {
+    pub made: &'e Effect,
+    pub n: usize,
+}
+
+/// Where thread m comes to rest with the reply to an event, if it is its own; or nothing where it makes more turns of
+/// its own then than there is patience for.
 fn replied(
     alloc: Global,
     valid: &ValidModule,
     worker: Option<usize>,
-    made: &Effect,
-    n: usize,
+    event: &MadeBy,
     standing: &RestingThread,
     m: usize,
 ) -> Result<Option<RestingThread>, AllocError>
-    requires { IsSomewhereAfter valid.now worker made.now n standing.now m }
-    ensures rests { IfOk result (λ o. IfSome o (IsRepliedAndRests valid.now worker made.now n standing.now m)) }
-    ensures gives_up { IfOk result (λ o. o ≡ None → IsRepliedAndRunsOn valid.now worker made.now n standing.now m) }
+    requires { IsSomewhereAfter valid.now worker event.now.made.now event.now.n standing.now m }
+    ensures rests { IfOk result (λ o. IfSome o (IsRepliedAndRests valid.now worker event.now.made.now event.now.n standing.now m)) }
+    ensures gives_up { IfOk result (λ o. o ≡ None → IsRepliedAndRunsOn valid.now worker event.now.made.now event.now.n standing.now m) }
 {
+    let MadeBy { made, n } = *event;
     if n == m {
         let Some(taken) = take(alloc, valid, standing, made.reply)? else {
             return Ok(None);
@@ -91,8 +98,8 @@ fn replied(
     Ok(Some(standing.copy(alloc)?))
 }
 
-/// Where thread m comes to rest after an event of thread n; or nothing where it makes more turns of its own then than
-/// there is patience for, or where it begins and no function is known for that.
+/// Where thread m comes to rest after an event; or nothing where it makes more turns of its own then than there is
+/// patience for, or where it begins and no function is known for that.
 ///
 /// # Errors
 /// Where memory is refused.
@@ -100,16 +107,16 @@ pub fn rest_after(
     alloc: Global,
     valid: &ValidModule,
     worker: Option<usize>,
-    made: &Effect,
-    n: usize,
+    event: &MadeBy,
     standing: &RestingThread,
     m: usize,
 ) -> Result<Option<RestingThread>, AllocError>
-    requires after { IsSomewhereAfter valid.now worker made.now n standing.now m }
+    requires after { IsSomewhereAfter valid.now worker event.now.made.now event.now.n standing.now m }
     requires few { m < MOST_THREADS }
-    ensures rests { IfOk result (λ o. IfSome o (RestsThen valid.now worker made.now n standing.now m)) }
-    ensures gives_up { IfOk result (λ o. o ≡ None → IsLostThen valid.now worker made.now n standing.now m) }
+    ensures rests { IfOk result (λ o. IfSome o (RestsThen valid.now worker event.now.made.now event.now.n standing.now m)) }
+    ensures gives_up { IfOk result (λ o. o ≡ None → IsLostThen valid.now worker event.now.made.now event.now.n standing.now m) }
 {
+    let made = event.made;
     if let Some(begun) = made.begun {
         if begun.id as usize == m {
             let Some(first) = started(alloc, valid, worker, begun)? else {
@@ -118,7 +125,7 @@ pub fn rest_after(
             return Ok(Some(first));
         }
     }
-    let Some(own) = replied(alloc, valid, worker, made, n, standing, m)? else {
+    let Some(own) = replied(alloc, valid, worker, event, standing, m)? else {
         return Ok(None);
     };
     let Some(after) = told(alloc, valid, own, made.queue.due(m as u32))? else {

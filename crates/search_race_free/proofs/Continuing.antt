@@ -6,8 +6,8 @@ use Rattle.search_graph.specs.Paths.{Reaches}
 use Rattle.search_reach.proofs.Paths.{stays, one_step, onward}
 use Rattle.search_settled.specs.Settled.{IsReached, StepsBy, AreTame}
 use Rattle.search_settled.specs.Threads.{ThreadSystem}
-use Rattle.search_settled.specs.declared.access.Access.{Access}
-use Rattle.search_settled.specs.declared.flat.Flat.{Flat}
+use Rattle.search_settled.specs.declared.access.NextAccess.{NextAccess}
+use Rattle.search_settled.specs.declared.flat.RestingState.{RestingState}
 use Rattle.search_race_free.specs.declared.owning.Owning.{Owning}
 use Rattle.search_race_free.specs.Wanted.{ArePlain}
 use Rattle.search_race_free.specs.Races.{HasRace}
@@ -15,8 +15,8 @@ use Rattle.search_race_free.specs.Owned.{Within}
 use Rattle.search_race_free.specs.Touches.{access_at, AreOfOthers, AreClear, Strikes, Meets, AreInTheWay}
 use Rattle.search_race_free.specs.Reduced.{wanted_in, next_in, Rest, IsResting, IsKept, IsAfterTurn, ComesOf}
 use Rattle.search_race_free.specs.Search.{AreWanted, WantsSome, IsAfterEvent, GetsLost, IsOwned, ComesAlone, ComesOnward, IsCame}
-use Rattle.search_race_free.specs.declared.alone.Came.{Came}
-use Rattle.search_race_free.specs.declared.alone.Came.TheVariants as came
+use Rattle.search_race_free.specs.declared.alone.Arrival.{Arrival}
+use Rattle.search_race_free.specs.declared.alone.Arrival.TheVariants as came
 use Rattle.search_race_free.proofs.Moving.{times-append, along-both, goes-along}
 use Rattle.search_race_free.proofs.Racing.{race-swap}
 use Rattle.search_race_free.proofs.Turning.{event_access, reaches_next, leaves, plain-laws}
@@ -26,7 +26,7 @@ use Rattle.search_race_free.proofs.Going.{rest-more, comes-to-rest, touched-on, 
 module _ {X T E V A G H M : Type 0} (k : ThreadSystem X T E V A G H M)
     (tame : AreTame k.system k.first k.most) (plain : ArePlain k.system k.accesses k.first) where
   -- Right after the turn, where the thread has given up what it owned.
-  pub onward-first : (s x : Owning (Flat G H)) (n : ℕ) (a : Access) → IsOwned k s → WantsSome k s.flat n a → IsAfterEvent k s.flat n x.flat
+  pub onward-first : (s x : Owning (RestingState G H)) (n : ℕ) (a : NextAccess) → IsOwned k s → WantsSome k s.flat n a → IsAfterEvent k s.flat n x.flat
       → AreOfOthers s.owned.items n x.owned.items → ComesOnward k n s x
   onward-first s x n a owned wants come others = record {
     owned = record {
@@ -54,7 +54,8 @@ module _ {X T E V A G H M : Type 0} (k : ThreadSystem X T E V A G H M)
   }
 
   -- It rests there.
-  pub after-rests : (n : ℕ) (x : Owning (Flat G H)) (z : State X T) → IsReached k.system k.first z → (r : IsAfterTurn k n x z) → IsReached k.system k.first r.settled
+  pub after-rests : (n : ℕ) (x : Owning (RestingState G H)) (z : State X T) → IsReached k.system k.first z → (r : IsAfterTurn k n x z) →
+      IsReached k.system k.first r.settled
   after-rests n x z reached r =
       let laws = plain-laws k.system k.accesses k.first k.most tame plain in
       let next = reaches_next k.system k.accesses k.first k.most tame plain z n reached in
@@ -65,8 +66,9 @@ module _ {X T E V A G H M : Type 0} (k : ThreadSystem X T E V A G H M)
       reached_by (t ∷ ts) w v r p = reached_by ts (next_in k w t) v (reaches_next k.system k.accesses k.first k.most tame plain w t r) p.1
 
   -- Another thread that can go on can after the turn, and after the plain ones.
-  still-wants : (n : ℕ) (x : Owning (Flat G H)) (c : Flat G H) (z : State X T) (at : IsResting k c z) (r : IsAfterTurn k n x z) (u : ℕ) → u ≢ n → (a : Access)
-      → wanted_in k z u ≡ Some a → (b : Access) × (wanted_in k r.settled u ≡ Some b)
+  still-wants : (n : ℕ) (x : Owning (RestingState G H)) (c : RestingState G H) (z : State X T) (at : IsResting k c z) (r : IsAfterTurn k n x z) (u : ℕ) →
+      u ≢ n → (a : NextAccess)
+      → wanted_in k z u ≡ Some a → (b : NextAccess) × (wanted_in k r.settled u ≡ Some b)
   still-wants n x c z at r u d a h =
       let e = calls-at k c z at u a h in
       let same = leaves k.system k.accesses k.first k.most tame plain z n u a at.reached d h in
@@ -76,7 +78,8 @@ module _ {X T E V A G H M : Type 0} (k : ThreadSystem X T E V A G H M)
       (k.accesses (next_in k z n).shared ((next_in k z n).threads u) e.0) r.order (next_in k z n) r.settled next r.makes (r.others u d a h) wants
 
   -- And then plain turns of a thread that may go on.
-  pub onward-more : (s x y : Owning (Flat G H)) (n m : ℕ) (before : List (Option Access)) → AreWanted k s.flat before → (m ≢ n → access_at before m ≡ None)
+  pub onward-more : (s x y : Owning (RestingState G H)) (n m : ℕ) (before : List (Option NextAccess)) → AreWanted k s.flat before →
+      (m ≢ n → access_at before m ≡ None)
       → ComesOnward k n s x → ComesAlone k m x y → ComesOnward k n s y
   onward-more s x y n m before are free one two = record {
     owned = two.owned;
@@ -90,7 +93,8 @@ module _ {X T E V A G H M : Type 0} (k : ThreadSystem X T E V A G H M)
           wants = p.wants;
           order = p.order ++ q.order;
           settled = q.settled;
-          makes = along-both (wanted_in k) (next_in k) (IsReached k.system k.first) (plain-laws k.system k.accesses k.first k.most tame plain) (Within y.owned.items)
+          makes = along-both (wanted_in k) (next_in k) (IsReached k.system k.first) (plain-laws k.system k.accesses k.first k.most tame plain)
+              (Within y.owned.items)
               p.order q.order (next_in k z n) p.settled q.settled
               (rest-more (wanted_in k) (next_in k) (Within x.owned.items) (Within y.owned.items) p.order (next_in k z n) p.settled two.grows p.makes) q.makes;
           rests = (let rest = q.resting in rest.rests);
@@ -103,7 +107,8 @@ module _ {X T E V A G H M : Type 0} (k : ThreadSystem X T E V A G H M)
         };
   }
 
-  pub lost-onward : (stuck : State X T → Type 0) (s x : Owning (Flat G H)) (n : ℕ) → ComesOnward k n s x → GetsLost k stuck x.flat → GetsLost k stuck s.flat
+  pub lost-onward : (stuck : State X T → Type 0) (s x : Owning (RestingState G H)) (n : ℕ) → ComesOnward k n s x → GetsLost k stuck x.flat →
+      GetsLost k stuck s.flat
   lost-onward stuck s x n one lost z at =
       let p = one.each z at in
       let resting : IsResting k x.flat p.settled = record { reached = after-rests n x z at.reached p; rests = p.rests; settled_is = p.settled_is } in
@@ -116,10 +121,12 @@ module _ {X T E V A G H M : Type 0} (k : ThreadSystem X T E V A G H M)
     where
       rest-steps : (ts : List ℕ) (w v : State X T) → Rest k x.owned.items ts w v → Reaches (StepsBy k.system) w v
       rest-steps [] w v p = subst (λ y. Reaches (StepsBy k.system) w y) p (stays (StepsBy k.system) w)
-      rest-steps (t ∷ ts) w v p = onward (StepsBy k.system) w (next_in k w t) v (one_step (StepsBy k.system) w (next_in k w t) (t, refl)) (rest-steps ts (next_in k w t) v p.1)
+      rest-steps (t ∷ ts) w v p = onward (StepsBy k.system) w (next_in k w t) v (one_step (StepsBy k.system) w (next_in k w t) (t, refl))
+          (rest-steps ts (next_in k w t) v p.1)
 
   -- Where nobody is in another's way.
-  pub clear-kept : (x : Owning (Flat G H)) (wanted : List (Option Access)) → IsOwned k x → AreWanted k x.flat wanted → AreClear wanted x.owned.items → IsKept k x
+  pub clear-kept : (x : Owning (RestingState G H)) (wanted : List (Option NextAccess)) → IsOwned k x → AreWanted k x.flat wanted →
+      AreClear wanted x.owned.items → IsKept k x
   clear-kept x wanted owned are clear = record {
     safe = λ z at. record {
       apart = owned.apart;
@@ -129,7 +136,8 @@ module _ {X T E V A G H M : Type 0} (k : ThreadSystem X T E V A G H M)
     made = owned.made;
   }
 
-  pub onward-kept : (s x : Owning (Flat G H)) (n : ℕ) (wanted : List (Option Access)) → ComesOnward k n s x → AreWanted k x.flat wanted → AreClear wanted x.owned.items
+  pub onward-kept : (s x : Owning (RestingState G H)) (n : ℕ) (wanted : List (Option NextAccess)) → ComesOnward k n s x → AreWanted k x.flat wanted →
+      AreClear wanted x.owned.items
       → ComesOf k s n x
   onward-kept s x n wanted one are clear = record {
     kept = clear-kept x wanted one.owned are clear;
@@ -137,7 +145,8 @@ module _ {X T E V A G H M : Type 0} (k : ThreadSystem X T E V A G H M)
     owned = one.keeps;
   }
 
-  pub way-races : (x : Owning (Flat G H)) (wanted : List (Option Access)) (one other : ℕ) → IsOwned k x → AreWanted k x.flat wanted → AreInTheWay wanted x.owned.items one other
+  pub way-races : (x : Owning (RestingState G H)) (wanted : List (Option NextAccess)) (one other : ℕ) → IsOwned k x → AreWanted k x.flat wanted →
+      AreInTheWay wanted x.owned.items one other
       → HasRace k.system k.first k.accesses one other
   way-races x wanted one other owned are h = by h.way
     where
@@ -159,8 +168,10 @@ module _ {X T E V A G H M : Type 0} (k : ThreadSystem X T E V A G H M)
             race = race-swap h.access meets.access meets.race;
           })
 
-  pub came-more : (stuck : State X T → Type 0) (s x : Owning (Flat G H)) (n m : ℕ) (before : List (Option Access)) → AreWanted k s.flat before → (m ≢ n → access_at before m ≡ None)
-      → ComesOnward k n s x → (v : Came (Owning (Flat G H))) → IsCame k stuck x.flat (ComesAlone k m x) v → IsCame k stuck s.flat (ComesOnward k n s) v
+  pub came-more : (stuck : State X T → Type 0) (s x : Owning (RestingState G H)) (n m : ℕ) (before : List (Option NextAccess)) → AreWanted k s.flat before →
+      (m ≢ n → access_at before m ≡ None)
+      → ComesOnward k n s x → (v : Arrival (Owning (RestingState G H))) → IsCame k stuck x.flat (ComesAlone k m x) v →
+      IsCame k stuck s.flat (ComesOnward k n s) v
   came-more stuck s x n m before are free one (came.To y) h = onward-more s x y n m before are free one h
   came-more stuck s x n m before are free one (came.Races r) h = h
   came-more stuck s x n m before are free one came.Unknown h = lost-onward stuck s x n one h

@@ -1,6 +1,7 @@
 -- That a type may be shared among threads is a fact: there is one proof of it at most.
 use Rattle.std.proofs.Common.{◌≡◌}
-use base.Fml.{Fml, ftrue, ffalse, feq, flt, fsep, fand, for, fwand, fex, fall, fupd, fhide, fat, froom, fleft, fdies, flft, fdead, fobs, fauth, fres, fown, fbor, fobor, flent, fshr_bor, finv, fnamed, ftok, fkid, fme, fsent}
+use base.Fml.{Fml, ftrue, ffalse, feq, flt, fsep, fand, for, fwand, fex, fall, fupd, fhide, fat, froom, fleft, fdies}
+use base.Fml.{flft, fdead, fobs, fauth, fres, fown, fbor, fobor, flent, fshr_bor, finv, fnamed, ftok, fkid, fme, fsent}
 use base.Shift.{Keyless}
 use denote.Param.Send.{IsSync}
 use denote.RattleType.{RattleType}

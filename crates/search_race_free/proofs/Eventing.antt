@@ -5,8 +5,8 @@ use Rattle.std.proofs.lemmas.Option.{none-some}
 use Rattle.schedule.specs.System.{Want.Calls, State}
 use Rattle.schedule.specs.Scheduled.{after_event}
 use Rattle.search_settled.specs.Settled.{AreTame}
-use Rattle.search_settled.specs.declared.access.Access.{Access}
-use Rattle.search_settled.specs.declared.flat.Flat.{Flat}
+use Rattle.search_settled.specs.declared.access.NextAccess.{NextAccess}
+use Rattle.search_settled.specs.declared.flat.RestingState.{RestingState}
 use Rattle.search_settled.specs.Threads.{ThreadSystem}
 use Rattle.search_settled.specs.Flat.{AreBounded, IsEventAt, AllComeAfter, IsStuckByMove}
 use Rattle.search_settled.specs.Next.{IsAt}
@@ -18,11 +18,11 @@ use Rattle.search_race_free.proofs.Turning.{going_on}
 use Rattle.search_race_free.proofs.Wanting.{thread-at, past-next}
 
 module _ {X T E V A G H M : Type 0} (k : ThreadSystem X T E V A G H M) where
-  at-of : (c : Flat G H) (z : State X T) → IsResting k c z → IsAt k c z
+  at-of : (c : RestingState G H) (z : State X T) → IsResting k c z → IsAt k c z
   at-of c z at = record { reached = at.reached; settled_is = at.settled_is }
 
   -- who can go on where all rest wants an event
-  pub calls-at : (c : Flat G H) (z : State X T) → IsResting k c z → (n : ℕ) (a : Access) → wanted_in k z n ≡ Some a
+  pub calls-at : (c : RestingState G H) (z : State X T) → IsResting k c z → (n : ℕ) (a : NextAccess) → wanted_in k z n ≡ Some a
       → (e : E) × (k.system.wants (z.threads n) ≡ Calls e) × (k.accesses z.shared (z.threads n) e ≡ a)
   calls-at c z at n a h = elim (going_on k.system k.accesses z n a h) [
     | inl o ↦ absurd (at.rests n o.0)
@@ -30,9 +30,9 @@ module _ {X T E V A G H M : Type 0} (k : ThreadSystem X T E V A G H M) where
   ]
 
   pub after-event-is : AreTame k.system k.first k.most → AreBounded k.system k.first k.count k.most
-      → (c : Flat G H) (n : ℕ) (t : H) (p : G × M) (rested : List H) → slice_get c.threads.items n ≡ Some t
+      → (c : RestingState G H) (n : ℕ) (t : H) (p : G × M) (rested : List H) → slice_get c.threads.items n ≡ Some t
       → IsEventAt k c.shared t n (Some p) → AllComeAfter k p.0 p.1 n c.threads.items rested
-      → (x : Flat G H) → x.shared ≡ p.0 → x.threads.items ≡ rested → IsAfterEvent k c n x
+      → (x : RestingState G H) → x.shared ≡ p.0 → x.threads.items ≡ rested → IsAfterEvent k c n x
   after-event-is tame bounded c n t p rested at some come x same_shared same_threads z rests =
       let a = some z (thread-at k c z rests n t at) in (
         a.0,
@@ -42,18 +42,18 @@ module _ {X T E V A G H M : Type 0} (k : ThreadSystem X T E V A G H M) where
       )
 
   -- where it can't be told
-  pub event-lost : (stuck : State X T → Type 0) (c : Flat G H) (n : ℕ) (t : H) (p : G × M) (threads : List H) → slice_get c.threads.items n ≡ Some t
+  pub event-lost : (stuck : State X T → Type 0) (c : RestingState G H) (n : ℕ) (t : H) (p : G × M) (threads : List H) → slice_get c.threads.items n ≡ Some t
       → threads ≡ c.threads.items → IsEventAt k c.shared t n (Some p) → IsStuckByMove k stuck p.0 p.1 n threads → GetsLost k stuck c
   event-lost stuck c n t p threads at same some gives_up z rests =
       let s = stuck-by k stuck c n t at p threads same some gives_up z (at-of c z rests) in
       (after_event k.system z s.0 s.1, by_event k.system z s.0 s.1 s.2, s.3)
 
   -- who wants one is there
-  pub no-event : (c : Flat G H) (n : ℕ) (t : H) (a : Access) → RestsSomewhere k c → WantsSome k c n a → slice_get c.threads.items n ≡ Some t
+  pub no-event : (c : RestingState G H) (n : ℕ) (t : H) (a : NextAccess) → RestsSomewhere k c → WantsSome k c n a → slice_get c.threads.items n ≡ Some t
       → IsEventAt k c.shared t n None → ⊥
   no-event c n t a at wants there none =
       let e = calls-at c at.0 at.1 n a (wants at.0 at.1) in
       none at.0 (thread-at k c at.0 at.1 n t there) e.0 e.1
 
-  pub no-thread : (c : Flat G H) (n : ℕ) (a : Access) → RestsSomewhere k c → WantsSome k c n a → length c.threads.items ≤ n → ⊥
+  pub no-thread : (c : RestingState G H) (n : ℕ) (a : NextAccess) → RestsSomewhere k c → WantsSome k c n a → length c.threads.items ≤ n → ⊥
   no-thread c n a at wants past = none-some a (sym (past-next k c at.0 at.1 n past) ∙ wants at.0 at.1)

@@ -1,5 +1,6 @@
 -- A thread that makes plain turns alone.
-use Rattle.std.proofs.Common.{◌≡◌, ◌≢◌, ◌⊎◌, inl, inr, ℕ, Bool, true, false, not, true≢false, refl, sym, ◌∙◌, ap, subst, arith, List, [], ◌∷◌, ◌++◌, Contains, Option, Some}
+use Rattle.std.proofs.Common.{◌≡◌, ◌≢◌, ◌⊎◌, inl, inr, ℕ, Bool, true, false, not, true≢false, refl, sym, ◌∙◌, ap, subst}
+use Rattle.std.proofs.Common.{arith, List, [], ◌∷◌, ◌++◌, Contains, Option, Some}
 use Rattle.schedule.specs.System.{State}
 use Rattle.schedule.specs.Scheduled.{after_turn, after_event}
 use Rattle.search_graph.specs.Paths.{Reaches}
@@ -7,8 +8,8 @@ use Rattle.search_reach.proofs.Paths.{stays, one_step, onward}
 use Rattle.search_settled.specs.Settled.{IsReached, StepsBy, AreTame}
 use Rattle.search_settled.specs.Accesses.{IsPlain, HasByte, Conflict}
 use Rattle.search_settled.specs.Threads.{ThreadSystem}
-use Rattle.search_settled.specs.declared.access.Access.{Access}
-use Rattle.search_settled.specs.declared.flat.Flat.{Flat}
+use Rattle.search_settled.specs.declared.access.NextAccess.{NextAccess}
+use Rattle.search_settled.specs.declared.flat.RestingState.{RestingState}
 use Rattle.search_race_free.specs.declared.owning.Touch.{Touch}
 use Rattle.search_race_free.specs.declared.owning.Owning.{Owning}
 use Rattle.search_race_free.specs.Orders.{times, MakesPlain, StepsPlainly}
@@ -25,8 +26,8 @@ use Rattle.search_race_free.proofs.Striking.{own-within}
 use Rattle.search_race_free.proofs.Resting.{RestsBy, to_rest}
 
 -- turns within less are turns within more
-pub rest-more : {W : Type 0} (wants : W → ℕ → Option Access) (next : W → ℕ → W) (own more : ℕ → Access → Type 0) (ts : List ℕ) (w z : W)
-    → ((t : ℕ) (a : Access) → own t a → more t a) → MakesPlain wants next own ts w z → MakesPlain wants next more ts w z
+pub rest-more : {W : Type 0} (wants : W → ℕ → Option NextAccess) (next : W → ℕ → W) (own more : ℕ → NextAccess → Type 0) (ts : List ℕ) (w z : W)
+    → ((t : ℕ) (a : NextAccess) → own t a → more t a) → MakesPlain wants next own ts w z → MakesPlain wants next more ts w z
 rest-more wants next own more [] w z h p = p
 rest-more wants next own more (t ∷ ts) w z h p = (
   record { access = p.0.access; wanted = p.0.wanted; plain = p.0.plain; is_own = h t p.0.access p.0.is_own },
@@ -34,25 +35,27 @@ rest-more wants next own more (t ∷ ts) w z h p = (
 )
 
 -- plain turns are steps on which a thread makes nothing that isn't plain
-pub rest-plainly : {W : Type 0} (wants : W → ℕ → Option Access) (next : W → ℕ → W) (own : ℕ → Access → Type 0) (one : ℕ) (ts : List ℕ) (w z : W)
+pub rest-plainly : {W : Type 0} (wants : W → ℕ → Option NextAccess) (next : W → ℕ → W) (own : ℕ → NextAccess → Type 0) (one : ℕ) (ts : List ℕ) (w z : W)
     → MakesPlain wants next own ts w z → Reaches (StepsPlainly wants next one) w z
 rest-plainly wants next own one [] w z p = subst (λ x. Reaches (StepsPlainly wants next one) w x) p (stays (StepsPlainly wants next one) w)
 rest-plainly wants next own one (t ∷ ts) w z p =
     onward (StepsPlainly wants next one) w (next w t) z
-    (one_step (StepsPlainly wants next one) w (next w t) (record { thread = t; access = p.0.access; wanted = p.0.wanted; plain = λ e. p.0.plain; leads = refl }))
+    (one_step (StepsPlainly wants next one) w (next w t)
+    (record { thread = t; access = p.0.access; wanted = p.0.wanted; plain = λ e. p.0.plain; leads = refl }))
     (rest-plainly wants next own one ts (next w t) z p.1)
 
 module _ {X T E V A G H M : Type 0} (k : ThreadSystem X T E V A G H M)
     (tame : AreTame k.system k.first k.most) (plain : ArePlain k.system k.accesses k.first) where
   -- Where all come to rest after the turn of a thread that rests, by plain turns of their own.
-  pub record ComesToRestAfter (owned : List Touch) (n : ℕ) (c : Flat G H) (z : State X T) : Type 0 where
+  pub record ComesToRestAfter (owned : List Touch) (n : ℕ) (c : RestingState G H) (z : State X T) : Type 0 where
     pub order : List ℕ
     pub settled : State X T
     pub makes : Rest k owned order (next_in k z n) settled
     pub resting : IsResting k c settled
-    pub others : (u : ℕ) → u ≢ n → (a : Access) → wanted_in k z u ≡ Some a → times u order ≡ 0
+    pub others : (u : ℕ) → u ≢ n → (a : NextAccess) → wanted_in k z u ≡ Some a → times u order ≡ 0
 
-  pub comes-to-rest : (owned : List Touch) (b : Flat G H) (n : ℕ) (c : Flat G H) → IsAfterEvent k b n c → (z : State X T) → IsResting k b z → ComesToRestAfter owned n c z
+  pub comes-to-rest : (owned : List Touch) (b : RestingState G H) (n : ℕ) (c : RestingState G H) → IsAfterEvent k b n c → (z : State X T) → IsResting k b z →
+      ComesToRestAfter owned n c z
   comes-to-rest owned b n c come z at =
       let e = come z at in
       let made : next_in k z n ≡ after_event k.system z n e.0 = ap (after_turn k.system z n) e.1 in
@@ -60,14 +63,16 @@ module _ {X T E V A G H M : Type 0} (k : ThreadSystem X T E V A G H M)
       let reached = reaches_next k.system k.accesses k.first k.most tame plain z n at.reached in
       let there : IsReached k.system k.first (after_event k.system z n e.0) = subst (IsReached k.system k.first) made reached in
       let r : RestsBy k.system k.accesses (Within owned) (own-within owned) (after_event k.system z n e.0) by.settled =
-      to_rest k.system k.accesses (Within owned) (own-within owned) k.most (after_event k.system z n e.0) by.settled (tame.few (after_event k.system z n e.0) there) by.rest in
+      to_rest k.system k.accesses (Within owned) (own-within owned) k.most (after_event k.system z n e.0) by.settled
+      (tame.few (after_event k.system z n e.0) there) by.rest in
       let makes : Rest k owned r.order (next_in k z n) by.settled = subst (λ w. Rest k owned r.order w by.settled) (sym made) r.makes in
       record {
         order = r.order;
         settled = by.settled;
         makes = makes;
         resting = record {
-          reached = reached-along (wanted_in k) (next_in k) (IsReached k.system k.first) (plain-laws k.system k.accesses k.first k.most tame plain) (Within owned) r.order
+          reached = reached-along (wanted_in k) (next_in k) (IsReached k.system k.first) (plain-laws k.system k.accesses k.first k.most tame plain)
+              (Within owned) r.order
               (next_in k z n) by.settled reached makes;
           rests = λ m. (by.rest.each m).rests;
           settled_is = by.settled_is;
@@ -78,7 +83,8 @@ module _ {X T E V A G H M : Type 0} (k : ThreadSystem X T E V A G H M)
       }
 
   -- What was touched is touched still, where the turn is plain or another's.
-  pub touched-on : (owned : List Touch) (b : Flat G H) (n : ℕ) (c : Flat G H) (a : Access) → IsAfterEvent k b n c → WantsSome k b n a → (x : Touch) (byte : ℕ)
+  pub touched-on : (owned : List Touch) (b : RestingState G H) (n : ℕ) (c : RestingState G H) (a : NextAccess) → IsAfterEvent k b n c → WantsSome k b n a →
+      (x : Touch) (byte : ℕ)
       → (n ≡ x.thread → IsPlain a) → HasTouched k b x byte → HasTouched k c x byte
   touched-on owned b n c a come wants x byte unless h =
       let at = h.is in
@@ -104,7 +110,8 @@ module _ {X T E V A G H M : Type 0} (k : ThreadSystem X T E V A G H M)
       }
 
   -- The plain turn's own touch.
-  pub touched-now : (owned : List Touch) (b : Flat G H) (n : ℕ) (c : Flat G H) (a : Access) → RestsSomewhere k b → IsAfterEvent k b n c → WantsSome k b n a → IsPlain a
+  pub touched-now : (owned : List Touch) (b : RestingState G H) (n : ℕ) (c : RestingState G H) (a : NextAccess) → RestsSomewhere k b → IsAfterEvent k b n c →
+      WantsSome k b n a → IsPlain a
       → (byte : ℕ) → HasByte a byte → HasTouched k c (record { thread = n; access = a }) byte
   touched-now owned b n c a at come wants p byte has =
       let r = comes-to-rest owned b n c come at.0 at.1 in
@@ -123,11 +130,11 @@ module _ {X T E V A G H M : Type 0} (k : ThreadSystem X T E V A G H M)
         writes = λ w. w;
       }
 
-  pub rests-there : (owned : List Touch) (b : Flat G H) (n : ℕ) (c : Flat G H) → RestsSomewhere k b → IsAfterEvent k b n c → RestsSomewhere k c
+  pub rests-there : (owned : List Touch) (b : RestingState G H) (n : ℕ) (c : RestingState G H) → RestsSomewhere k b → IsAfterEvent k b n c → RestsSomewhere k c
   rests-there owned b n c at come = let r = comes-to-rest owned b n c come at.0 at.1 in (r.settled, r.resting)
 
   -- What is struck was touched by a thread, and so these threads race.
-  pub strikes-race : (s : Owning (Flat G H)) (m one : ℕ) (a : Access) → IsOwned k s → WantsSome k s.flat m a → Strikes s.owned.items m a one
+  pub strikes-race : (s : Owning (RestingState G H)) (m one : ℕ) (a : NextAccess) → IsOwned k s → WantsSome k s.flat m a → Strikes s.owned.items m a one
       → CanRace k.system k.first k.accesses one m
   strikes-race s m one a owned wants h =
       let c = h.conflict in
@@ -143,24 +150,25 @@ module _ {X T E V A G H M : Type 0} (k : ThreadSystem X T E V A G H M)
         conflict = record { meet = (meet.0, (meet.1.0, t.has)); write = by t c.write };
       }
     where
-      by : (t : HasTouched k s.flat h.touch h.conflict.meet.0) → (a.writes ≡ true) ⊎ (h.touch.access.writes ≡ true) → (a.writes ≡ true) ⊎ (t.access.writes ≡ true)
+      by : (t : HasTouched k s.flat h.touch h.conflict.meet.0) → (a.writes ≡ true) ⊎ (h.touch.access.writes ≡ true) →
+          (a.writes ≡ true) ⊎ (t.access.writes ≡ true)
       by t (inl w) = inl w
       by t (inr w) = inr (t.writes w)
 
   -- where nothing was done
-  pub stays-alone : (m : ℕ) (s : Owning (Flat G H)) → IsOwned k s → ComesAlone k m s s
+  pub stays-alone : (m : ℕ) (s : Owning (RestingState G H)) → IsOwned k s → ComesAlone k m s s
   stays-alone m s owned = record {
     owned = owned;
     grows = λ t a h. h;
     each = λ z at. record { order = []; settled = z; makes = refl; resting = at; others = λ u d a h. refl };
   }
 
-  within-put : (before after : List Touch) (y : Touch) → IsPut before y after → (t : ℕ) (a : Access) → Within before t a → Within after t a
+  within-put : (before after : List Touch) (y : Touch) → IsPut before y after → (t : ℕ) (a : NextAccess) → Within before t a → Within after t a
   within-put before after y put t a h byte has =
       let o = h byte has in
       record { touch = o.touch; among = (put o.touch).1 (inl o.among); is = o.is; has = o.has; writes = o.writes }
 
-  put-within : (before after : List Touch) (m : ℕ) (a : Access) → IsPut before (record { thread = m; access = a }) after → Within after m a
+  put-within : (before after : List Touch) (m : ℕ) (a : NextAccess) → IsPut before (record { thread = m; access = a }) after → Within after m a
   put-within before after m a put byte has = record {
     touch = record { thread = m; access = a };
     among = (put (record { thread = m; access = a })).1 (inr refl);
@@ -170,7 +178,8 @@ module _ {X T E V A G H M : Type 0} (k : ThreadSystem X T E V A G H M)
   }
 
   -- A plain turn, and what is owned then.
-  pub goes-on-alone : (s x : Owning (Flat G H)) (m : ℕ) (a : Access) → IsOwned k s → WantsSome k s.flat m a → IsPlain a → StrikesNobody s.owned.items m a
+  pub goes-on-alone : (s x : Owning (RestingState G H)) (m : ℕ) (a : NextAccess) → IsOwned k s → WantsSome k s.flat m a → IsPlain a →
+      StrikesNobody s.owned.items m a
       → IsAfterEvent k s.flat m x.flat → IsPut s.owned.items (record { thread = m; access = a }) x.owned.items → ComesAlone k m s x
   goes-on-alone s x m a owned wants p nobody come put = record {
     owned = record {
@@ -205,19 +214,22 @@ module _ {X T E V A G H M : Type 0} (k : ThreadSystem X T E V A G H M)
       apart : (t u : Touch) → Contains s.owned.items t ⊎ (t ≡ new) → Contains s.owned.items u ⊎ (u ≡ new) → t.thread ≢ u.thread → Conflict t.access u.access → ⊥
       apart t u (inl c) (inl e) d h = owned.apart t u c e d h
       apart t u (inl c) (inr e) d h =
-          nobody t c (λ q. d (q ∙ sym (ap (λ (v : Touch). v.thread) e))) (subst (λ (v : Touch). Conflict v.access t.access) e (conflict-swap t.access u.access h))
+          nobody t c (λ q. d (q ∙ sym (ap (λ (v : Touch). v.thread) e)))
+          (subst (λ (v : Touch). Conflict v.access t.access) e (conflict-swap t.access u.access h))
       apart t u (inr c) (inl e) d h =
           nobody u e (λ q. d (ap (λ (v : Touch). v.thread) c ∙ sym q)) (subst (λ (v : Touch). Conflict v.access u.access) c h)
       apart t u (inr c) (inr e) d h = d (ap (λ (v : Touch). v.thread) (c ∙ sym e))
 
   -- who can go on can after plain turns of others
-  still-wants : (owned : List Touch) (u : ℕ) (ts : List ℕ) (w z : State X T) (a : Access) → IsReached k.system k.first w → Rest k owned ts w z → times u ts ≡ 0
-      → wanted_in k w u ≡ Some a → (b : Access) × (wanted_in k z u ≡ Some b)
+  still-wants : (owned : List Touch) (u : ℕ) (ts : List ℕ) (w z : State X T) (a : NextAccess) → IsReached k.system k.first w → Rest k owned ts w z →
+      times u ts ≡ 0
+      → wanted_in k w u ≡ Some a → (b : NextAccess) × (wanted_in k z u ≡ Some b)
   still-wants owned u ts w z a r p none h =
-      goes-along (wanted_in k) (next_in k) (IsReached k.system k.first) (plain-laws k.system k.accesses k.first k.most tame plain) (Within owned) u a ts w z r p none h
+      goes-along (wanted_in k) (next_in k) (IsReached k.system k.first) (plain-laws k.system k.accesses k.first k.most tame plain) (Within owned) u a ts w
+      z r p none h
 
   -- One way alone after another.
-  pub alone-after : (m : ℕ) (s x y : Owning (Flat G H)) → ComesAlone k m s x → ComesAlone k m x y → ComesAlone k m s y
+  pub alone-after : (m : ℕ) (s x y : Owning (RestingState G H)) → ComesAlone k m s x → ComesAlone k m x y → ComesAlone k m s y
   alone-after m s x y one two = record {
     owned = two.owned;
     grows = λ t a h. two.grows t a (one.grows t a h);
@@ -227,7 +239,8 @@ module _ {X T E V A G H M : Type 0} (k : ThreadSystem X T E V A G H M)
         record {
           order = p.order ++ q.order;
           settled = q.settled;
-          makes = along-both (wanted_in k) (next_in k) (IsReached k.system k.first) (plain-laws k.system k.accesses k.first k.most tame plain) (Within y.owned.items)
+          makes = along-both (wanted_in k) (next_in k) (IsReached k.system k.first) (plain-laws k.system k.accesses k.first k.most tame plain)
+              (Within y.owned.items)
               p.order q.order z p.settled q.settled
               (rest-more (wanted_in k) (next_in k) (Within x.owned.items) (Within y.owned.items) p.order z p.settled two.grows p.makes) q.makes;
           resting = q.resting;
@@ -239,7 +252,8 @@ module _ {X T E V A G H M : Type 0} (k : ThreadSystem X T E V A G H M)
         };
   }
 
-  pub lost-after : (stuck : State X T → Type 0) (m : ℕ) (s x : Owning (Flat G H)) → ComesAlone k m s x → GetsLost k stuck x.flat → GetsLost k stuck s.flat
+  pub lost-after : (stuck : State X T → Type 0) (m : ℕ) (s x : Owning (RestingState G H)) → ComesAlone k m s x → GetsLost k stuck x.flat →
+      GetsLost k stuck s.flat
   lost-after stuck m s x one lost z at =
       let p = one.each z at in
       let l = lost p.settled p.resting in
@@ -247,7 +261,8 @@ module _ {X T E V A G H M : Type 0} (k : ThreadSystem X T E V A G H M)
     where
       rest-steps : (ts : List ℕ) (w z : State X T) → Rest k x.owned.items ts w z → Reaches (StepsBy k.system) w z
       rest-steps [] w z p = subst (λ v. Reaches (StepsBy k.system) w v) p (stays (StepsBy k.system) w)
-      rest-steps (t ∷ ts) w z p = onward (StepsBy k.system) w (next_in k w t) z (one_step (StepsBy k.system) w (next_in k w t) (t, refl)) (rest-steps ts (next_in k w t) z p.1)
+      rest-steps (t ∷ ts) w z p = onward (StepsBy k.system) w (next_in k w t) z (one_step (StepsBy k.system) w (next_in k w t) (t, refl))
+          (rest-steps ts (next_in k w t) z p.1)
 
 pub not_false : (b : Bool) → not b ≡ false → b ≡ true
 not_false true e = refl

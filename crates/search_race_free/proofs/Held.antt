@@ -8,13 +8,13 @@ use Rattle.std.proofs.lemmas.List.{map-append, length-map}
 use Rattle.std.proofs.lemmas.Option.{slice_get-map, slice_get-get_or}
 use Rattle.std.proofs.lemmas.Slice.Zip.{all_zipped_more}
 use Rattle.search_graph.specs.declared.graph.Move.{Move}
-use Rattle.search_table.specs.declared.parts.Parts.{Parts}
+use Rattle.search_table.specs.declared.parts.StateParts.{StateParts}
 use Rattle.search_table.specs.Tables.{Grows, ArePartsDistinct, AreStates, states_of}
 use Rattle.schedule.specs.System.{State}
-use Rattle.search_reach.specs.declared.explores.Next.{Next}
+use Rattle.search_reach.specs.declared.explores.NextState.{NextState}
 use Rattle.search_reach.specs.Search.{StepSystem, HasOf, LeadsOn, ComesBy, AreNext}
 use Rattle.search_reach.specs.Explored.{Gains, IsNoted, Notes}
-use Rattle.search_settled.specs.declared.flat.Flat.{Flat}
+use Rattle.search_settled.specs.declared.flat.RestingState.{RestingState}
 use Rattle.search_settled.specs.declared.met.NextRow.{NextRow}
 use Rattle.search_settled.specs.Threads.{ThreadSystem, IsFlat}
 use Rattle.search_settled.specs.Same.{same_length, flat_eq}
@@ -24,7 +24,7 @@ use Rattle.search_settled.proofs.Rows.{beside, beside-back, zip-length, next-gro
 use Rattle.search_settled.proofs.Nexting.{with_parts}
 use Rattle.search_race_free.specs.declared.owning.Owning.{Owning}
 use Rattle.search_race_free.specs.declared.met.Held.{Held}
-use Rattle.search_race_free.specs.declared.met.Table.{Table}
+use Rattle.search_race_free.specs.declared.met.StateTable.{StateTable}
 use Rattle.search_race_free.specs.contracts.owning.TouchPartialEq.TheImpl as touches
 use Rattle.search_race_free.specs.Same.{owning_eq, same_touches, stands-there}
 use Rattle.search_race_free.specs.Reduced.{StandsBefore}
@@ -35,25 +35,26 @@ at-of : {A : Type 0} (xs : List A) (x : A) → (c : Contains xs x) → slice_get
 at-of xs x c = slice_get-get_or xs c.0 x c.1 ∙ ap (λ y. Some y) c.2
 
 module _ {G H : Type 0} where
-  abbrev pub next_parted : Next (Flat (Held G) H) → Next (Owning (Flat G H))
+  abbrev pub next_parted : NextState (RestingState (Held G) H) → NextState (Owning (RestingState G H))
   next_parted x = record { thread = x.thread; state = parted x.state }
 
-  pub held-all : (cs : List (Flat (Held G) H)) → map held (map parted cs) ≡ cs
+  pub held-all : (cs : List (RestingState (Held G) H)) → map held (map parted cs) ≡ cs
   held-all [] = refl
   held-all (c ∷ cs) = ap (λ l. c ∷ l) (held-all cs)
 
-  pub parted-all : (ks : List (Owning (Flat G H))) → map parted (map held ks) ≡ ks
+  pub parted-all : (ks : List (Owning (RestingState G H))) → map parted (map held ks) ≡ ks
   parted-all [] = refl
   parted-all (k ∷ ks) = ap (λ l. k ∷ l) (parted-all ks)
 
-  among-parted : (cs : List (Flat (Held G) H)) (s : Owning (Flat G H)) (i : ℕ) → slice_get (map parted cs) i ≡ Some s → slice_get cs i ≡ Some (held s)
+  among-parted : (cs : List (RestingState (Held G) H)) (s : Owning (RestingState G H)) (i : ℕ) → slice_get (map parted cs) i ≡ Some s →
+      slice_get cs i ≡ Some (held s)
   among-parted [] s i at = absurd (cc at)
   among-parted (c ∷ cs) s zero at = ap (λ o. option_map held o) at
   among-parted (c ∷ cs) s (suc i) at = among-parted cs s i at
 
 -- Equal states, and equal parts.
 module _ {G H : Type 0} (eq_shared : G → G → Bool) (eq_thread : H → H → Bool) where
-  pub same-eq : (x y : Owning (Flat G H)) → flat_eq (held_eq eq_shared) eq_thread (held x) (held y) ≡ owning_eq eq_shared eq_thread x y
+  pub same-eq : (x y : Owning (RestingState G H)) → flat_eq (held_eq eq_shared) eq_thread (held x) (held y) ≡ owning_eq eq_shared eq_thread x y
   same-eq x y =
       turned (eq_shared x.flat.shared y.flat.shared) (pointwise eq_thread x.flat.threads.items y.flat.threads.items)
       (pointwise touches.eq-value.it x.owned.items y.owned.items)
@@ -65,17 +66,20 @@ module _ {G H : Type 0} (eq_shared : G → G → Bool) (eq_thread : H → H → 
       turned true false true = refl
       turned true false false = refl
 
-  apart-held : (x : Owning (Flat G H)) (ks : List (Owning (Flat G H))) → AllByRecursion (λ d. flat_eq (held_eq eq_shared) eq_thread (held x) d ≡ false) (map held ks)
+  apart-held : (x : Owning (RestingState G H)) (ks : List (Owning (RestingState G H))) →
+      AllByRecursion (λ d. flat_eq (held_eq eq_shared) eq_thread (held x) d ≡ false) (map held ks)
       → AllByRecursion (λ d. owning_eq eq_shared eq_thread x d ≡ false) ks
   apart-held x [] h = tt
   apart-held x (y ∷ ks) h = (sym (same-eq x y) ∙ h.0, apart-held x ks h.1)
 
-  pub distinct-held : (ks : List (Owning (Flat G H))) → IsDistinct (flat_eq (held_eq eq_shared) eq_thread) (map held ks) → IsDistinct (owning_eq eq_shared eq_thread) ks
+  pub distinct-held : (ks : List (Owning (RestingState G H))) → IsDistinct (flat_eq (held_eq eq_shared) eq_thread) (map held ks) →
+      IsDistinct (owning_eq eq_shared eq_thread) ks
   unfolding IsDistinct
   distinct-held [] h = tt
   distinct-held (k ∷ ks) h = (apart-held k ks h.0, distinct-held ks h.1)
 
-  pub gains-held : (ks : List (Owning (Flat G H))) (ys : List (Next (Flat (Held G) H))) (ls : List (Flat (Held G) H)) → Gains (map held ks) ys ls
+  pub gains-held : (ks : List (Owning (RestingState G H))) (ys : List (NextState (RestingState (Held G) H))) (ls : List (RestingState (Held G) H)) →
+      Gains (map held ks) ys ls
       → Gains ks (map next_parted ys) (map parted ls)
   gains-held ks ys ls g = record {
     more = map parted g.more;
@@ -86,15 +90,18 @@ module _ {G H : Type 0} (eq_shared : G → G → Bool) (eq_thread : H → H → 
         (next_parted f.0, contains-map ys f.0 f.1, ap parted f.2);
   }
     where
-      contains-map : (ys : List (Next (Flat (Held G) H))) (y : Next (Flat (Held G) H)) → Contains ys y → Contains (map next_parted ys) (next_parted y)
+      contains-map : (ys : List (NextState (RestingState (Held G) H))) (y : NextState (RestingState (Held G) H)) → Contains ys y → Contains (map next_parted ys)
+          (next_parted y)
       contains-map ys y c =
           here (map next_parted ys) c.0 (next_parted y) (slice_get-map next_parted ys c.0 ∙ ap (option_map next_parted) (at-of ys y c))
 
-  pub notes-held : (ls : List (Flat (Held G) H)) (at : ℕ) (ys : List (Next (Flat (Held G) H))) (before after : List Move)
-      → Notes (flat_eq (held_eq eq_shared) eq_thread) ls at ys before after → Notes (owning_eq eq_shared eq_thread) (map parted ls) at (map next_parted ys) before after
+  pub notes-held : (ls : List (RestingState (Held G) H)) (at : ℕ) (ys : List (NextState (RestingState (Held G) H))) (before after : List Move)
+      → Notes (flat_eq (held_eq eq_shared) eq_thread) ls at ys before after → Notes (owning_eq eq_shared eq_thread) (map parted ls) at (map next_parted ys)
+      before after
   notes-held ls at ys before after n = record { new = n.new; is = n.is; are = all ys n.new n.are }
     where
-      one : (y : Next (Flat (Held G) H)) (m : Move) → IsNoted (flat_eq (held_eq eq_shared) eq_thread) ls at y m → IsNoted (owning_eq eq_shared eq_thread) (map parted ls) at (next_parted y) m
+      one : (y : NextState (RestingState (Held G) H)) (m : Move) → IsNoted (flat_eq (held_eq eq_shared) eq_thread) ls at y m →
+          IsNoted (owning_eq eq_shared eq_thread) (map parted ls) at (next_parted y) m
       one y m h =
           let has = h.next in
           record {
@@ -107,7 +114,7 @@ module _ {G H : Type 0} (eq_shared : G → G → Bool) (eq_thread : H → H → 
             };
           }
 
-      all : (ys : List (Next (Flat (Held G) H))) (ms : List Move) → AllZip (IsNoted (flat_eq (held_eq eq_shared) eq_thread) ls at) ys ms
+      all : (ys : List (NextState (RestingState (Held G) H))) (ms : List Move) → AllZip (IsNoted (flat_eq (held_eq eq_shared) eq_thread) ls at) ys ms
           → AllZip (IsNoted (owning_eq eq_shared eq_thread) (map parted ls) at) (map next_parted ys) ms
       all [] [] h = tt
       all [] (m ∷ ms) h = absurd h
@@ -120,21 +127,21 @@ module _ {S W E : Type 0} (k : StepSystem S W E) where
   abbrev pub StandsAlike : S → S → Type 0
   StandsAlike x y = (w : W) (left : ℕ → ℕ) → k.stands x w left → k.stands y w left
 
-  pub record IsLike (x y : Next S) : Type 0 where
+  pub record IsLike (x y : NextState S) : Type 0 where
     pub thread : x.thread ≡ y.thread
     pub state : StandsAlike x.state y.state
 
-  has-there : (xs ys : List (Next S)) → AllZip IsLike xs ys → (u : ℕ) → HasOf xs u → HasOf ys u
+  has-there : (xs ys : List (NextState S)) → AllZip IsLike xs ys → (u : ℕ) → HasOf xs u → HasOf ys u
   has-there xs ys like u h =
       let b = beside IsLike xs ys like h.among.0 h.next (at-of xs h.next h.among) in
       record { next = b.0; among = here ys h.among.0 b.0 b.1; is = sym (b.2).thread ∙ h.is }
 
-  has-back : (xs ys : List (Next S)) → AllZip IsLike xs ys → (u : ℕ) → HasOf ys u → HasOf xs u
+  has-back : (xs ys : List (NextState S)) → AllZip IsLike xs ys → (u : ℕ) → HasOf ys u → HasOf xs u
   has-back xs ys like u h =
       let b = beside-back IsLike xs ys like h.among.0 h.next (at-of ys h.next h.among) in
       record { next = b.0; among = here xs h.among.0 b.0 b.1; is = (b.2).thread ∙ h.is }
 
-  leads-like : (xs ys : List (Next S)) → AllZip IsLike xs ys → (n : ℕ) (z : W) (left : ℕ → ℕ) → LeadsOn k xs n z left → LeadsOn k ys n z left
+  leads-like : (xs ys : List (NextState S)) → AllZip IsLike xs ys → (n : ℕ) (z : W) (left : ℕ → ℕ) → LeadsOn k xs n z left → LeadsOn k ys n z left
   leads-like xs ys like n z left l =
       let b = beside IsLike xs ys like l.among.0 l.next (at-of xs l.next l.among) in
       record {
@@ -146,13 +153,14 @@ module _ {S W E : Type 0} (k : StepSystem S W E) where
         others = λ u d has. l.others u d (has-back xs ys like u has);
       }
 
-  comes-like : (x y : Next S) → IsLike x y → (w : W) → ComesBy k x.thread w x.state → ComesBy k y.thread w y.state
+  comes-like : (x y : NextState S) → IsLike x y → (w : W) → ComesBy k x.thread w x.state → ComesBy k y.thread w y.state
   comes-like x y like w c =
       subst (λ n. ComesBy k n w y.state) like.thread
       (record { can = c.can; second = c.second; is = c.is; end = c.end; path = c.path; rest = like.state c.end (λ (n : ℕ). 0) c.rest })
 
   -- of s, which stands for what its copy does
-  pub next-like : (s copy : S) → StandsAlike s copy → StandsAlike copy s → (xs ys : List (Next S)) → AllZip IsLike xs ys → AreNext k copy xs → AreNext k s ys
+  pub next-like : (s copy : S) → StandsAlike s copy → StandsAlike copy s → (xs ys : List (NextState S)) → AllZip IsLike xs ys → AreNext k copy xs →
+      AreNext k s ys
   next-like s copy there back xs ys like next =
       let o = next.orderly in
       record {
@@ -184,8 +192,8 @@ module _ {S W E : Type 0} (k : StepSystem S W E) where
 -- Rows of states, as they are put.
 module _ {G H : Type 0} (eq_shared : G → G → Bool) (eq_thread : H → H → Bool) where
   -- the state of the row
-  pub row-state : (t : Parts (Held G) H) (s : Owning (Flat G H)) (r : List ℕ) → IsHeldRow eq_shared eq_thread t s r
-      → (y : Flat (Held G) H) × IsOf t r y × (owning_eq eq_shared eq_thread s (parted y) ≡ true)
+  pub row-state : (t : StateParts (Held G) H) (s : Owning (RestingState G H)) (r : List ℕ) → IsHeldRow eq_shared eq_thread t s r
+      → (y : RestingState (Held G) H) × IsOf t r y × (owning_eq eq_shared eq_thread s (parted y) ≡ true)
   unfolding with_parts
   row-state t s r w =
       let c = held s in
@@ -197,29 +205,32 @@ module _ {G H : Type 0} (eq_shared : G → G → Bool) (eq_thread : H → H → 
       ap (λ b. b && pointwise eq_thread (c.threads).items w.threads) w.shared_equal ∙ w.threads_equal in
       (y, w.of, sym (same-eq eq_shared eq_thread s (parted y)) ∙ equal)
 
-  pub rows-none : (t : Parts (Held G) H) (rs : List NextRow) → rs ≡ [] → AreHeldRows eq_shared eq_thread t [] rs
+  pub rows-none : (t : StateParts (Held G) H) (rs : List NextRow) → rs ≡ [] → AreHeldRows eq_shared eq_thread t [] rs
   rows-none t rs none = record { next = []; are = subst (λ l. AllZip (IsNextRow t) l []) (sym none) tt; equal = tt }
 
-  pub rows-more : (t u : Parts (Held G) H) → Grows t u → (xs : List (Next (Owning (Flat G H)))) (rs after : List NextRow) (x : Next (Owning (Flat G H))) (r : NextRow)
+  pub rows-more : (t u : StateParts (Held G) H) → Grows t u → (xs : List (NextState (Owning (RestingState G H)))) (rs after : List NextRow)
+      (x : NextState (Owning (RestingState G H))) (r : NextRow)
       → AreHeldRows eq_shared eq_thread t xs rs → r.thread ≡ x.thread → IsHeldRow eq_shared eq_thread u x.state r.row.items → after ≡ rs ++ r ∷ []
       → AreHeldRows eq_shared eq_thread u (xs ++ x ∷ []) after
   rows-more t u grows xs rs after x r so thread row pushed =
       let y = row-state u x.state r.row.items row in
-      let new : Next (Flat (Held G) H) = record { thread = x.thread; state = y.0 } in
+      let new : NextState (RestingState (Held G) H) = record { thread = x.thread; state = y.0 } in
       record {
         next = so.next ++ new ∷ [];
         are = subst (λ l. AllZip (IsNextRow u) l (so.next ++ new ∷ [])) (sym pushed)
             (all_zipped_more (IsNextRow u) rs so.next r new (next-grow t u grows rs so.next so.are) (record { thread = sym thread; of = y.1 }));
-        equal = all_zipped_more (λ (a : Next (Owning (Flat G H))) (b : Next (Flat (Held G) H)). (a.thread ≡ b.thread) × (owning_eq eq_shared eq_thread a.state (parted b.state) ≡ true))
+        equal = all_zipped_more (λ (a : NextState (Owning (RestingState G H))) (b : NextState (RestingState (Held G) H)). (a.thread ≡ b.thread) ×
+            (owning_eq eq_shared eq_thread a.state (parted b.state) ≡ true))
             xs so.next x new so.equal (refl, y.2);
       }
 
   -- no two of the states of a table are equal
   pub owning-distinct : ((x y : G) → eq_shared x y ≡ true → eq_shared y x ≡ true) → ((x y : H) → eq_thread x y ≡ true → eq_thread y x ≡ true)
-      → (t : Table G H) → ArePartsDistinct (held_eq eq_shared) eq_thread t.parts → (ks : List (Owning (Flat G H))) → HasOwning t ks
+      → (t : StateTable G H) → ArePartsDistinct (held_eq eq_shared) eq_thread t.parts → (ks : List (Owning (RestingState G H))) → HasOwning t ks
       → IsDistinct (owning_eq eq_shared eq_thread) ks
   owning-distinct shared thread t distinct ks has =
-      distinct-held eq_shared eq_thread ks (states-distinct (held_eq eq_shared) eq_thread held-back thread t.parts distinct t.states has.table (map held ks) has.are)
+      distinct-held eq_shared eq_thread ks (states-distinct (held_eq eq_shared) eq_thread held-back thread t.parts distinct t.states has.table
+      (map held ks) has.are)
     where
       held-back : (x y : Held G) → held_eq eq_shared x y ≡ true → held_eq eq_shared y x ≡ true
       held-back x y e =
@@ -230,26 +241,28 @@ module _ {G H : Type 0} (eq_shared : G → G → Bool) (eq_thread : H → H → 
           ∙ subst (λ l. pointwise touches.eq-value.it l x.owned.items ≡ true) p (subst (λ l. pointwise touches.eq-value.it x.owned.items l ≡ true) (sym p) o)
 
 module _ {G H : Type 0} where
-  pub owning-none : (t : Table G H) → AreStates t.states → states_of t.states ≡ [] → HasOwning t []
+  pub owning-none : (t : StateTable G H) → AreStates t.states → states_of t.states ≡ [] → HasOwning t []
   owning-none t are empty = record { table = are; are = subst (λ rs. AllZip (IsOf t.parts) rs []) (sym empty) tt }
 
-  pub owning-count : (t : Table G H) (ks : List (Owning (Flat G H))) → HasOwning t ks → (count : ℕ) → count ≡ length (states_of t.states) → count ≡ length ks
+  pub owning-count : (t : StateTable G H) (ks : List (Owning (RestingState G H))) → HasOwning t ks → (count : ℕ) → count ≡ length (states_of t.states) →
+      count ≡ length ks
   owning-count t ks has count is = is ∙ (sym (zip-length (IsOf t.parts) (states_of t.states) (map held ks) has.are) ∙ length-map ks held)
 
   -- the row of a state
-  pub row-at : (t : Table G H) (ks : List (Owning (Flat G H))) → AreOf t.parts t.states (map held ks) → (at : ℕ) (s : Owning (Flat G H)) → slice_get ks at ≡ Some s
+  pub row-at : (t : StateTable G H) (ks : List (Owning (RestingState G H))) → AreOf t.parts t.states (map held ks) → (at : ℕ) (s : Owning (RestingState G H)) →
+      slice_get ks at ≡ Some s
       → (r : List ℕ) × (slice_get (states_of t.states) at ≡ Some r) × IsOf t.parts r (held s)
   row-at t ks are at s is =
       beside-back (IsOf t.parts) (states_of t.states) (map held ks) are at (held s) (slice_get-map held ks at ∙ ap (option_map held) is)
 
   -- which has a number
-  pub some-number : (t : Parts (Held G) H) (r : List ℕ) (c : Flat (Held G) H) → IsOf t r c → length r ≡ 0 → ⊥
+  pub some-number : (t : StateParts (Held G) H) (r : List ℕ) (c : RestingState (Held G) H) → IsOf t r c → length r ≡ 0 → ⊥
   some-number t [] c of none = of
   some-number t (n ∷ ns) c of none = absurd (cc none)
 
 -- A copy stands for the same.
 module _ {X T E V A G H M : Type 0} (k : ThreadSystem X T E V A G H M) where
-  flat-copy : (s copy : Owning (Flat G H)) → IsCopy k s copy → (z : State X T) → IsFlat k s.flat z → IsFlat k copy.flat z
+  flat-copy : (s copy : Owning (RestingState G H)) → IsCopy k s copy → (z : State X T) → IsFlat k s.flat z → IsFlat k copy.flat z
   flat-copy s copy is z f = record {
     shared = (is.shared z.shared).0 f.shared;
     len = ap (λ l. length l) is.threads ∙ f.len;
@@ -257,7 +270,7 @@ module _ {X T E V A G H M : Type 0} (k : ThreadSystem X T E V A G H M) where
     others = f.others;
   }
 
-  flat-back : (s copy : Owning (Flat G H)) → IsCopy k s copy → (z : State X T) → IsFlat k copy.flat z → IsFlat k s.flat z
+  flat-back : (s copy : Owning (RestingState G H)) → IsCopy k s copy → (z : State X T) → IsFlat k copy.flat z → IsFlat k s.flat z
   flat-back s copy is z f = record {
     shared = (is.shared z.shared).1 f.shared;
     len = ap (λ l. length l) (sym is.threads) ∙ f.len;
@@ -265,8 +278,10 @@ module _ {X T E V A G H M : Type 0} (k : ThreadSystem X T E V A G H M) where
     others = f.others;
   }
 
-  pub copy-stands : (s copy : Owning (Flat G H)) → IsCopy k s copy → (w : State X T) (left : ℕ → ℕ) → StandsBefore k s w left → StandsBefore k copy w left
+  pub copy-stands : (s copy : Owning (RestingState G H)) → IsCopy k s copy → (w : State X T) (left : ℕ → ℕ) → StandsBefore k s w left →
+      StandsBefore k copy w left
   copy-stands s copy is = stands-there k s copy (flat-copy s copy is) (flat-back s copy is) (sym is.owned)
 
-  pub stands-copy : (s copy : Owning (Flat G H)) → IsCopy k s copy → (w : State X T) (left : ℕ → ℕ) → StandsBefore k copy w left → StandsBefore k s w left
+  pub stands-copy : (s copy : Owning (RestingState G H)) → IsCopy k s copy → (w : State X T) (left : ℕ → ℕ) → StandsBefore k copy w left →
+      StandsBefore k s w left
   stands-copy s copy is = stands-there k copy s (flat-back s copy is) (flat-copy s copy is) is.owned

@@ -3,7 +3,7 @@ use Rattle.std.proofs.Common.{◌≡◌, ◌≢◌, ◌⊎◌, inl, inr, ℕ, So
 use Rattle.schedule.specs.System.{State}
 use Rattle.search_settled.specs.Settled.{IsReached}
 use Rattle.search_settled.specs.Accesses.{Race}
-use Rattle.search_settled.specs.declared.access.Access.{Access}
+use Rattle.search_settled.specs.declared.access.NextAccess.{NextAccess}
 use Rattle.search_race_free.specs.Wanted.{next_access, after_next}
 use Rattle.search_race_free.specs.Races.{CanRace, MeetInRace}
 use Rattle.search_race_free.specs.Laws.{RacesMeet}
@@ -13,7 +13,8 @@ use Rattle.search_race_free.proofs.Turning.{plain-laws}
 pub races-meet : (X T E V A : Type 0) → RacesMeet X T E V A
 races-meet X T E V A s first accesses most tame plain none one other race = by race
   where
-    never : (w : State X T) → IsReached s first w → (t u : ℕ) (e f : Access) → u ≢ t → next_access s accesses w t ≡ Some e → next_access s accesses w u ≡ Some f
+    never : (w : State X T) → IsReached s first w → (t u : ℕ) (e f : NextAccess) → u ≢ t → next_access s accesses w t ≡ Some e →
+        next_access s accesses w u ≡ Some f
         → Race e f → ⊥
     never w r t u e f d h g race =
         none t u (record { differ = d; state = w; reached = r; access = e; wanted = h; next = f; wanted_next = g; race = race })

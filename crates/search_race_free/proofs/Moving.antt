@@ -2,7 +2,7 @@
 use Rattle.std.specs.Prelude.{◌≡◌, ◌≢◌, ◌⊎◌, ◌+◌, ◌<◌, ◌==◌, cond, ℕ, suc, Option, Some, None, List, [], ◌∷◌, ◌++◌, refl}
 use Rattle.std.proofs.Common.{ap, subst, sym, ◌∙◌, inl, inr, arith}
 use Rattle.schedule.proofs.Basics.{same_is, other_is, same_or_not}
-use Rattle.search_settled.specs.declared.access.Access.{Access}
+use Rattle.search_settled.specs.declared.access.NextAccess.{NextAccess}
 use Rattle.search_settled.specs.Accesses.{IsPlain, Conflict}
 use Rattle.search_race_free.specs.Orders.{times, MakesOwn, MakesPlain}
 
@@ -27,26 +27,26 @@ times-append t (u ∷ us) vs = by (times-append t us vs) (same_or_not u t)
         omega (arith, a, b, c)
 
 -- Laws of plain turns, of worlds R.
-pub record PlainLaws {W : Type 0} (wants : W → ℕ → Option Access) (next : W → ℕ → W) (R : W → Type 0) : Type 0 where
-  pub on : (w : W) (t : ℕ) (e : Access) → R w → wants w t ≡ Some e → R (next w t)
-  pub same : (w : W) (t u : ℕ) (e f : Access) → R w → u ≢ t → wants w t ≡ Some e → IsPlain e → wants w u ≡ Some f → (Conflict f e → ⊥)
+pub record PlainLaws {W : Type 0} (wants : W → ℕ → Option NextAccess) (next : W → ℕ → W) (R : W → Type 0) : Type 0 where
+  pub on : (w : W) (t : ℕ) (e : NextAccess) → R w → wants w t ≡ Some e → R (next w t)
+  pub same : (w : W) (t u : ℕ) (e f : NextAccess) → R w → u ≢ t → wants w t ≡ Some e → IsPlain e → wants w u ≡ Some f → (Conflict f e → ⊥)
       → wants (next w t) u ≡ Some f
-  pub back : (w : W) (t u : ℕ) (e f : Access) → R w → u ≢ t → wants w t ≡ Some e → IsPlain e → wants (next w t) u ≡ Some f → (Conflict f e → ⊥)
+  pub back : (w : W) (t u : ℕ) (e f : NextAccess) → R w → u ≢ t → wants w t ≡ Some e → IsPlain e → wants (next w t) u ≡ Some f → (Conflict f e → ⊥)
       → wants w u ≡ Some f
-  pub goes : (w : W) (t u : ℕ) (e f : Access) → R w → u ≢ t → wants w t ≡ Some e → IsPlain e → wants w u ≡ Some f
-      → (g : Access) × (wants (next w t) u ≡ Some g)
-  pub none : (w : W) (t u : ℕ) (e : Access) → R w → u ≢ t → wants w t ≡ Some e → IsPlain e → wants w u ≡ None → wants (next w t) u ≡ None
-  pub stays : (w : W) (t u : ℕ) (e : Access) → R w → u ≢ t → wants w t ≡ Some e → IsPlain e → wants (next w u) t ≡ Some e
-  pub swap : (w : W) (t u : ℕ) (e f : Access) → R w → u ≢ t → wants w t ≡ Some e → IsPlain e → wants w u ≡ Some f → (Conflict f e → ⊥)
+  pub goes : (w : W) (t u : ℕ) (e f : NextAccess) → R w → u ≢ t → wants w t ≡ Some e → IsPlain e → wants w u ≡ Some f
+      → (g : NextAccess) × (wants (next w t) u ≡ Some g)
+  pub none : (w : W) (t u : ℕ) (e : NextAccess) → R w → u ≢ t → wants w t ≡ Some e → IsPlain e → wants w u ≡ None → wants (next w t) u ≡ None
+  pub stays : (w : W) (t u : ℕ) (e : NextAccess) → R w → u ≢ t → wants w t ≡ Some e → IsPlain e → wants (next w u) t ≡ Some e
+  pub swap : (w : W) (t u : ℕ) (e f : NextAccess) → R w → u ≢ t → wants w t ≡ Some e → IsPlain e → wants w u ≡ Some f → (Conflict f e → ⊥)
       → next (next w t) u ≡ next (next w u) t
 
 -- What one thread owns doesn't conflict with what another one does.
-abbrev pub AreApart : (ℕ → Access → Type 0) → Type 0
-AreApart own = (t u : ℕ) (e f : Access) → u ≢ t → own t e → own u f → Conflict f e → ⊥
+abbrev pub AreApart : (ℕ → NextAccess → Type 0) → Type 0
+AreApart own = (t u : ℕ) (e f : NextAccess) → u ≢ t → own t e → own u f → Conflict f e → ⊥
 
-module _ {W : Type 0} (wants : W → ℕ → Option Access) (next : W → ℕ → W) (R : W → Type 0) (laws : PlainLaws wants next R) where
+module _ {W : Type 0} (wants : W → ℕ → Option NextAccess) (next : W → ℕ → W) (R : W → Type 0) (laws : PlainLaws wants next R) where
   abbrev Own : Type 1
-  Own = ℕ → Access → Type 0
+  Own = ℕ → NextAccess → Type 0
 
   pub reached-along : (own : Own) (ts : List ℕ) (w z : W) → R w → MakesPlain wants next own ts w z → R z
   reached-along own [] w z r p = subst R p r
@@ -58,8 +58,8 @@ module _ {W : Type 0} (wants : W → ℕ → Option Access) (next : W → ℕ �
   along-both own (t ∷ ts) us w v z p q = (p.0, along-both own ts us (next w t) v z p.1 q)
 
   -- After other threads' turns a thread can go on that could before.
-  pub goes-along : (own : Own) (n : ℕ) (f : Access) (ts : List ℕ) (w z : W) → R w → MakesPlain wants next own ts w z → times n ts ≡ 0 → wants w n ≡ Some f
-      → (g : Access) × (wants z n ≡ Some g)
+  pub goes-along : (own : Own) (n : ℕ) (f : NextAccess) (ts : List ℕ) (w z : W) → R w → MakesPlain wants next own ts w z → times n ts ≡ 0 → wants w n ≡ Some f
+      → (g : NextAccess) × (wants z n ≡ Some g)
   goes-along own n f [] w z r p none wanted = (f, ap (λ x. wants x n) (sym p) ∙ wanted)
   goes-along own n f (t ∷ ts) w z r p none wanted = elim (same_or_not t n) [
     | inl e ↦ (let h = times-here n t ts e in absurd (omega (arith, h, none)))
@@ -69,8 +69,8 @@ module _ {W : Type 0} (wants : W → ℕ → Option Access) (next : W → ℕ �
   ]
 
   -- What it does then it would have done before, where that conflicts with nothing that is theirs.
-  pub back-along : (own : Own) (n : ℕ) (f : Access) (ts : List ℕ) (w z : W) → R w → MakesPlain wants next own ts w z → times n ts ≡ 0 → wants z n ≡ Some f
-      → ((t : ℕ) (e : Access) → n ≢ t → own t e → Conflict f e → ⊥) → wants w n ≡ Some f
+  pub back-along : (own : Own) (n : ℕ) (f : NextAccess) (ts : List ℕ) (w z : W) → R w → MakesPlain wants next own ts w z → times n ts ≡ 0 → wants z n ≡ Some f
+      → ((t : ℕ) (e : NextAccess) → n ≢ t → own t e → Conflict f e → ⊥) → wants w n ≡ Some f
   back-along own n f [] w z r p none wanted clear = ap (λ x. wants x n) p ∙ wanted
   back-along own n f (t ∷ ts) w z r p none wanted clear = elim (same_or_not t n) [
     | inl e ↦ (let h = times-here n t ts e in absurd (omega (arith, h, none)))
@@ -150,8 +150,8 @@ module _ {W : Type 0} (wants : W → ℕ → Option Access) (next : W → ℕ �
   ]
 
   -- The turns of the others, after a turn of a thread that has none among them.
-  pub past : (own : Own) (n : ℕ) (f : Access) (ts : List ℕ) (w z : W) → R w → MakesPlain wants next own ts w z → times n ts ≡ 0 → wants w n ≡ Some f
-      → ((t : ℕ) (e : Access) → n ≢ t → own t e → Conflict f e → ⊥) → MakesPlain wants next own ts (next w n) (next z n)
+  pub past : (own : Own) (n : ℕ) (f : NextAccess) (ts : List ℕ) (w z : W) → R w → MakesPlain wants next own ts w z → times n ts ≡ 0 → wants w n ≡ Some f
+      → ((t : ℕ) (e : NextAccess) → n ≢ t → own t e → Conflict f e → ⊥) → MakesPlain wants next own ts (next w n) (next z n)
   past own n f [] w z r p none wanted clear = ap (λ x. next x n) p
   past own n f (t ∷ ts) w z r p none wanted clear = elim (same_or_not t n) [
     | inl e ↦ (let h = times-here n t ts e in absurd (omega (arith, h, none)))

@@ -1,5 +1,6 @@
 -- What was made ahead is taken, put together, and stays right where the table grows.
-use Rattle.std.proofs.Common.{◌≡◌, ◌↔◌, Bool, ℕ, zero, suc, ◌+◌, ◌<◌, ◌≤◌, ◌⊎◌, List, [], ◌∷◌, ◌++◌, length, map, inl, inr, Some, refl, sym, ◌∙◌, ap, subst, arith}
+use Rattle.std.proofs.Common.{◌≡◌, ◌↔◌, Bool, ℕ, zero, suc, ◌+◌, ◌<◌, ◌≤◌, ◌⊎◌, List, [], ◌∷◌, ◌++◌, length, map, inl}
+use Rattle.std.proofs.Common.{inr, Some, refl, sym, ◌∙◌, ap, subst, arith}
 use Rattle.std.specs.Prelude.{IfOk, Result}
 use Rattle.std.specs.Global.{Vec}
 use Rattle.std.specs.List.{slice_get}
@@ -7,23 +8,23 @@ use Rattle.std.proofs.lemmas.List.{length-append, length-map}
 use Rattle.std.proofs.lemmas.Option.{none-some}
 use Rattle.schedule.specs.System.{State}
 use Rattle.search_graph.specs.declared.graph.Move.{Move}
-use Rattle.search_table.specs.declared.parts.Parts.{Parts}
+use Rattle.search_table.specs.declared.parts.StateParts.{StateParts}
 use Rattle.search_table.specs.Tables.{AreThreads, Grows, states_of}
 use Rattle.search_table.proofs.Keeping.{keeps-longer, get-last}
-use Rattle.search_reach.specs.declared.explores.Next.{Next}
+use Rattle.search_reach.specs.declared.explores.NextState.{NextState}
 use Rattle.search_reach.specs.Meeting.{HasMetAt, HasSound, HasFirst, OfStateAt, GoesOn}
 use Rattle.search_reach.proofs.Meeting.{at-some}
 use Rattle.search_reach.proofs.Searching.{here}
 use Rattle.search_settled.specs.Threads.{ThreadSystem}
-use Rattle.search_settled.specs.declared.flat.Flat.{Flat}
+use Rattle.search_settled.specs.declared.flat.RestingState.{RestingState}
 use Rattle.search_settled.specs.Known.{IsOf, AreOf}
 use Rattle.search_settled.proofs.Rows.{zip-length}
 use Rattle.search_race_free.specs.declared.owning.Owning.{Owning}
-use Rattle.search_race_free.specs.declared.alone.Came.{Came}
+use Rattle.search_race_free.specs.declared.alone.Arrival.{Arrival}
 use Rattle.search_race_free.specs.declared.met.Held.{Held}
-use Rattle.search_race_free.specs.declared.met.Table.{Table}
+use Rattle.search_race_free.specs.declared.met.StateTable.{StateTable}
 use Rattle.search_race_free.specs.declared.ahead.Ahead.{Ahead}
-use Rattle.search_race_free.specs.declared.ahead.Tables.{Tables}
+use Rattle.search_race_free.specs.declared.ahead.AheadTables.{AheadTables}
 use Rattle.search_race_free.specs.Reduced.{reduced_steps}
 use Rattle.search_race_free.specs.Same.{owning_eq}
 use Rattle.search_race_free.specs.Met.{held, HasOwning, IsCopy, IsStateAt}
@@ -41,7 +42,7 @@ at-both (z ∷ xs) ys (suc i) x at = elim (at-both xs ys i x at) [
 ]
 
 module _ {G H : Type 0} where
-  same-threads : (t : Parts (Held G) H) (ns : List ℕ) (xs ys : List H) → AreThreads t ns xs → AreThreads t ns ys → xs ≡ ys
+  same-threads : (t : StateParts (Held G) H) (ns : List ℕ) (xs ys : List H) → AreThreads t ns xs → AreThreads t ns ys → xs ≡ ys
   same-threads t [] [] [] a b = refl
   same-threads t [] (x ∷ xs) ys a b = absurd a
   same-threads t [] [] (y ∷ ys) a b = absurd b
@@ -53,16 +54,16 @@ module _ {G H : Type 0} where
       cc (one, rest)
 
   -- two states of a row have the same parts
-  record HasSameParts (x y : Owning (Flat G H)) : Type 0 where
+  record HasSameParts (x y : Owning (RestingState G H)) : Type 0 where
     pub shared : (held x).shared ≡ (held y).shared
     pub threads : x.flat.threads.items ≡ y.flat.threads.items
 
-  same-parts : (t : Parts (Held G) H) (r : List ℕ) (x y : Owning (Flat G H)) → IsOf t r (held x) → IsOf t r (held y) → HasSameParts x y
+  same-parts : (t : StateParts (Held G) H) (r : List ℕ) (x y : Owning (RestingState G H)) → IsOf t r (held x) → IsOf t r (held y) → HasSameParts x y
   same-parts t [] x y a b = absurd a
   same-parts t (n ∷ ns) x y a b = record { shared = cc (a.0, b.0); threads = same-threads t ns x.flat.threads.items y.flat.threads.items a.1 b.1 }
 
 module _ {X T E V A G H M : Type 0} (k : ThreadSystem X T E V A G H M) where
-  copy-same : (x y copy : Owning (Flat G H)) → HasSameParts x y → IsCopy k x copy → IsCopy k y copy
+  copy-same : (x y copy : Owning (RestingState G H)) → HasSameParts x y → IsCopy k x copy → IsCopy k y copy
   copy-same x y copy same is = record {
     shared = λ z. subst (λ g. k.shares g z ↔ k.shares copy.flat.shared z) (ap (λ h. h.shared) same.shared) (is.shared z);
     threads = is.threads ∙ same.threads;
@@ -70,9 +71,10 @@ module _ {X T E V A G H M : Type 0} (k : ThreadSystem X T E V A G H M) where
   }
 
   -- a copy of the state at a place, where the table grows
-  module _ (t new : Table G H) (grows : Grows t.parts new.parts) (ks ls more : List (Owning (Flat G H))) (was : AreOf t.parts t.states (map held ks))
+  module _ (t new : StateTable G H) (grows : Grows t.parts new.parts) (ks ls more : List (Owning (RestingState G H)))
+      (was : AreOf t.parts t.states (map held ks))
       (are : AreOf new.parts new.states (map held ls)) (longer : ls ≡ ks ++ more) where
-    state-grows : (at : ℕ) (copy : Owning (Flat G H)) → at < length ks → IsStateAt k t at (Some copy) → IsStateAt k new at (Some copy)
+    state-grows : (at : ℕ) (copy : Owning (RestingState G H)) → at < length ks → IsStateAt k t at (Some copy) → IsStateAt k new at (Some copy)
     state-grows at copy low so vs v have there =
         let s = at-some ks at low in
         let later : slice_get ls at ≡ Some s.0 = subst (λ l. slice_get l at ≡ Some s.0) (sym longer) (keeps-longer ks more at s.0 s.1) in
@@ -84,19 +86,21 @@ module _ {X T E V A G H M : Type 0} (k : ThreadSystem X T E V A G H M) where
         (c.0, c.1, copy-same s.0 v c.0 same c.2)
 
   module _ (stuck : State X T → Type 0) where
-    pub none-ahead : (t : Table G H) (a : Ahead G H) → a.end ≤ 0 → IsAhead k stuck t a
+    pub none-ahead : (t : StateTable G H) (a : Ahead G H) → a.end ≤ 0 → IsAhead k stuck t a
     none-ahead t a none = record {
       within = omega (arith, none);
       each = λ i at came there is. absurd (omega (arith, none, is));
     }
 
-    pub same-ahead : (t : Table G H) (old new : Ahead G H) → IsAhead k stuck t old → new.end ≡ old.end → new.came.items ≡ old.came.items → IsAhead k stuck t new
+    pub same-ahead : (t : StateTable G H) (old new : Ahead G H) → IsAhead k stuck t old → new.end ≡ old.end → new.came.items ≡ old.came.items →
+        IsAhead k stuck t new
     same-ahead t old new so end same = record {
       within = subst (λ n. n ≤ length (states_of t.states)) (sym end) so.within;
       each = λ i at came there is. so.each i at came (subst (λ l. slice_get l i ≡ Some came) same there) (is ∙ end);
     }
 
-    pub fewer-ahead : (t : Table G H) (old new : Ahead G H) → IsAhead k stuck t old → new.end ≡ old.end → (one : Came (Vec (Next (Owning (Flat G H)))))
+    pub fewer-ahead : (t : StateTable G H) (old new : Ahead G H) → IsAhead k stuck t old → new.end ≡ old.end →
+        (one : Arrival (Vec (NextState (Owning (RestingState G H)))))
         → old.came.items ≡ new.came.items ++ one ∷ [] → IsAhead k stuck t new
     fewer-ahead t old new so end one took = record {
       within = subst (λ n. n ≤ length (states_of t.states)) (sym end) so.within;
@@ -104,14 +108,15 @@ module _ {X T E V A G H M : Type 0} (k : ThreadSystem X T E V A G H M) where
           so.each i at came (subst (λ l. slice_get l i ≡ Some came) (sym took) (keeps-longer new.came.items (one ∷ []) i came there)) (is ∙ end);
     }
 
-    pub took-ahead : (t : Table G H) (old new : Ahead G H) → IsAhead k stuck t old → (at : ℕ) (one : Came (Vec (Next (Owning (Flat G H)))))
+    pub took-ahead : (t : StateTable G H) (old new : Ahead G H) → IsAhead k stuck t old → (at : ℕ) (one : Arrival (Vec (NextState (Owning (RestingState G H)))))
         → old.came.items ≡ new.came.items ++ one ∷ [] → at + length old.came.items ≡ old.end → ComesOfPlace k stuck t at one
     took-ahead t old new so at one took end =
         let long : length old.came.items ≡ length new.came.items + 1 = ap (λ l. length l) took ∙ length-append new.came.items (one ∷ []) in
         so.each (length new.came.items) at one (subst (λ l. slice_get l (length new.came.items) ≡ Some one) (sym took) (get-last new.came.items one))
         (omega (arith, long, end))
 
-    pub more-ahead : (t : Table G H) (old new : Ahead G H) → IsAhead k stuck t old → new.end ≡ old.end → (one : Came (Vec (Next (Owning (Flat G H)))))
+    pub more-ahead : (t : StateTable G H) (old new : Ahead G H) → IsAhead k stuck t old → new.end ≡ old.end →
+        (one : Arrival (Vec (NextState (Owning (RestingState G H)))))
         → new.came.items ≡ old.came.items ++ one ∷ [] → ((at : ℕ) → at + length old.came.items + 1 ≡ old.end → ComesOfPlace k stuck t at one)
         → IsAhead k stuck t new
     more-ahead t old new so end one put is_one = record {
@@ -124,14 +129,15 @@ module _ {X T E V A G H M : Type 0} (k : ThreadSystem X T E V A G H M) where
           ];
     }
       where
-        one-there : (i at : ℕ) (came : Came (Vec (Next (Owning (Flat G H))))) → at + i + 1 ≡ old.end
+        one-there : (i at : ℕ) (came : Arrival (Vec (NextState (Owning (RestingState G H))))) → at + i + 1 ≡ old.end
             → (j : ℕ) × (j + length old.came.items ≡ i) × (slice_get (one ∷ []) j ≡ Some came) → ComesOfPlace k stuck t at came
         one-there i at came place (zero, far, there) =
             let same : one ≡ came = cc there in
             subst (ComesOfPlace k stuck t at) same (is_one at (omega (arith, far, place)))
         one-there i at came place (suc j, far, there) = absurd (none-some came there)
 
-    pub put-ahead : (t : Table G H) (old before new : Ahead G H) → IsAhead k stuck t old → IsAhead k stuck t before → new.end ≡ old.end → ArePut old before new
+    pub put-ahead : (t : StateTable G H) (old before new : Ahead G H) → IsAhead k stuck t old → IsAhead k stuck t before → new.end ≡ old.end →
+        ArePut old before new
         → IsAhead k stuck t new
     put-ahead t old before new so first end put = elim put [
       | inl same ↦ same-ahead t old new so end same
@@ -148,17 +154,18 @@ module _ {X T E V A G H M : Type 0} (k : ThreadSystem X T E V A G H M) where
     ]
 
     -- the last one of some, and the others
-    pub last-piece : {F : Type 0} (t : Table G H) (all rest : List (Result (Ahead G H) F)) (last : Result (Ahead G H) F) → all ≡ rest ++ last ∷ []
+    pub last-piece : {F : Type 0} (t : StateTable G H) (all rest : List (Result (Ahead G H) F)) (last : Result (Ahead G H) F) → all ≡ rest ++ last ∷ []
         → AreAhead k stuck t all → IfOk last (IsAhead k stuck t)
     last-piece t all rest last is are =
         are (length rest) last (subst (λ l. slice_get l (length rest) ≡ Some last) (sym is) (get-last rest last))
 
-    pub other-pieces : {F : Type 0} (t : Table G H) (all rest : List (Result (Ahead G H) F)) (last : Result (Ahead G H) F) → all ≡ rest ++ last ∷ []
+    pub other-pieces : {F : Type 0} (t : StateTable G H) (all rest : List (Result (Ahead G H) F)) (last : Result (Ahead G H) F) → all ≡ rest ++ last ∷ []
         → AreAhead k stuck t all → AreAhead k stuck t rest
     other-pieces t all rest last is are i piece at =
         are i piece (subst (λ l. slice_get l i ≡ Some piece) (sym is) (keeps-longer rest (last ∷ []) i piece at))
 
-    pub grown-ahead : (t new : Table G H) → Grows t.parts new.parts → (ks ls more : List (Owning (Flat G H))) → HasOwning t ks → HasOwning new ls → ls ≡ ks ++ more
+    pub grown-ahead : (t new : StateTable G H) → Grows t.parts new.parts → (ks ls more : List (Owning (RestingState G H))) → HasOwning t ks → HasOwning new ls →
+        ls ≡ ks ++ more
         → (a : Ahead G H) → IsAhead k stuck t a → IsAhead k stuck new a
     grown-ahead t new grows ks ls more was are longer a so =
         let long : length ks ≡ length (states_of t.states) =
@@ -179,7 +186,7 @@ module _ {X T E V A G H M : Type 0} (k : ThreadSystem X T E V A G H M) where
         }
 
 module _ {X T E V A G H M O : Type 0} (k : ThreadSystem X T E V A G H M) (ends : State X T → O → Type 0) (stuck : State X T → Type 0) where
-  pub met-place : (t : Table G H) → HasSound (reduced_steps k ends stuck) (HasOwning t) → (place : ℕ) → place < length (states_of t.states)
+  pub met-place : (t : StateTable G H) → HasSound (reduced_steps k ends stuck) (HasOwning t) → (place : ℕ) → place < length (states_of t.states)
       → HasMetAt (reduced_steps k ends stuck) (HasOwning t) place
   met-place t r place low =
       let long : length (r.0) ≡ length (states_of t.states) =
@@ -188,20 +195,22 @@ module _ {X T E V A G H M O : Type 0} (k : ThreadSystem X T E V A G H M) (ends :
       (r.0, s.0, r.1, s.1, r.2 s.0 (here r.0 place s.0 s.1))
 
   -- what a table has, and what was made ahead
-  pub owning-at : (t : Tables G H) (at : ℕ) → HasMetAt (reduced_steps k ends stuck) (HasAhead k stuck t) at → HasMetAt (reduced_steps k ends stuck) (HasOwning t.met) at
+  pub owning-at : (t : AheadTables G H) (at : ℕ) → HasMetAt (reduced_steps k ends stuck) (HasAhead k stuck t) at → HasMetAt (reduced_steps k ends stuck)
+      (HasOwning t.met) at
   owning-at t at met = (met.0, met.1, (met.2).owning, met.3, met.4)
 
-  pub owning-sound : (t : Tables G H) → HasSound (reduced_steps k ends stuck) (HasAhead k stuck t) → HasSound (reduced_steps k ends stuck) (HasOwning t.met)
+  pub owning-sound : (t : AheadTables G H) → HasSound (reduced_steps k ends stuck) (HasAhead k stuck t) → HasSound (reduced_steps k ends stuck)
+      (HasOwning t.met)
   owning-sound t r = (r.0, (r.1).owning, r.2)
 
   -- nothing was made ahead of a table without states
-  pub none-yet : (t : Tables G H) → HasAhead k stuck t [] → t.ahead.end ≤ 0
+  pub none-yet : (t : AheadTables G H) → HasAhead k stuck t [] → t.ahead.end ≤ 0
   none-yet t has =
       let within = (has.ahead).within in
       let none = zip-length (IsOf t.met.parts) (states_of t.met.states) [] (has.owning).are in
       omega (arith, within, none)
 
-  pub first-ahead : (t : Tables G H) → t.ahead.end ≤ 0 → HasFirst (reduced_steps k ends stuck) (HasOwning t.met)
+  pub first-ahead : (t : AheadTables G H) → t.ahead.end ≤ 0 → HasFirst (reduced_steps k ends stuck) (HasOwning t.met)
       → HasFirst (reduced_steps k ends stuck) (HasAhead k stuck t)
   first-ahead t none f = record {
     state = f.state;
@@ -209,7 +218,7 @@ module _ {X T E V A G H M O : Type 0} (k : ThreadSystem X T E V A G H M) (ends :
     held = record { owning = f.held; ahead = none-ahead k stuck t.met t.ahead none };
   }
 
-  pub goes-ahead : (eq_shared : G → G → Bool) (eq_thread : H → H → Bool) (t : Tables G H) (new : Tables G H) (at : ℕ) (before after : List Move)
+  pub goes-ahead : (eq_shared : G → G → Bool) (eq_thread : H → H → Bool) (t : AheadTables G H) (new : AheadTables G H) (at : ℕ) (before after : List Move)
       → Grows t.met.parts new.met.parts → IsAhead k stuck t.met new.ahead
       → OfStateAt (reduced_steps k ends stuck) (HasOwning t.met) at
       (λ ks s. GoesOn (reduced_steps k ends stuck) (HasOwning new.met) (owning_eq eq_shared eq_thread) ks at s before after)

@@ -4,12 +4,12 @@ use Rattle.std.proofs.Common.{ap, subst, sym, ◌∙◌, inl, inr, true≢false}
 use Rattle.std.proofs.lemmas.Option.{none-some}
 use Rattle.schedule.proofs.Basics.{same_or_not}
 use Rattle.search_graph.specs.Paths.{Goes, Reaches}
-use Rattle.search_settled.specs.declared.access.Access.{Access}
+use Rattle.search_settled.specs.declared.access.NextAccess.{NextAccess}
 use Rattle.search_settled.specs.Accesses.{IsPlain, Conflict, Race}
 use Rattle.search_race_free.specs.Orders.{StepsPlainly}
 use Rattle.search_race_free.proofs.Moving.{PlainLaws}
 
-pub conflict-swap : (a b : Access) → Conflict a b → Conflict b a
+pub conflict-swap : (a b : NextAccess) → Conflict a b → Conflict b a
 conflict-swap a b c = let m = c.meet in record { meet = (m.0, (m.1.1, m.1.0)); write = by c.write }
   where
     by : (a.writes ≡ true) ⊎ (b.writes ≡ true) → (b.writes ≡ true) ⊎ (a.writes ≡ true)
@@ -17,50 +17,52 @@ conflict-swap a b c = let m = c.meet in record { meet = (m.0, (m.1.1, m.1.0)); w
     by (inr h) = inl h
 
 -- What conflicts with a plain access races with it.
-pub plain-race : (a b : Access) → IsPlain a → Conflict a b → Race a b
+pub plain-race : (a b : NextAccess) → IsPlain a → Conflict a b → Race a b
 plain-race a b p c = record { conflict = c; unmatched = λ m. true≢false (sym p ∙ m.first) }
 
-pub plain-race-other : (a b : Access) → IsPlain b → Conflict a b → Race a b
+pub plain-race-other : (a b : NextAccess) → IsPlain b → Conflict a b → Race a b
 plain-race-other a b p c = record { conflict = c; unmatched = λ m. true≢false (sym p ∙ m.second) }
 
-module _ {W : Type 0} (wants : W → ℕ → Option Access) (next : W → ℕ → W) (R : W → Type 0) (laws : PlainLaws wants next R) where
+module _ {W : Type 0} (wants : W → ℕ → Option NextAccess) (next : W → ℕ → W) (R : W → Type 0) (laws : PlainLaws wants next R) where
   -- One thread makes these plain accesses, alone.
-  abbrev Lead : ℕ → List Access → W → W → Type 0
+  abbrev Lead : ℕ → List NextAccess → W → W → Type 0
   Lead one [] w v = w ≡ v
   Lead one (e ∷ es) w v = (wants w one ≡ Some e) × IsPlain e × Lead one es (next w one) v
 
   -- Nowhere do two next accesses race.
   abbrev pub NoneMeetIn : Type 0
-  NoneMeetIn = (w : W) → R w → (t u : ℕ) (e f : Access) → u ≢ t → wants w t ≡ Some e → wants w u ≡ Some f → Race e f → ⊥
+  NoneMeetIn = (w : W) → R w → (t u : ℕ) (e f : NextAccess) → u ≢ t → wants w t ≡ Some e → wants w u ≡ Some f → Race e f → ⊥
 
   -- what conflicts with none of them another thread does before as after
-  clear-of : NoneMeetIn → (one u : ℕ) (e g : Access) (w : W) → R w → u ≢ one → wants w one ≡ Some e → IsPlain e → wants w u ≡ Some g → Conflict g e → ⊥
+  clear-of : NoneMeetIn → (one u : ℕ) (e g : NextAccess) (w : W) → R w → u ≢ one → wants w one ≡ Some e → IsPlain e → wants w u ≡ Some g → Conflict g e → ⊥
   clear-of never one u e g w r d wanted p h c = never w r one u e g d wanted h (plain-race e g p (conflict-swap g e c))
 
-  lead-same : NoneMeetIn → (one u : ℕ) (g : Access) (es : List Access) (w v : W) → R w → u ≢ one → Lead one es w v → wants w u ≡ Some g → wants v u ≡ Some g
+  lead-same : NoneMeetIn → (one u : ℕ) (g : NextAccess) (es : List NextAccess) (w v : W) → R w → u ≢ one → Lead one es w v → wants w u ≡ Some g →
+      wants v u ≡ Some g
   lead-same never one u g [] w v r d l h = ap (λ x. wants x u) (sym l) ∙ h
   lead-same never one u g (e ∷ es) w v r d l h =
       lead-same never one u g es (next w one) v (laws.on w one e r l.0) d l.2
       (laws.same w one u e g r d l.0 l.1 h (clear-of never one u e g w r d l.0 l.1 h))
 
-  lead-none : (one u : ℕ) (es : List Access) (w v : W) → R w → u ≢ one → Lead one es w v → wants w u ≡ None → wants v u ≡ None
+  lead-none : (one u : ℕ) (es : List NextAccess) (w v : W) → R w → u ≢ one → Lead one es w v → wants w u ≡ None → wants v u ≡ None
   lead-none one u [] w v r d l h = ap (λ x. wants x u) (sym l) ∙ h
   lead-none one u (e ∷ es) w v r d l h = lead-none one u es (next w one) v (laws.on w one e r l.0) d l.2 (laws.none w one u e r d l.0 l.1 h)
 
-  lead-back : NoneMeetIn → (one u : ℕ) (f : Access) (es : List Access) (w v : W) → R w → u ≢ one → Lead one es w v → wants v u ≡ Some f → wants w u ≡ Some f
+  lead-back : NoneMeetIn → (one u : ℕ) (f : NextAccess) (es : List NextAccess) (w v : W) → R w → u ≢ one → Lead one es w v → wants v u ≡ Some f →
+      wants w u ≡ Some f
   lead-back never one u f es w v r d l h = by (wants w u) refl
     where
-      by : (o : Option Access) → wants w u ≡ o → wants w u ≡ Some f
+      by : (o : Option NextAccess) → wants w u ≡ o → wants w u ≡ Some f
       by None is = absurd (none-some f (sym (lead-none one u es w v r d l is) ∙ h))
       by (Some g) is = is ∙ (sym (lead-same never one u g es w v r d l is) ∙ h)
 
-  lead-more : (one : ℕ) (es : List Access) (x : Access) (w v : W) → Lead one es w v → wants v one ≡ Some x → IsPlain x
+  lead-more : (one : ℕ) (es : List NextAccess) (x : NextAccess) (w v : W) → Lead one es w v → wants v one ≡ Some x → IsPlain x
       → Lead one (es ++ x ∷ []) w (next v one)
   lead-more one [] x w v l h p = (ap (λ y. wants y one) l ∙ h, p, ap (λ y. next y one) l)
   lead-more one (e ∷ es) x w v l h p = (l.0, l.1, lead-more one es x (next w one) v l.2 h p)
 
   -- Another thread's turn comes before.
-  lead-after : NoneMeetIn → (one u : ℕ) (g : Access) (es : List Access) (w v : W) → R w → u ≢ one → Lead one es w v → wants w u ≡ Some g
+  lead-after : NoneMeetIn → (one u : ℕ) (g : NextAccess) (es : List NextAccess) (w v : W) → R w → u ≢ one → Lead one es w v → wants w u ≡ Some g
       → Lead one es (next w u) (next v u)
   lead-after never one u g [] w v r d l h = ap (λ x. next x u) l
   lead-after never one u g (e ∷ es) w v r d l h =
@@ -69,7 +71,7 @@ module _ {W : Type 0} (wants : W → ℕ → Option Access) (next : W → ℕ �
       let swapped = laws.swap w one u e g r d l.0 l.1 h clear in
       (laws.stays w one u e r d l.0 l.1, l.1, subst (λ x. Lead one es x (next v u)) swapped later)
 
-  no-race : NoneMeetIn → (n one other : ℕ) (e f : Access) (es : List Access) (w v z : W) → other ≢ one → R w → Lead one (e ∷ es) w v
+  no-race : NoneMeetIn → (n one other : ℕ) (e f : NextAccess) (es : List NextAccess) (w v z : W) → other ≢ one → R w → Lead one (e ∷ es) w v
       → Goes (StepsPlainly wants next one) n v z → wants z other ≡ Some f → Conflict f e → ⊥
   no-race never zero one other e f es w v z d r l p h c =
       let here : wants w other ≡ Some f = lead-back never one other f (e ∷ es) w v r d l (ap (λ x. wants x other) p ∙ h) in
@@ -90,12 +92,12 @@ module _ {W : Type 0} (wants : W → ℕ → Option Access) (next : W → ℕ �
       ]
 
   -- One thread makes a plain access, and nothing since that isn't plain, up to where another one's conflicts with it.
-  pub none-race : NoneMeetIn → (one other : ℕ) (e f : Access) (w z : W) → other ≢ one → R w → wants w one ≡ Some e → IsPlain e
+  pub none-race : NoneMeetIn → (one other : ℕ) (e f : NextAccess) (w z : W) → other ≢ one → R w → wants w one ≡ Some e → IsPlain e
       → Reaches (StepsPlainly wants next one) (next w one) z → wants z other ≡ Some f → Conflict f e → ⊥
   none-race never one other e f w z d r h p since g c =
       no-race never since.count one other e f [] w (next w one) z d r (h, p, refl) since.path g c
 
-pub race-swap : (a b : Access) → Race a b → Race b a
+pub race-swap : (a b : NextAccess) → Race a b → Race b a
 race-swap a b r = record {
   conflict = conflict-swap a b r.conflict;
   unmatched = λ m. r.unmatched (record { first = m.second; second = m.first; addr = sym m.addr; width = sym m.width });

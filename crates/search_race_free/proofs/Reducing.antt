@@ -1,26 +1,29 @@
 -- The states after each thread's next turn are those that a search asks for.
-use Rattle.std.proofs.Common.{◌≡◌, ◌≢◌, ◌≤◌, ◌<◌, ◌==◌, cond, Bool, true, false, ◌⊎◌, inl, inr, refl, sym, ◌∙◌, subst, arith, ℕ, suc, List, [], ◌∷◌, ◌++◌, Contains, Option, Some}
+use Rattle.std.proofs.Common.{◌≡◌, ◌≢◌, ◌≤◌, ◌<◌, ◌==◌, cond, Bool, true, false, ◌⊎◌, inl, inr, refl, sym, ◌∙◌, subst}
+use Rattle.std.proofs.Common.{arith, ℕ, suc, List, [], ◌∷◌, ◌++◌, Contains, Option, Some}
 use Rattle.std.proofs.lemmas.Bool.{cases_lt}
 use Rattle.std.proofs.lemmas.Option.{same_Some}
 use Rattle.schedule.specs.System.{Kind.Turn, State}
 use Rattle.schedule.specs.Scheduled.{after_mark}
 use Rattle.search_graph.specs.Paths.{Reaches}
 use Rattle.search_graph.specs.Worlds.{CanStep}
-use Rattle.search_reach.specs.declared.explores.Next.{Next}
+use Rattle.search_reach.specs.declared.explores.NextState.{NextState}
 use Rattle.search_reach.specs.Search.{StepSystem, StandsFor, RestsIn, HasOf, StaysIn, LeadsOn, ComesBy, IsOrderly, AreNext, IsMet}
 use Rattle.search_reach.proofs.Paths.{stays, one_step, onward}
 use Rattle.search_settled.specs.Settled.{CanGoOn, StepsBy, IsReached, AreTame, turning}
 use Rattle.search_settled.specs.Accesses.{Conflict, Race}
-use Rattle.search_settled.specs.declared.access.Access.{Access}
-use Rattle.search_settled.specs.declared.flat.Flat.{Flat}
+use Rattle.search_settled.specs.declared.access.NextAccess.{NextAccess}
+use Rattle.search_settled.specs.declared.flat.RestingState.{RestingState}
 use Rattle.search_settled.specs.Threads.{ThreadSystem}
 use Rattle.search_settled.proofs.Orderly.{idle, persist}
 use Rattle.search_race_free.specs.declared.owning.Owning.{Owning}
 use Rattle.search_race_free.specs.Orders.{times, MakesPlain}
 use Rattle.search_race_free.specs.Wanted.{own_turn, ArePlain}
 use Rattle.search_race_free.specs.Owned.{Within, IsSafe}
-use Rattle.search_race_free.specs.Reduced.{wanted_in, next_in, Rest, IsResting, RestsSomewhere, IsKept, StandsBefore, reduced_steps, IsAfterTurn, ComesOf, HasReduced}
-use Rattle.search_race_free.proofs.Moving.{times-here, times-append, AreApart, PlainLaws, reached-along, along-both, goes-along, back-along, wanted-along, sooner, past}
+use Rattle.search_race_free.specs.Reduced.{wanted_in, next_in, Rest, IsResting, RestsSomewhere, IsKept, StandsBefore}
+use Rattle.search_race_free.specs.Reduced.{reduced_steps, IsAfterTurn, ComesOf, HasReduced}
+use Rattle.search_race_free.proofs.Moving.{times-here, times-append, AreApart, PlainLaws, reached-along, along-both}
+use Rattle.search_race_free.proofs.Moving.{goes-along, back-along, wanted-along, sooner, past}
 use Rattle.search_race_free.proofs.Racing.{conflict-swap}
 use Rattle.search_race_free.proofs.Turning.{going_on, turn_access, event_access, reaches_next, plain-laws}
 use Rattle.search_race_free.proofs.Striking.{struck, within-apart}
@@ -31,8 +34,8 @@ none-there [] h = refl
 none-there (t ∷ ts) h = let a = h t in let b = times-here t t ts refl in absurd (omega (arith, a, b))
 
 -- the same turns, within more
-pub more-within : {W : Type 0} (wants : W → ℕ → Option Access) (next : W → ℕ → W) (own more : ℕ → Access → Type 0) (n : ℕ) (ts : List ℕ) (w z : W)
-    → times n ts ≡ 0 → ((t : ℕ) (a : Access) → t ≢ n → own t a → more t a) → MakesPlain wants next own ts w z → MakesPlain wants next more ts w z
+pub more-within : {W : Type 0} (wants : W → ℕ → Option NextAccess) (next : W → ℕ → W) (own more : ℕ → NextAccess → Type 0) (n : ℕ) (ts : List ℕ) (w z : W)
+    → times n ts ≡ 0 → ((t : ℕ) (a : NextAccess) → t ≢ n → own t a → more t a) → MakesPlain wants next own ts w z → MakesPlain wants next more ts w z
 more-within wants next own more n [] w z none h p = p
 more-within wants next own more n (t ∷ ts) w z none h p = (
   record {
@@ -53,39 +56,41 @@ more-within wants next own more n (t ∷ ts) w z none h p = (
 
 module _ {X T E V A G H M O : Type 0} (k : ThreadSystem X T E V A G H M) (ends : State X T → O → Type 0) (stuck : State X T → Type 0)
     (tame : AreTame k.system k.first k.most) (plain : ArePlain k.system k.accesses k.first)
-    (beyond : (w : State X T) → IsReached k.system k.first w → (n : ℕ) → k.most ≤ n → (a : Access) → wanted_in k w n ≡ Some a → ⊥) where
-  abbrev Reduced : StepSystem (Owning (Flat G H)) (State X T) O
+    (beyond : (w : State X T) → IsReached k.system k.first w → (n : ℕ) → k.most ≤ n → (a : NextAccess) → wanted_in k w n ≡ Some a → ⊥) where
+  abbrev Reduced : StepSystem (Owning (RestingState G H)) (State X T) O
   Reduced = reduced_steps k ends stuck
 
   laws : PlainLaws (wanted_in k) (next_in k) (IsReached k.system k.first)
   laws = plain-laws k.system k.accesses k.first k.most tame plain
 
   -- who can go on has a next access, and the other way round
-  pub access-of : (w : State X T) (n : ℕ) → CanGoOn k.system w n → (a : Access) × (wanted_in k w n ≡ Some a)
+  pub access-of : (w : State X T) (n : ℕ) → CanGoOn k.system w n → (a : NextAccess) × (wanted_in k w n ≡ Some a)
   access-of w n (inl turns) = (own_turn, turn_access k.system k.accesses w n turns)
   access-of w n (inr calls) = (k.accesses w.shared (w.threads n) calls.0, event_access k.system k.accesses w n calls.0 calls.1)
 
-  pub can-by : (w : State X T) (n : ℕ) (a : Access) → wanted_in k w n ≡ Some a → CanGoOn k.system w n
+  pub can-by : (w : State X T) (n : ℕ) (a : NextAccess) → wanted_in k w n ≡ Some a → CanGoOn k.system w n
   can-by w n a h = elim (going_on k.system k.accesses w n a h) [
     | inl o ↦ inl o.0
     | inr o ↦ inr (o.0, o.1)
   ]
 
   -- a path of such turns
-  pub path-can : (owned : ℕ → Access → Type 0) (ts : List ℕ) (w z : State X T) → MakesPlain (wanted_in k) (next_in k) owned ts w z → Reaches (CanStep (turning k.system)) w z
+  pub path-can : (owned : ℕ → NextAccess → Type 0) (ts : List ℕ) (w z : State X T) → MakesPlain (wanted_in k) (next_in k) owned ts w z →
+      Reaches (CanStep (turning k.system)) w z
   path-can owned [] w z p = subst (λ x. Reaches (CanStep (turning k.system)) w x) p (stays (CanStep (turning k.system)) w)
   path-can owned (t ∷ ts) w z p =
       onward (CanStep (turning k.system)) w (next_in k w t) z
       (one_step (CanStep (turning k.system)) w (next_in k w t) (record { thread = t; can = can-by w t p.0.access p.0.wanted; is = refl }))
       (path-can owned ts (next_in k w t) z p.1)
 
-  pub path-steps : (owned : ℕ → Access → Type 0) (ts : List ℕ) (w z : State X T) → MakesPlain (wanted_in k) (next_in k) owned ts w z → Reaches (StepsBy k.system) w z
+  pub path-steps : (owned : ℕ → NextAccess → Type 0) (ts : List ℕ) (w z : State X T) → MakesPlain (wanted_in k) (next_in k) owned ts w z →
+      Reaches (StepsBy k.system) w z
   path-steps owned [] w z p = subst (λ x. Reaches (StepsBy k.system) w x) p (stays (StepsBy k.system) w)
   path-steps owned (t ∷ ts) w z p =
       onward (StepsBy k.system) w (next_in k w t) z (one_step (StepsBy k.system) w (next_in k w t) (t, refl)) (path-steps owned ts (next_in k w t) z p.1)
 
-  module _ (s : Owning (Flat G H)) where
-    own : ℕ → Access → Type 0
+  module _ (s : Owning (RestingState G H)) where
+    own : ℕ → NextAccess → Type 0
     own = Within s.owned.items
 
     pub resting : (w : State X T) (left : ℕ → ℕ) (st : StandsBefore k s w left) → IsResting k s.flat st.settled
@@ -128,7 +133,8 @@ module _ {X T E V A G H M O : Type 0} (k : ThreadSystem X T E V A G H M) (ends :
     own-apart w left st = within-apart k.system k.accesses s.owned.items st.settled (safe-at w left st)
 
     -- what a thread that has no turn left before it rests does then it does next, and the other way round
-    then-same : (w : State X T) (left : ℕ → ℕ) (n : ℕ) (st : StandsBefore k s w left) → times n st.order ≡ 0 → (a : Access) → wanted_in k st.settled n ≡ Some a
+    then-same : (w : State X T) (left : ℕ → ℕ) (n : ℕ) (st : StandsBefore k s w left) → times n st.order ≡ 0 →
+        (a : NextAccess) → wanted_in k st.settled n ≡ Some a
         → wanted_in k w n ≡ Some a
     then-same w left n st none a wants =
         back-along (wanted_in k) (next_in k) (IsReached k.system k.first) laws (Within s.owned.items) n a st.order w st.settled st.reached st.makes none wants
@@ -136,21 +142,24 @@ module _ {X T E V A G H M O : Type 0} (k : ThreadSystem X T E V A G H M) (ends :
         let safe = safe-at w left st in
         safe.clear n a x.touch wants x.among (λ q. d (sym q ∙ x.is)) x.conflict))
 
-    same-then : (w : State X T) (left : ℕ → ℕ) (n : ℕ) (st : StandsBefore k s w left) → times n st.order ≡ 0 → (a : Access) → wanted_in k w n ≡ Some a
+    same-then : (w : State X T) (left : ℕ → ℕ) (n : ℕ) (st : StandsBefore k s w left) → times n st.order ≡ 0 → (a : NextAccess) → wanted_in k w n ≡ Some a
         → wanted_in k st.settled n ≡ Some a
     same-then w left n st none a wants =
-        let g = goes-along (wanted_in k) (next_in k) (IsReached k.system k.first) laws (Within s.owned.items) n a st.order w st.settled st.reached st.makes none wants in
+        let g = goes-along (wanted_in k) (next_in k) (IsReached k.system k.first) laws (Within s.owned.items) n a st.order w st.settled st.reached st.makes
+        none wants in
         g.1 ∙ (sym (then-same w left n st none g.0 g.1) ∙ wants)
 
     -- what a thread that has one left does next it owns
-    owns-then : (w : State X T) (left : ℕ → ℕ) (n : ℕ) (st : StandsBefore k s w left) (a : Access) → 0 < times n st.order → wanted_in k w n ≡ Some a
+    owns-then : (w : State X T) (left : ℕ → ℕ) (n : ℕ) (st : StandsBefore k s w left) (a : NextAccess) → 0 < times n st.order → wanted_in k w n ≡ Some a
         → Within s.owned.items n a
     owns-then w left n st a some wants =
-        let m = wanted-along (wanted_in k) (next_in k) (IsReached k.system k.first) laws (Within s.owned.items) (own-apart w left st) n st.order w st.settled st.reached st.makes some in
+        let m = wanted-along (wanted_in k) (next_in k) (IsReached k.system k.first) laws (Within s.owned.items) (own-apart w left st) n st.order w st.settled
+        st.reached st.makes some in
         subst (λ b. Within s.owned.items n b) (same_Some m.access a (sym m.wanted ∙ wants)) m.is_own
 
     -- an access of a thread that has none left doesn't conflict with one of a thread that has
-    clear-then : (w : State X T) (left : ℕ → ℕ) (st : StandsBefore k s w left) (n u : ℕ) (a b : Access) → n ≢ u → times n st.order ≡ 0 → wanted_in k w n ≡ Some a
+    clear-then : (w : State X T) (left : ℕ → ℕ) (st : StandsBefore k s w left) (n u : ℕ) (a b : NextAccess) → n ≢ u → times n st.order ≡ 0 →
+        wanted_in k w n ≡ Some a
         → Within s.owned.items u b → Conflict a b → ⊥
     clear-then w left st n u a b d none wants own c =
         let x = struck s.owned.items a b u c own in
@@ -158,7 +167,7 @@ module _ {X T E V A G H M O : Type 0} (k : ThreadSystem X T E V A G H M) (ends :
         safe.clear n a x.touch (same-then w left n st none a wants) x.among (λ q. d (sym q ∙ x.is)) x.conflict
 
     -- no two next accesses race
-    pub free-at : (w : State X T) (left : ℕ → ℕ) (st : StandsBefore k s w left) (one other : ℕ) (a b : Access) → other ≢ one → wanted_in k w one ≡ Some a
+    pub free-at : (w : State X T) (left : ℕ → ℕ) (st : StandsBefore k s w left) (one other : ℕ) (a b : NextAccess) → other ≢ one → wanted_in k w one ≡ Some a
         → wanted_in k w other ≡ Some b → Race a b → ⊥
     free-at w left st one other a b d h g race = elim (cases_lt 0 (times one st.order)) [
       | inl some ↦ elim (cases_lt 0 (times other st.order)) [
@@ -196,7 +205,7 @@ module _ {X T E V A G H M O : Type 0} (k : ThreadSystem X T E V A G H M) (ends :
       ));
     }
 
-    module _ (xs : List (Next (Owning (Flat G H)))) (next : HasReduced k s xs) where
+    module _ (xs : List (NextState (Owning (RestingState G H)))) (next : HasReduced k s xs) where
       -- its own turn, which is one of those before it rests
       stay : (w y : State X T) (left : ℕ → ℕ) (n : ℕ) (st : StandsBefore k s w left) → 0 < times n st.order → y ≡ next_in k w n → StaysIn Reduced s n y left
       stay w y left n st some made =
@@ -221,22 +230,24 @@ module _ {X T E V A G H M O : Type 0} (k : ThreadSystem X T E V A G H M) (ends :
           }
 
       -- the turn of a thread that rests: what the others have left comes after it
-      module _ (w y : State X T) (left : ℕ → ℕ) (n : ℕ) (st : StandsBefore k s w left) (a : Access) (none : times n st.order ≡ 0) (wants : wanted_in k w n ≡ Some a)
-          (made : y ≡ next_in k w n) (x : Next (Owning (Flat G H))) (among : Contains xs x) (by : x.thread ≡ n) where
+      module _ (w y : State X T) (left : ℕ → ℕ) (n : ℕ) (st : StandsBefore k s w left) (a : NextAccess) (none : times n st.order ≡ 0)
+          (wants : wanted_in k w n ≡ Some a)
+          (made : y ≡ next_in k w n) (x : NextState (Owning (RestingState G H))) (among : Contains xs x) (by : x.thread ≡ n) where
         comes_of : ComesOf k s n x.state
         comes_of = subst (λ t. ComesOf k s t x.state) by (next.each x among)
 
         then : IsAfterTurn k n x.state st.settled
         then = let c = comes_of in c.each st.settled (resting w left st)
 
-        clear : (t : ℕ) (e : Access) → n ≢ t → Within s.owned.items t e → Conflict a e → ⊥
+        clear : (t : ℕ) (e : NextAccess) → n ≢ t → Within s.owned.items t e → Conflict a e → ⊥
         clear t e d own c = clear-then w left st n t a e d none wants own c
 
         others_first : Rest k x.state.owned.items st.order (next_in k w n) (next_in k st.settled n)
         others_first =
             more-within (wanted_in k) (next_in k) (Within s.owned.items) (Within x.state.owned.items) n st.order (next_in k w n) (next_in k st.settled n) none
             (let c = comes_of in c.owned)
-            (past (wanted_in k) (next_in k) (IsReached k.system k.first) laws (Within s.owned.items) n a st.order w st.settled st.reached st.makes none wants clear)
+            (past (wanted_in k) (next_in k) (IsReached k.system k.first) laws (Within s.owned.items) n a st.order w st.settled st.reached st.makes none
+            wants clear)
 
         no_more : (u : ℕ) → u ≢ n → HasOf xs u → times u (st.order ++ then.order) ≤ left u
         no_more u d has =
@@ -279,13 +290,14 @@ module _ {X T E V A G H M O : Type 0} (k : ThreadSystem X T E V A G H M) (ends :
             inr (leads w y left n st a.0 none a.1 made x.0 x.1 x.2))
       ]
 
-      going : (w : State X T) → StandsFor Reduced s w → (x : Next (Owning (Flat G H))) → Contains xs x → CanGoOn k.system w x.thread
+      going : (w : State X T) → StandsFor Reduced s w → (x : NextState (Owning (RestingState G H))) → Contains xs x → CanGoOn k.system w x.thread
       going w stands x among =
           let st = stands.1 in
           let of = (next.each x among).each st.settled (resting w stands.0 st) in
           elim (cases_lt 0 (times x.thread st.order)) [
             | inl some ↦
-                (let m = wanted-along (wanted_in k) (next_in k) (IsReached k.system k.first) laws (Within s.owned.items) (own-apart w stands.0 st) x.thread st.order w st.settled st.reached st.makes some in
+                (let m = wanted-along (wanted_in k) (next_in k) (IsReached k.system k.first) laws (Within s.owned.items) (own-apart w stands.0 st) x.thread
+                st.order w st.settled st.reached st.makes some in
                 can-by w x.thread m.access m.wanted)
             | inr few ↦
                 (let none : times x.thread st.order ≡ 0 = omega (arith, few) in
@@ -298,7 +310,7 @@ module _ {X T E V A G H M O : Type 0} (k : ThreadSystem X T E V A G H M) (ends :
           let x = next.all w (at-rest w st) n a.0 a.1 in
           record { next = x.0; among = x.1; is = x.2 }
 
-      comes : (w : State X T) → RestsIn Reduced s w → (x : Next (Owning (Flat G H))) → Contains xs x → ComesBy Reduced x.thread w x.state
+      comes : (w : State X T) → RestsIn Reduced s w → (x : NextState (Owning (RestingState G H))) → Contains xs x → ComesBy Reduced x.thread w x.state
       comes w st x among =
           let at = at-rest w st in
           let of = next.each x among in

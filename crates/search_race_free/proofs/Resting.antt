@@ -4,7 +4,7 @@ use Rattle.schedule.specs.System.{Want.Turns, System, State, put}
 use Rattle.schedule.specs.Scheduled.{after_turn, with_thread}
 use Rattle.schedule.proofs.Basics.{at_each, put-same, put-other, same_or_not}
 use Rattle.search_settled.specs.Settled.{ComesTo, Settles, ComesToRest, AreFew}
-use Rattle.search_settled.specs.declared.access.Access.{Access}
+use Rattle.search_settled.specs.declared.access.NextAccess.{NextAccess}
 use Rattle.search_settled.proofs.Resting.{at_rest}
 use Rattle.search_settled.proofs.Reaching.{put_put, put_itself}
 use Rattle.search_race_free.specs.Orders.{times, MakesPlain}
@@ -21,7 +21,7 @@ repeated-other : (n m count : ℕ) → n ≢ m → times m (repeated n count) �
 repeated-other n m zero d = refl
 repeated-other n m (suc count) d = times-other m n (repeated n count) d ∙ repeated-other n m count d
 
-module _ {X T E V A : Type 0} (s : System X T E V A) (accesses : X → T → E → Access) (own : ℕ → Access → Type 0) (free : (t : ℕ) → own t own_turn) where
+module _ {X T E V A : Type 0} (s : System X T E V A) (accesses : X → T → E → NextAccess) (own : ℕ → NextAccess → Type 0) (free : (t : ℕ) → own t own_turn) where
   abbrev Makes : List ℕ → State X T → State X T → Type 0
   Makes = MakesPlain (next_access s accesses) (after_next s) own
 

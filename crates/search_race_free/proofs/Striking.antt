@@ -2,7 +2,7 @@
 use Rattle.std.proofs.Common.{◌≡◌, ◌⊎◌, inl, inr, ℕ, sym, ◌∙◌, arith, List, Contains, true}
 use Rattle.schedule.specs.System.{System, State}
 use Rattle.search_settled.specs.Accesses.{Conflict}
-use Rattle.search_settled.specs.declared.access.Access.{Access}
+use Rattle.search_settled.specs.declared.access.NextAccess.{NextAccess}
 use Rattle.search_race_free.specs.declared.owning.Touch.{Touch}
 use Rattle.search_race_free.specs.Wanted.{own_turn}
 use Rattle.search_race_free.specs.Owned.{OwnsByte, Within, IsSafe}
@@ -14,13 +14,13 @@ pub own-within : (owned : List Touch) (t : ℕ) → Within owned t own_turn
 own-within owned t byte has = let a = has.0 in let b = has.1 in absurd (omega (arith, a, b))
 
 -- A touch of the thread with which the access conflicts too.
-pub record Struck (owned : List Touch) (a : Access) (u : ℕ) : Type 0 where
+pub record Struck (owned : List Touch) (a : NextAccess) (u : ℕ) : Type 0 where
   pub touch : Touch
   pub among : Contains owned touch
   pub is : touch.thread ≡ u
   pub conflict : Conflict a touch.access
 
-pub struck : (owned : List Touch) (a b : Access) (u : ℕ) → Conflict a b → Within owned u b → Struck owned a u
+pub struck : (owned : List Touch) (a b : NextAccess) (u : ℕ) → Conflict a b → Within owned u b → Struck owned a u
 struck owned a b u c within =
     let m = c.meet in
     let o = within m.0 m.1.1 in
@@ -30,7 +30,8 @@ struck owned a b u c within =
     by o (inl h) = inl h
     by o (inr h) = inr (o.writes h)
 
-module _ {X T E V A : Type 0} (s : System X T E V A) (accesses : X → T → E → Access) (owned : List Touch) (z : State X T) (safe : IsSafe s accesses owned z) where
+module _ {X T E V A : Type 0} (s : System X T E V A) (accesses : X → T → E → NextAccess) (owned : List Touch) (z : State X T)
+    (safe : IsSafe s accesses owned z) where
   pub within-apart : AreApart (Within owned)
   within-apart t u e f d own_e own_f c =
       let y = struck owned f e t c own_e in

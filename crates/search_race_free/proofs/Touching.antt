@@ -8,7 +8,7 @@ use Rattle.std.proofs.lemmas.List.{take_more}
 use Rattle.std.proofs.lemmas.List.Elements.{Contains-append_left, Contains-append_right, Contains-append_cases, Contains-push, Contains-push_cases}
 use Rattle.std.proofs.lemmas.List.Sorted.{IsPermutation-insert, Contains-permutation, IsPermutation-sym}
 use Rattle.schedule.proofs.Basics.{same_or_not}
-use Rattle.search_settled.specs.declared.access.Access.{Access}
+use Rattle.search_settled.specs.declared.access.NextAccess.{NextAccess}
 use Rattle.search_race_free.specs.declared.owning.Touch.{Touch}
 use Rattle.search_race_free.specs.Touches.{access_at, AreOfOthers}
 
@@ -40,25 +40,27 @@ Contains-inserted xs i y x = (there, back)
         by (inr e) = inr (sym e)
 
     there : Contains (insert xs i y) x → Contains xs x ⊎ (x ≡ y)
-    there c = first (Contains-append_cases (y ∷ []) xs x (Contains-permutation (insert xs i y) (y ∷ xs) x (IsPermutation-sym (y ∷ xs) (insert xs i y) (IsPermutation-insert xs i y)) c))
+    there c = first (Contains-append_cases (y ∷ []) xs x
+        (Contains-permutation (insert xs i y) (y ∷ xs) x (IsPermutation-sym (y ∷ xs) (insert xs i y) (IsPermutation-insert xs i y)) c))
 
     back : Contains xs x ⊎ (x ≡ y) → Contains (insert xs i y) x
     back (inl c) = Contains-permutation (y ∷ xs) (insert xs i y) x (IsPermutation-insert xs i y) (Contains-append_right (y ∷ []) xs x c)
-    back (inr e) = Contains-permutation (y ∷ xs) (insert xs i y) x (IsPermutation-insert xs i y) (subst (λ z. Contains (y ∷ xs) z) (sym e) (0, omega arith, refl))
+    back (inr e) = Contains-permutation (y ∷ xs) (insert xs i y) x (IsPermutation-insert xs i y)
+        (subst (λ z. Contains (y ∷ xs) z) (sym e) (0, omega arith, refl))
 
-pub access-here : (xs : List (Option Access)) (i : ℕ) (d : Option Access) → i < length xs → access_at xs i ≡ get_or xs i d
+pub access-here : (xs : List (Option NextAccess)) (i : ℕ) (d : Option NextAccess) → i < length xs → access_at xs i ≡ get_or xs i d
 access-here [] i d h = absurd (omega (arith, h))
 access-here (x ∷ xs) zero d h = refl
 access-here (x ∷ xs) (suc i) d h = access-here xs i d (omega (arith, h))
 
-pub access-past : (xs : List (Option Access)) (i : ℕ) → length xs ≤ i → access_at xs i ≡ None
+pub access-past : (xs : List (Option NextAccess)) (i : ℕ) → length xs ≤ i → access_at xs i ≡ None
 access-past [] i h = refl
 access-past (x ∷ xs) zero h = absurd (omega (arith, h))
 access-past (x ∷ xs) (suc i) h = access-past xs i (omega (arith, h))
 
 -- Of all places: those below the length, and none beyond.
-pub at_all : (P : ℕ → Access → Type 0) (xs : List (Option Access)) (n : ℕ) → length xs ≤ n
-    → ((t : ℕ) → t < n → (a : Access) → access_at xs t ≡ Some a → P t a) → (t : ℕ) (a : Access) → access_at xs t ≡ Some a → P t a
+pub at_all : (P : ℕ → NextAccess → Type 0) (xs : List (Option NextAccess)) (n : ℕ) → length xs ≤ n
+    → ((t : ℕ) → t < n → (a : NextAccess) → access_at xs t ≡ Some a → P t a) → (t : ℕ) (a : NextAccess) → access_at xs t ≡ Some a → P t a
 at_all P xs n long all t a h = by (cases_lt t (length xs))
   where
     by : (t < length xs) ⊎ (length xs ≤ t) → P t a
@@ -71,13 +73,20 @@ others-none t x = (λ c. (c, absurd (omega (arith, c.1))), λ c. c.0)
 
 pub others-more : (t : ℕ) (ts us vs : List Touch) (i : ℕ) (d : Touch) → i < length ts → AreOfOthers (take i ts) t us
     → ((x : Touch) → Contains vs x ↔ (Contains us x ⊎ (get_or ts i d ≡ x) × (x.thread ≢ t))) → AreOfOthers (take (i + 1) ts) t vs
-others-more t ts us vs i d h before new x = (λ c. there ((new x).0 c), λ c. back c.1 (Contains-push_cases (take i ts) (get_or ts i d) x (subst (λ l. Contains l x) (take_more ts i d h) c.0)))
+others-more t ts us vs i d h before new x = (
+  λ c. there ((new x).0 c),
+  λ c. back c.1 (Contains-push_cases (take i ts) (get_or ts i d) x (subst (λ l. Contains l x) (take_more ts i d h) c.0)),
+)
   where
     there : Contains us x ⊎ (get_or ts i d ≡ x) × (x.thread ≢ t) → Contains (take (i + 1) ts) x × (x.thread ≢ t)
     there (inl c) =
         let k = (before x).0 c in
         (subst (λ l. Contains l x) (sym (take_more ts i d h)) (Contains-append_left (take i ts) (get_or ts i d ∷ []) x k.0), k.1)
-    there (inr c) = (subst (λ l. Contains l x) (sym (take_more ts i d h)) (subst (λ y. Contains (take i ts ++ get_or ts i d ∷ []) y) c.0 (Contains-push (take i ts) (get_or ts i d))), c.1)
+    there (inr c) = (
+      subst (λ l. Contains l x) (sym (take_more ts i d h)) (subst (λ y. Contains (take i ts ++ get_or ts i d ∷ []) y) c.0
+          (Contains-push (take i ts) (get_or ts i d))),
+      c.1,
+    )
 
     back : (x.thread ≢ t) → Contains (take i ts) x ⊎ (get_or ts i d ≡ x) → Contains vs x
     back p (inl c) = (new x).1 (inl ((before x).1 (c, p)))

@@ -7,15 +7,15 @@ use Rattle.schedule.proofs.Basics.{put-other}
 use Rattle.search_reach.proofs.Paths.{one_step, onward}
 use Rattle.search_settled.specs.Settled.{StepsBy, IsReached, AreTame}
 use Rattle.search_settled.proofs.Orderly.{event_leaves}
-use Rattle.search_settled.specs.declared.access.Access.{Access}
+use Rattle.search_settled.specs.declared.access.NextAccess.{NextAccess}
 use Rattle.search_settled.specs.Accesses.{IsPlain, Conflict}
 use Rattle.search_race_free.specs.Wanted.{own_turn, access_by, next_access, after_next, AreIndependent, WantsPlain, ArePlain}
 use Rattle.search_race_free.proofs.Moving.{PlainLaws}
 use Rattle.search_race_free.proofs.Quiet.{quiet_event, swap_turn, swap_event}
 
-module _ {X T E V A : Type 0} (s : System X T E V A) (accesses : X → T → E → Access) where
+module _ {X T E V A : Type 0} (s : System X T E V A) (accesses : X → T → E → NextAccess) where
   -- A thread that can go on wants a turn of its own or an event.
-  pub going_on : (w : State X T) (t : ℕ) (a : Access) → next_access s accesses w t ≡ Some a
+  pub going_on : (w : State X T) (t : ℕ) (a : NextAccess) → next_access s accesses w t ≡ Some a
       → ((s.wants (w.threads t) ≡ Turns) × (own_turn ≡ a)) ⊎ ((f : E) × (s.wants (w.threads t) ≡ Calls f) × (accesses w.shared (w.threads t) f ≡ a))
   going_on w t a h = by (s.wants (w.threads t)) refl
     where
@@ -64,20 +64,20 @@ module _ {X T E V A : Type 0} (s : System X T E V A) (accesses : X → T → E �
     leaves_by w u t Awaits r is d busy here = refl
     leaves_by w u t Gone r is d busy here = refl
 
-    busy_by : (w : State X T) (t : ℕ) (a : Access) → next_access s accesses w t ≡ Some a → s.wants (w.threads t) ≡ Awaits → ⊥
+    busy_by : (w : State X T) (t : ℕ) (a : NextAccess) → next_access s accesses w t ≡ Some a → s.wants (w.threads t) ≡ Awaits → ⊥
     busy_by w t a h is = none-some a (sym (ap (access_by s accesses w.shared (w.threads t)) is) ∙ h)
 
-    here_by : (w : State X T) (t : ℕ) (a : Access) → next_access s accesses w t ≡ Some a → s.wants (w.threads t) ≡ Gone → ⊥
+    here_by : (w : State X T) (t : ℕ) (a : NextAccess) → next_access s accesses w t ≡ Some a → s.wants (w.threads t) ≡ Gone → ⊥
     here_by w t a h is = none-some a (sym (ap (access_by s accesses w.shared (w.threads t)) is) ∙ h)
 
-    pub leaves : (w : State X T) (u t : ℕ) (a : Access) → IsReached s first w → t ≢ u → next_access s accesses w t ≡ Some a
+    pub leaves : (w : State X T) (u t : ℕ) (a : NextAccess) → IsReached s first w → t ≢ u → next_access s accesses w t ≡ Some a
         → (after_next s w u).threads t ≡ w.threads t
     leaves w u t a r d h = leaves_by w u t (s.wants (w.threads u)) r refl d (busy_by w t a h) (here_by w t a h)
 
     -- A plain event of a thread, and what comes of it.
-    plain_of : (w : State X T) (t : ℕ) (f : E) (a : Access) → IsReached s first w → s.wants (w.threads t) ≡ Calls f → accesses w.shared (w.threads t) f ≡ a
+    plain_of : (w : State X T) (t : ℕ) (f : E) (a : NextAccess) → IsReached s first w → s.wants (w.threads t) ≡ Calls f → accesses w.shared (w.threads t) f ≡ a
         → IsPlain a → WantsPlain s accesses first w t f
-    plain_of w t f a r calls is p = record { reached = r; wants = calls; plain = ap (λ (b : Access). b.plain) is ∙ p }
+    plain_of w t f a r calls is p = record { reached = r; wants = calls; plain = ap (λ (b : NextAccess). b.plain) is ∙ p }
 
     quiet_plain : (w : State X T) (t : ℕ) (f : E) → WantsPlain s accesses first w t f
         → after_event s w t f ≡ record { shared = s.after w.shared t f; threads = put w.threads t (s.takes (w.threads t) (s.reply w.shared t f)) }
@@ -85,13 +85,13 @@ module _ {X T E V A : Type 0} (s : System X T E V A) (accesses : X → T → E �
 
     -- What another thread does after a plain turn: it is as it was, and of what it does with the memory only what
     -- conflicts with that turn may be another.
-    record SharedAfter (w : State X T) (a : Access) (u : ℕ) (z : State X T) : Type 0 where
+    record SharedAfter (w : State X T) (a : NextAccess) (u : ℕ) (z : State X T) : Type 0 where
       x : X
       next : next_access s accesses z u ≡ access_by s accesses x (w.threads u) (s.wants (w.threads u))
       same : (v : T) (f : E) → (Conflict (accesses w.shared v f) a → ⊥) → accesses x v f ≡ accesses w.shared v f
       still : (v : T) (f : E) → Conflict (accesses w.shared v f) a → Conflict (accesses x v f) a
 
-    shared_after : (w : State X T) (t u : ℕ) (a : Access) → IsReached s first w → u ≢ t → next_access s accesses w t ≡ Some a → IsPlain a
+    shared_after : (w : State X T) (t u : ℕ) (a : NextAccess) → IsReached s first w → u ≢ t → next_access s accesses w t ≡ Some a → IsPlain a
         → SharedAfter w a u (after_next s w t)
     shared_after w t u a r d h p = by (going_on w t a h)
       where
@@ -117,14 +117,14 @@ module _ {X T E V A : Type 0} (s : System X T E V A) (accesses : X → T → E �
             }
 
     -- by what a thread wants
-    module _ (w : State X T) (a : Access) (u : ℕ) (z : State X T) (h : SharedAfter w a u z) where
+    module _ (w : State X T) (a : NextAccess) (u : ℕ) (z : State X T) (h : SharedAfter w a u z) where
       before : (want : Want E) → s.wants (w.threads u) ≡ want → next_access s accesses w u ≡ access_by s accesses w.shared (w.threads u) want
       before want is = ap (access_by s accesses w.shared (w.threads u)) is
 
       then : (want : Want E) → s.wants (w.threads u) ≡ want → next_access s accesses z u ≡ access_by s accesses h.x (w.threads u) want
       then want is = h.next ∙ ap (access_by s accesses h.x (w.threads u)) is
 
-      same_by : (f : Access) → (Conflict f a → ⊥) → next_access s accesses w u ≡ Some f → (want : Want E) → s.wants (w.threads u) ≡ want
+      same_by : (f : NextAccess) → (Conflict f a → ⊥) → next_access s accesses w u ≡ Some f → (want : Want E) → s.wants (w.threads u) ≡ want
           → next_access s accesses z u ≡ Some f
       same_by f clear wants Turns is = then Turns is ∙ (sym (before Turns is) ∙ wants)
       same_by f clear wants (Calls g) is =
@@ -133,7 +133,7 @@ module _ {X T E V A : Type 0} (s : System X T E V A) (accesses : X → T → E �
       same_by f clear wants Awaits is = then Awaits is ∙ (sym (before Awaits is) ∙ wants)
       same_by f clear wants Gone is = then Gone is ∙ (sym (before Gone is) ∙ wants)
 
-      back_by : (f : Access) → (Conflict f a → ⊥) → next_access s accesses z u ≡ Some f → (want : Want E) → s.wants (w.threads u) ≡ want
+      back_by : (f : NextAccess) → (Conflict f a → ⊥) → next_access s accesses z u ≡ Some f → (want : Want E) → s.wants (w.threads u) ≡ want
           → next_access s accesses w u ≡ Some f
       back_by f clear wants Turns is = before Turns is ∙ (sym (then Turns is) ∙ wants)
       back_by f clear wants (Calls g) is =
@@ -143,8 +143,8 @@ module _ {X T E V A : Type 0} (s : System X T E V A) (accesses : X → T → E �
       back_by f clear wants Awaits is = before Awaits is ∙ (sym (then Awaits is) ∙ wants)
       back_by f clear wants Gone is = before Gone is ∙ (sym (then Gone is) ∙ wants)
 
-      goes_by : (f : Access) → next_access s accesses w u ≡ Some f → (want : Want E) → s.wants (w.threads u) ≡ want
-          → (g : Access) × (next_access s accesses z u ≡ Some g)
+      goes_by : (f : NextAccess) → next_access s accesses w u ≡ Some f → (want : Want E) → s.wants (w.threads u) ≡ want
+          → (g : NextAccess) × (next_access s accesses z u ≡ Some g)
       goes_by f wants Turns is = (own_turn, then Turns is)
       goes_by f wants (Calls g) is = (accesses h.x (w.threads u) g, then (Calls g) is)
       goes_by f wants Awaits is = absurd (none-some f (sym (before Awaits is) ∙ wants))
@@ -164,7 +164,7 @@ module _ {X T E V A : Type 0} (s : System X T E V A) (accesses : X → T → E �
     stays_by w t u f Awaits h is = refl
     stays_by w t u f Gone h is = refl
 
-    stays_next : (w : State X T) (t u : ℕ) (a : Access) → IsReached s first w → u ≢ t → next_access s accesses w t ≡ Some a → IsPlain a
+    stays_next : (w : State X T) (t u : ℕ) (a : NextAccess) → IsReached s first w → u ≢ t → next_access s accesses w t ≡ Some a → IsPlain a
         → next_access s accesses (after_next s w u) t ≡ Some a
     stays_next w t u a r d h p = access_of (after_next s w u).shared ((after_next s w u).threads t) (w.threads t) (leaves w u t a r (λ e. d (sym e)) h)
         ∙ by (going_on w t a h)
@@ -220,14 +220,15 @@ module _ {X T E V A : Type 0} (s : System X T E V A) (accesses : X → T → E �
     swap_plain w t u f Awaits d h is apart = refl
     swap_plain w t u f Gone d h is apart = refl
 
-    independent_of : (w : State X T) (t u : ℕ) (f : E) (a b : Access) → u ≢ t → WantsPlain s accesses first w t f → accesses w.shared (w.threads t) f ≡ a
+    independent_of : (w : State X T) (t u : ℕ) (f : E) (a b : NextAccess) → u ≢ t → WantsPlain s accesses first w t f → accesses w.shared (w.threads t) f ≡ a
         → next_access s accesses w u ≡ Some b → (Conflict b a → ⊥) → (g : E) → s.wants (w.threads u) ≡ Calls g → AreIndependent s w.shared t f u g
-    independent_of w t u f a b d h is k clear g calls = plain.independent w t f h u g calls d (λ c. clear (subst (λ x. Conflict x a) other (subst (Conflict (accesses w.shared (w.threads u) g)) is c)))
+    independent_of w t u f a b d h is k clear g calls = plain.independent w t f h u g calls d
+        (λ c. clear (subst (λ x. Conflict x a) other (subst (Conflict (accesses w.shared (w.threads u) g)) is c)))
       where
         other : accesses w.shared (w.threads u) g ≡ b
         other = same_Some (accesses w.shared (w.threads u) g) b (sym (event_access w u g calls) ∙ k)
 
-    swap_next : (w : State X T) (t u : ℕ) (a b : Access) → IsReached s first w → u ≢ t → next_access s accesses w t ≡ Some a → IsPlain a
+    swap_next : (w : State X T) (t u : ℕ) (a b : NextAccess) → IsReached s first w → u ≢ t → next_access s accesses w t ≡ Some a → IsPlain a
         → next_access s accesses w u ≡ Some b → (Conflict b a → ⊥) → after_next s (after_next s w t) u ≡ after_next s (after_next s w u) t
     swap_next w t u a b r d h p k clear = by (going_on w t a h)
       where
@@ -253,7 +254,7 @@ module _ {X T E V A : Type 0} (s : System X T E V A) (accesses : X → T → E �
             let still : WantsPlain s accesses first moved t f = record {
               reached = reaches_next w u r;
               wants = ap s.wants same ∙ o.1;
-              plain = ap (λ (c : Access). c.plain) (ap (λ v. accesses moved.shared v f) same ∙ stays_by w t u f want h refl) ∙ h.plain;
+              plain = ap (λ (c : NextAccess). c.plain) (ap (λ v. accesses moved.shared v f) same ∙ stays_by w t u f want h refl) ∙ h.plain;
             } in
             ap (λ z. after_next s z u) (ap (after_turn s w t) o.1 ∙ quiet_plain w t f h)
             ∙ (after_quiet w t u (s.after w.shared t f) (s.takes (w.threads t) (s.reply w.shared t f)) want d refl
@@ -271,10 +272,10 @@ module _ {X T E V A : Type 0} (s : System X T E V A) (accesses : X → T → E �
       swap = swap_next_as;
     }
       where
-        stays_next_as : (w : State X T) (t u : ℕ) (e : Access) → IsReached s first w → u ≢ t → next_access s accesses w t ≡ Some e → IsPlain e
+        stays_next_as : (w : State X T) (t u : ℕ) (e : NextAccess) → IsReached s first w → u ≢ t → next_access s accesses w t ≡ Some e → IsPlain e
             → next_access s accesses (after_next s w u) t ≡ Some e
         stays_next_as w t u e r d h p = stays_next w t u e r d h p
 
-        swap_next_as : (w : State X T) (t u : ℕ) (e f : Access) → IsReached s first w → u ≢ t → next_access s accesses w t ≡ Some e → IsPlain e
+        swap_next_as : (w : State X T) (t u : ℕ) (e f : NextAccess) → IsReached s first w → u ≢ t → next_access s accesses w t ≡ Some e → IsPlain e
             → next_access s accesses w u ≡ Some f → (Conflict f e → ⊥) → after_next s (after_next s w t) u ≡ after_next s (after_next s w u) t
         swap_next_as w t u e f r d h p k c = swap_next w t u e f r d h p k c

@@ -4,38 +4,40 @@ use Rattle.std.specs.List.{slice_get}
 use Rattle.std.specs.Global.{Vec}
 use Rattle.schedule.specs.System.{State}
 use Rattle.search_table.specs.Tables.{states_of}
-use Rattle.search_reach.specs.declared.explores.Next.{Next}
+use Rattle.search_reach.specs.declared.explores.NextState.{NextState}
 use Rattle.search_settled.specs.Threads.{ThreadSystem}
-use Rattle.search_settled.specs.declared.flat.Flat.{Flat}
+use Rattle.search_settled.specs.declared.flat.RestingState.{RestingState}
 use Rattle.search_race_free.specs.declared.owning.Owning.{Owning}
-use Rattle.search_race_free.specs.declared.alone.Came.{Came}
-use Rattle.search_race_free.specs.declared.met.Table.{Table}
+use Rattle.search_race_free.specs.declared.alone.Arrival.{Arrival}
+use Rattle.search_race_free.specs.declared.met.StateTable.{StateTable}
 use Rattle.search_race_free.specs.declared.ahead.Ahead.{Ahead}
-use Rattle.search_race_free.specs.declared.ahead.Tables.{Tables}
+use Rattle.search_race_free.specs.declared.ahead.AheadTables.{AheadTables}
 use Rattle.search_race_free.specs.Reduced.{HasReduced}
 use Rattle.search_race_free.specs.Search.{IsCame}
 use Rattle.search_race_free.specs.Met.{HasOwning, IsStateAt}
 
 module _ {X T E V A G H M : Type 0} (k : ThreadSystem X T E V A G H M) (stuck : State X T → Type 0) where
   -- It comes of the state at this place: of a copy of it.
-  pub record ComesOfPlace (t : Table G H) (at : ℕ) (came : Came (Vec (Next (Owning (Flat G H))))) : Type 0 where
-    pub copy : Owning (Flat G H)
+  pub record ComesOfPlace (t : StateTable G H) (at : ℕ)
+      (came : Arrival (Vec (NextState (Owning (RestingState G H))))) : Type 0 where
+    pub copy : Owning (RestingState G H)
     pub of : IsStateAt k t at (Some copy)
     pub is : IsCame k stuck copy.flat (λ v. HasReduced k copy v.items) came
 
   -- They come of the states before a place, the last one first.
-  pub record IsAhead (t : Table G H) (a : Ahead G H) : Type 0 where
+  pub record IsAhead (t : StateTable G H) (a : Ahead G H) : Type 0 where
     pub within : a.end ≤ length (states_of t.states)
-    pub each : (i at : ℕ) (came : Came (Vec (Next (Owning (Flat G H))))) → slice_get a.came.items i ≡ Some came → at + i + 1 ≡ a.end
+    pub each : (i at : ℕ) (came : Arrival (Vec (NextState (Owning (RestingState G H)))))
+        → slice_get a.came.items i ≡ Some came → at + i + 1 ≡ a.end
         → ComesOfPlace t at came
 
   -- The tables have these states, and what was made ahead comes of them.
-  pub record HasAhead (t : Tables G H) (ks : List (Owning (Flat G H))) : Type 0 where
+  pub record HasAhead (t : AheadTables G H) (ks : List (Owning (RestingState G H))) : Type 0 where
     pub owning : HasOwning t.met ks
     pub ahead : IsAhead t.met t.ahead
 
   -- Each of these that there is.
-  abbrev pub AreAhead : {F : Type 0} → Table G H → List (Result (Ahead G H) F) → Type 0
+  abbrev pub AreAhead : {F : Type 0} → StateTable G H → List (Result (Ahead G H) F) → Type 0
   AreAhead {F} t pieces = (i : ℕ) (piece : Result (Ahead G H) F) → slice_get pieces i ≡ Some piece → IfOk piece (IsAhead t)
 
 -- They come behind these, where they are of the states just before.

@@ -10,3 +10,4 @@ pub mod Same
 pub mod Laws
 pub mod Met
 pub mod Ahead
+pub mod Choices

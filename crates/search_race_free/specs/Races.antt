@@ -3,14 +3,14 @@ use Rattle.std.specs.Prelude.{ℕ, ◌≡◌, ◌≢◌, ◌⊎◌, Some}
 use Rattle.schedule.specs.System.{System, State}
 use Rattle.search_graph.specs.Paths.{Reaches}
 use Rattle.search_settled.specs.Settled.{IsReached}
-use Rattle.search_settled.specs.declared.access.Access.{Access}
+use Rattle.search_settled.specs.declared.access.NextAccess.{NextAccess}
 use Rattle.search_settled.specs.Accesses.{IsPlain, Conflict, Race}
 use Rattle.search_race_free.specs.Orders.{StepsPlainly}
 use Rattle.search_race_free.specs.Wanted.{next_access, after_next}
 
-module _ {X T E V A : Type 0} (s : System X T E V A) (first : State X T) (accesses : X → T → E → Access) where
+module _ {X T E V A : Type 0} (s : System X T E V A) (first : State X T) (accesses : X → T → E → NextAccess) where
   -- A run comes to z on which the thread made this plain access, and since then nothing that isn't plain.
-  pub record HasMade (one : ℕ) (access : Access) (z : State X T) : Type 0 where
+  pub record HasMade (one : ℕ) (access : NextAccess) (z : State X T) : Type 0 where
     pub before : State X T
     pub reached : IsReached s first before
     pub wanted : next_access s accesses before one ≡ Some access
@@ -22,9 +22,9 @@ module _ {X T E V A : Type 0} (s : System X T E V A) (first : State X T) (access
   pub record CanRace (one other : ℕ) : Type 0 where
     pub differ : other ≢ one
     pub state : State X T
-    pub access : Access
+    pub access : NextAccess
     pub made : HasMade one access state
-    pub next : Access
+    pub next : NextAccess
     pub wanted : next_access s accesses state other ≡ Some next
     pub conflict : Conflict next access
 
@@ -33,9 +33,9 @@ module _ {X T E V A : Type 0} (s : System X T E V A) (first : State X T) (access
     pub differ : other ≢ one
     pub state : State X T
     pub reached : IsReached s first state
-    pub access : Access
+    pub access : NextAccess
     pub wanted : next_access s accesses state one ≡ Some access
-    pub next : Access
+    pub next : NextAccess
     pub wanted_next : next_access s accesses state other ≡ Some next
     pub race : Race access next
 

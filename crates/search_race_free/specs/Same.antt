@@ -5,9 +5,9 @@ use Rattle.std.proofs.lemmas.Bool.{eqb-true}
 use Rattle.std.specs.Cmp.{first_so, second_so, booleans_Decides, IsEquivalence}
 use Rattle.std.specs.Cmp.Lexicographic.{pointwise}
 use Rattle.schedule.specs.System.{State}
-use Rattle.search_settled.specs.declared.access.Access.{Access}
-use Rattle.search_settled.specs.declared.flat.Flat.{Flat}
-use Rattle.search_settled.specs.contracts.access.AccessPartialEq.TheImpl as accesses
+use Rattle.search_settled.specs.declared.access.NextAccess.{NextAccess}
+use Rattle.search_settled.specs.declared.flat.RestingState.{RestingState}
+use Rattle.search_settled.specs.contracts.access.NextAccessPartialEq.TheImpl as accesses
 use Rattle.search_settled.specs.Threads.{ThreadSystem, IsFlat}
 use Rattle.search_settled.specs.Same.{flat_eq, flat_eq_back, flat_alike}
 use Rattle.search_race_free.specs.declared.owning.Owning.{Owning}
@@ -17,11 +17,12 @@ use Rattle.search_race_free.specs.Owned.{IsSafe}
 use Rattle.search_race_free.specs.Reduced.{Rest, IsResting, HasTouched, IsKept, StandsBefore}
 
 -- The same settled state, and the same touches.
-abbrev pub owning_eq : {G H : Type 0} → (G → G → Bool) → (H → H → Bool) → Owning (Flat G H) → Owning (Flat G H) → Bool
+abbrev pub owning_eq : {G H : Type 0} → (G → G → Bool) → (H → H → Bool) → Owning (RestingState G H)
+    → Owning (RestingState G H) → Bool
 owning_eq eq_shared eq_thread x y =
     flat_eq eq_shared eq_thread x.flat y.flat && pointwise touches.eq-value.it x.owned.items y.owned.items
 
-same_access : (x y : Access) → accesses.eq-value.it x y ≡ true → x ≡ y
+same_access : (x y : NextAccess) → accesses.eq-value.it x y ≡ true → x ≡ y
 same_access x y e =
     let b = second_so _ _ e in
     let c = second_so _ _ b in
@@ -45,7 +46,8 @@ same_touches (x ∷ xs) (y ∷ ys) e = λ i. same_touch x y (first_so _ _ e) i �
 
 -- the other way round
 pub owning_eq_back : {G H : Type 0} (eq_shared : G → G → Bool) (eq_thread : H → H → Bool) → IsEquivalence eq_shared → IsEquivalence eq_thread
-    → (x y : Owning (Flat G H)) → owning_eq eq_shared eq_thread x y ≡ true → owning_eq eq_shared eq_thread y x ≡ true
+    → (x y : Owning (RestingState G H)) → owning_eq eq_shared eq_thread x y ≡ true
+    → owning_eq eq_shared eq_thread y x ≡ true
 owning_eq_back eq_shared eq_thread shared thread x y e =
     let xs = x.owned.items in
     let ys = y.owned.items in
@@ -55,7 +57,8 @@ owning_eq_back eq_shared eq_thread shared thread x y e =
     ap (λ t. t && pointwise touches.eq-value.it ys xs) a
     ∙ subst (λ l. pointwise touches.eq-value.it l xs ≡ true) same (subst (λ l. pointwise touches.eq-value.it xs l ≡ true) (sym same) b)
 
-module _ {X T E V A G H M : Type 0} (k : ThreadSystem X T E V A G H M) (x y : Owning (Flat G H)) (there : (z : State X T) → IsFlat k x.flat z → IsFlat k y.flat z)
+module _ {X T E V A G H M : Type 0} (k : ThreadSystem X T E V A G H M) (x y : Owning (RestingState G H))
+    (there : (z : State X T) → IsFlat k x.flat z → IsFlat k y.flat z)
     (back : (z : State X T) → IsFlat k y.flat z → IsFlat k x.flat z) (same : x.owned.items ≡ y.owned.items) where
   rests-back : (z : State X T) → IsResting k y.flat z → IsResting k x.flat z
   rests-back z at = record { reached = at.reached; rests = at.rests; settled_is = back z at.settled_is }
@@ -94,7 +97,7 @@ pub owning_alike : {X T E V A G H M : Type 0} (eq_shared : G → G → Bool) (eq
     → (k : ThreadSystem X T E V A G H M)
     → ((x y : G) → eq_shared x y ≡ true → (w : X) → k.shares x w → k.shares y w)
     → ((x y : H) → eq_thread x y ≡ true → (w : T) → k.is_thread x w → k.is_thread y w)
-    → (x y : Owning (Flat G H)) → owning_eq eq_shared eq_thread x y ≡ true
+    → (x y : Owning (RestingState G H)) → owning_eq eq_shared eq_thread x y ≡ true
     → (w : State X T) (turns : ℕ → ℕ) → StandsBefore k x w turns → StandsBefore k y w turns
 owning_alike eq_shared eq_thread shared thread k same_shared same_thread x y e =
     let flat = first_so (flat_eq eq_shared eq_thread x.flat y.flat) (pointwise touches.eq-value.it x.owned.items y.owned.items) e in

@@ -1,21 +1,21 @@
 -- What a search looks for among the touches of threads and their next accesses.
 use Rattle.std.specs.Prelude.{ℕ, zero, suc, ◌≡◌, ◌≢◌, ◌⊎◌, ◌↔◌, List, [], ◌∷◌, Contains, Option, Some, None}
 use Rattle.search_settled.specs.Accesses.{Conflict, Race}
-use Rattle.search_settled.specs.declared.access.Access.{Access}
+use Rattle.search_settled.specs.declared.access.NextAccess.{NextAccess}
 use Rattle.search_race_free.specs.declared.owning.Touch.{Touch}
 
 -- What thread t does next, as a list has it.
-abbrev pub access_at : List (Option Access) → ℕ → Option Access
+abbrev pub access_at : List (Option NextAccess) → ℕ → Option NextAccess
 access_at [] t = None
 access_at (a ∷ more) zero = a
 access_at (a ∷ more) (suc t) = access_at more t
 
 module _ (owned : List Touch) (t : ℕ) where
   -- No touch of another thread conflicts with thread t's access; or one of this thread does.
-  abbrev pub StrikesNobody : Access → Type 0
+  abbrev pub StrikesNobody : NextAccess → Type 0
   StrikesNobody a = (x : Touch) → Contains owned x → x.thread ≢ t → Conflict a x.access → ⊥
 
-  pub record Strikes (a : Access) (one : ℕ) : Type 0 where
+  pub record Strikes (a : NextAccess) (one : ℕ) : Type 0 where
     pub touch : Touch
     pub among : Contains owned touch
     pub is : touch.thread ≡ one
@@ -26,13 +26,13 @@ module _ (owned : List Touch) (t : ℕ) where
   abbrev pub AreOfOthers : List Touch → Type 0
   AreOfOthers others = (x : Touch) → Contains others x ↔ Contains owned x × (x.thread ≢ t)
 
-module _ (wanted : List (Option Access)) (t : ℕ) where
+module _ (wanted : List (Option NextAccess)) (t : ℕ) where
   -- No next access of another thread races with thread t's; or that of this thread does.
-  abbrev pub MeetsNobody : Access → Type 0
-  MeetsNobody a = (u : ℕ) (b : Access) → access_at wanted u ≡ Some b → u ≢ t → Race a b → ⊥
+  abbrev pub MeetsNobody : NextAccess → Type 0
+  MeetsNobody a = (u : ℕ) (b : NextAccess) → access_at wanted u ≡ Some b → u ≢ t → Race a b → ⊥
 
-  pub record Meets (a : Access) (u : ℕ) : Type 0 where
-    pub access : Access
+  pub record Meets (a : NextAccess) (u : ℕ) : Type 0 where
+    pub access : NextAccess
     pub wants : access_at wanted u ≡ Some access
     pub differ : u ≢ t
     pub race : Race a access
@@ -42,11 +42,11 @@ abbrev pub IsPut : List Touch → Touch → List Touch → Type 0
 IsPut before touch after = (x : Touch) → Contains after x ↔ (Contains before x ⊎ (x ≡ touch))
 
 -- Each next access strikes nobody and meets nobody; or one is in another thread's way.
-abbrev pub AreClear : List (Option Access) → List Touch → Type 0
-AreClear wanted owned = (t : ℕ) (a : Access) → access_at wanted t ≡ Some a
+abbrev pub AreClear : List (Option NextAccess) → List Touch → Type 0
+AreClear wanted owned = (t : ℕ) (a : NextAccess) → access_at wanted t ≡ Some a
     → StrikesNobody owned t a × MeetsNobody wanted t a
 
-pub record AreInTheWay (wanted : List (Option Access)) (owned : List Touch) (one other : ℕ) : Type 0 where
-  pub access : Access
+pub record AreInTheWay (wanted : List (Option NextAccess)) (owned : List Touch) (one other : ℕ) : Type 0 where
+  pub access : NextAccess
   pub wants : access_at wanted other ≡ Some access
   pub way : Strikes owned other access one ⊎ Meets wanted other access one

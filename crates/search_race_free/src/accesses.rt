@@ -3,7 +3,7 @@ ghost use Rattle.std.specs.Prelude.{IfOk};
 ghost use Rattle.search_settled.specs.Flat.{IsThreadOf};
 ghost use Rattle.search_race_free.specs.Search.{IsAccessOf};
 
-use search_settled::{Access, Moves};
+use search_settled::{Moves, NextAccess};
 use std::alloc::{AllocError, Global};
 
 /// Threads that are moved one by one, and of which is known what each does with the memory next.
@@ -19,7 +19,7 @@ pub trait Accesses: Moves {
         shared: &Self::Shared,
         thread: &Self::Thread,
         n: usize,
-    ) -> Result<Option<Access>, AllocError>
+    ) -> Result<Option<NextAccess>, AllocError>
         requires { (z : State Self.X Self.T) × IsThreadOf (Self.threads self.now) shared.now thread.now n z }
         ensures { IfOk result (IsAccessOf (Self.threads self.now) shared.now thread.now n) };
 

@@ -6,12 +6,12 @@ ghost use Rattle.search_race_free.specs.Turns.{reduced};
 ghost use Rattle.search_race_free.specs.Met.{HasOwning};
 ghost use Rattle.search_race_free.specs.Ahead.{AreAhead, ArePut, ComesOfPlace, IsAhead};
 
-use crate::alone::Came;
-use crate::met::{Table, state_at};
+use crate::alone::Arrival;
+use crate::met::{StateTable, state_at};
 use crate::next::next_states;
 use crate::{Accesses, Owning};
-use search_reach::Next;
-use search_settled::Flat;
+use search_reach::NextState;
+use search_settled::RestingState;
 use std::alloc::{AllocError, Global};
 use std::hash::Hash;
 use std::thread::{Threads, map_indices};
@@ -19,20 +19,20 @@ use std::thread::{Threads, map_indices};
 /// What comes of states in a row, the last one first.
 #[derive(Drop)]
 pub struct Ahead<S, T> {
-    pub(crate) came: Vec<Came<Vec<Next<Owning<Flat<S, T>>>>>>,
+    pub(crate) came: Vec<Arrival<Vec<NextState<Owning<RestingState<S, T>>>>>>,
     /// The place behind the last one.
     pub(crate) end: usize,
 }
 
 /// The states that were met, and what was made ahead of some of them.
 #[derive(Drop)]
-pub(crate) struct Tables<S: Eq + Hash, T: Eq + Hash> {
-    pub(crate) met: Table<S, T>,
+pub(crate) struct AheadTables<S: Eq + Hash, T: Eq + Hash> {
+    pub(crate) met: StateTable<S, T>,
     pub(crate) ahead: Ahead<S, T>,
 }
 
 /// Who makes ahead what comes of states that wait.
-pub trait Crew<M: Accesses> {
+pub trait MakesAhead<M: Accesses> {
     /// What its threads need.
     ghost ready: { Self → Type 0 };
 
@@ -47,7 +47,7 @@ pub trait Crew<M: Accesses> {
         &self,
         alloc: Global,
         system: &M,
-        table: &Table<M::Shared, M::Thread>,
+        table: &StateTable<M::Shared, M::Thread>,
         from: usize,
         most_plain: u32,
     ) -> Result<Ahead<M::Shared, M::Thread>, AllocError>
@@ -60,7 +60,7 @@ pub trait Crew<M: Accesses> {
 #[derive(Clone, Copy)]
 pub struct Alone;
 
-impl<M: Accesses> Crew<M> for Alone {
+impl<M: Accesses> MakesAhead<M> for Alone {
     ghost ready = { λ a. Unit {0} };
 
     ghost fact = { λ a t. tt };
@@ -69,7 +69,7 @@ impl<M: Accesses> Crew<M> for Alone {
         &self,
         alloc: Global,
         _system: &M,
-        _table: &Table<M::Shared, M::Thread>,
+        _table: &StateTable<M::Shared, M::Thread>,
         _from: usize,
         _most_plain: u32,
     ) -> Result<Ahead<M::Shared, M::Thread>, AllocError> {
@@ -97,7 +97,10 @@ impl<S: Drop, T: Drop> Ahead<S, T> {
     }
 
     /// What comes of the state at this place, if that is the first one.
-    pub(crate) fn take(&mut self, at: usize) -> Option<Came<Vec<Next<Owning<Flat<S, T>>>>>>
+    pub(crate) fn take(
+        &mut self,
+        at: usize,
+    ) -> Option<Arrival<Vec<NextState<Owning<RestingState<S, T>>>>>>
         ensures end { self.new.end ≡ self.old.end }
         ensures none { result ≡ None → self.new.came.items ≡ self.old.came.items }
         ensures took { IfSome result (λ came. (self.old.came.items ≡ self.new.came.items ++ came ∷ [])
@@ -126,13 +129,13 @@ impl<S: Drop, T: Drop> Ahead<S, T> {
 
 /// The states of a table, and the system whose threads go on from them.
 #[derive(Drop)]
-pub(crate) struct Met<'s, M: Accesses> {
+pub(crate) struct MetStates<'s, M: Accesses> {
     pub(crate) system: &'s M,
-    pub(crate) table: &'s Table<M::Shared, M::Thread>,
+    pub(crate) table: &'s StateTable<M::Shared, M::Thread>,
     pub(crate) most_plain: u32,
 }
 
-impl<M: Accesses> Met<'_, M> {
+impl<M: Accesses> MetStates<'_, M> {
     /// What comes of the state at this place.
     ///
     /// # Errors
@@ -141,13 +144,13 @@ impl<M: Accesses> Met<'_, M> {
         &self,
         alloc: Global,
         at: usize,
-    ) -> Result<Came<Vec<Next<Owning<Flat<M::Shared, M::Thread>>>>>, AllocError>
+    ) -> Result<Arrival<Vec<NextState<Owning<RestingState<M::Shared, M::Thread>>>>>, AllocError>
         requires { HasMetAt (reduced M.Moves self.now.system.now) (HasOwning self.now.table.now) at }
         ensures { IfOk result (ComesOfPlace (M.threads self.now.system.now) (M.stuck self.now.system.now)
             self.now.table.now at) }
     {
         let Some(state) = state_at(alloc, self.system, self.table, at)? else {
-            return Ok(Came::Unknown);
+            return Ok(Arrival::Unknown);
         };
         next_states(alloc, self.system, &state, self.most_plain)
     }
@@ -209,7 +212,7 @@ pub fn made_ahead<R: Threads + Sync, M: Accesses + Sync>(
     jobs: usize,
     alloc: Global,
     system: &M,
-    table: &Table<M::Shared, M::Thread>,
+    table: &StateTable<M::Shared, M::Thread>,
     from: usize,
     most_plain: u32,
 ) -> Result<Ahead<M::Shared, M::Thread>, AllocError>
@@ -226,7 +229,7 @@ where
         return Ok(Ahead::new(alloc));
     }
     let count = waiting.div_ceil(jobs).min(PIECE);
-    let met = Met {
+    let met = MetStates {
         system,
         table,
         most_plain,

@@ -5,16 +5,16 @@ ghost use Rattle.search_race_free.specs.Reduced.{RestsSomewhere};
 ghost use Rattle.search_race_free.specs.Search.{AreWanted, WantsSome, IsAfterEvent, GetsLost, IsOwned, IsAlone, IsCame, ComesAlone};
 
 use crate::touches::{put, struck};
-use crate::{Accesses, Owning, Race, Touch};
-use search_settled::{Access, Flat, threads_after};
+use crate::{Accesses, Owning, ThreadRace, Touch};
+use search_settled::{NextAccess, RestingState, threads_after};
 use std::alloc::{AllocError, Global};
 
 /// What each thread does next.
 pub(crate) fn wanted<M: Accesses>(
     alloc: Global,
     system: &M,
-    flat: &Flat<M::Shared, M::Thread>,
-) -> Result<Vec<Option<Access>>, AllocError>
+    flat: &RestingState<M::Shared, M::Thread>,
+) -> Result<Vec<Option<NextAccess>>, AllocError>
     requires { RestsSomewhere (M.threads system.now) flat.now }
     ensures { IfOk result (λ v. AreWanted (M.threads system.now) flat.now v.items) }
 {
@@ -32,10 +32,10 @@ pub(crate) fn wanted<M: Accesses>(
 pub(crate) fn after_event<M: Accesses>(
     alloc: Global,
     system: &M,
-    flat: &Flat<M::Shared, M::Thread>,
+    flat: &RestingState<M::Shared, M::Thread>,
     n: usize,
-    access: Access,
-) -> Result<Option<Flat<M::Shared, M::Thread>>, AllocError>
+    access: NextAccess,
+) -> Result<Option<RestingState<M::Shared, M::Thread>>, AllocError>
     requires somewhere { RestsSomewhere (M.threads system.now) flat.now }
     requires wants { WantsSome (M.threads system.now) flat.now n access }
     ensures next { IfOk result (λ o. IfSome o (IsAfterEvent (M.threads system.now) flat.now n)) }
@@ -51,18 +51,18 @@ pub(crate) fn after_event<M: Accesses>(
     else {
         return Ok(None);
     };
-    Ok(Some(Flat { shared, threads }))
+    Ok(Some(RestingState { shared, threads }))
 }
 
 /// What one turn of a thread comes to.
 #[derive(Drop)]
-pub(crate) enum Alone<F> {
+pub(crate) enum PlainTurn<F> {
     /// Its next turn isn't plain, or it can't go on.
     Stops(Owning<F>),
     /// It made a plain one.
     GoesOn(Owning<F>),
     /// These threads race.
-    Races(Race),
+    Races(ThreadRace),
     /// Where it comes can't be told.
     Unknown,
 }
@@ -71,39 +71,39 @@ pub(crate) enum Alone<F> {
 pub(crate) fn turn_alone<M: Accesses>(
     alloc: Global,
     system: &M,
-    from: Owning<Flat<M::Shared, M::Thread>>,
+    from: Owning<RestingState<M::Shared, M::Thread>>,
     m: usize,
-) -> Result<Alone<Flat<M::Shared, M::Thread>>, AllocError>
+) -> Result<PlainTurn<RestingState<M::Shared, M::Thread>>, AllocError>
     requires { IsOwned (M.threads system.now) from }
     ensures { IfOk result (IsAlone (M.threads system.now) (M.stuck system.now) m from) }
 {
     let Some(thread) = from.flat.threads.get(m) else {
-        return Ok(Alone::Stops(from));
+        return Ok(PlainTurn::Stops(from));
     };
     let Some(access) = system.access(alloc, &from.flat.shared, thread, m)? else {
-        return Ok(Alone::Stops(from));
+        return Ok(PlainTurn::Stops(from));
     };
     if !access.plain {
-        return Ok(Alone::Stops(from));
+        return Ok(PlainTurn::Stops(from));
     }
     if let Some(one) = struck(from.owned.as_slice(), m, access) {
-        return Ok(Alone::Races(Race { one, other: m }));
+        return Ok(PlainTurn::Races(ThreadRace { one, other: m }));
     }
     let Some(flat) = after_event(alloc, system, &from.flat, m, access)? else {
-        return Ok(Alone::Unknown);
+        return Ok(PlainTurn::Unknown);
     };
     let mut owned = from.owned;
     put(&mut owned, Touch { thread: m, access })?;
-    Ok(Alone::GoesOn(Owning { flat, owned }))
+    Ok(PlainTurn::GoesOn(Owning { flat, owned }))
 }
 
 /// Where threads came.
 #[derive(Drop)]
-pub enum Came<S> {
+pub enum Arrival<S> {
     /// There.
     To(S),
     /// These threads race.
-    Races(Race),
+    Races(ThreadRace),
     /// That can't be told.
     Unknown,
 }
@@ -112,10 +112,10 @@ pub enum Came<S> {
 pub(crate) fn run_alone<M: Accesses>(
     alloc: Global,
     system: &M,
-    from: Owning<Flat<M::Shared, M::Thread>>,
+    from: Owning<RestingState<M::Shared, M::Thread>>,
     m: usize,
     most: u32,
-) -> Result<Came<Owning<Flat<M::Shared, M::Thread>>>, AllocError>
+) -> Result<Arrival<Owning<RestingState<M::Shared, M::Thread>>>, AllocError>
     requires { IsOwned (M.threads system.now) from }
     ensures { IfOk result
         (IsCame (M.threads system.now) (M.stuck system.now) from.flat (ComesAlone (M.threads system.now) m from)) }
@@ -123,11 +123,11 @@ pub(crate) fn run_alone<M: Accesses>(
     let mut at = from;
     for _ in 0..most {
         match turn_alone(alloc, system, at, m)? {
-            Alone::GoesOn(next) => at = next,
-            Alone::Stops(last) => return Ok(Came::To(last)),
-            Alone::Races(race) => return Ok(Came::Races(race)),
-            Alone::Unknown => return Ok(Came::Unknown),
+            PlainTurn::GoesOn(next) => at = next,
+            PlainTurn::Stops(last) => return Ok(Arrival::To(last)),
+            PlainTurn::Races(race) => return Ok(Arrival::Races(race)),
+            PlainTurn::Unknown => return Ok(Arrival::Unknown),
         }
     }
-    Ok(Came::To(at))
+    Ok(Arrival::To(at))
 }

@@ -38,10 +38,10 @@ mod touches;
 mod trace;
 
 pub use accesses::Accesses;
-pub use ahead::{Ahead, Alone, Crew, made_ahead};
+pub use ahead::{Ahead, Alone, MakesAhead, made_ahead};
 pub use laws::races_meet;
-pub use met::Table;
+pub use met::StateTable;
 pub use owning::{Owning, Touch};
-pub use race::Race;
+pub use race::ThreadRace;
 pub use states::{RaceFree, search_race_free};
 pub use trace::{all_choices, race_choices};

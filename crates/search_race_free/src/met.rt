@@ -4,9 +4,9 @@ ghost use Rattle.search_table.specs.Tables.{AreStates, Grows};
 ghost use Rattle.search_race_free.specs.Met.{IsHeldRow, AreHeldRows, IsStateAt};
 
 use crate::{Accesses, Owning, Touch};
-use search_reach::Next;
-use search_settled::{Flat, NextRow, row_of, threads_of};
-use search_table::{Parts, States};
+use search_reach::NextState;
+use search_settled::{NextRow, RestingState, row_of, threads_of};
+use search_table::{StateParts, States};
 use std::alloc::{AllocError, Global};
 use std::hash::Hash;
 
@@ -19,26 +19,26 @@ pub struct Held<S> {
 
 /// The states that were met, and their parts.
 #[derive(Drop)]
-pub struct Table<S: Eq + Hash, T: Eq + Hash> {
-    pub(crate) parts: Parts<Held<S>, T>,
+pub struct StateTable<S: Eq + Hash, T: Eq + Hash> {
+    pub(crate) parts: StateParts<Held<S>, T>,
     pub(crate) states: States,
 }
 
 /// The row of a state, whose parts are put into the table.
 pub(crate) fn held_row<S: Eq + Hash + Drop, T: Eq + Hash + Drop>(
     alloc: Global,
-    parts: &mut Parts<Held<S>, T>,
-    state: Owning<Flat<S, T>>,
+    parts: &mut StateParts<Held<S>, T>,
+    state: Owning<RestingState<S, T>>,
 ) -> Result<Vec<u32>, AllocError>
     ensures grows { OnOk result (Grows parts.old parts.new) }
     ensures row { IfOk result (λ row. IsHeldRow S.eq T.eq parts.new state row.items) }
 {
     let Owning { flat, owned } = state;
-    let Flat { shared, threads } = flat;
+    let RestingState { shared, threads } = flat;
     row_of(
         alloc,
         parts,
-        Flat {
+        RestingState {
             shared: Held { shared, owned },
             threads,
         },
@@ -48,8 +48,8 @@ pub(crate) fn held_row<S: Eq + Hash + Drop, T: Eq + Hash + Drop>(
 /// The rows of these next states, whose parts are put into the table.
 pub(crate) fn held_rows<S: Eq + Hash + Drop, T: Eq + Hash + Drop>(
     alloc: Global,
-    parts: &mut Parts<Held<S>, T>,
-    next: Vec<Next<Owning<Flat<S, T>>>>,
+    parts: &mut StateParts<Held<S>, T>,
+    next: Vec<NextState<Owning<RestingState<S, T>>>>,
 ) -> Result<Vec<NextRow>, AllocError>
     ensures grows { OnOk result (Grows parts.old parts.new) }
     ensures rows { IfOk result (λ v. AreHeldRows S.eq T.eq parts.new next.items v.items) }
@@ -69,9 +69,9 @@ pub(crate) fn held_rows<S: Eq + Hash + Drop, T: Eq + Hash + Drop>(
 pub(crate) fn state_at<M: Accesses>(
     alloc: Global,
     system: &M,
-    table: &Table<M::Shared, M::Thread>,
+    table: &StateTable<M::Shared, M::Thread>,
     at: usize,
-) -> Result<Option<Owning<Flat<M::Shared, M::Thread>>>, AllocError>
+) -> Result<Option<Owning<RestingState<M::Shared, M::Thread>>>, AllocError>
     requires { AreStates table.now.states }
     ensures { IfOk result (IsStateAt (M.threads system.now) table.now at) }
 {
@@ -87,6 +87,6 @@ pub(crate) fn state_at<M: Accesses>(
     let shared = system.copied(alloc, &held.shared)?;
     let threads = threads_of(alloc, system, &table.parts, numbers)?;
     let owned = Vec::from_slice(alloc, held.owned.as_slice())?;
-    let flat = Flat { shared, threads };
+    let flat = RestingState { shared, threads };
     Ok(Some(Owning { flat, owned }))
 }

@@ -3,23 +3,23 @@ ghost use Rattle.std.specs.Prelude.{◌<◌, IfOk, length};
 ghost use Rattle.search_race_free.specs.Reduced.{HasReduced};
 ghost use Rattle.search_race_free.specs.Search.{AreWanted, IsKnown, IsCame, IsCameFirst, HasOneMore};
 
-use crate::alone::{Came, wanted};
+use crate::alone::{Arrival, wanted};
 use crate::onward::{advance, next_of};
 use crate::touches::first_race;
 use crate::{Accesses, Owning};
-use search_reach::Next;
-use search_settled::{Access, Flat};
+use search_reach::NextState;
+use search_settled::{NextAccess, RestingState};
 use std::alloc::{AllocError, Global};
 
 /// Where all threads come to rest in the beginning, where no thread is in another's way.
 pub(crate) fn first_state<M: Accesses>(
     alloc: Global,
     system: &M,
-) -> Result<Came<Owning<Flat<M::Shared, M::Thread>>>, AllocError>
+) -> Result<Arrival<Owning<RestingState<M::Shared, M::Thread>>>, AllocError>
     ensures { IfOk result (IsCameFirst (M.threads system.now) (M.stuck system.now)) }
 {
     let Some(flat) = system.first(alloc)? else {
-        return Ok(Came::Unknown);
+        return Ok(Arrival::Unknown);
     };
     let at = Owning {
         flat,
@@ -27,8 +27,8 @@ pub(crate) fn first_state<M: Accesses>(
     };
     let next = wanted(alloc, system, &at.flat)?;
     match first_race(next.as_slice(), at.owned.as_slice()) {
-        Some(race) => Ok(Came::Races(race)),
-        None => Ok(Came::To(at)),
+        Some(race) => Ok(Arrival::Races(race)),
+        None => Ok(Arrival::To(at)),
     }
 }
 
@@ -36,12 +36,12 @@ pub(crate) fn first_state<M: Accesses>(
 fn put_next<M: Accesses>(
     alloc: Global,
     system: &M,
-    from: &Owning<Flat<M::Shared, M::Thread>>,
-    before: &[Option<Access>],
+    from: &Owning<RestingState<M::Shared, M::Thread>>,
+    before: &[Option<NextAccess>],
     n: usize,
     most: u32,
-    all: &mut Vec<Next<Owning<Flat<M::Shared, M::Thread>>>>,
-) -> Result<Came<()>, AllocError>
+    all: &mut Vec<NextState<Owning<RestingState<M::Shared, M::Thread>>>>,
+) -> Result<Arrival<()>, AllocError>
     requires known { IsKnown (M.threads system.now) from.now }
     requires before { AreWanted (M.threads system.now) from.now.flat before.now }
     requires there { n < length from.now.flat.threads.items }
@@ -49,18 +49,18 @@ fn put_next<M: Accesses>(
         (λ _. HasOneMore (M.threads system.now) from.now n all.old.items all.new.items)) }
 {
     let Some(access) = next_of(before, n) else {
-        return Ok(Came::To(()));
+        return Ok(Arrival::To(()));
     };
     match advance(alloc, system, from, before, n, access, most)? {
-        Came::To(state) => {
-            all.push(Next {
+        Arrival::To(state) => {
+            all.push(NextState {
                 thread: n as u32,
                 state,
             })?;
-            Ok(Came::To(()))
+            Ok(Arrival::To(()))
         }
-        Came::Races(race) => Ok(Came::Races(race)),
-        Came::Unknown => Ok(Came::Unknown),
+        Arrival::Races(race) => Ok(Arrival::Races(race)),
+        Arrival::Unknown => Ok(Arrival::Unknown),
     }
 }
 
@@ -68,9 +68,9 @@ fn put_next<M: Accesses>(
 pub(crate) fn next_states<M: Accesses>(
     alloc: Global,
     system: &M,
-    from: &Owning<Flat<M::Shared, M::Thread>>,
+    from: &Owning<RestingState<M::Shared, M::Thread>>,
     most: u32,
-) -> Result<Came<Vec<Next<Owning<Flat<M::Shared, M::Thread>>>>>, AllocError>
+) -> Result<Arrival<Vec<NextState<Owning<RestingState<M::Shared, M::Thread>>>>>, AllocError>
     requires { IsKnown (M.threads system.now) from.now }
     ensures { IfOk result (IsCame (M.threads system.now) (M.stuck system.now) from.now.flat
         (λ v. HasReduced (M.threads system.now) from.now v.items)) }
@@ -80,10 +80,10 @@ pub(crate) fn next_states<M: Accesses>(
     let mut all = Vec::new(alloc);
     for n in 0..count {
         match put_next(alloc, system, from, before.as_slice(), n, most, &mut all)? {
-            Came::To(()) => {}
-            Came::Races(race) => return Ok(Came::Races(race)),
-            Came::Unknown => return Ok(Came::Unknown),
+            Arrival::To(()) => {}
+            Arrival::Races(race) => return Ok(Arrival::Races(race)),
+            Arrival::Unknown => return Ok(Arrival::Unknown),
         }
     }
-    Ok(Came::To(all))
+    Ok(Arrival::To(all))
 }

@@ -1,25 +1,24 @@
 //! The turn of a thread, and plain ones after it.
 ghost use Rattle.std.specs.Prelude.{◌≡◌, ◌≢◌, true, None, IfOk};
-ghost use Rattle.search_race_free.specs.declared.owning.Owning.{Owning as OwningState};
 ghost use Rattle.search_race_free.specs.Reduced.{ComesOf};
 ghost use Rattle.search_race_free.specs.Touches.{access_at};
-ghost use Rattle.search_race_free.specs.Search.{AreWanted, WantsSome, IsOwned, ComesOnward, IsCame};
+ghost use Rattle.search_race_free.specs.Search.{AreWanted, WantsSome, IsOwned, ComesOnward, OfComing, IsCame};
 
-use crate::alone::{Came, after_event, run_alone, wanted};
+use crate::alone::{Arrival, after_event, run_alone, wanted};
 use crate::touches::{first_race, of_others};
 use crate::{Accesses, Owning};
-use search_settled::{Access, Flat};
+use search_settled::{NextAccess, RestingState};
 use std::alloc::{AllocError, Global};
 
 /// What thread m does next, as a list has it.
-pub(crate) fn next_of(wanted: &[Option<Access>], m: usize) -> Option<Access>
+pub(crate) fn next_of(wanted: &[Option<NextAccess>], m: usize) -> Option<NextAccess>
     ensures { result ≡ access_at wanted.now m }
 {
     if m < wanted.len() { wanted[m] } else { None }
 }
 
 /// Whether thread m may go on alone after the turn of thread n: it is that thread, or it couldn't go on before.
-pub(crate) fn is_free(before: &[Option<Access>], n: usize, m: usize) -> bool
+pub(crate) fn is_free(before: &[Option<NextAccess>], n: usize, m: usize) -> bool
     ensures { result ≡ true → m ≢ n → access_at before.now m ≡ None }
 {
     match next_of(before, m) {
@@ -32,20 +31,20 @@ pub(crate) fn is_free(before: &[Option<Access>], n: usize, m: usize) -> bool
 fn run_free<M: Accesses>(
     alloc: Global,
     system: &M,
-    at: Owning<Flat<M::Shared, M::Thread>>,
-    before: &[Option<Access>],
+    at: Owning<RestingState<M::Shared, M::Thread>>,
+    before: &[Option<NextAccess>],
     n: usize,
     m: usize,
     most: u32,
-) -> Result<Came<Owning<Flat<M::Shared, M::Thread>>>, AllocError>
+) -> Result<Arrival<Owning<RestingState<M::Shared, M::Thread>>>, AllocError>
     requires { IsOwned (M.threads system.now) at }
-    ensures { (s : OwningState _) → AreWanted (M.threads system.now) s.flat before.now → ComesOnward (M.threads system.now) n s at
-        → IfOk result (IsCame (M.threads system.now) (M.stuck system.now) s.flat (ComesOnward (M.threads system.now) n s)) }
+    ensures { OfComing (M.threads system.now) n before.now at (λ s. IfOk result
+        (IsCame (M.threads system.now) (M.stuck system.now) s.flat (ComesOnward (M.threads system.now) n s))) }
 {
     if is_free(before, n, m) {
         run_alone(alloc, system, at, m, most)
     } else {
-        Ok(Came::To(at))
+        Ok(Arrival::To(at))
     }
 }
 
@@ -53,12 +52,12 @@ fn run_free<M: Accesses>(
 fn turn_onward<M: Accesses>(
     alloc: Global,
     system: &M,
-    from: &Owning<Flat<M::Shared, M::Thread>>,
-    before: &[Option<Access>],
+    from: &Owning<RestingState<M::Shared, M::Thread>>,
+    before: &[Option<NextAccess>],
     n: usize,
-    access: Access,
+    access: NextAccess,
     most: u32,
-) -> Result<Came<Owning<Flat<M::Shared, M::Thread>>>, AllocError>
+) -> Result<Arrival<Owning<RestingState<M::Shared, M::Thread>>>, AllocError>
     requires owned { IsOwned (M.threads system.now) from.now }
     requires before { AreWanted (M.threads system.now) from.now.flat before.now }
     requires wants { WantsSome (M.threads system.now) from.now.flat n access }
@@ -66,31 +65,31 @@ fn turn_onward<M: Accesses>(
         (IsCame (M.threads system.now) (M.stuck system.now) from.now.flat (ComesOnward (M.threads system.now) n from.now)) }
 {
     let Some(flat) = after_event(alloc, system, &from.flat, n, access)? else {
-        return Ok(Came::Unknown);
+        return Ok(Arrival::Unknown);
     };
     let owned = of_others(alloc, from.owned.as_slice(), n)?;
     let count = flat.threads.len();
     let mut at = Owning { flat, owned };
     for m in 0..count {
         match run_free(alloc, system, at, before, n, m, most)? {
-            Came::To(next) => at = next,
-            Came::Races(race) => return Ok(Came::Races(race)),
-            Came::Unknown => return Ok(Came::Unknown),
+            Arrival::To(next) => at = next,
+            Arrival::Races(race) => return Ok(Arrival::Races(race)),
+            Arrival::Unknown => return Ok(Arrival::Unknown),
         }
     }
-    Ok(Came::To(at))
+    Ok(Arrival::To(at))
 }
 
 /// The state after the turn of thread n and plain ones after it, where no thread is in another's way.
 pub(crate) fn advance<M: Accesses>(
     alloc: Global,
     system: &M,
-    from: &Owning<Flat<M::Shared, M::Thread>>,
-    before: &[Option<Access>],
+    from: &Owning<RestingState<M::Shared, M::Thread>>,
+    before: &[Option<NextAccess>],
     n: usize,
-    access: Access,
+    access: NextAccess,
     most: u32,
-) -> Result<Came<Owning<Flat<M::Shared, M::Thread>>>, AllocError>
+) -> Result<Arrival<Owning<RestingState<M::Shared, M::Thread>>>, AllocError>
     requires owned { IsOwned (M.threads system.now) from.now }
     requires before { AreWanted (M.threads system.now) from.now.flat before.now }
     requires wants { WantsSome (M.threads system.now) from.now.flat n access }
@@ -98,14 +97,14 @@ pub(crate) fn advance<M: Accesses>(
         (IsCame (M.threads system.now) (M.stuck system.now) from.now.flat (ComesOf (M.threads system.now) from.now n)) }
 {
     match turn_onward(alloc, system, from, before, n, access, most)? {
-        Came::To(at) => {
+        Arrival::To(at) => {
             let next = wanted(alloc, system, &at.flat)?;
             match first_race(next.as_slice(), at.owned.as_slice()) {
-                Some(race) => Ok(Came::Races(race)),
-                None => Ok(Came::To(at)),
+                Some(race) => Ok(Arrival::Races(race)),
+                None => Ok(Arrival::To(at)),
             }
         }
-        Came::Races(race) => Ok(Came::Races(race)),
-        Came::Unknown => Ok(Came::Unknown),
+        Arrival::Races(race) => Ok(Arrival::Races(race)),
+        Arrival::Unknown => Ok(Arrival::Unknown),
     }
 }

@@ -1,12 +1,12 @@
 //! A settled state, and what its threads own.
 
-use search_settled::Access;
+use search_settled::NextAccess;
 
 /// An access that a thread has made.
 #[derive(Clone, Copy, PartialEq, Eq, PartialOrd, Ord, Hash, Debug)]
 pub struct Touch {
     pub thread: usize,
-    pub access: Access,
+    pub access: NextAccess,
 }
 
 /// A settled state, and what the threads own there: the plain accesses that each has made since it last made anything

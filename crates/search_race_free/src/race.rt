@@ -2,7 +2,7 @@
 
 /// These threads race in some run.
 #[derive(Clone, Copy, PartialEq, Eq, Debug)]
-pub struct Race {
+pub struct ThreadRace {
     pub one: usize,
     pub other: usize,
 }

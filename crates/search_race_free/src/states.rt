@@ -12,33 +12,35 @@ ghost use Rattle.search_race_free.specs.Same.{owning_eq};
 ghost use Rattle.search_race_free.specs.Met.{HasOwning};
 ghost use Rattle.search_race_free.specs.Ahead.{ComesOfPlace, IsAhead};
 
-use crate::ahead::{Ahead, Crew, Met, Tables};
-use crate::alone::Came;
-use crate::met::{Table, held_row, held_rows, state_at};
+use crate::ahead::{Ahead, AheadTables, MakesAhead, MetStates};
+use crate::alone::Arrival;
+use crate::met::{StateTable, held_row, held_rows, state_at};
 use crate::next::{first_state, next_states};
-use crate::{Accesses, Owning, Race};
+use crate::{Accesses, Owning, ThreadRace};
 use search_graph::Move;
-use search_reach::{Ended, Follows, Meets, Next, Order, Reached, Seeks, Verdict, conclude, reach};
-use search_settled::{Flat, put_rows, threads_of};
-use search_table::{Parts, States};
+use search_reach::{
+    Ended, Follows, Meets, NextState, Reached, SearchPlan, Seeks, Verdict, conclude, reach,
+};
+use search_settled::{RestingState, put_rows, threads_of};
+use search_table::{StateParts, States};
 use std::alloc::{AllocError, Global};
 use std::hash::Hash;
 
 /// The turns of threads that do not race, in any order.
 #[derive(Drop)]
-struct RaceFreeTurns<'s, M: Accesses, C: Crew<M>> {
+struct RaceFreeTurns<'s, M: Accesses, C: MakesAhead<M>> {
     system: &'s M,
     crew: &'s C,
     most_plain: u32,
     ghost ready: { ∥ C.ready crew.now ∥₁ },
 }
 
-impl<M: Accesses, C: Crew<M>> RaceFreeTurns<'_, M, C> {
+impl<M: Accesses, C: MakesAhead<M>> RaceFreeTurns<'_, M, C> {
     /// What comes of some states from this place on; or of none, where memory for that is refused.
     fn ahead_from(
         &self,
         alloc: Global,
-        table: &Table<M::Shared, M::Thread>,
+        table: &StateTable<M::Shared, M::Thread>,
         at: usize,
     ) -> Ahead<M::Shared, M::Thread>
         requires { HasSound (reduced M.Moves self.now.system.now) (HasOwning table.now) }
@@ -57,9 +59,9 @@ impl<M: Accesses, C: Crew<M>> RaceFreeTurns<'_, M, C> {
     fn came(
         &self,
         alloc: Global,
-        tables: &mut Tables<M::Shared, M::Thread>,
+        tables: &mut AheadTables<M::Shared, M::Thread>,
         at: usize,
-    ) -> Result<Came<Vec<Next<Owning<Flat<M::Shared, M::Thread>>>>>, AllocError>
+    ) -> Result<Arrival<Vec<NextState<Owning<RestingState<M::Shared, M::Thread>>>>>, AllocError>
         requires at { HasMetAt (reduced M.Moves self.now.system.now) (HasOwning tables.old.met) at }
         requires sound { HasSound (reduced M.Moves self.now.system.now) (HasOwning tables.old.met) }
         requires ahead { IsAhead (M.threads self.now.system.now) (M.stuck self.now.system.now)
@@ -77,7 +79,7 @@ impl<M: Accesses, C: Crew<M>> RaceFreeTurns<'_, M, C> {
         if let Some(came) = tables.ahead.take(at) {
             return Ok(came);
         }
-        let met = Met {
+        let met = MetStates {
             system: self.system,
             table: &tables.met,
             most_plain: self.most_plain,
@@ -87,20 +89,20 @@ impl<M: Accesses, C: Crew<M>> RaceFreeTurns<'_, M, C> {
     }
 }
 
-impl<M: Accesses, C: Crew<M>> Meets for RaceFreeTurns<'_, M, C> {
+impl<M: Accesses, C: MakesAhead<M>> Meets for RaceFreeTurns<'_, M, C> {
     ghost use Rattle.schedule.specs.System.{State as SystemState};
-    ghost use Rattle.search_settled.specs.declared.flat.Flat.{Flat as FlatState};
+    ghost use Rattle.search_settled.specs.declared.flat.RestingState.{RestingState as StateAtRest};
     ghost use Rattle.search_settled.specs.Same.{flat_alike};
     ghost use Rattle.search_race_free.specs.declared.owning.Owning.{Owning as OwningState};
     ghost use Rattle.search_race_free.specs.Turns.{reduced};
     ghost use Rattle.search_race_free.specs.Same.{owning_eq, owning_eq_back, owning_alike};
     ghost use Rattle.search_race_free.specs.Ahead.{HasAhead};
 
-    type Table = Tables<M::Shared, M::Thread>;
+    type Table = AheadTables<M::Shared, M::Thread>;
 
     type Ending = M::Ending;
 
-    ghost State = { OwningState (FlatState M.Shared M.Thread) };
+    ghost State = { OwningState (StateAtRest M.Shared M.Thread) };
 
     ghost World = { SystemState M.X M.T };
 
@@ -115,17 +117,17 @@ impl<M: Accesses, C: Crew<M>> Meets for RaceFreeTurns<'_, M, C> {
 
     ghost symmetric = { λ t. owning_eq_back M.Shared.eq M.Thread.eq M.Shared.Eq.laws M.Thread.Eq.laws };
 
-    fn table(&self, alloc: Global) -> Tables<M::Shared, M::Thread> {
-        Tables {
-            met: Table {
-                parts: Parts::new(alloc),
+    fn table(&self, alloc: Global) -> AheadTables<M::Shared, M::Thread> {
+        AheadTables {
+            met: StateTable {
+                parts: StateParts::new(alloc),
                 states: States::new(alloc),
             },
             ahead: Ahead::new(alloc),
         }
     }
 
-    fn count(&self, tables: &Tables<M::Shared, M::Thread>) -> usize {
+    fn count(&self, tables: &AheadTables<M::Shared, M::Thread>) -> usize {
         // No two parts are equal, as they say where they are asked for their number.
         let _ = tables.met.parts.len();
         tables.met.states.len()
@@ -134,41 +136,41 @@ impl<M: Accesses, C: Crew<M>> Meets for RaceFreeTurns<'_, M, C> {
     fn first(
         &self,
         alloc: Global,
-        tables: &mut Tables<M::Shared, M::Thread>,
+        tables: &mut AheadTables<M::Shared, M::Thread>,
     ) -> Result<bool, AllocError> {
         match first_state(alloc, self.system)? {
-            Came::To(state) => {
+            Arrival::To(state) => {
                 let row = held_row(alloc, &mut tables.met.parts, state)?;
                 tables.met.states.put(row.as_slice())?;
                 Ok(true)
             }
-            Came::Races(_) => Ok(false),
-            Came::Unknown => Ok(false),
+            Arrival::Races(_) => Ok(false),
+            Arrival::Unknown => Ok(false),
         }
     }
 
     fn next(
         &self,
         alloc: Global,
-        tables: &mut Tables<M::Shared, M::Thread>,
+        tables: &mut AheadTables<M::Shared, M::Thread>,
         at: u32,
         moves: &mut Vec<Move>,
     ) -> Result<bool, AllocError> {
         match self.came(alloc, tables, at as usize)? {
-            Came::To(next) => {
+            Arrival::To(next) => {
                 let rows = held_rows(alloc, &mut tables.met.parts, next)?;
                 put_rows(&tables.met.parts, &mut tables.met.states, moves, at, rows)?;
                 Ok(true)
             }
-            Came::Races(_) => Ok(false),
-            Came::Unknown => Ok(false),
+            Arrival::Races(_) => Ok(false),
+            Arrival::Unknown => Ok(false),
         }
     }
 
     fn ending(
         &self,
         alloc: Global,
-        tables: &Tables<M::Shared, M::Thread>,
+        tables: &AheadTables<M::Shared, M::Thread>,
         at: usize,
     ) -> Result<Option<M::Ending>, AllocError> {
         let Some(row) = tables.met.states.row(at) else {
@@ -191,7 +193,7 @@ pub struct RaceFree<E: Eq + Hash> {
     /// The endings of the states that it met.
     pub ended: Ended<E>,
     /// Two threads that race, where it came to that.
-    pub race: Option<Race>,
+    pub race: Option<ThreadRace>,
     /// The threads whose turns lead to a state from which one more leads to the race. No clause says that they do: they
     /// are a hint for `race_choices`.
     pub way: Vec<usize>,
@@ -200,7 +202,7 @@ pub struct RaceFree<E: Eq + Hash> {
 /// A race, and the place among the states that were met of the one from which a turn leads to it.
 #[derive(Clone, Copy)]
 struct RaceBehind {
-    race: Race,
+    race: ThreadRace,
     place: usize,
 }
 
@@ -208,7 +210,7 @@ struct RaceBehind {
 fn race_among<M: Accesses>(
     alloc: Global,
     system: &M,
-    table: &Table<M::Shared, M::Thread>,
+    table: &StateTable<M::Shared, M::Thread>,
     from: usize,
     most_plain: u32,
 ) -> Result<Option<RaceBehind>, AllocError>
@@ -217,7 +219,7 @@ fn race_among<M: Accesses>(
 {
     for place in from..table.states.len() {
         if let Some(state) = state_at(alloc, system, table, place)? {
-            if let Came::Races(race) = next_states(alloc, system, &state, most_plain)? {
+            if let Arrival::Races(race) = next_states(alloc, system, &state, most_plain)? {
                 return Ok(Some(RaceBehind { race, place }));
             }
         }
@@ -230,9 +232,9 @@ fn race_at_first<M: Accesses>(alloc: Global, system: &M) -> Result<Option<RaceBe
     ensures { IfOk result (λ o. IfSome o (λ r. IsRaceOf M.Moves system.now r.race)) }
 {
     match first_state(alloc, system)? {
-        Came::Races(race) => Ok(Some(RaceBehind { race, place: 0 })),
-        Came::To(_) => Ok(None),
-        Came::Unknown => Ok(None),
+        Arrival::Races(race) => Ok(Some(RaceBehind { race, place: 0 })),
+        Arrival::To(_) => Ok(None),
+        Arrival::Unknown => Ok(None),
     }
 }
 
@@ -240,7 +242,7 @@ fn race_at_first<M: Accesses>(alloc: Global, system: &M) -> Result<Option<RaceBe
 fn race_in<M: Accesses>(
     alloc: Global,
     system: &M,
-    reached: &Reached<Tables<M::Shared, M::Thread>>,
+    reached: &Reached<AheadTables<M::Shared, M::Thread>>,
     most_plain: u32,
 ) -> Result<Option<RaceBehind>, AllocError>
     requires { HasSound (reduced M.Moves system.now) (HasOwning reached.now.table.met) }
@@ -286,7 +288,7 @@ fn way_behind(
 }
 
 /// Who races there.
-fn racing(behind: Option<RaceBehind>) -> Option<Race>
+fn racing(behind: Option<RaceBehind>) -> Option<ThreadRace>
     ensures { result ≡ option_map (λ b. b.race) behind }
 {
     match behind {
@@ -296,8 +298,8 @@ fn racing(behind: Option<RaceBehind>) -> Option<Race>
 }
 
 /// The endings of all runs of threads, whatever the order of their turns, where no threads race in any run: at
-/// `Verdict::All` none do. It meets no more than `most` states and a few, those before an ending that is looked for, and
-/// those before it is told to end. At `Verdict::CannotTell` there may be a race, which is then given. A thread makes at
+/// `Verdict::All` none do. It meets no more than the plan's most states and a few, those before an ending that is looked
+/// for, and those before it is told to end. At `Verdict::CannotTell` there may be a race, which is then given. A thread makes at
 /// most `most_plain` plain turns in a row before others have theirs, whatever comes of it. The crew may make ahead what
 /// comes of states: whoever it is, all that is said is said.
 ///
@@ -306,19 +308,17 @@ fn racing(behind: Option<RaceBehind>) -> Option<Race>
 ///
 /// # Errors
 /// Where memory is refused.
-pub fn search_race_free<M: Accesses, C: Crew<M>, Q: Seeks<M::Ending>, F: Follows>(
+pub fn search_race_free<M: Accesses, C: MakesAhead<M>, Q: Seeks<M::Ending>, F: Follows>(
     alloc: Global,
     system: &M,
     crew: &C,
-    order: Order,
-    most: u32,
+    plan: &SearchPlan<Q>,
     most_plain: u32,
-    sought: &Q,
     follower: &mut F,
 ) -> Result<RaceFree<M::Ending>, AllocError>
     requires { C.ready crew.now }
     ensures found { IfOk result
-        (λ r. AreEndings (reduced M.Moves system.now) M.Ending.eq most (F.wish follower.new) r.ended) }
+        (λ r. AreEndings (reduced M.Moves system.now) M.Ending.eq plan.now.most (F.wish follower.new) r.ended) }
     ensures paths { IfOk result (λ r. vec_len r.ended.paths ≡ index_set_len r.ended.endings) }
     ensures ways { IfOk result
         (λ r. HasWays (reduced M.Moves system.now) (owning_eq M.Shared.eq M.Thread.eq) r.ended) }
@@ -327,7 +327,7 @@ pub fn search_race_free<M: Accesses, C: Crew<M>, Q: Seeks<M::Ending>, F: Follows
     ensures live { IfOk result
         (λ r. IsLiveWhereAll (reduced M.Moves system.now) (owning_eq M.Shared.eq M.Thread.eq)
         r.ended.states r.ended.verdict r.ended.liveness) }
-    ensures seeks { IfOk result (λ r. SeeksIn (Q.sought sought.now) M.Ending.eq r.ended.verdict r.ended.endings.keys) }
+    ensures seeks { IfOk result (λ r. SeeksIn (Q.sought plan.now.sought) M.Ending.eq r.ended.verdict r.ended.endings.keys) }
     ensures obeys { IfOk result (λ r.
         Obeys (F.wish follower.old) (F.wish follower.new) (F.told_at follower.new) r.ended.verdict r.ended.states) }
     ensures none { IfOk result (λ r. r.ended.verdict ≡ verdicts.All → HasNoRace M.Moves system.now) }
@@ -338,10 +338,10 @@ pub fn search_race_free<M: Accesses, C: Crew<M>, Q: Seeks<M::Ending>, F: Follows
         crew,
         most_plain,
     };
-    let reached = reach(alloc, &turns, order, most, sought, follower)?;
+    let reached = reach(alloc, &turns, plan, follower)?;
     let behind = race_in(alloc, system, &reached, most_plain)?;
     let way = way_behind(alloc, reached.moves.as_slice(), behind)?;
-    let ended = conclude(alloc, &turns, most, sought, reached, follower)?;
+    let ended = conclude(alloc, &turns, plan, reached, follower)?;
     Ok(RaceFree {
         ended,
         race: racing(behind),

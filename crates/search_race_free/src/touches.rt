@@ -4,12 +4,12 @@ ghost use Rattle.search_settled.specs.Accesses.{Meet, Conflict, AreMatched, Race
 ghost use Rattle.search_race_free.specs.Touches.{StrikesNobody, Strikes, AreOfOthers, MeetsNobody, Meets, IsPut};
 ghost use Rattle.search_race_free.specs.Touches.{AreClear, AreInTheWay};
 
-use crate::{Race, Touch};
-use search_settled::Access;
+use crate::{ThreadRace, Touch};
+use search_settled::NextAccess;
 use std::alloc::{AllocError, Global};
 
 /// Whether both touch a byte in common.
-fn meet(a: Access, b: Access) -> bool
+fn meet(a: NextAccess, b: NextAccess) -> bool
     ensures { IsTrue result ↔ Meet a b }
 {
     if a.addr <= b.addr {
@@ -20,35 +20,35 @@ fn meet(a: Access, b: Access) -> bool
 }
 
 /// Whether both touch a byte in common, and one of them writes.
-fn conflict(a: Access, b: Access) -> bool
+fn conflict(a: NextAccess, b: NextAccess) -> bool
     ensures { IsTrue result ↔ Conflict a b }
 {
     (a.writes || b.writes) && meet(a, b)
 }
 
 /// Whether neither is plain, and they are of exactly the same bytes.
-fn are_matched(a: Access, b: Access) -> bool
+fn are_matched(a: NextAccess, b: NextAccess) -> bool
     ensures { IsTrue result ↔ AreMatched a b }
 {
     !a.plain && !b.plain && a.addr == b.addr && a.width == b.width
 }
 
 /// Whether they race where they are next at once.
-fn are_racing(a: Access, b: Access) -> bool
+fn are_racing(a: NextAccess, b: NextAccess) -> bool
     ensures { IsTrue result ↔ AreRacing a b }
 {
     conflict(a, b) && !are_matched(a, b)
 }
 
 /// Whether this is a touch of another thread with which a thread's access conflicts.
-fn strikes(touch: Touch, thread: usize, access: Access) -> bool
+fn strikes(touch: Touch, thread: usize, access: NextAccess) -> bool
     ensures { IsTrue result ↔ (touch.thread ≢ thread) × Conflict access touch.access }
 {
     touch.thread != thread && conflict(access, touch.access)
 }
 
 /// A thread one of whose touches conflicts with this access of another thread.
-pub(crate) fn struck(owned: &[Touch], thread: usize, access: Access) -> Option<usize>
+pub(crate) fn struck(owned: &[Touch], thread: usize, access: NextAccess) -> Option<usize>
     ensures none { IfNone result (StrikesNobody owned.now thread access) }
     ensures some { IfSome result (Strikes owned.now thread access) }
 {
@@ -61,8 +61,8 @@ pub(crate) fn struck(owned: &[Touch], thread: usize, access: Access) -> Option<u
 }
 
 /// Whether this next access of a thread races with one of another thread.
-fn meets(next: Option<Access>, other: usize, thread: usize, access: Access) -> bool
-    ensures { IsTrue result ↔ (b : Access) × (next ≡ Some b) × (other ≢ thread) × AreRacing access b }
+fn meets(next: Option<NextAccess>, other: usize, thread: usize, access: NextAccess) -> bool
+    ensures { IsTrue result ↔ (b : NextAccess) × (next ≡ Some b) × (other ≢ thread) × AreRacing access b }
 {
     match next {
         Some(next) => other != thread && are_racing(access, next),
@@ -71,7 +71,7 @@ fn meets(next: Option<Access>, other: usize, thread: usize, access: Access) -> b
 }
 
 /// A thread whose next access races with this one of another thread.
-fn meeting(wanted: &[Option<Access>], thread: usize, access: Access) -> Option<usize>
+fn meeting(wanted: &[Option<NextAccess>], thread: usize, access: NextAccess) -> Option<usize>
     ensures none { IfNone result (MeetsNobody wanted.now thread access) }
     ensures some { IfSome result (Meets wanted.now thread access) }
 {
@@ -85,10 +85,10 @@ fn meeting(wanted: &[Option<Access>], thread: usize, access: Access) -> Option<u
 
 /// A thread that this access of another thread strikes or meets.
 fn in_the_way(
-    wanted: &[Option<Access>],
+    wanted: &[Option<NextAccess>],
     owned: &[Touch],
     thread: usize,
-    access: Access,
+    access: NextAccess,
 ) -> Option<usize>
     ensures none { IfNone result (StrikesNobody owned.now thread access × MeetsNobody wanted.now thread access) }
     ensures some { IfSome result (λ one. Strikes owned.now thread access one ⊎ Meets wanted.now thread access one) }
@@ -100,14 +100,14 @@ fn in_the_way(
 }
 
 /// Two threads of which one is in the way of the other's next access.
-pub(crate) fn first_race(wanted: &[Option<Access>], owned: &[Touch]) -> Option<Race>
+pub(crate) fn first_race(wanted: &[Option<NextAccess>], owned: &[Touch]) -> Option<ThreadRace>
     ensures none { IfNone result (AreClear wanted.now owned.now) }
     ensures some { IfSome result (λ r. AreInTheWay wanted.now owned.now r.one r.other) }
 {
     for other in 0..wanted.len() {
         if let Some(access) = wanted[other] {
             if let Some(one) = in_the_way(wanted, owned, other, access) {
-                return Some(Race { one, other });
+                return Some(ThreadRace { one, other });
             }
         }
     }

@@ -1,48 +1,54 @@
 //! The turns behind the choices of a search.
-ghost use Rattle.std.specs.Prelude.{IfOk, IfSome};
+ghost use Rattle.std.specs.Prelude.{◌≡◌, IfOk, IfSome};
+ghost use Rattle.search_race_free.specs.Choices as specified;
+ghost use Rattle.search_race_free.specs.Choices.{IsChoice};
 ghost use Rattle.search_race_free.specs.Search.{IsOwned};
 
-use crate::alone::{Alone, Came, after_event, turn_alone, wanted};
+use crate::alone::{Arrival, PlainTurn, after_event, turn_alone, wanted};
 use crate::next::first_state;
 use crate::onward::{advance, is_free, next_of};
 use crate::touches::{first_race, of_others};
 use crate::{Accesses, Owning};
-use search_settled::{Access, Flat};
+use search_settled::{NextAccess, RestingState};
 use std::alloc::{AllocError, Global};
 
 /// Which of the threads that can go on thread n is.
-fn choice_of(wanted: &[Option<Access>], n: usize) -> usize {
+fn choice_of(wanted: &[Option<NextAccess>], n: usize) -> usize
+    ensures { result ≡ specified.choice_of wanted.now n }
+{
     let mut choice: usize = 0;
-    for m in 0..wanted.len() {
-        if m < n && wanted[m].is_some() {
-            choice = choice.saturating_add(1);
+    for m in 0..usize::min(n, wanted.len()) {
+        if wanted[m].is_some() {
+            choice += 1;
         }
     }
     choice
 }
 
-/// The thread that is this one of those that can go on.
-fn thread_of(wanted: &[Option<Access>], choice: usize) -> usize {
+/// The thread that is this one of those that can go on, if there are so many.
+fn thread_of(wanted: &[Option<NextAccess>], choice: usize) -> Option<usize>
+    ensures { IsChoice wanted.now choice result }
+{
     let mut left = choice;
     for m in 0..wanted.len() {
         if wanted[m].is_some() {
             if left == 0 {
-                return m;
+                return Some(m);
             }
             left -= 1;
         }
     }
-    wanted.len()
+    None
 }
 
 /// Thread n makes its turn, if it can: notes its choice.
 fn note_turn<M: Accesses>(
     alloc: Global,
     system: &M,
-    from: &Owning<Flat<M::Shared, M::Thread>>,
+    from: &Owning<RestingState<M::Shared, M::Thread>>,
     n: usize,
     choices: &mut Vec<usize>,
-) -> Result<Option<Owning<Flat<M::Shared, M::Thread>>>, AllocError>
+) -> Result<Option<Owning<RestingState<M::Shared, M::Thread>>>, AllocError>
     requires { IsOwned (M.threads system.now) from.now }
     ensures { IfOk result (λ o. IfSome o (IsOwned (M.threads system.now))) }
 {
@@ -62,11 +68,11 @@ fn note_turn<M: Accesses>(
 fn note_alone<M: Accesses>(
     alloc: Global,
     system: &M,
-    from: Owning<Flat<M::Shared, M::Thread>>,
+    from: Owning<RestingState<M::Shared, M::Thread>>,
     m: usize,
     most: u32,
     choices: &mut Vec<usize>,
-) -> Result<Option<Owning<Flat<M::Shared, M::Thread>>>, AllocError>
+) -> Result<Option<Owning<RestingState<M::Shared, M::Thread>>>, AllocError>
     requires { IsOwned (M.threads system.now) from }
     ensures { IfOk result (λ o. IfSome o (IsOwned (M.threads system.now))) }
 {
@@ -75,16 +81,16 @@ fn note_alone<M: Accesses>(
     let mut at = from;
     for _ in 0..most {
         match turn_alone(alloc, system, at, m)? {
-            Alone::GoesOn(next) => {
+            PlainTurn::GoesOn(next) => {
                 choices.push(choice)?;
                 at = next;
             }
-            Alone::Stops(last) => return Ok(Some(last)),
-            Alone::Races(_) => {
+            PlainTurn::Stops(last) => return Ok(Some(last)),
+            PlainTurn::Races(_) => {
                 choices.push(choice)?;
                 return Ok(None);
             }
-            Alone::Unknown => return Ok(None),
+            PlainTurn::Unknown => return Ok(None),
         }
     }
     Ok(Some(at))
@@ -94,11 +100,11 @@ fn note_alone<M: Accesses>(
 fn note_onward<M: Accesses>(
     alloc: Global,
     system: &M,
-    from: &Owning<Flat<M::Shared, M::Thread>>,
+    from: &Owning<RestingState<M::Shared, M::Thread>>,
     n: usize,
     most: u32,
     choices: &mut Vec<usize>,
-) -> Result<Option<Owning<Flat<M::Shared, M::Thread>>>, AllocError>
+) -> Result<Option<Owning<RestingState<M::Shared, M::Thread>>>, AllocError>
     requires { IsOwned (M.threads system.now) from.now }
     ensures { IfOk result (λ o. IfSome o (IsOwned (M.threads system.now))) }
 {
@@ -119,13 +125,13 @@ fn note_onward<M: Accesses>(
     Ok(Some(at))
 }
 
-/// The thread that has this choice.
+/// The thread that has this choice, if one has it.
 fn chosen_in<M: Accesses>(
     alloc: Global,
     system: &M,
-    at: &Owning<Flat<M::Shared, M::Thread>>,
+    at: &Owning<RestingState<M::Shared, M::Thread>>,
     choice: usize,
-) -> Result<usize, AllocError>
+) -> Result<Option<usize>, AllocError>
     requires { IsOwned (M.threads system.now) at.now }
 {
     let wanted = wanted(alloc, system, &at.flat)?;
@@ -144,12 +150,14 @@ pub fn all_choices<M: Accesses>(
     choices: &[usize],
 ) -> Result<Vec<usize>, AllocError> {
     let mut all = Vec::new(alloc);
-    let Came::To(first) = first_state(alloc, system)? else {
+    let Arrival::To(first) = first_state(alloc, system)? else {
         return Ok(all);
     };
     let mut at = first;
     for choice in choices {
-        let n = chosen_in(alloc, system, &at, *choice)?;
+        let Some(n) = chosen_in(alloc, system, &at, *choice)? else {
+            return Ok(all);
+        };
         match note_onward(alloc, system, &at, n, most_plain, &mut all)? {
             Some(next) => at = next,
             None => return Ok(all),
@@ -162,7 +170,7 @@ pub fn all_choices<M: Accesses>(
 fn turns_to_race<M: Accesses>(
     alloc: Global,
     system: &M,
-    from: &Owning<Flat<M::Shared, M::Thread>>,
+    from: &Owning<RestingState<M::Shared, M::Thread>>,
     n: usize,
     most: u32,
 ) -> Result<bool, AllocError>
@@ -173,9 +181,9 @@ fn turns_to_race<M: Accesses>(
         return Ok(false);
     };
     match advance(alloc, system, from, before.as_slice(), n, access, most)? {
-        Came::Races(_) => Ok(true),
-        Came::To(_) => Ok(false),
-        Came::Unknown => Ok(false),
+        Arrival::Races(_) => Ok(true),
+        Arrival::To(_) => Ok(false),
+        Arrival::Unknown => Ok(false),
     }
 }
 
@@ -183,7 +191,7 @@ fn turns_to_race<M: Accesses>(
 fn racing_turn<M: Accesses>(
     alloc: Global,
     system: &M,
-    from: &Owning<Flat<M::Shared, M::Thread>>,
+    from: &Owning<RestingState<M::Shared, M::Thread>>,
     most: u32,
 ) -> Result<Option<usize>, AllocError>
     requires { IsOwned (M.threads system.now) from.now }
@@ -200,7 +208,7 @@ fn racing_turn<M: Accesses>(
 fn note_meeting<M: Accesses>(
     alloc: Global,
     system: &M,
-    from: &Owning<Flat<M::Shared, M::Thread>>,
+    from: &Owning<RestingState<M::Shared, M::Thread>>,
     choices: &mut Vec<usize>,
 ) -> Result<(), AllocError>
     requires { IsOwned (M.threads system.now) from.now }
@@ -219,7 +227,7 @@ fn note_meeting<M: Accesses>(
 fn note_race<M: Accesses>(
     alloc: Global,
     system: &M,
-    from: &Owning<Flat<M::Shared, M::Thread>>,
+    from: &Owning<RestingState<M::Shared, M::Thread>>,
     most: u32,
     choices: &mut Vec<usize>,
 ) -> Result<(), AllocError>
@@ -246,7 +254,7 @@ pub fn race_choices<M: Accesses>(
     way: &[usize],
 ) -> Result<Vec<usize>, AllocError> {
     let mut all = Vec::new(alloc);
-    let Came::To(first) = first_state(alloc, system)? else {
+    let Arrival::To(first) = first_state(alloc, system)? else {
         return Ok(all);
     };
     let mut at = first;

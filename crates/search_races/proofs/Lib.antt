@@ -1,1 +1,3 @@
-pub mod Told
+pub mod Stood
+pub mod Heard
+pub mod Alike

@@ -1,17 +1,21 @@
-//! Whether a recorded run has a race.
-ghost use Rattle.std.specs.Prelude.{◌≡◌, ◌≤◌, ◌<◌, IfOk, true, false, length};
+//! Whether a run has a race: one that was made, or a recorded one.
+ghost use Rattle.std.specs.Prelude.{◌≡◌, ◌≤◌, ◌<◌, ℕ, IfOk, true, false, length, map};
 ghost use Rattle.shared_memory.specs.History.{AreEntries};
 ghost use Rattle.shared_memory.specs.Legal.{IsQueueLegal};
 ghost use Rattle.show_races.specs.Kinds.{kinds_shown};
-ghost use Rattle.search_races.specs.Races.{Says, SaysOfRun};
+ghost use Rattle.search_finds.specs.Finds.{IsFind};
+ghost use Rattle.search_races.specs.Heard.{row_heard};
+ghost use Rattle.show_races.specs.Races.{Says, SaysOfRun};
+ghost use Rattle.show_races.specs.Rows.{kinds_of as kinds_by};
 
-use crate::rows::watched;
+use interp::CodePlace;
 use race_history::{Race, is_history, races_of};
 use replay_text::Record;
 use search_finds::Judges;
 use search_scheduled::MadeRun;
-use show_races::kinds_of;
-use show_rows::{CodeMap, Shown};
+use show_races::{kinds_of, watched};
+use show_rows::{CodeMap, Row, Shown};
+use spawn_host::Request;
 use std::alloc::{AllocError, Global};
 use validate_module::ValidModule;
 
@@ -35,6 +39,27 @@ fn is_racy(alloc: Global, shown: Shown) -> Result<bool, AllocError>
     Ok(is_any(races.pairs.as_slice()))
 }
 
+/// Whether two accesses of a recorded run race, where its threads stand as these rows say.
+fn is_racy_by(
+    alloc: Global,
+    module: &ValidModule,
+    record: &Record,
+    rows: &[Option<Row>],
+) -> Result<bool, AllocError>
+    ensures { IfOk result (Says «record».now.log (kinds_by «module».now.parts «record».now rows.now)) }
+{
+    let code = CodeMap::read(alloc, module.parts(), &[], &[])?;
+    let shown = Shown {
+        record: record.parts(),
+        rows,
+        code: &code,
+    };
+    if !is_history(shown.record.log.as_slice()) {
+        return Err(AllocError);
+    }
+    is_racy(alloc, shown)
+}
+
 /// Whether two accesses of a recorded run of a module race, as a replay of it says where its threads stand.
 ///
 /// # Errors
@@ -45,30 +70,58 @@ pub fn has_race(alloc: Global, module: &ValidModule, record: &Record) -> Result<
     let Ok(rows) = watched(alloc, module, record) else {
         return Err(AllocError);
     };
-    let code = CodeMap::read(alloc, module.parts(), &[], &[])?;
-    let shown = Shown {
-        record: record.parts(),
-        rows: rows.as_slice(),
-        code: &code,
-    };
-    if !is_history(shown.record.log.as_slice()) {
-        return Err(AllocError);
-    }
-    is_racy(alloc, shown)
+    is_racy_by(alloc, module, record, rows.as_slice())
 }
 
-/// Looks for a run of a module in which two accesses race.
+/// The rows of entries of which it was heard where their threads stood.
+fn rows_heard(alloc: Global, places: &[CodePlace]) -> Result<Vec<Option<Row>>, AllocError>
+    ensures { IfOk result (λ rows. rows.items ≡ map row_heard places.now) }
+{
+    places
+        .iter()
+        .map(|place| {
+            Some(Row {
+                place: *place,
+                caller: None,
+                before: None,
+            })
+        })
+        .collect(alloc)
+}
+
+/// Whether two accesses of a run race of which it was heard, while it was made, where its threads stood.
+fn has_heard_race(alloc: Global, request: &Request, made: &MadeRun) -> Result<bool, AllocError>
+    requires find { (limit : ℕ) × IsFind request.now limit made.now }
+    requires heard { made.now.heard.hears ≡ true }
+    ensures { IfOk result (SaysOfRun request.now.parts made.now.record) }
+{
+    let rows = rows_heard(alloc, made.heard.places.as_slice())?;
+    is_racy_by(alloc, request.module(), &made.record, rows.as_slice())
+}
+
+/// Looks for a run of a module in which two accesses race. It is heard where threads stand while a run is made, so that no
+/// run is replayed.
 #[derive(Clone, Copy)]
-pub struct RaceJudge<'m> {
-    pub module: &'m ValidModule,
-}
+pub struct RaceJudge;
 
-impl Judges for RaceJudge<'_> {
-    ghost use Rattle.search_races.specs.Races.{SaysOfRun};
+impl Judges for RaceJudge {
+    ghost use Rattle.show_races.specs.Races.{SaysOfRun};
 
-    ghost judges = { λ j made is. SaysOfRun j.«module».now.parts made.«record» is };
+    ghost judges = { λ j q made is. SaysOfRun q.parts made.record is };
 
-    fn is_sought(&self, alloc: Global, made: &MadeRun) -> Result<bool, AllocError> {
-        has_race(alloc, self.module, &made.record)
+    fn hears(&self) -> bool {
+        true
+    }
+
+    fn is_sought(
+        &self,
+        alloc: Global,
+        request: &Request,
+        made: &MadeRun,
+    ) -> Result<bool, AllocError> {
+        if made.heard.hears {
+            return has_heard_race(alloc, request, made);
+        }
+        has_race(alloc, request.module(), &made.record)
     }
 }

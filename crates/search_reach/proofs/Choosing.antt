@@ -15,7 +15,8 @@ use Rattle.search_reach.proofs.Moving.{behind, at-some}
 
 -- a move from the state is a move, and from there
 pub from-of : (at : ℕ) (moves : List Move) (m : Move) → Contains (moves_from at moves) m → m.from ≡ at
-from-of at moves m c = eqb-true m.from at (All-contains (λ (n : Move). (n.from == at) ≡ true) (moves_from at moves) m (filter_passes (λ (n : Move). n.from == at) moves) c)
+from-of at moves m c = eqb-true m.from at (All-contains (λ (n : Move). (n.from == at) ≡ true) (moves_from at moves) m
+    (filter_passes (λ (n : Move). n.from == at) moves) c)
 
 pub from-among : (at : ℕ) (moves : List Move) (m : Move) → Contains (moves_from at moves) m → Contains moves m
 from-among at moves m c =
@@ -79,7 +80,8 @@ choice-is moves place choice m at low are more other there t = subst (λ (v : Mo
             let within = slice_get_within moves place m at in
             let n = at-some moves (place - choice) (omega (arith, within)) in
             let from = are (place - choice) n.0 (omega (arith, low)) (omega (arith, low)) n.1 in
-            let front = get_shorter stand.front moves (place - choice) n.0 (record { more = ours ++ stand.back; is = stand.is }) (omega (arith, short, low)) n.1 in
+            let front = get_shorter stand.front moves (place - choice) n.0 (record { more = ours ++ stand.back; is = stand.is })
+            (omega (arith, short, low)) n.1 in
             absurd (stand.before n.0 (here stand.front (place - choice) n.0 front) from)
 
     -- it isn't behind

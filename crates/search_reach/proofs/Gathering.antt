@@ -1,5 +1,6 @@
 -- How the endings are gathered.
-use Rattle.std.specs.Prelude.{◌≡◌, ◌+◌, ◌<◌, ◌≤◌, ◌⊎◌, ℕ, Bool, true, false, List, [], ◌∷◌, ◌++◌, length, take, get_or, Contains, Option, Some, None, refl, if◌then◌else◌}
+use Rattle.std.specs.Prelude.{◌≡◌, ◌+◌, ◌<◌, ◌≤◌, ◌⊎◌, ℕ, Bool, true, false, List, [], ◌∷◌, ◌++◌, length, take, get_or}
+use Rattle.std.specs.Prelude.{Contains, Option, Some, None, refl, if◌then◌else◌}
 use Rattle.std.proofs.Common.{ap, subst, sym, ◌∙◌, inl, inr}
 use Rattle.std.proofs.lemmas.List.{take_more, take_all}
 use Rattle.std.proofs.lemmas.List.Elements.{Contains-push, Contains-push_cases}
@@ -51,12 +52,22 @@ module _ {E : Type 0} (eq : E → E → Bool) (self : (e : E) → eq e e ≡ tru
     is-end : (s : S) (r : Option E) (e : E) → IsMet k s → IsEnding k s r → r ≡ Some e → IsEnd k e
     is-end s r e m n q =
         let can = n.sound m.comes.end e m.comes.is q in
-        record { from = m.from; begun = m.begun; can = record { end = can.end; path = onward (Steps k) m.from m.comes.end can.end m.comes.path can.path; is = can.is } }
+        record {
+          from = m.from;
+          begun = m.begun;
+          can = record {
+            end = can.end;
+            path = onward (Steps k) m.from m.comes.end can.end m.comes.path can.path;
+            is = can.is;
+          };
+        }
 
-    ended-insert : (ks : List S) (i : ℕ) (s : S) (r : Option E) (e : E) (es : List E) (marks : List Bool) → i < length ks → s ≡ get_or ks i s → Goes-on ks i es marks
+    ended-insert : (ks : List S) (i : ℕ) (s : S) (r : Option E) (e : E) (es : List E) (marks : List Bool) → i < length ks → s ≡ get_or ks i s →
+        Goes-on ks i es marks
         → IsMet k s → IsEnding k s r → r ≡ Some e → Goes-on ks (i + 1) (insert_key eq es e) (marks ++ is_some r ∷ [])
     ended-insert ks i s r e es marks h is d m n q = record {
-      all = all-more ks i s es (insert_key eq es e) h is d.all (Begins-insert_key eq es e) (λ w f t x. subst (λ y. HasEqual eq (insert_key eq es e) y) (one f (n.all w f t x)) (has-insert_key es e));
+      all = all-more ks i s es (insert_key eq es e) h is d.all (Begins-insert_key eq es e)
+          (λ w f t x. subst (λ y. HasEqual eq (insert_key eq es e) y) (one f (n.all w f t x)) (has-insert_key es e));
       sound = holds-insert_key eq (IsEnd k) es e d.sound (is-end s r e m n q);
       of = holds-insert_key eq (λ x. (y : S) × Contains ks y × IsEnding k y (Some x)) es e d.of (s, (i, h, sym is), subst (λ o. IsEnding k s o) q n);
       marks_are = marks-more ks i s r marks h is d.marks_are n;
@@ -66,13 +77,15 @@ module _ {E : Type 0} (eq : E → E → Bool) (self : (e : E) → eq e e ≡ tru
         one f p = let both : Some e ≡ Some f = sym q ∙ p in cc
 
     -- A state that has ended.
-    pub ended-some : (ks : List S) (i : ℕ) (s : S) (r : Option E) (e : E) (es fs : List E) (marks : List Bool) → i < length ks → s ≡ get_or ks i s → Goes-on ks i es marks
+    pub ended-some : (ks : List S) (i : ℕ) (s : S) (r : Option E) (e : E) (es fs : List E) (marks : List Bool) → i < length ks → s ≡ get_or ks i s →
+        Goes-on ks i es marks
         → IsMet k s → IsEnding k s r → r ≡ Some e → fs ≡ insert_key eq es e → Goes-on ks (i + 1) fs (marks ++ is_some r ∷ [])
     ended-some ks i s r e es fs marks h is d m n q f =
         subst (λ l. Goes-on ks (i + 1) l (marks ++ is_some r ∷ [])) (sym f) (ended-insert ks i s r e es marks h is d m n q)
 
     -- One that has not.
-    pub ended-none : (ks : List S) (i : ℕ) (s : S) (r : Option E) (es fs : List E) (marks : List Bool) → i < length ks → s ≡ get_or ks i s → Goes-on ks i es marks
+    pub ended-none : (ks : List S) (i : ℕ) (s : S) (r : Option E) (es fs : List E) (marks : List Bool) → i < length ks → s ≡ get_or ks i s →
+        Goes-on ks i es marks
         → IsEnding k s r → r ≡ None → fs ≡ es → Goes-on ks (i + 1) fs (marks ++ is_some r ∷ [])
     ended-none ks i s r es fs marks h is d n q f = subst (λ l. Goes-on ks (i + 1) l (marks ++ is_some r ∷ [])) (sym f) (record {
       all = all-more ks i s es es h is d.all (Begins-self es) (λ w e t x. absurd (none-some e (sym q ∙ n.all w e t x)));

@@ -7,7 +7,7 @@ use Rattle.std.proofs.lemmas.Option.{slice_get_within, get_or_from_slice_get, sl
 use Rattle.search_graph.specs.Paths.{Goes, Reaches}
 use Rattle.search_graph.specs.Graph.{Moves, Steps as MoveSteps}
 use Rattle.search_graph.specs.declared.graph.Move.{Move}
-use Rattle.search_reach.specs.declared.explores.Next.{Next}
+use Rattle.search_reach.specs.declared.explores.NextState.{NextState}
 use Rattle.search_reach.specs.Search.{StepSystem, Steps, Covers, IsAll, StaysIn, LeadsOn}
 use Rattle.search_reach.specs.Explored.{moves_from, IsGoneOn, ExploredTo}
 use Rattle.search_reach.proofs.Paths.{stays, one_step, onward}
@@ -53,14 +53,14 @@ of-those at (n ∷ ms) m is c = by (Contains-append_cases (n ∷ []) ms m c) (λ
 module _ {S W E : Type 0} (k : StepSystem S W E) (eq : S → S → Bool) (ks : List S) (moves : List Move) where
   module _ (same : (x y : S) → eq x y ≡ true → (w : W) (left : ℕ → ℕ) → k.stands x w left → k.stands y w left) where
     -- what was noted to a next state
-    pub record MoveTo (index : ℕ) (x : Next S) : Type 0 where
+    pub record MoveTo (index : ℕ) (x : NextState S) : Type 0 where
       pub to : ℕ
       pub move : Moves moves index x.thread to
       pub state : S
       pub at : slice_get ks to ≡ Some state
       pub alike : (w : W) (left : ℕ → ℕ) → k.stands x.state w left → k.stands state w left
 
-    pub move_to : (index : ℕ) (s : S) → (g : IsGoneOn k eq ks moves index s) → (x : Next S) → Contains g.next x → MoveTo index x
+    pub move_to : (index : ℕ) (s : S) → (g : IsGoneOn k eq ks moves index s) → (x : NextState S) → Contains g.next x → MoveTo index x
     move_to index s g x c =
         let f = noted-all eq ks index g.next (moves_from index moves) g.noted x c in
         let m = f.0 in
@@ -75,8 +75,8 @@ module _ {S W E : Type 0} (k : StepSystem S W E) (eq : S → S → Bool) (ks : L
         }
 
     -- and from where a move comes
-    pub record MoveBy (index t to : ℕ) (xs : List (Next S)) : Type 0 where
-      pub next : Next S
+    pub record MoveBy (index t to : ℕ) (xs : List (NextState S)) : Type 0 where
+      pub next : NextState S
       pub among : Contains xs next
       pub by : next.thread ≡ t
       pub state : S

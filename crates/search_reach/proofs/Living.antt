@@ -1,5 +1,6 @@
 -- What is said of the graph of all states, said of the worlds that they stand for.
-use Rattle.std.specs.Prelude.{◌≡◌, ◌<◌, ◌⊎◌, ◌↔◌, ℕ, zero, suc, Bool, true, false, List, [], ◌∷◌, length, All, Contains, Option, Some, None, refl, slice_index_or}
+use Rattle.std.specs.Prelude.{◌≡◌, ◌<◌, ◌⊎◌, ◌↔◌, ℕ, zero, suc, Bool, true, false, List, [], ◌∷◌, length, All, Contains}
+use Rattle.std.specs.Prelude.{Option, Some, None, refl, slice_index_or}
 use Rattle.std.proofs.Common.{ap, subst, sym, ◌∙◌, inl, inr, true≢false}
 use Rattle.std.specs.List.{slice_get, AllZip, IsDistinct}
 use Rattle.std.specs.List.Sorted.{IsStrictlyIncreasing}
@@ -18,7 +19,8 @@ use Rattle.search_graph.proofs.Shadow.{no-fair-run}
 use Rattle.search_graph.proofs.Rounds.{fair-run-along, fair-run-round}
 use Rattle.search_reach.specs.Search.{StepSystem, Steps, StandsFor, RestsIn, HasOf, IsMet, IsMarkedSo, StaysIn, LeadsOn, ComesBy}
 use Rattle.search_reach.specs.Explored.{IsGoneOn, ExploredTo}
-use Rattle.search_reach.specs.Liveness.{CanEndSomehow, NeverEnds, StillEnds, AreEndless, LeadsToEndless, SaysOf, IsLive, IsLiveWhereAll, SaysOfGraph, IsGraphLive, IsJudged}
+use Rattle.search_reach.specs.Liveness.{CanEndSomehow, NeverEnds, StillEnds, AreEndless, LeadsToEndless, SaysOf, IsLive}
+use Rattle.search_reach.specs.Liveness.{IsLiveWhereAll, SaysOfGraph, IsGraphLive, IsJudged}
 use Rattle.search_reach.specs.Found.{Claims, IsFound}
 use Rattle.search_reach.specs.Moved.{IsPathTo, IsMoved}
 use Rattle.search_reach.specs.Ways.{AreNumbered, GoRound}
@@ -271,7 +273,8 @@ module _ {S W E : Type 0} (k : StepSystem S W E) (eq : S → S → Bool) (ks : L
 -- by the verdict and the wish in the end
 module _ (g : Graph) (ended : List Bool) (before : Verdict) (old : Wish) (after : Verdict) (new : Wish) (o : Option Liveness)
     (judged : IsJudged g ended before old after new o) where
-  pub found-after : {A B : Type 0} (claims : Claims A) (others : Claims B) (most states : ℕ) (ks : List A) (es : List B) → IsFound claims most old before states ks
+  pub found-after : {A B : Type 0} (claims : Claims A) (others : Claims B) (most states : ℕ) (ks : List A) (es : List B) →
+      IsFound claims most old before states ks
       → (claims.complete ks → others.complete es) → others.sound es → (claims.lost → others.lost) → IsFound others most new after states es
   found-after claims others most states ks es found complete sound lost = record {
     all = λ v. elim judged.verdict [

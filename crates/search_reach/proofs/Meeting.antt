@@ -14,8 +14,8 @@ use Rattle.search_reach.specs.Meeting.{HasMetAt, OfStateAt, HasFirst, GoesOn, Ha
 use Rattle.search_reach.specs.Sought.{ArePassed, HasSoughtFrom, SaysFrom, SeeksAmong}
 use Rattle.search_reach.specs.Levels.{HasLevels, HasGoneThrough, IsBehind, levels_by}
 use Rattle.search_reach.specs.declared.search.Levels.{Levels}
-use Rattle.search_reach.specs.declared.search.Order.{Order}
-use Rattle.search_reach.specs.declared.search.Order.TheVariants.{Breadth, Depth}
+use Rattle.search_reach.specs.declared.search.SearchOrder.{SearchOrder}
+use Rattle.search_reach.specs.declared.search.SearchOrder.TheVariants.{Breadth, Depth}
 use Rattle.search_reach.specs.declared.search.Verdict.{Verdict}
 use Rattle.search_reach.proofs.Passing.{passed-more, sought-more, all-passed, seeks-none, seeks-some}
 use Rattle.search_reach.proofs.Leveling.{levels-longer, levels-all, levels-none, levels-more}
@@ -23,7 +23,8 @@ use Rattle.search_reach.specs.Moved.{IsMoved}
 use Rattle.search_reach.specs.Ways.{AreNumbered}
 pub use Rattle.search_reach.proofs.Moving.{at-some}
 use Rattle.search_reach.proofs.Moving.{IsUnique, moved-none, moved-first, moved-more}
-use Rattle.search_reach.proofs.Searching.{Begins, Gains-begins, length-longer, explored-first, sound-is_met, sound-more, sound-stuck, explored-more, explored-whole}
+use Rattle.search_reach.proofs.Searching.{Begins, Gains-begins, length-longer, explored-first, sound-is_met, sound-more}
+use Rattle.search_reach.proofs.Searching.{sound-stuck, explored-more, explored-whole}
 use Rattle.search_reach.proofs.Graphing.{explored-all}
 
 -- The places that were gone on from, before and behind a turn at one of them.
@@ -281,7 +282,14 @@ module _ {S W E : Type 0} (k : StepSystem S W E) (eq : S → S → Bool) where
   going-first has sought moves end len same b =
       let is = len b.states b.held in
       record {
-        standing = record { states = b.states; held = b.held; sound = (b.explored).sound; passed = b.passed; explored = λ few. b.explored; moved = λ few. b.moved };
+        standing = record {
+          states = b.states;
+          held = b.held;
+          sound = (b.explored).sound;
+          passed = b.passed;
+          explored = λ few. b.explored;
+          moved = λ few. b.moved;
+        };
         low = omega arith;
         inside = omega (arith, is);
         complete = subst (λ (n : ℕ). HasLevels k b.states 0 n) (sym is) (levels-none k eq same b.states moves 0 b.explored);
@@ -354,12 +362,14 @@ module _ {S W E : Type 0} (k : StepSystem S W E) (eq : S → S → Bool) where
       pub going-told : (most : ℕ) (wish : Wish) (is : Bool) → is ≡ false → OfStates k new (SaysFrom k sought met is) → wish ≡ wishes.End
           → IsReached k new eq most wish sought after verdicts.Told (Some next.complete)
       going-told most wish is fails said told =
-          reached-told has sought (λ (j : ℕ). j < at) moves was met len at new after low of unique before most wish (Some next.complete) through-now is fails said told
+          reached-told has sought (λ (j : ℕ). j < at) moves was met len at new after low of unique before most wish (Some next.complete) through-now is
+          fails said told
 
       pub going-sought : (most : ℕ) (wish : Wish) (is : Bool) → is ≡ true → OfStates k new (SaysFrom k sought met is)
           → IsReached k new eq most wish sought after verdicts.Sought (Some next.complete)
       going-sought most wish is holds said =
-          reached-sought has sought (λ (j : ℕ). j < at) moves was met len at new after low of unique before most wish (Some next.complete) through-now is holds said
+          reached-sought has sought (λ (j : ℕ). j < at) moves was met len at new after low of unique before most wish (Some next.complete) through-now
+          is holds said
 
   -- where nothing was met
   pub reached-none : (has : List S → Type 0) (sought : E → Type 0) (moves : List Move) (most : ℕ) (wish : Wish) → moves ≡ [] → has [] → CanGetStuck k
@@ -383,7 +393,7 @@ module _ {S W E : Type 0} (k : StepSystem S W E) (eq : S → S → Bool) where
   -- where the first state has ended as is looked for
   pub reached-first : (has : List S → Type 0) (sought : E → Type 0) (moves : List Move) (most : ℕ) (wish : Wish) → moves ≡ []
       → ((x y : S) → eq x y ≡ true → (w : W) (left : ℕ → ℕ) → k.stands x w left → k.stands y w left) → HasFirst k has
-      → (is : Bool) → is ≡ true → OfStates k has (SaysFrom k sought 0 is) → (order : Order) (levels : Option ℕ) → levels ≡ levels_by order 0
+      → (is : Bool) → is ≡ true → OfStates k has (SaysFrom k sought 0 is) → (order : SearchOrder) (levels : Option ℕ) → levels ≡ levels_by order 0
       → IsReached k has eq most wish sought moves verdicts.Sought levels
   reached-first has sought moves most wish none same f is holds said order levels counted =
       let says = subst (λ b. OfStates k has (SaysFrom k sought 0 b)) holds said in
@@ -404,6 +414,6 @@ module _ {S W E : Type 0} (k : StepSystem S W E) (eq : S → S → Bool) where
         gone_through = subst (HasGoneThrough k (f.state ∷ [])) (sym counted) (through order);
       }
     where
-      through : (order : Order) → HasGoneThrough k (f.state ∷ []) (levels_by order 0)
+      through : (order : SearchOrder) → HasGoneThrough k (f.state ∷ []) (levels_by order 0)
       through Breadth = levels-none k eq same (f.state ∷ []) [] 0 (explored-first eq k f.state f.is)
       through Depth = tt

@@ -9,7 +9,7 @@ use Rattle.std.proofs.lemmas.List.Elements.{Contains-append_right, Contains-appe
 use Rattle.std.proofs.lemmas.Map.Keys.{apart_from_distinct}
 use Rattle.std.proofs.lemmas.Option.{none-some, get_or_from_slice_get, slice_get_within, slice_get-get_or}
 use Rattle.search_graph.specs.declared.graph.Move.{Move}
-use Rattle.search_reach.specs.declared.explores.Next.{Next}
+use Rattle.search_reach.specs.declared.explores.NextState.{NextState}
 use Rattle.search_reach.specs.Search.{StepSystem, IsFirst}
 use Rattle.search_reach.specs.Explored.{Gains, moves_from, HasAt, Notes, Explored}
 use Rattle.search_reach.specs.Moved.{StandTogether, LeadsIn, IsMoved}
@@ -101,7 +101,7 @@ at-some [] i low = absurd (omega (arith, low))
 at-some (x ∷ xs) zero low = (x, refl)
 at-some (x ∷ xs) (suc i) low = at-some xs i (omega (arith, low))
 
-module _ {S : Type 0} (eq : S → S → Bool) (ks ls : List S) (xs : List (Next S)) (moves after : List Move) (i : ℕ) (g : Gains ks xs ls)
+module _ {S : Type 0} (eq : S → S → Bool) (ks ls : List S) (xs : List (NextState S)) (moves after : List Move) (i : ℕ) (g : Gains ks xs ls)
     (noted : Notes eq ls i xs moves after) (low : i < length ks) (distinct : IsUnique eq ls) where
   led-new : (to : ℕ) → to < length ls → length ks ≤ to → (place : ℕ) × LeadsIn after to place
   led-new to within past =
@@ -146,7 +146,7 @@ module _ {S W E : Type 0} (k : StepSystem S W E) (eq : S → S → Bool) where
   }
 
   -- behind one more that was gone on from
-  pub moved-more : (ks ls : List S) (xs : List (Next S)) (moves after : List Move) (i : ℕ) → Gains ks xs ls → Notes eq ls i xs moves after
+  pub moved-more : (ks ls : List S) (xs : List (NextState S)) (moves after : List Move) (i : ℕ) → Gains ks xs ls → Notes eq ls i xs moves after
       → i < length ks → IsUnique eq ls → ((m : Move) → Contains moves m → m.from ≡ i → ⊥) → IsMoved k eq ks moves
       → (now : ℕ → Type 0) → Explored k eq ls after now → IsMoved k eq ls after
   moved-more ks ls xs moves after i g noted low distinct before was now e = record {

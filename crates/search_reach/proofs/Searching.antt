@@ -2,7 +2,8 @@
 use Rattle.std.specs.Prelude.{◌≡◌, ◌==◌, ◌^◌, ◌<◌, ◌≤◌, ◌⊎◌, ◌||◌, ℕ, zero, suc, Bool, true, false, List, [], ◌∷◌, ◌++◌, length}
 use Rattle.std.specs.Prelude.{Contains, slice_get, get_or, Option, Some, IfSome, refl, if◌then◌else◌}
 use Rattle.std.proofs.Common.{ap, subst, sym, ◌∙◌, inl, inr, arith, true≢false, length-append, append_assoc}
-use Rattle.std.proofs.lemmas.List.Elements.{Contains-append_left, Contains-push, Contains-push_cases, Contains-append_right, Contains-append_cases, filter-append}
+use Rattle.std.proofs.lemmas.List.Elements.{Contains-append_left, Contains-push, Contains-push_cases}
+use Rattle.std.proofs.lemmas.List.Elements.{Contains-append_right, Contains-append_cases, filter-append}
 use Rattle.std.proofs.lemmas.List.{append-nil}
 use Rattle.std.proofs.lemmas.Slice.Zip.{all_zipped_more}
 use Rattle.std.proofs.lemmas.Bool.{ne_eqb, eq-eqb, cond-true, cond-false}
@@ -12,7 +13,7 @@ use Rattle.indexmap.specs.IndexSet.{insert_key}
 use Rattle.search_graph.specs.Paths.{Reaches}
 use Rattle.search_graph.specs.Worlds.{CanStep}
 use Rattle.search_graph.specs.declared.graph.Move.{Move}
-use Rattle.search_reach.specs.declared.explores.Next.{Next}
+use Rattle.search_reach.specs.declared.explores.NextState.{NextState}
 use Rattle.search_reach.specs.Search.{StepSystem, Steps, StandsFor, Covers, Comes, AreNext, IsFirst, IsMet, IsSound, AllGetStuck, CanGetStuck}
 use Rattle.search_reach.specs.Explored.{Gains, moves_from, HasAt, IsNoted, AreNoted, Notes, IsGoneOn, Explored, ExploredTo}
 use Rattle.search_reach.proofs.Paths.{stays, one_step, onward, by_others}
@@ -96,7 +97,7 @@ get_shorter ks ls i x b within h =
     let there : slice_get ls i ≡ Some (get_or ks i x) = get_longer ks ls i (get_or ks i x) b here in
     here ∙ (sym there ∙ h)
 
-pub Gains-begins : {S : Type 0} (ks ls : List S) (xs : List (Next S)) → Gains ks xs ls → Begins ks ls
+pub Gains-begins : {S : Type 0} (ks ls : List S) (xs : List (NextState S)) → Gains ks xs ls → Begins ks ls
 Gains-begins ks ls xs g = record { more = g.more; is = g.is }
 
 module _ {S : Type 0} (eq : S → S → Bool) where
@@ -104,13 +105,13 @@ module _ {S : Type 0} (eq : S → S → Bool) where
   gains-none ks = record { more = []; is = sym (append-nil ks); among = λ s c. absurd (omega (arith, c.1)) }
 
   -- one more is inserted
-  pub gains-more : (ks ls : List S) (xs : List (Next S)) (x : Next S) → Gains ks xs ls → Gains ks (xs ++ x ∷ []) (insert_key eq ls x.state)
+  pub gains-more : (ks ls : List S) (xs : List (NextState S)) (x : NextState S) → Gains ks xs ls → Gains ks (xs ++ x ∷ []) (insert_key eq ls x.state)
   gains-more ks ls xs x g = by (list_any (eq x.state) ls)
     where
-      before : (s : S) → Contains g.more s → (y : Next S) × Contains (xs ++ x ∷ []) y × (y.state ≡ s)
+      before : (s : S) → Contains g.more s → (y : NextState S) × Contains (xs ++ x ∷ []) y × (y.state ≡ s)
       before s c = let f = g.among s c in (f.0, Contains-append_left xs (x ∷ []) f.0 f.1, f.2)
 
-      last : (s : S) → Contains g.more s ⊎ (x.state ≡ s) → (y : Next S) × Contains (xs ++ x ∷ []) y × (y.state ≡ s)
+      last : (s : S) → Contains g.more s ⊎ (x.state ≡ s) → (y : NextState S) × Contains (xs ++ x ∷ []) y × (y.state ≡ s)
       last s (inl c) = before s c
       last s (inr e) = (x, Contains-push xs x, e)
 
@@ -125,7 +126,7 @@ module _ {S : Type 0} (eq : S → S → Bool) where
   has_at_longer : (ks ls : List S) (i : ℕ) (s : S) → Begins ks ls → HasAt eq ks i s → HasAt eq ls i s
   has_at_longer ks ls i s b h = record { key = h.key; at = get_longer ks ls i h.key b h.at; is = h.is }
 
-  pub noted-longer : (ks ls : List S) (at : ℕ) (xs : List (Next S)) (ms : List Move) → Begins ks ls → AreNoted eq ks at xs ms → AreNoted eq ls at xs ms
+  pub noted-longer : (ks ls : List S) (at : ℕ) (xs : List (NextState S)) (ms : List Move) → Begins ks ls → AreNoted eq ks at xs ms → AreNoted eq ls at xs ms
   noted-longer ks ls at [] [] b h = tt
   noted-longer ks ls at [] (m ∷ ms) b h = h
   noted-longer ks ls at (x ∷ xs) [] b h = h
@@ -138,7 +139,7 @@ module _ {S : Type 0} (eq : S → S → Bool) where
   notes-none ks at moves = record { new = []; is = sym (append-nil moves); are = tt }
 
   -- the move to one more
-  pub notes-more : (ks : List S) (at : ℕ) (xs : List (Next S)) (x : Next S) (before after : List Move) (index : ℕ)
+  pub notes-more : (ks : List S) (at : ℕ) (xs : List (NextState S)) (x : NextState S) (before after : List Move) (index : ℕ)
       → Notes eq ks at xs before after → HasAt eq (insert_key eq ks x.state) index x.state
       → Notes eq (insert_key eq ks x.state) at (xs ++ x ∷ []) before (after ++ record { from = at; thread = x.thread; next = index } ∷ [])
   notes-more ks at xs x before after index n h =
@@ -152,7 +153,7 @@ module _ {S : Type 0} (eq : S → S → Bool) where
       }
 
   -- the same, as the code has it
-  pub inserted-noted : (ks ls : List S) (at : ℕ) (xs : List (Next S)) (x : Next S) (before between after : List Move) (index number : ℕ)
+  pub inserted-noted : (ks ls : List S) (at : ℕ) (xs : List (NextState S)) (x : NextState S) (before between after : List Move) (index number : ℕ)
       → after ≡ between ++ record { from = at; thread = x.thread; next = number } ∷ []
       → ls ≡ insert_key eq ks x.state → (s : S) × (slice_get ls index ≡ Some s) × (eq x.state s ≡ true)
       → (length ks < 2 ^ 32 → Notes eq ks at xs before between) → length ls < 2 ^ 32 → (length ls < 2 ^ 32 → index < length ls → number ≡ index)
@@ -184,24 +185,24 @@ from-all at (m ∷ ms) h =
 
 module _ {S : Type 0} (eq : S → S → Bool) (ks : List S) (at : ℕ) where
   -- each is from the state, and leads to one of them
-  pub noted-each : (xs : List (Next S)) (ms : List Move) → AreNoted eq ks at xs ms → (m : Move) → Contains ms m
-      → (x : Next S) × Contains xs x × IsNoted eq ks at x m
+  pub noted-each : (xs : List (NextState S)) (ms : List Move) → AreNoted eq ks at xs ms → (m : Move) → Contains ms m
+      → (x : NextState S) × Contains xs x × IsNoted eq ks at x m
   noted-each [] [] h m c = absurd (omega (arith, c.1))
   noted-each [] (n ∷ ms) h m c = absurd h
   noted-each (x ∷ xs) [] h m c = absurd h
   noted-each (x ∷ xs) (n ∷ ms) h m c = by (Contains-append_cases (n ∷ []) ms m c) (λ d. noted-each xs ms h.1 m d)
     where
-      head : Contains [] m ⊎ (n ≡ m) → (y : Next S) × Contains (x ∷ xs) y × IsNoted eq ks at y m
+      head : Contains [] m ⊎ (n ≡ m) → (y : NextState S) × Contains (x ∷ xs) y × IsNoted eq ks at y m
       head (inl d) = absurd (omega (arith, d.1))
       head (inr e) = (x, Contains-head x xs, subst (λ v. IsNoted eq ks at x v) e h.0)
 
-      by : Contains (n ∷ []) m ⊎ Contains ms m → (Contains ms m → (y : Next S) × Contains xs y × IsNoted eq ks at y m)
-          → (y : Next S) × Contains (x ∷ xs) y × IsNoted eq ks at y m
+      by : Contains (n ∷ []) m ⊎ Contains ms m → (Contains ms m → (y : NextState S) × Contains xs y × IsNoted eq ks at y m)
+          → (y : NextState S) × Contains (x ∷ xs) y × IsNoted eq ks at y m
       by (inl d) rest = head (Contains-push_cases [] n m d)
       by (inr d) rest = let r = rest d in (r.0, Contains-tail x r.0 xs r.1, r.2)
 
   -- and there is one to each
-  pub noted-all : (xs : List (Next S)) (ms : List Move) → AreNoted eq ks at xs ms → (x : Next S) → Contains xs x
+  pub noted-all : (xs : List (NextState S)) (ms : List Move) → AreNoted eq ks at xs ms → (x : NextState S) → Contains xs x
       → (m : Move) × Contains ms m × IsNoted eq ks at x m
   noted-all [] ms h x c = absurd (omega (arith, c.1))
   noted-all (y ∷ xs) [] h x c = absurd h
@@ -243,7 +244,7 @@ module _ {S W E : Type 0} (eq : S → S → Bool) (k : StepSystem S W E) where
   pub can_reach : (w z : W) → Reaches (CanStep k.worlds) w z → Reaches (Steps k) w z
   can_reach = by_others (CanStep k.worlds) (Steps k) (λ w z s. one_step (Steps k) w z (s.thread, s.is))
 
-  pub comes-next : (s : S) (xs : List (Next S)) → AreNext k s xs → (w : W) → StandsFor k s w → (x : Next S) → Contains xs x → Comes k w x.state
+  pub comes-next : (s : S) (xs : List (NextState S)) → AreNext k s xs → (w : W) → StandsFor k s w → (x : NextState S) → Contains xs x → Comes k w x.state
   comes-next s xs n w st x c =
       let r = (n.orderly).settles w st in
       let by = n.comes r.0 r.2 x c in
@@ -251,13 +252,13 @@ module _ {S W E : Type 0} (eq : S → S → Bool) (k : StepSystem S W E) where
       let on = onward (Steps k) r.0 by.second by.end one (can_reach by.second by.end by.path) in
       record { end = by.end; path = onward (Steps k) w r.0 by.end (can_reach w r.0 r.1) on; is = (λ (n : ℕ). 0, by.rest) }
 
-  met-next : (s : S) (xs : List (Next S)) → AreNext k s xs → IsMet k s → (x : Next S) → Contains xs x → IsMet k x.state
+  met-next : (s : S) (xs : List (NextState S)) → AreNext k s xs → IsMet k s → (x : NextState S) → Contains xs x → IsMet k x.state
   met-next s xs n m x c =
       let r = comes-next s xs n m.comes.end m.comes.is x c in
       record { from = m.from; begun = m.begun; comes = record { end = r.end; path = onward (Steps k) m.from m.comes.end r.end m.comes.path r.path; is = r.is } }
 
   -- each state that is gained can be met
-  pub sound-more : (ks ls : List S) (i : ℕ) (s : S) (xs : List (Next S)) → IsSound k ks → slice_get ks i ≡ Some s → AreNext k s xs → Gains ks xs ls
+  pub sound-more : (ks ls : List S) (i : ℕ) (s : S) (xs : List (NextState S)) → IsSound k ks → slice_get ks i ≡ Some s → AreNext k s xs → Gains ks xs ls
       → IsSound k ls
   sound-more ks ls i s xs sound at n g x c = by (Contains-append_cases ks g.more x (subst (λ l. Contains l x) g.is c))
     where
@@ -276,7 +277,7 @@ module _ {S W E : Type 0} (eq : S → S → Bool) (k : StepSystem S W E) where
   }
 
   -- one more is gone on from, which wasn't before
-  module _ (ks ls : List S) (xs : List (Next S)) (moves after : List Move) (i : ℕ) (s : S) (gone : ℕ → Type 0) (e : Explored k eq ks moves gone)
+  module _ (ks ls : List S) (xs : List (NextState S)) (moves after : List Move) (i : ℕ) (s : S) (gone : ℕ → Type 0) (e : Explored k eq ks moves gone)
       (before : gone i → ⊥) (at : slice_get ks i ≡ Some s) (n : AreNext k s xs) (g : Gains ks xs ls) (noted : Notes eq ls i xs moves after) where
     inside : i < length ks
     inside = slice_get_within ks i s at

@@ -3,15 +3,15 @@ use Rattle.std.specs.Prelude.{◌≡◌, ◌==◌, ◌<◌, ℕ, Bool, true, Som
 use Rattle.std.specs.List.{slice_get, AllZip}
 use Rattle.search_graph.specs.declared.graph.Move.{Move}
 use Rattle.search_reach.specs.Search.{StepSystem, Covers, AreNext, IsSound}
-use Rattle.search_reach.specs.declared.explores.Next.{Next}
+use Rattle.search_reach.specs.declared.explores.NextState.{NextState}
 use Rattle.search_reach.specs.declared.search.Verdict.{Verdict}
 use Rattle.search_reach.specs.declared.search.Verdict.TheVariants as verdicts
 
 -- ls are ks and then some of these states.
-pub record Gains {S : Type 0} (ks : List S) (xs : List (Next S)) (ls : List S) : Type 0 where
+pub record Gains {S : Type 0} (ks : List S) (xs : List (NextState S)) (ls : List S) : Type 0 where
   pub more : List S
   pub is : ls ≡ ks ++ more
-  pub among : (s : S) → Contains more s → (x : Next S) × Contains xs x × (x.state ≡ s)
+  pub among : (s : S) → Contains more s → (x : NextState S) × Contains xs x × (x.state ≡ s)
 
 -- The moves from the state of this index, in their order.
 abbrev pub moves_from : ℕ → List Move → List Move
@@ -25,18 +25,18 @@ module _ {S : Type 0} (eq : S → S → Bool) (ks : List S) where
     pub is : eq s key ≡ true
 
   -- The move is that of a thread to its next state.
-  pub record IsNoted (at : ℕ) (x : Next S) (m : Move) : Type 0 where
+  pub record IsNoted (at : ℕ) (x : NextState S) (m : Move) : Type 0 where
     pub from : m.from ≡ at
     pub thread : m.thread ≡ x.thread
     pub next : HasAt m.next x.state
 
   -- They are those to each of these, in their order.
-  abbrev pub AreNoted : ℕ → List (Next S) → List Move → Type 0
+  abbrev pub AreNoted : ℕ → List (NextState S) → List Move → Type 0
   AreNoted at xs ms = AllZip (IsNoted at) xs ms
 
 -- These moves were noted behind the others.
-pub record Notes {S : Type 0} (eq : S → S → Bool) (ks : List S) (at : ℕ) (xs : List (Next S)) (before after : List Move)
-    : Type 0 where
+pub record Notes {S : Type 0} (eq : S → S → Bool) (ks : List S) (at : ℕ) (xs : List (NextState S))
+    (before after : List Move) : Type 0 where
   pub new : List Move
   pub is : after ≡ before ++ new
   pub are : AreNoted eq ks at xs new
@@ -44,7 +44,7 @@ pub record Notes {S : Type 0} (eq : S → S → Bool) (ks : List S) (at : ℕ) (
 module _ {S W E : Type 0} (k : StepSystem S W E) (eq : S → S → Bool) (ks : List S) (moves : List Move) where
   -- The moves from the state of this index are those to its next states.
   pub record IsGoneOn (index : ℕ) (s : S) : Type 0 where
-    pub next : List (Next S)
+    pub next : List (NextState S)
     pub are : AreNext k s next
     pub noted : AreNoted eq ks index next (moves_from index moves)
 

@@ -6,7 +6,7 @@ use Rattle.search_reach.specs.declared.follows.Wish.{Wish}
 use Rattle.search_reach.specs.declared.follows.Wish.TheVariants as wishes
 use Rattle.search_reach.specs.declared.search.Verdict.{Verdict}
 use Rattle.search_reach.specs.declared.search.Verdict.TheVariants as verdicts
-use Rattle.search_reach.specs.declared.search.Found.{Found}
+use Rattle.search_reach.specs.declared.search.Exploration.{Exploration}
 use Rattle.search_reach.specs.declared.ending.Ended as endings
 
 -- What a search may claim: that a list has all that there is, that each of a list is right, and that something can come
@@ -33,7 +33,7 @@ AreStates k most wish met verdict =
     IsFound (record { complete = IsAll k; sound = IsSound k; lost = CanGetStuck k }) most wish verdict
     (index_set_len met) met.keys
 
-abbrev pub IsSearched : {S W E : Type 0} → StepSystem S W E → ℕ → Wish → Found S → Type 0
+abbrev pub IsSearched : {S W E : Type 0} → StepSystem S W E → ℕ → Wish → Exploration S → Type 0
 IsSearched k most wish found = AreStates k most wish found.met found.verdict
 
 -- Of endings.

@@ -6,8 +6,8 @@ use Rattle.std.specs.Option.{IfSome}
 use Rattle.search_graph.specs.Worlds.{Worlds}
 use Rattle.search_reach.specs.Search.{StepSystem, StandsFor, HasEqual}
 use Rattle.search_reach.specs.declared.search.Levels.{Levels}
-use Rattle.search_reach.specs.declared.search.Order.{Order}
-use Rattle.search_reach.specs.declared.search.Order.TheVariants.{Breadth, Depth}
+use Rattle.search_reach.specs.declared.search.SearchOrder.{SearchOrder}
+use Rattle.search_reach.specs.declared.search.SearchOrder.TheVariants.{Breadth, Depth}
 
 -- From w so many steps lead to z, of which at most so many are not quiet.
 abbrev pub Comes : {W : Type 0} → Worlds W → (W → ℕ → Bool) → ℕ → ℕ → W → W → Type 0
@@ -53,11 +53,11 @@ IsBehind old gone known new =
     (new ≡ old) ⊎ ((gone ≡ old.end) × (known < 2 ^ 32) × (new.complete ≡ old.complete + 1) × (new.end ≡ known))
 
 -- Levels are counted breadth first alone.
-abbrev pub levels_by : Order → ℕ → Option ℕ
+abbrev pub levels_by : SearchOrder → ℕ → Option ℕ
 levels_by Breadth levels = Some levels
 levels_by Depth levels = None
 
 -- Depth first no number is said; breadth first one is, but in the case that is named.
-abbrev pub IsLeveled : Order → Option ℕ → Type 0 → Type 0
+abbrev pub IsLeveled : SearchOrder → Option ℕ → Type 0 → Type 0
 IsLeveled Breadth levels unless = levels ≡ None → unless
 IsLeveled Depth levels unless = levels ≡ None

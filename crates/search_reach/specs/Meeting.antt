@@ -4,8 +4,9 @@ use Rattle.std.proofs.Common.{◌∙◌}
 use Rattle.std.specs.Cmp.{IsEquivalence}
 use Rattle.std.specs.List.{slice_get, AllZip}
 use Rattle.search_graph.specs.declared.graph.Move.{Move}
-use Rattle.search_reach.specs.declared.explores.Next.{Next}
+use Rattle.search_reach.specs.declared.explores.NextState.{NextState}
 use Rattle.search_reach.specs.declared.follows.Wish.{Wish}
+use Rattle.search_reach.specs.declared.search.Reached.{Reached}
 use Rattle.search_reach.specs.declared.search.Verdict.{Verdict}
 use Rattle.search_reach.specs.Search.{StepSystem, IsAll, IsSound, CanGetStuck, IsFirst, IsMet, AreNext, IsMarkedSo, AllEnds, AreEnds, AreEndsOf}
 use Rattle.search_reach.specs.Explored.{Gains, Notes, ExploredTo, IsWhole}
@@ -37,7 +38,7 @@ module _ {S W E : Type 0} (k : StepSystem S W E) (has : List S → Type 0) where
   module _ (eq : S → S → Bool) where
     -- It has the next states of s, and the moves to them were noted.
     pub record GoesOn (ks : List S) (at : ℕ) (s : S) (before after : List Move) : Type 0 where
-      pub next : List (Next S)
+      pub next : List (NextState S)
       pub are : AreNext k s next
       pub states : List S
       pub held : has states
@@ -72,6 +73,16 @@ module _ {S W E : Type 0} (k : StepSystem S W E) (has : List S → Type 0) where
   -- It is so where each of the states can be met.
   abbrev pub OfStates : (List S → Type 0) → Type 0
   OfStates so = (ks : List S) → has ks → IsSound k ks → so ks
+
+-- With these states it goes on from the one with this index of those, and notes the moves.
+abbrev pub GoesOnAt : {S W E : Type 0} → StepSystem S W E → (List S → Type 0) → (S → S → Bool) → (List S → Type 0) → ℕ
+    → List Move → List Move → Type 0
+GoesOnAt k before eq after at moves noted = OfStateAt k before at (λ ks s. GoesOn k after eq ks at s moves noted)
+
+-- What a search found in a table.
+abbrev pub IsReachedIn : {S W E T : Type 0} → StepSystem S W E → (S → S → Bool) → (T → List S → Type 0) → ℕ → Wish → (E → Type 0)
+    → Reached T → Type 0
+IsReachedIn k eq holds most wish sought r = IsReached k (holds r.table) eq most wish sought r.moves.items r.verdict r.levels
 
 -- The endings of the states, which are compared so, and a mark for each.
 pub record AreGathered {S W E : Type 0} (k : StepSystem S W E) (eq : E → E → Bool) (ks : List S) (es : List E) (marks : List Bool)

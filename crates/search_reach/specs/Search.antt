@@ -4,7 +4,7 @@ use Rattle.std.specs.List.{slice_get, AllZip}
 use Rattle.std.specs.Option.{is_some}
 use Rattle.search_graph.specs.Paths.{Reaches}
 use Rattle.search_graph.specs.Worlds.{Worlds, CanStep}
-use Rattle.search_reach.specs.declared.explores.Next.{Next}
+use Rattle.search_reach.specs.declared.explores.NextState.{NextState}
 
 -- What is searched: worlds, between which threads make steps, and how many threads can go on at most; what a concrete
 -- state stands for; where it begins, how a world has ended, and of which worlds nothing can be told.
@@ -25,19 +25,20 @@ pub record HasEqual {E : Type 0} (eq : E → E → Bool) (es : List E) (e : E) :
   pub is : eq e key ≡ true
 
 -- One of these is of the thread.
-pub record HasOf {S : Type 0} (xs : List (Next S)) (thread : ℕ) : Type 0 where
-  pub next : Next S
+pub record HasOf {S : Type 0} (xs : List (NextState S)) (thread : ℕ) : Type 0 where
+  pub next : NextState S
   pub among : Contains xs next
   pub is : next.thread ≡ thread
 
 -- Their threads ascend.
-abbrev pub Ascend : {S : Type 0} → List (Next S) → Type 0
-Ascend xs = (i j : ℕ) (x y : Next _) → i < j → slice_get xs i ≡ Some x → slice_get xs j ≡ Some y → x.thread < y.thread
+abbrev pub Ascend : {S : Type 0} → List (NextState S) → Type 0
+Ascend xs = (i j : ℕ) (x y : NextState _) → i < j → slice_get xs i ≡ Some x → slice_get xs j ≡ Some y
+    → x.thread < y.thread
 
 -- They ascend, and each is below this number.
-pub record AscendBelow {S : Type 0} (end : ℕ) (xs : List (Next S)) : Type 0 where
+pub record AscendBelow {S : Type 0} (end : ℕ) (xs : List (NextState S)) : Type 0 where
   pub ascend : Ascend xs
-  pub low : (x : Next S) → Contains xs x → x.thread < end
+  pub low : (x : NextState S) → Contains xs x → x.thread < end
 
 module _ {S W E : Type 0} (k : StepSystem S W E) where
   -- A step of a thread.
@@ -94,8 +95,8 @@ module _ {S W E : Type 0} (k : StepSystem S W E) where
     pub others : (u : ℕ) → u ≢ n → after u ≤ left u
 
   -- The step of thread n leads to its next state. No other thread with a next state has more steps left.
-  pub record LeadsOn (xs : List (Next S)) (n : ℕ) (z : W) (left : ℕ → ℕ) : Type 0 where
-    pub next : Next S
+  pub record LeadsOn (xs : List (NextState S)) (n : ℕ) (z : W) (left : ℕ → ℕ) : Type 0 where
+    pub next : NextState S
     pub among : Contains xs next
     pub by : next.thread ≡ n
     pub after : ℕ → ℕ
@@ -123,13 +124,13 @@ module _ {S W E : Type 0} (k : StepSystem S W E) where
   -- These are the next states of s, each with its thread, in the order of the threads. Each step of a thread that can go
   -- on stays within s or leads to one of them; and where all rest in s, the threads that can go on are theirs, and come to
   -- each.
-  pub record AreNext (s : S) (xs : List (Next S)) : Type 0 where
+  pub record AreNext (s : S) (xs : List (NextState S)) : Type 0 where
     pub orderly : IsOrderly s
     pub step : (w z : W) (left : ℕ → ℕ) (n : ℕ) → k.stands s w left → k.worlds.can w n → k.worlds.steps n w z
         → StaysIn s n z left ⊎ LeadsOn xs n z left
-    pub goes_on : (w : W) → StandsFor s w → (x : Next S) → Contains xs x → k.worlds.can w x.thread
+    pub goes_on : (w : W) → StandsFor s w → (x : NextState S) → Contains xs x → k.worlds.can w x.thread
     pub all : (w : W) → RestsIn s w → (n : ℕ) → k.worlds.can w n → HasOf xs n
-    pub comes : (w : W) → RestsIn s w → (x : Next S) → Contains xs x → ComesBy x.thread w x.state
+    pub comes : (w : W) → RestsIn s w → (x : NextState S) → Contains xs x → ComesBy x.thread w x.state
     pub ascend : Ascend xs
 
   -- This is a first state: it stands for all first worlds, and for one.

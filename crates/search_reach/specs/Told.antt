@@ -2,6 +2,7 @@
 use Rattle.std.specs.Prelude.{◌≡◌, ℕ, List, length}
 use Rattle.search_reach.specs.declared.follows.Wish.{Wish}
 use Rattle.search_reach.specs.declared.follows.Wish.TheVariants as wishes
+use Rattle.search_reach.specs.declared.search.Reached.{Reached}
 use Rattle.search_reach.specs.declared.search.Verdict.{Verdict}
 use Rattle.search_reach.specs.declared.search.Verdict.TheVariants as verdicts
 
@@ -19,6 +20,14 @@ Obeys before after told_at verdict states =
 -- It is so of as many states as a table has.
 abbrev pub OfCount : {S : Type 0} → (List S → Type 0) → (ℕ → Type 0) → Type 0
 OfCount has so = (ks : List _) → has ks → so (length ks)
+
+-- With this verdict a search of so many states obeyed, whose follower wished this in the end, if it wished that before.
+abbrev pub HadObeyed : Wish → ℕ → Verdict → ℕ → Wish → Type 0
+HadObeyed after told_at verdict states before = Obeys before after told_at verdict states
+
+-- What a search found obeyed so, of as many states as its table has.
+abbrev pub HasObeyed : {S T : Type 0} → (T → List S → Type 0) → Wish → ℕ → Reached T → Wish → Type 0
+HasObeyed holds after told_at r before = OfCount (holds r.table) (Obeys before after told_at r.verdict)
 
 -- What goes on behind a search keeps it so: where that obeyed, this does.
 abbrev pub StillObeys : (Wish → Type 0) → Wish → ℕ → Verdict → ℕ → Type 0

@@ -3,7 +3,7 @@ use Rattle.std.specs.Prelude.{◌≡◌, ◌<◌, ◌^◌, ◌⊎◌, ℕ, Bool,
 use Rattle.std.specs.Global.{Vec}
 use Rattle.std.specs.List.{slice_get, AllZip}
 use Rattle.search_reach.specs.Search.{StepSystem, AreNext, IsFirst, IsEnding}
-use Rattle.search_reach.specs.declared.explores.Next.{Next}
+use Rattle.search_reach.specs.declared.explores.NextState.{NextState}
 use Rattle.search_reach.specs.declared.search.Verdict.{Verdict}
 use Rattle.search_reach.specs.declared.search.Verdict.TheVariants as verdicts
 use Rattle.search_reach.specs.declared.liveness.FairCycle.{FairCycle}
@@ -17,9 +17,9 @@ AreNumbered verdict states = (verdict ≡ verdicts.All) ⊎ (states < 2 ^ 32)
 module _ {S W E : Type 0} (k : StepSystem S W E) (eq : S → S → Bool) where
   -- The choice names one of the next states of s, which equals t.
   pub record Chooses (s : S) (choice : ℕ) (t : S) : Type 0 where
-    pub next : List (Next S)
+    pub next : List (NextState S)
     pub are : AreNext k s next
-    pub chosen : Next S
+    pub chosen : NextState S
     pub at : slice_get next choice ≡ Some chosen
     pub is : eq chosen.state t ≡ true
 

@@ -1,20 +1,22 @@
 //! How the states that were met have ended.
 ghost use Rattle.std.specs.Prelude.{◌≡◌, IfOk, IfSome, OnOk, length, vec_len};
 ghost use Rattle.indexmap.specs.IndexSet.{index_set_len, insert_key};
-ghost use Rattle.search_reach.specs.Meeting.{HasSound, OfStates, AreGathered, IsReached};
+ghost use Rattle.search_reach.specs.Meeting.{HasSound, OfStates, AreGathered, IsReachedIn};
 ghost use Rattle.search_reach.specs.Explored.{IsWhole};
 ghost use Rattle.search_reach.specs.Found.{AreEndings, IsSearched};
 ghost use Rattle.search_reach.specs.Liveness.{IsCount, IsLiveWhereAll, HasWays};
 ghost use Rattle.search_reach.specs.Levels.{HasEndsWithin, HasGoneThrough, IsLeveled};
 ghost use Rattle.search_reach.specs.Moved.{AreFirsts, ArePathsTo, IsMoved, insert_first};
 ghost use Rattle.search_reach.specs.Sought.{SeeksAmong, SeeksIn};
-ghost use Rattle.search_reach.specs.Told.{Obeys, OfCount, StillObeys};
+ghost use Rattle.search_reach.specs.Told.{HadObeyed, HasObeyed, Obeys, OfCount, StillObeys};
 ghost use Rattle.search_reach.specs.Ways.{AreNumbered};
 
 use crate::liveness::judged;
 use crate::path::{paths_to, ways_in};
-use crate::plain::Plain;
-use crate::{Explores, Follows, Found, Liveness, Meets, Order, Reached, Seeks, Verdict, reach};
+use crate::plain::ValueSystem;
+use crate::{
+    Exploration, Explores, Follows, Liveness, Meets, Reached, SearchPlan, Seeks, Verdict, reach,
+};
 use indexmap::IndexSet;
 use search_graph::Graph;
 use std::alloc::{AllocError, Global};
@@ -106,36 +108,36 @@ fn paths_of(alloc: Global, graph: &Graph, states: &[usize]) -> Result<Vec<Vec<us
     paths_to(alloc, moves, ways.as_slice(), states)
 }
 
-/// The endings of the states that a search for at most `most` states and a few met. Where it met all, it says of which
-/// states none ends, and whether every fair run ends.
+/// The endings of the states that a search by this plan met. Where it met all, it says of which states none ends, and
+/// whether every fair run ends.
 ///
 /// # Errors
 /// Where memory is refused.
 pub fn conclude<T: Meets, Q: Seeks<T::Ending>, F: Follows>(
     alloc: Global,
     system: &T,
-    most: u32,
-    _sought: &Q,
+    plan: &SearchPlan<Q>,
     reached: Reached<T::Table>,
     follower: &mut F,
 ) -> Result<Ended<T::Ending>, AllocError>
-    requires { IsReached (T.system system.now) (T.holds system.now reached.table) (T.equal system.now) most
-        (F.wish follower.old) (Q.sought _sought.now) reached.moves.items reached.verdict reached.levels }
-    ensures found { IfOk result (AreEndings (T.system system.now) T.Ending.eq most (F.wish follower.new)) }
+    requires { IsReachedIn (T.system system.now) (T.equal system.now) (T.holds system.now) plan.now.most
+        (F.wish follower.old) (Q.sought plan.now.sought) reached }
+    ensures found { IfOk result (AreEndings (T.system system.now) T.Ending.eq plan.now.most (F.wish follower.new)) }
     ensures paths { IfOk result (λ r. vec_len r.paths ≡ index_set_len r.endings) }
     ensures ways { IfOk result (HasWays (T.system system.now) (T.equal system.now)) }
     ensures count { IfOk result (λ r. IsCount (T.system system.now) (T.equal system.now) r.states) }
     ensures live { IfOk result
         (λ r. IsLiveWhereAll (T.system system.now) (T.equal system.now) r.states r.verdict r.liveness) }
-    ensures seeks { IfOk result (λ r. SeeksIn (Q.sought _sought.now) T.Ending.eq r.verdict r.endings.keys) }
+    ensures seeks { IfOk result (λ r. SeeksIn (Q.sought plan.now.sought) T.Ending.eq r.verdict r.endings.keys) }
     ensures levels { IfOk result
         (λ r. IfSome r.levels (HasEndsWithin (T.system system.now) T.Ending.eq r.endings.keys)) }
     ensures same { IfOk result (λ r. (r.levels ≡ reached.levels)
         × OfCount (T.holds system.now reached.table) (λ n. r.states ≡ n)) }
-    ensures obeys { IfOk result (λ r. StillObeys (λ before. OfCount (T.holds system.now reached.table)
-        (Obeys before (F.wish follower.old) (F.told_at follower.old) reached.verdict))
+    ensures obeys { IfOk result (λ r. StillObeys
+        (HasObeyed (T.holds system.now) (F.wish follower.old) (F.told_at follower.old) reached)
         (F.wish follower.new) (F.told_at follower.new) r.verdict r.states) }
 {
+    let _ = plan;
     let Reached {
         table,
         moves,
@@ -163,40 +165,39 @@ pub fn conclude<T: Meets, Q: Seeks<T::Ending>, F: Follows>(
     })
 }
 
-/// The endings of the states that a search for at most `most` states and a few met, where they are values. Where it met
-/// all, it says of which states none ends, and whether every fair run ends.
+/// The endings of the states that a search by this plan met, where they are values. Where it met all, it says of which
+/// states none ends, and whether every fair run ends.
 ///
 /// # Errors
 /// Where memory is refused.
 pub fn endings_of<T: Explores, Q: Seeks<T::Ending>, F: Follows>(
     alloc: Global,
     system: &T,
-    most: u32,
-    sought: &Q,
-    found: Found<T::State>,
+    plan: &SearchPlan<Q>,
+    found: Exploration<T::State>,
     follower: &mut F,
 ) -> Result<Ended<T::Ending>, AllocError>
-    requires found { IsSearched (T.system system.now) most (F.wish follower.old) found }
+    requires found { IsSearched (T.system system.now) plan.now.most (F.wish follower.old) found }
     requires whole { IsWhole (T.system system.now) T.State.eq found.met.keys found.moves.items found.verdict }
     requires moved { AreNumbered found.verdict (index_set_len found.met)
         → IsMoved (T.system system.now) T.State.eq found.met.keys found.moves.items }
-    requires seeks { SeeksAmong (T.system system.now) (Q.sought sought.now) found.verdict found.met.keys }
+    requires seeks { SeeksAmong (T.system system.now) (Q.sought plan.now.sought) found.verdict found.met.keys }
     requires levels { HasGoneThrough (T.system system.now) found.met.keys found.levels }
-    ensures found { IfOk result (AreEndings (T.system system.now) T.Ending.eq most (F.wish follower.new)) }
+    ensures found { IfOk result (AreEndings (T.system system.now) T.Ending.eq plan.now.most (F.wish follower.new)) }
     ensures paths { IfOk result (λ r. vec_len r.paths ≡ index_set_len r.endings) }
     ensures ways { IfOk result (HasWays (T.system system.now) T.State.eq) }
     ensures count { IfOk result (λ r. IsCount (T.system system.now) T.State.eq r.states) }
     ensures live { IfOk result
         (λ r. IsLiveWhereAll (T.system system.now) T.State.eq r.states r.verdict r.liveness) }
-    ensures seeks { IfOk result (λ r. SeeksIn (Q.sought sought.now) T.Ending.eq r.verdict r.endings.keys) }
+    ensures seeks { IfOk result (λ r. SeeksIn (Q.sought plan.now.sought) T.Ending.eq r.verdict r.endings.keys) }
     ensures levels { IfOk result
         (λ r. IfSome r.levels (HasEndsWithin (T.system system.now) T.Ending.eq r.endings.keys)) }
-    ensures obeys { IfOk result (λ r. StillObeys (λ before.
-        Obeys before (F.wish follower.old) (F.told_at follower.old) found.verdict (index_set_len found.met))
+    ensures obeys { IfOk result (λ r. StillObeys
+        (HadObeyed (F.wish follower.old) (F.told_at follower.old) found.verdict (index_set_len found.met))
         (F.wish follower.new) (F.told_at follower.new) r.verdict r.states) }
 {
-    let plain = Plain { system };
-    let Found {
+    let plain = ValueSystem { system };
+    let Exploration {
         met,
         moves,
         verdict,
@@ -209,33 +210,31 @@ pub fn endings_of<T: Explores, Q: Seeks<T::Ending>, F: Follows>(
         levels,
         last: 0,
     };
-    conclude(alloc, &plain, most, sought, reached, follower)
+    conclude(alloc, &plain, plan, reached, follower)
 }
 
-/// The endings of a system, of which it meets no more than `most` states and a few, those before one that is looked for,
-/// and those before it is told to end. Depth first no levels are counted; breadth first they are, unless none was met.
+/// The endings of a system, of which it meets no more than the plan's most states and a few, those before one that is
+/// looked for, and those before it is told to end. Depth first no levels are counted; breadth first they are, unless none was met.
 /// Where it met all, it says of which states none ends, and whether every fair run ends.
 pub fn all_endings<T: Meets, Q: Seeks<T::Ending>, F: Follows>(
     alloc: Global,
     system: &T,
-    order: Order,
-    most: u32,
-    sought: &Q,
+    plan: &SearchPlan<Q>,
     follower: &mut F,
 ) -> Result<Ended<T::Ending>, AllocError>
-    ensures found { IfOk result (AreEndings (T.system system.now) T.Ending.eq most (F.wish follower.new)) }
+    ensures found { IfOk result (AreEndings (T.system system.now) T.Ending.eq plan.now.most (F.wish follower.new)) }
     ensures paths { IfOk result (λ r. vec_len r.paths ≡ index_set_len r.endings) }
     ensures ways { IfOk result (HasWays (T.system system.now) (T.equal system.now)) }
     ensures count { IfOk result (λ r. IsCount (T.system system.now) (T.equal system.now) r.states) }
     ensures live { IfOk result
         (λ r. IsLiveWhereAll (T.system system.now) (T.equal system.now) r.states r.verdict r.liveness) }
-    ensures seeks { IfOk result (λ r. SeeksIn (Q.sought sought.now) T.Ending.eq r.verdict r.endings.keys) }
+    ensures seeks { IfOk result (λ r. SeeksIn (Q.sought plan.now.sought) T.Ending.eq r.verdict r.endings.keys) }
     ensures levels { IfOk result
         (λ r. IfSome r.levels (HasEndsWithin (T.system system.now) T.Ending.eq r.endings.keys)) }
-    ensures leveled { IfOk result (λ r. IsLeveled order r.levels (r.states ≡ 0)) }
+    ensures leveled { IfOk result (λ r. IsLeveled plan.now.order r.levels (r.states ≡ 0)) }
     ensures obeys { IfOk result (λ r.
         Obeys (F.wish follower.old) (F.wish follower.new) (F.told_at follower.new) r.verdict r.states) }
 {
-    let reached = reach(alloc, system, order, most, sought, follower)?;
-    conclude(alloc, system, most, sought, reached, follower)
+    let reached = reach(alloc, system, plan, follower)?;
+    conclude(alloc, system, plan, reached, follower)
 }

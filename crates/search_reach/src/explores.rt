@@ -15,7 +15,7 @@ use std::hash::Hash;
 
 /// A next state of a state, and the thread whose steps lead there.
 #[derive(Drop)]
-pub struct Next<S> {
+pub struct NextState<S> {
     pub thread: u32,
     pub state: S,
 }
@@ -45,7 +45,7 @@ pub trait Explores {
         &self,
         alloc: Global,
         state: &Self::State,
-    ) -> Result<Option<Vec<Next<Self::State>>>, AllocError>
+    ) -> Result<Option<Vec<NextState<Self::State>>>, AllocError>
         requires { IsMet (system self.now) state.now }
         ensures next { IfOk result (λ o. IfSome o (λ v. AreNext (system self.now) state.now v.items)) }
         ensures gives_up { IfOk result (λ o. o ≡ None → AllGetStuck (system self.now) state.now) };

@@ -11,7 +11,7 @@ ghost use Rattle.search_reach.specs.Told.{Obeys, StillObeys};
 
 use crate::path::{choices_of, path_to, ways_in};
 use crate::{Follows, Verdict, Wish};
-use search_fairness::{Cycle, Fairness, judge};
+use search_fairness::{Cycle, Fairness, find_hint, judge};
 use search_graph::{Graph, Move, cannot_end};
 use std::alloc::{AllocError, Global};
 
@@ -81,7 +81,8 @@ fn fair_runs_of(alloc: Global, graph: &Graph, ways: &[usize]) -> Result<FairRuns
     requires len { length ways.now ≡ graph.now.states }
     ensures { IfOk result (SaysOfGraph graph.now) }
 {
-    match judge(alloc, graph)? {
+    let hint = find_hint(alloc, graph)?;
+    match judge(alloc, graph, hint)? {
         Fairness::AllEnd => Ok(FairRuns::AllEnd),
         Fairness::Cycle(cycle) => {
             let round = round_of(alloc, graph.moves.as_slice(), ways, cycle)?;

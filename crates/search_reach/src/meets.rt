@@ -2,7 +2,7 @@
 ghost use Rattle.std.specs.Prelude.{◌≡◌, ℕ, Bool, true, false, List, [], ◌∷◌, length, IfOk};
 ghost use Rattle.std.specs.List.{slice_get, IsDistinct};
 ghost use Rattle.search_reach.specs.Search.{StepSystem, IsFirst, IsEnding, AllGetStuck, CanGetStuck};
-ghost use Rattle.search_reach.specs.Meeting.{HasMetAt, OfStateAt, HasFirst, HasSound, GoesOn};
+ghost use Rattle.search_reach.specs.Meeting.{HasMetAt, OfStateAt, HasFirst, HasSound, GoesOnAt};
 
 use search_graph::Move;
 use std::alloc::{AllocError, Global};
@@ -60,8 +60,8 @@ pub trait Meets {
     ) -> Result<bool, AllocError>
         requires at { HasMetAt (system self.now) (holds self.now table.old) at }
         requires sound { HasSound (system self.now) (holds self.now table.old) }
-        ensures next { IfOk result (λ told. told ≡ true → OfStateAt (system self.now) (holds self.now table.old) at
-            (λ ks s. GoesOn (system self.now) (holds self.now table.new) (equal self.now) ks at s moves.old.items moves.new.items)) }
+        ensures next { IfOk result (λ told. told ≡ true → GoesOnAt (system self.now) (holds self.now table.old)
+            (equal self.now) (holds self.now table.new) at moves.old.items moves.new.items) }
         ensures none { IfOk result (λ told. told ≡ false → OfStateAt (system self.now) (holds self.now table.old) at
             (λ ks s. holds self.now table.new ks)) }
         ensures kept { IfOk result (λ told. told ≡ false → moves.new.items ≡ moves.old.items) }

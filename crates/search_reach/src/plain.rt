@@ -4,7 +4,7 @@ ghost use Rattle.indexmap.specs.IndexSet.{index_set_len};
 ghost use Rattle.search_reach.specs.Explored.{Gains, Notes};
 ghost use Rattle.search_reach.specs.Meeting.{equal_back};
 
-use crate::{Explores, Meets, Next};
+use crate::{Explores, Meets, NextState};
 use indexmap::IndexSet;
 use search_graph::Move;
 use std::alloc::{AllocError, Global};
@@ -12,7 +12,7 @@ use std::hash::Hash;
 
 /// A system whose states are values, each of which is kept as it is.
 #[derive(Drop)]
-pub(crate) struct Plain<'s, T> {
+pub(crate) struct ValueSystem<'s, T> {
     pub(crate) system: &'s T,
 }
 
@@ -21,7 +21,7 @@ fn add_all<S: Eq + Hash + Drop>(
     met: &mut IndexSet<S>,
     moves: &mut Vec<Move>,
     at: u32,
-    after: Vec<Next<S>>,
+    after: Vec<NextState<S>>,
 ) -> Result<(), AllocError>
     ensures met { OnOk result (Gains met.old.keys after.items met.new.keys) }
     ensures noted { OnOk result (index_set_len met.new < 2 ^ 32
@@ -38,7 +38,7 @@ fn add_all<S: Eq + Hash + Drop>(
     Ok(())
 }
 
-impl<T: Explores> Meets for Plain<'_, T> {
+impl<T: Explores> Meets for ValueSystem<'_, T> {
     type Table = IndexSet<T::State>;
 
     type Ending = T::Ending;

@@ -4,14 +4,14 @@ ghost use Rattle.indexmap.specs.IndexSet.{index_set_len};
 ghost use Rattle.search_reach.specs.Explored.{IsWhole};
 ghost use Rattle.search_reach.specs.Found.{IsSearched};
 ghost use Rattle.search_reach.specs.Levels.{HasGoneThrough, IsBehind, IsLeveled, levels_by};
-ghost use Rattle.search_reach.specs.Meeting.{IsBegun, IsReached};
+ghost use Rattle.search_reach.specs.Meeting.{IsBegun, IsReached, IsReachedIn};
 ghost use Rattle.search_reach.specs.Moved.{IsMoved};
 ghost use Rattle.search_reach.specs.Sought.{SeeksAmong};
 ghost use Rattle.search_reach.specs.Stack.{IsOpened};
 ghost use Rattle.search_reach.specs.Told.{Obeys, OfCount};
 ghost use Rattle.search_reach.specs.Ways.{AreNumbered};
 
-use crate::plain::Plain;
+use crate::plain::ValueSystem;
 use crate::seeking::has_sought;
 use crate::{Explores, Follows, Meets, Seeks, Wish};
 use indexmap::IndexSet;
@@ -21,23 +21,34 @@ use std::hash::Hash;
 
 /// In which order a search goes on from the states that it met.
 #[derive(Clone, Copy, PartialEq, Eq, Debug)]
-pub enum Order {
+pub enum SearchOrder {
     /// As they were met: those that come by fewer moves before the others.
     Breadth,
     /// From the one that was met last of those that it hasn't gone on from.
     Depth,
 }
 
-impl Order {
+impl SearchOrder {
     /// How many levels are said to be complete, where so many are: none are counted depth first.
     fn levels(self, complete: u32) -> Option<u32>
         ensures { result ≡ levels_by self complete }
     {
         match self {
-            Order::Breadth => Some(complete),
-            Order::Depth => None,
+            SearchOrder::Breadth => Some(complete),
+            SearchOrder::Depth => None,
         }
     }
+}
+
+/// How a search goes.
+#[derive(Drop)]
+pub struct SearchPlan<Q> {
+    /// In which order.
+    pub order: SearchOrder,
+    /// How many states it meets at most, and a few.
+    pub most: u32,
+    /// Who says at which endings it ends.
+    pub sought: Q,
 }
 
 /// How far a search came.
@@ -57,7 +68,7 @@ pub enum Verdict {
 
 /// What a search found.
 #[derive(Drop)]
-pub struct Found<S: Eq + Hash> {
+pub struct Exploration<S: Eq + Hash> {
     /// The states that it met, each once, in the order of their meeting.
     pub met: IndexSet<S>,
     /// The moves from each state that it went on from, in the order of its next states. A state's number is its place
@@ -73,7 +84,7 @@ pub struct Found<S: Eq + Hash> {
 #[derive(Drop)]
 pub struct Reached<T> {
     pub table: T,
-    /// As in `Found`.
+    /// As in `Exploration`.
     pub moves: Vec<Move>,
     pub verdict: Verdict,
     pub levels: Option<u32>,
@@ -106,26 +117,26 @@ impl Levels {
     }
 }
 
-/// Goes on from each state that was met, in their order, until there are no more, it has met more than `most`, one of
-/// which the next states cannot be told, or one that has ended as is looked for, or it is told to end. Answers beside the
+/// Goes on from each state that was met, in their order, until there are no more, it has met more than the plan's most,
+/// one of which the next states cannot be told, or one that has ended as is looked for, or it is told to end. Answers beside the
 /// verdict how many levels are complete, and the place where it ended.
 fn explore<T: Meets, Q: Seeks<T::Ending>, F: Follows>(
     alloc: Global,
     system: &T,
-    most: u32,
-    sought: &Q,
+    plan: &SearchPlan<Q>,
     follower: &mut F,
     table: &mut T::Table,
     moves: &mut Vec<Move>,
 ) -> Result<(Verdict, Option<u32>, u32), AllocError>
     requires { IsBegun (T.system system.now) (T.holds system.now table.old) (T.equal system.now)
-        (Q.sought sought.now) moves.old.items }
+        (Q.sought plan.now.sought) moves.old.items }
     ensures reached { IfOk result (λ r. IsReached (T.system system.now) (T.holds system.now table.new)
-        (T.equal system.now) most (F.wish follower.new) (Q.sought sought.now) moves.new.items r.0 r.1) }
+        (T.equal system.now) plan.now.most (F.wish follower.new) (Q.sought plan.now.sought) moves.new.items r.0 r.1) }
     ensures levels { IfOk result (λ r. r.1 ≡ None → ⊥) }
     ensures obeys { IfOk result (λ r. OfCount (T.holds system.now table.new)
         (Obeys (F.wish follower.old) (F.wish follower.new) (F.told_at follower.new) r.0)) }
 {
+    let SearchPlan { most, sought, .. } = plan;
     let mut at: u32 = 0;
     let end = system.count(table);
     let mut levels = Levels { complete: 0, end };
@@ -134,7 +145,7 @@ fn explore<T: Meets, Q: Seeks<T::Ending>, F: Follows>(
         if met <= at as usize {
             return Ok((Verdict::All, Some(levels.complete), at));
         }
-        if (most as usize) < met {
+        if (*most as usize) < met {
             return Ok((Verdict::TooMany, Some(levels.complete), at));
         }
         if !system.next(alloc, table, at, moves)? {
@@ -167,20 +178,20 @@ fn open_places(stack: &mut Vec<u32>, from: usize, end: usize) -> Result<(), Allo
 fn explore_deep<T: Meets, Q: Seeks<T::Ending>, F: Follows>(
     alloc: Global,
     system: &T,
-    most: u32,
-    sought: &Q,
+    plan: &SearchPlan<Q>,
     follower: &mut F,
     table: &mut T::Table,
     moves: &mut Vec<Move>,
 ) -> Result<(Verdict, Option<u32>, u32), AllocError>
     requires { IsBegun (T.system system.now) (T.holds system.now table.old) (T.equal system.now)
-        (Q.sought sought.now) moves.old.items }
+        (Q.sought plan.now.sought) moves.old.items }
     ensures reached { IfOk result (λ r. IsReached (T.system system.now) (T.holds system.now table.new)
-        (T.equal system.now) most (F.wish follower.new) (Q.sought sought.now) moves.new.items r.0 r.1) }
+        (T.equal system.now) plan.now.most (F.wish follower.new) (Q.sought plan.now.sought) moves.new.items r.0 r.1) }
     ensures levels { IfOk result (λ r. r.1 ≡ None) }
     ensures obeys { IfOk result (λ r. OfCount (T.holds system.now table.new)
         (Obeys (F.wish follower.old) (F.wish follower.new) (F.told_at follower.new) r.0)) }
 {
+    let SearchPlan { most, sought, .. } = plan;
     let mut stack = Vec::new(alloc);
     let first = system.count(table);
     open_places(&mut stack, 0, first)?;
@@ -190,7 +201,7 @@ fn explore_deep<T: Meets, Q: Seeks<T::Ending>, F: Follows>(
             return Ok((Verdict::All, None, 0));
         };
         let met = system.count(table);
-        if (most as usize) < met {
+        if (*most as usize) < met {
             return Ok((Verdict::TooMany, None, at));
         }
         if !system.next(alloc, table, at, moves)? {
@@ -208,8 +219,8 @@ fn explore_deep<T: Meets, Q: Seeks<T::Ending>, F: Follows>(
     }
 }
 
-/// Goes through the states of a system, which it keeps in a table, until there are no more, it has met more than `most`,
-/// or one that has ended as is looked for, or it is told to end: then at once. The follower hears behind each how many
+/// Goes through the states of a system, which it keeps in a table, until there are no more, it has met more than the
+/// plan's most, or one that has ended as is looked for, or it is told to end: then at once. The follower hears behind each how many
 /// were met. Depth first no levels are counted; breadth first they are, unless it can't tell the first state.
 ///
 /// # Errors
@@ -217,14 +228,12 @@ fn explore_deep<T: Meets, Q: Seeks<T::Ending>, F: Follows>(
 pub fn reach<T: Meets, Q: Seeks<T::Ending>, F: Follows>(
     alloc: Global,
     system: &T,
-    order: Order,
-    most: u32,
-    sought: &Q,
+    plan: &SearchPlan<Q>,
     follower: &mut F,
 ) -> Result<Reached<T::Table>, AllocError>
-    ensures reached { IfOk result (λ r. IsReached (T.system system.now) (T.holds system.now r.table)
-        (T.equal system.now) most (F.wish follower.new) (Q.sought sought.now) r.moves.items r.verdict r.levels) }
-    ensures leveled { IfOk result (λ r. IsLeveled order r.levels (T.holds system.now r.table [])) }
+    ensures reached { IfOk result (IsReachedIn (T.system system.now) (T.equal system.now) (T.holds system.now)
+        plan.now.most (F.wish follower.new) (Q.sought plan.now.sought)) }
+    ensures leveled { IfOk result (λ r. IsLeveled plan.now.order r.levels (T.holds system.now r.table [])) }
     ensures obeys { IfOk result (λ r. OfCount (T.holds system.now r.table)
         (Obeys (F.wish follower.old) (F.wish follower.new) (F.told_at follower.new) r.verdict)) }
 {
@@ -239,22 +248,20 @@ pub fn reach<T: Meets, Q: Seeks<T::Ending>, F: Follows>(
             last: 0,
         });
     }
-    if has_sought(alloc, system, &table, 0, sought)? {
+    if has_sought(alloc, system, &table, 0, &plan.sought)? {
         return Ok(Reached {
             table,
             moves,
             verdict: Verdict::Sought,
-            levels: order.levels(0),
+            levels: plan.order.levels(0),
             last: 0,
         });
     }
-    let (verdict, levels, last) = match order {
-        Order::Breadth => explore(
-            alloc, system, most, sought, follower, &mut table, &mut moves,
-        )?,
-        Order::Depth => explore_deep(
-            alloc, system, most, sought, follower, &mut table, &mut moves,
-        )?,
+    let (verdict, levels, last) = match plan.order {
+        SearchOrder::Breadth => explore(alloc, system, plan, follower, &mut table, &mut moves)?,
+        SearchOrder::Depth => {
+            explore_deep(alloc, system, plan, follower, &mut table, &mut moves)?
+        }
     };
     Ok(Reached {
         table,
@@ -269,24 +276,22 @@ pub fn reach<T: Meets, Q: Seeks<T::Ending>, F: Follows>(
 pub fn reach_all<T: Explores, Q: Seeks<T::Ending>, F: Follows>(
     alloc: Global,
     system: &T,
-    order: Order,
-    most: u32,
-    sought: &Q,
+    plan: &SearchPlan<Q>,
     follower: &mut F,
-) -> Result<Found<T::State>, AllocError>
-    ensures found { IfOk result (IsSearched (T.system system.now) most (F.wish follower.new)) }
+) -> Result<Exploration<T::State>, AllocError>
+    ensures found { IfOk result (IsSearched (T.system system.now) plan.now.most (F.wish follower.new)) }
     ensures whole { IfOk result (λ f. IsWhole (T.system system.now) T.State.eq f.met.keys f.moves.items f.verdict) }
     ensures moved { IfOk result (λ f. AreNumbered f.verdict (index_set_len f.met)
         → IsMoved (T.system system.now) T.State.eq f.met.keys f.moves.items) }
-    ensures seeks { IfOk result (λ f. SeeksAmong (T.system system.now) (Q.sought sought.now) f.verdict f.met.keys) }
+    ensures seeks { IfOk result (λ f. SeeksAmong (T.system system.now) (Q.sought plan.now.sought) f.verdict f.met.keys) }
     ensures levels { IfOk result (λ f. HasGoneThrough (T.system system.now) f.met.keys f.levels) }
-    ensures leveled { IfOk result (λ f. IsLeveled order f.levels (f.met.keys ≡ [])) }
+    ensures leveled { IfOk result (λ f. IsLeveled plan.now.order f.levels (f.met.keys ≡ [])) }
     ensures obeys { IfOk result (λ f.
         Obeys (F.wish follower.old) (F.wish follower.new) (F.told_at follower.new) f.verdict (index_set_len f.met)) }
 {
-    let plain = Plain { system };
-    let reached = reach(alloc, &plain, order, most, sought, follower)?;
-    Ok(Found {
+    let plain = ValueSystem { system };
+    let reached = reach(alloc, &plain, plan, follower)?;
+    Ok(Exploration {
         met: reached.table,
         moves: reached.moves,
         verdict: reached.verdict,

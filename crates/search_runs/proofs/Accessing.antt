@@ -1,5 +1,6 @@
 -- Plain accesses of a module's threads are nobody else's concern, unless they conflict.
-use Rattle.std.proofs.Common.{◌≡◌, ◌≢◌, ◌==◌, ◌&&◌, Bool, true, cond, nat_lt, ℕ, zero, suc, ◌+◌, ◌<◌, ◌≤◌, ◌⊎◌, inl, inr, length, List, [], ◌∷◌, Option, Some, None, refl, sym, ◌∙◌, ap, subst, arith}
+use Rattle.std.proofs.Common.{◌≡◌, ◌≢◌, ◌==◌, ◌&&◌, Bool, true, cond, nat_lt, ℕ, zero, suc, ◌+◌, ◌<◌, ◌≤◌, ◌⊎◌, inl}
+use Rattle.std.proofs.Common.{inr, length, List, [], ◌∷◌, Option, Some, None, refl, sym, ◌∙◌, ap, subst, arith}
 use Rattle.std.specs.List.{slice_get}
 use Rattle.std.specs.Prelude.{replicate}
 use Rattle.std.proofs.lemmas.Bool.{cases_lt}
@@ -23,7 +24,7 @@ use Rattle.schedule_threads.specs.Threads.{machine_of}
 use Rattle.interp_trait.specs.Turns.{spawned_in}
 use Rattle.search_threads.specs.Unlimited.{Unlimited.Missing, Unlimited.Away, unlimited_wants}
 use Rattle.search_threads.specs.Budgets.{started_without}
-use Rattle.search_settled.specs.declared.access.Access.{Access}
+use Rattle.search_settled.specs.declared.access.NextAccess.{NextAccess}
 use Rattle.search_settled.specs.Accesses.{IsPlain, Conflict}
 use Rattle.search_race_free.specs.Wanted.{ArePlain, AreIndependent, WantsPlain, next_access}
 use Rattle.search_race_free.specs.Wanted as nexts
@@ -58,7 +59,8 @@ starts-nobody b x m (events.Ask question) u is = absurd is
 starts-nobody b x m (events.Told answer) u is = absurd is
 
 -- whom an event starts the queue says
-starts-same : (b : Called) (x y : Shared) (f : Event) (u : ℕ) → y.queue ≡ x.queue → started_without {O = Outcome} (begun_at b y f u) ≡ started_without {O = Outcome} (begun_at b x f u)
+starts-same : (b : Called) (x y : Shared) (f : Event) (u : ℕ) → y.queue ≡ x.queue → started_without {O = Outcome} (begun_at b y f u) ≡ started_without
+    {O = Outcome} (begun_at b x f u)
 starts-same b x y events.Size u h = refl
 starts-same b x y (events.Grow more) u h = refl
 starts-same b x y (events.Load addr width reach) u h = refl
@@ -126,7 +128,7 @@ plain b = record {
     access-at w n e wants = is-access w.shared.memory (is_plain (w.threads n)) e wants.plain
 
 -- who is gone can't go on
-gone-not : (b : Called) (w : systems.State Shared Walker) (n : ℕ) (a : Access) → unlimited_wants (machine_of b.program) (w.threads n) ≡ Gone
+gone-not : (b : Called) (w : systems.State Shared Walker) (n : ℕ) (a : NextAccess) → unlimited_wants (machine_of b.program) (w.threads n) ≡ Gone
     → next_access (system_of b) access_of w n ≡ Some a → ⊥
 gone-not b w n a gone h = none-some a (sym (ap (nexts.access_by (system_of b) access_of w.shared (w.threads n)) gone) ∙ h)
 

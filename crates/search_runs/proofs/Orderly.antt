@@ -87,7 +87,8 @@ module _ (s : Setting) (w : State Shared Running) (n : ℕ) (orderly : IsOrderly
 
     question_threads : (m : ℕ) → (after_event (system_by s) w n (events.Ask question)).threads m ≡ started_by s (put w.threads n asker) q n question v m
     question_threads m =
-        ap (λ o. or_started o (hears_any (system_by s) (put w.threads n asker m) (Given w n (events.Ask question) m))) (starts_is s w.shared orderly.dues question m)
+        ap (λ o. or_started o (hears_any (system_by s) (put w.threads n asker m) (Given w n (events.Ask question) m)))
+        (starts_is s w.shared orderly.dues question m)
         ∙ ap (λ z. or_started (started_at s (next_id q) question m) (hears_any (system_by s) (put w.threads n asker m) (answer_due z m))) step_is
 
     asked : IsWell s w n (events.Ask question)

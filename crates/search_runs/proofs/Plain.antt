@@ -1,5 +1,7 @@
 -- Plain accesses and the events of others, in the sequential memory.
-use Rattle.std.proofs.Common.{◌≡◌, ℕ, zero, suc, ◌+◌, ◌*◌, ◌/◌, ◌==◌, ◌≤◌, ◌<◌, ◌⊎◌, inl, inr, Bool, true, false, true≢false, List, ◌++◌, length, take, drop, refl, sym, ap, ◌∙◌, subst, arith, length-append}
+use Rattle.std.proofs.Common.{◌≡◌, ℕ, zero, suc, ◌+◌, ◌*◌, ◌/◌, ◌==◌, ◌≤◌, ◌<◌, ◌⊎◌, inl, inr, Bool, true, false}
+use Rattle.std.proofs.Common.{true≢false, List, ◌++◌, length, take, drop, refl, sym, ap, ◌∙◌, subst, arith}
+use Rattle.std.proofs.Common.{length-append}
 use Rattle.std.specs.Prelude.{◌&&◌, nat_le, if◌then◌else◌, replicate}
 use Rattle.std.specs.List.{splice}
 use Rattle.std.proofs.lemmas.Bool.{cases_lt, leb-true, le-leb}
@@ -12,7 +14,7 @@ use Rattle.types.specs.declared.limits.TheConstants.{PAGE_SIZE}
 use Rattle.shared_memory.specs.Numbers.{le_number, le_bytes}
 use Rattle.shared_memory.specs.Memory.{Memory, pages, loaded, written, combined, can_grow, grown, if_within, reply_of, state_after}
 use Rattle.shared_memory.proofs.Numbers.{length-le_bytes}
-use Rattle.search_settled.specs.declared.access.Access.{Access}
+use Rattle.search_settled.specs.declared.access.NextAccess.{NextAccess}
 use Rattle.search_settled.specs.Accesses.{HasByte, Meet, Conflict}
 use Rattle.search_runs.specs.Accesses.{no_bytes, in_bounds, access_by}
 use Rattle.search_runs.proofs.Bytes as bytes
@@ -33,7 +35,7 @@ IsAccess m (Cmpxchg addr width expected replacement) = ⊥
 IsAccess m (Ask question) = ⊥
 IsAccess m (Told answer) = ⊥
 
-abbrev inside : Bool → Bool → ℕ → ℕ → Access
+abbrev inside : Bool → Bool → ℕ → ℕ → NextAccess
 inside plain writes addr width = record { plain = plain; writes = writes; addr = addr; width = width }
 
 both-true : (s t : Bool) → (s && t) ≡ true → (s ≡ true) × (t ≡ true)
@@ -45,7 +47,10 @@ in-fits m plain writes addr width reach h = by (nat_le reach (length m.bytes)) r
   where
     by : (t : Bool) → nat_le reach (length m.bytes) ≡ t
         → (if t then inside (plain && nat_le (addr + width) reach) writes addr width else no_bytes).plain ≡ true → FitsIn m addr width reach
-    by true e g = record { ends = leb-true (addr + width) reach (both-true plain (nat_le (addr + width) reach) g).1; reaches = leb-true reach (length m.bytes) e }
+    by true e g = record {
+      ends = leb-true (addr + width) reach (both-true plain (nat_le (addr + width) reach) g).1;
+      reaches = leb-true reach (length m.bytes) e;
+    }
     by false e g = absurd (true≢false (sym g))
 
 not-plain : {B : Type 0} → false ≡ true → B
@@ -81,7 +86,7 @@ in-is m plain writes addr width reach e = ap (λ t. if t then inside (plain && n
 abbrev pub Apart : ℕ → ℕ → ℕ → ℕ → Type 0
 Apart a w b v = (w ≡ 0) ⊎ ((v ≡ 0) ⊎ ((a + w ≤ b) ⊎ (b + v ≤ a)))
 
-pub apart-of : (x y : Access) → (Meet x y → ⊥) → Apart x.addr x.width y.addr y.width
+pub apart-of : (x y : NextAccess) → (Meet x y → ⊥) → Apart x.addr x.width y.addr y.width
 apart-of x y never = elim (cases_lt 0 x.width) [
   | inr none ↦ inl (omega (arith, none))
   | inl some ↦ elim (cases_lt 0 y.width) [
@@ -110,7 +115,8 @@ pub loaded-apart : (m : Memory) (a w n b v : ℕ) → Apart a w b v → (b + v �
     → loaded (written m a w n) b v ≡ loaded m b v
 loaded-apart m a w n b v apart within = ap le_number (by apart within)
   where
-    by : Apart a w b v → (b + v ≤ length m.bytes) ⊎ (a + w ≤ length m.bytes) → take v (drop b (splice m.bytes a (a + w) (le_bytes w n))) ≡ take v (drop b m.bytes)
+    by : Apart a w b v → (b + v ≤ length m.bytes) ⊎ (a + w ≤ length m.bytes) → take v (drop b (splice m.bytes a (a + w) (le_bytes w n))) ≡ take v
+        (drop b m.bytes)
     by (inl none) h = ap (λ l. take v (drop b l)) (bytes.splice-none m.bytes a w (le_bytes w n) none (length-le_bytes w n))
     by (inr (inl none)) h =
         subst (λ k. take k (drop b (splice m.bytes a (a + w) (le_bytes w n))) ≡ take k (drop b m.bytes)) (sym none) refl
@@ -128,7 +134,8 @@ pub swap-writes : (m : Memory) (a w n b v k : ℕ) → Apart a w b v → b + v �
     → written (written m a w n) b v k ≡ written (written m b v k) a w n
 swap-writes m a w n b v k apart within = same-memory m _ _ (by apart)
   where
-    by : Apart a w b v → splice (splice m.bytes a (a + w) (le_bytes w n)) b (b + v) (le_bytes v k) ≡ splice (splice m.bytes b (b + v) (le_bytes v k)) a (a + w) (le_bytes w n)
+    by : Apart a w b v → splice (splice m.bytes a (a + w) (le_bytes w n)) b (b + v) (le_bytes v k) ≡ splice (splice m.bytes b (b + v) (le_bytes v k)) a (a + w)
+        (le_bytes w n)
     by (inl none) =
         ap (λ l. splice l b (b + v) (le_bytes v k)) (bytes.splice-none m.bytes a w (le_bytes w n) none (length-le_bytes w n))
         ∙ sym (bytes.splice-none (splice m.bytes b (b + v) (le_bytes v k)) a w (le_bytes w n) none (length-le_bytes w n))
@@ -170,7 +177,7 @@ longer m (Ask question) = omega arith
 longer m (Told answer) = omega arith
 
 -- What a write leaves to bytes that its thread's access doesn't meet.
-abbrev pub Spares : Access → ℕ → ℕ → Type 0
+abbrev pub Spares : NextAccess → ℕ → ℕ → Type 0
 Spares x b v = x.writes ≡ true → Meet x (inside true true b v) → ⊥
 
 spares-apart : (m : Memory) (p : Bool) (a w r b v : ℕ) → nat_le r (length m.bytes) ≡ true → Spares (in_bounds m p true a w r) b v → Apart a w b v
@@ -196,7 +203,8 @@ loaded-still m p (Rmw op addr width value) b v within h = by (nat_le (addr + wid
   where
     by : (t : Bool) → nat_le (addr + width) (length m.bytes) ≡ t
         → loaded (if t then written m addr width (combined op width (loaded m addr width) value) else m) b v ≡ loaded m b v
-    by true e = loaded-apart m addr width (combined op width (loaded m addr width) value) b v (spares-apart m false addr width (addr + width) b v e h) (inl within)
+    by true e = loaded-apart m addr width (combined op width (loaded m addr width) value) b v (spares-apart m false addr width (addr + width) b v e h)
+        (inl within)
     by false e = refl
 loaded-still m p (Cmpxchg addr width expected replacement) b v within h = by (nat_le (addr + width) (length m.bytes)) refl
   where
@@ -253,10 +261,11 @@ module _ (m : Memory) (p : Bool) (b v k : ℕ) (within : b + v ≤ length m.byte
   long : length (written m b v k).bytes ≡ length m.bytes
   long = bytes.length-splice m.bytes (le_bytes v k) b v (length-le_bytes v k) within
 
-  meet-back : (x y : Access) → Meet x y → Meet y x
+  meet-back : (x y : NextAccess) → Meet x y → Meet y x
   meet-back x y h = (h.0, (h.1.1, h.1.0))
 
-  store-apart : (t writes : Bool) (a w r : ℕ) → nat_le r (length m.bytes) ≡ true → (Meet (in_bounds m t writes a w r) (inside true true b v) → ⊥) → Apart b v a w
+  store-apart : (t writes : Bool) (a w r : ℕ) → nat_le r (length m.bytes) ≡ true → (Meet (in_bounds m t writes a w r) (inside true true b v) → ⊥) →
+      Apart b v a w
   store-apart t writes a w r e never =
       apart-of (inside true true b v) (inside (t && nat_le (a + w) r) writes a w)
       (λ meet. never (subst (λ x. Meet x (inside true true b v)) (sym (in-is m t writes a w r e))
@@ -287,21 +296,25 @@ module _ (m : Memory) (p : Bool) (b v k : ℕ) (within : b + v ≤ length m.byte
   other-found (Told answer) h = refl
 
   -- it leaves the same, whichever comes first
-  other-writes : (t : Bool) (a w r n end : ℕ) → end ≡ r → (Meet (in_bounds m t true a w r) (inside true true b v) → ⊥) → (s : Bool) → nat_le end (length m.bytes) ≡ s
+  other-writes : (t : Bool) (a w r n end : ℕ) → end ≡ r → (Meet (in_bounds m t true a w r) (inside true true b v) → ⊥) →
+      (s : Bool) → nat_le end (length m.bytes) ≡ s
       → written (if s then written m a w n else m) b v k ≡ (if s then written (written m b v k) a w n else written m b v k)
-  other-writes t a w r n end same h true e = swap-writes m a w n b v k (apart-back b v a w (store-apart t true a w r (subst (λ x. nat_le x (length m.bytes) ≡ true) same e) h)) within
+  other-writes t a w r n end same h true e = swap-writes m a w n b v k
+      (apart-back b v a w (store-apart t true a w r (subst (λ x. nat_le x (length m.bytes) ≡ true) same e) h)) within
   other-writes t a w r n end same h false e = refl
 
   pub other-leaves : (f : Event) → (Meet (access_by m p f) (inside true true b v) → ⊥) → written (state_after m f) b v k ≡ state_after (written m b v k) f
   other-leaves Size h = refl
-  other-leaves (Grow more) h = by (can_grow m more) ∙ sym (ap (λ l. if nat_le (l / PAGE_SIZE + more) m.max then grown (written m b v k) more else written m b v k) long)
+  other-leaves (Grow more) h = by (can_grow m more) ∙
+      sym (ap (λ l. if nat_le (l / PAGE_SIZE + more) m.max then grown (written m b v k) more else written m b v k) long)
     where
       by : (t : Bool) → written (if t then grown m more else m) b v k ≡ (if t then grown (written m b v k) more else written m b v k)
       by true = same-memory m _ _ (bytes.spliced-more m.bytes (le_bytes v k) (replicate (PAGE_SIZE * more) 0) b v within)
       by false = refl
   other-leaves (Load a w r) h = refl
   other-leaves (Store a w r n) h =
-      other-writes p a w r n r refl h (nat_le r (length m.bytes)) refl ∙ sym (if-same m (written m b v k) r (written (written m b v k) a w n) (written m b v k) long)
+      other-writes p a w r n r refl h (nat_le r (length m.bytes)) refl ∙
+      sym (if-same m (written m b v k) r (written (written m b v k) a w n) (written m b v k) long)
   other-leaves (Rmw op a w value) h =
       other-writes false a w (a + w) (combined op w (loaded m a w) value) (a + w) refl h (nat_le (a + w) (length m.bytes)) refl
       ∙ (by (nat_le (a + w) (length m.bytes)) refl
@@ -310,11 +323,13 @@ module _ (m : Memory) (p : Bool) (b v k : ℕ) (within : b + v ≤ length m.byte
       by : (s : Bool) → nat_le (a + w) (length m.bytes) ≡ s
           → (if s then written (written m b v k) a w (combined op w (loaded m a w) value) else written m b v k)
           ≡ (if s then written (written m b v k) a w (combined op w (loaded (written m b v k) a w) value) else written m b v k)
-      by true e = ap (λ o. written (written m b v k) a w (combined op w o value)) (sym (loaded-apart m b v k a w (store-apart false true a w (a + w) e h) (inr within)))
+      by true e = ap (λ o. written (written m b v k) a w (combined op w o value))
+          (sym (loaded-apart m b v k a w (store-apart false true a w (a + w) e h) (inr within)))
       by false e = refl
   other-leaves (Cmpxchg a w expected replacement) h =
       by (nat_le (a + w) (length m.bytes)) refl
-      ∙ sym (if-same m (written m b v k) (a + w) (if loaded (written m b v k) a w == expected then written (written m b v k) a w replacement else written m b v k) (written m b v k) long)
+      ∙ sym (if-same m (written m b v k) (a + w) (if loaded (written m b v k) a w == expected then written (written m b v k) a w replacement else written m b v
+      k) (written m b v k) long)
     where
       swapped : nat_le (a + w) (length m.bytes) ≡ true → (s : Bool)
           → written (if s then written m a w replacement else m) b v k ≡ (if s then written (written m b v k) a w replacement else written m b v k)
@@ -390,7 +405,8 @@ module _ (m : Memory) (p : Bool) (b v k : ℕ) (within : b + v ≤ length m.byte
   found-same : (a w expected : ℕ) → (Meet (in_bounds m false (loaded m a w == expected) a w (a + w)) (inside true true b v) → ⊥)
       → in_bounds (written m b v k) false (loaded (written m b v k) a w == expected) a w (a + w) ≡ in_bounds m false (loaded m a w == expected) a w (a + w)
   found-same a w expected never =
-      in-same m (written m b v k) false (loaded (written m b v k) a w == expected) a w (a + w) (long m p b v k within) ∙ by (nat_le (a + w) (length m.bytes)) refl
+      in-same m (written m b v k) false (loaded (written m b v k) a w == expected) a w (a + w) (long m p b v k within) ∙
+      by (nat_le (a + w) (length m.bytes)) refl
     where
       by : (s : Bool) → nat_le (a + w) (length m.bytes) ≡ s
           → (if s then inside (false && nat_le (a + w) (a + w)) (loaded (written m b v k) a w == expected) a w else no_bytes)
@@ -414,16 +430,17 @@ module _ (m : Memory) (p : Bool) (b v k : ℕ) (within : b + v ≤ length m.byte
   written-same (Told answer) h = refl
 
 -- the bytes that an event touches are the same in a memory as long
-in-meets : (m z : Memory) (plain one other : Bool) (addr width reach : ℕ) (y : Access) → length z.bytes ≡ length m.bytes
+in-meets : (m z : Memory) (plain one other : Bool) (addr width reach : ℕ) (y : NextAccess) → length z.bytes ≡ length m.bytes
     → Meet (in_bounds m plain one addr width reach) y → Meet (in_bounds z plain other addr width reach) y
-in-meets m z plain one other addr width reach y h meet = subst (λ x. Meet x y) (sym (in-same m z plain other addr width reach h)) (by (nat_le reach (length m.bytes)) meet)
+in-meets m z plain one other addr width reach y h meet = subst (λ x. Meet x y) (sym (in-same m z plain other addr width reach h))
+    (by (nat_le reach (length m.bytes)) meet)
   where
     by : (s : Bool) → Meet (if s then inside (plain && nat_le (addr + width) reach) one addr width else no_bytes) y
         → Meet (if s then inside (plain && nat_le (addr + width) reach) other addr width else no_bytes) y
     by true g = g
     by false g = g
 
-meets-still : (m z : Memory) (p : Bool) (f : Event) (y : Access) → length z.bytes ≡ length m.bytes → Meet (access_by m p f) y → Meet (access_by z p f) y
+meets-still : (m z : Memory) (p : Bool) (f : Event) (y : NextAccess) → length z.bytes ≡ length m.bytes → Meet (access_by m p f) y → Meet (access_by z p f) y
 meets-still m z p Size y h meet = meet
 meets-still m z p (Grow more) y h meet = meet
 meets-still m z p (Load addr width reach) y h meet = in-meets m z p false false addr width reach y h meet
@@ -460,7 +477,7 @@ module _ (m : Memory) (p q : Bool) (f : Event) where
   conflict-still (Load b v r) fits c = c
   conflict-still (Store b v r k) fits c = record {
     meet = meets-still m (state_after m (Store b v r k)) p f (access_by m q (Store b v r k)) (as-long m (Store b v r k) fits) c.meet;
-    write = inr (ap (λ (y : Access). y.writes) (in-is m q true b v r (le-leb r (length m.bytes) fits.reaches)));
+    write = inr (ap (λ (y : NextAccess). y.writes) (in-is m q true b v r (le-leb r (length m.bytes) fits.reaches)));
   }
   conflict-still (Rmw op addr width value) is c = absurd is
   conflict-still (Cmpxchg addr width expected replacement) is c = absurd is

@@ -1,5 +1,6 @@
 -- What threads without budgets come to, the scheduled machine comes to, and it is orderly.
-use Rattle.std.proofs.Common.{◌≡◌, ◌==◌, ◌&&◌, Bool, true, false, cond, nat_lt, ℕ, zero, suc, ◌+◌, ◌<◌, ◌≤◌, length, List, [], ◌∷◌, Some, None, refl, sym, ◌∙◌, ap, subst, arith}
+use Rattle.std.proofs.Common.{◌≡◌, ◌==◌, ◌&&◌, Bool, true, false, cond, nat_lt, ℕ, zero, suc, ◌+◌, ◌<◌, ◌≤◌, length}
+use Rattle.std.proofs.Common.{List, [], ◌∷◌, Some, None, refl, sym, ◌∙◌, ap, subst, arith}
 use Rattle.std.specs.Cmp.{second_so}
 use Rattle.std.proofs.lemmas.Bool.{eqb-true}
 use Rattle.types.specs.declared.event.Event.{Event}
@@ -64,7 +65,8 @@ scheduled b w reach =
       turns = path.0;
       shared = ap (λ z. z.shared) there ∙ (same.shared ∙ ap (λ z. z.shared) path.1);
       threads = λ m. subst (λ t. IsSame (w.threads m) t) (ap (λ (z : systems.State Shared Running). z.threads m) (sym there))
-          (subst (λ (z : systems.State Shared Walker). IsSame (z.threads m) ((scheduled_run (budgeted b fuel) (budgeted_first b fuel) (turns_of path.0)).threads m))
+          (subst (λ (z : systems.State Shared Walker). IsSame (z.threads m)
+          ((scheduled_run (budgeted b fuel) (budgeted_first b fuel) (turns_of path.0)).threads m))
           path.1 (same.threads m));
     }
 
@@ -131,7 +133,8 @@ module _ (b : Called) (w : systems.State Shared Walker) (reach : CanReach b w) w
   pub orderly : IsOrderly b.program metered.shared.queue metered.threads
   orderly =
       let z = Machine is.fuel is.turns in
-      let o : IsOrderly b.program w.shared.queue z.threads = subst (λ (x : Shared). IsOrderly b.program x.queue z.threads) is.shared (machine_orderly is.fuel is.turns) in
+      let o : IsOrderly b.program w.shared.queue z.threads = subst (λ (x : Shared). IsOrderly b.program x.queue z.threads) is.shared
+      (machine_orderly is.fuel is.turns) in
       record {
         sound = o.sound;
         dues = o.dues;

@@ -61,8 +61,11 @@ module _ {X T E V A : Type 0} (s : System X T E V A) where
       one-more Turns is = quiet Turns is refl
       one-more (Calls e) is =
           let r = rest (suc steps) (suc events) (v, n, refl, inr (events, refl, p)) in
-          let one : length (entries_by s v n (s.wants (v.threads n))) ≡ 1 = ap (λ x. length (entries_by s v n x)) is in
-          (r.0, comes-more r.0 (suc events + later) (events + all) first (scheduled_run s following (turns_of turns)) (let l = all-is in omega (arith, l, one)) r.1)
+          let one : length (entries_by s v n (s.wants (v.threads n))) ≡ 1 = ap (λ x. length (entries_by s v n x)) is in (
+            r.0,
+            comes-more r.0 (suc events + later) (events + all) first (scheduled_run s following (turns_of turns))
+                (let l = all-is in omega (arith, l, one)) r.1,
+          )
       one-more Awaits is = quiet Awaits is refl
       one-more Gone is = quiet Gone is refl
 
@@ -79,5 +82,8 @@ module _ {X T E V A : Type 0} (s : System X T E V A) where
   within-entries turns first H most made is =
       let r = along turns first first 0 0 refl in
       let few = fewer-answers H in
-      let e = ap length made in
-      (r.0, comes-more r.0 (0 + length (entries_made s first (turns_of turns))) most first (scheduled_run s first (turns_of turns)) (omega (arith, few, e, is)) r.1)
+      let e = ap length made in (
+        r.0,
+        comes-more r.0 (0 + length (entries_made s first (turns_of turns))) most first (scheduled_run s first (turns_of turns))
+            (omega (arith, few, e, is)) r.1,
+      )

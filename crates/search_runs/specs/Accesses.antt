@@ -13,7 +13,7 @@ use Rattle.schedule_threads.specs.Shared.{Shared}
 use Rattle.interp_machine.specs.Config.{Config}
 use Rattle.interp_machine.specs.State.{State, At, Over}
 use Rattle.search_threads.specs.Unlimited.{Unlimited.Missing, Unlimited.Going, Unlimited.Leaving, Unlimited.Away}
-use Rattle.search_settled.specs.declared.access.Access.{Access}
+use Rattle.search_settled.specs.declared.access.NextAccess.{NextAccess}
 use Rattle.search_runs.specs.Called.{Walker}
 
 -- The next instruction is a load or a store that isn't atomic.
@@ -45,12 +45,12 @@ is_plain (Leaving o) = false
 is_plain (Away o) = false
 
 -- It touches no byte.
-abbrev pub no_bytes : Access
+abbrev pub no_bytes : NextAccess
 no_bytes = record { plain = false; writes = false; addr = 0; width = 0 }
 
 -- A load or a store, whose whole access ends there and whose bytes lie before that, is plain or atomic; out of bounds it
 -- touches no byte.
-abbrev pub in_bounds : Memory → Bool → Bool → ℕ → ℕ → ℕ → Access
+abbrev pub in_bounds : Memory → Bool → Bool → ℕ → ℕ → ℕ → NextAccess
 in_bounds m plain writes addr width reach =
     if nat_le reach (length m.bytes)
     then record { plain = plain && nat_le (addr + width) reach; writes = writes; addr = addr; width = width }
@@ -58,7 +58,7 @@ in_bounds m plain writes addr width reach =
 
 -- A read-modify-write writes, a compare-exchange exactly where what it expects is there, and a wait reads; all three are
 -- atomic.
-abbrev pub access_by : Memory → Bool → Event → Access
+abbrev pub access_by : Memory → Bool → Event → NextAccess
 access_by m plain Size = no_bytes
 access_by m plain (Grow more) = no_bytes
 access_by m plain (Load addr width reach) = in_bounds m plain false addr width reach
@@ -72,5 +72,5 @@ access_by m plain (Ask (Spawn arg)) = no_bytes
 access_by m plain (Ask Leave) = no_bytes
 access_by m plain (Told answer) = no_bytes
 
-abbrev pub access_of : Shared → Walker → Event → Access
+abbrev pub access_of : Shared → Walker → Event → NextAccess
 access_of x t e = access_by x.memory (is_plain t) e

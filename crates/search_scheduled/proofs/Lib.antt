@@ -10,3 +10,4 @@ pub mod Answers
 pub mod Parts
 pub mod Ready
 pub mod Nowhere
+pub mod Listening

@@ -42,7 +42,8 @@ module _ {S : Type 0} (meaning : S → Meaning) where
   one_more_report w n reports report are is = record {
     count = omega (arith, length-append reports (report ∷ []), are.count);
     each = below_more (λ (m : ℕ). (d : ThreadReport) → IsReportOf meaning w m (get_or (reports ++ report ∷ []) m d)) n
-        (λ m below d. subst (IsReportOf meaning w m) (sym (get_or_append_left reports (report ∷ []) d m (omega (arith, below, are.count)))) (are.each m below d))
+        (λ m below d. subst (IsReportOf meaning w m) (sym (get_or_append_left reports (report ∷ []) d m (omega (arith, below, are.count))))
+        (are.each m below d))
         (λ d. subst (IsReportOf meaning w n) (sym (at_end d)) is);
   }
     where

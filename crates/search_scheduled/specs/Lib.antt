@@ -5,3 +5,4 @@ pub mod Courses
 pub mod Led
 pub mod Faults
 pub mod Nowhere
+pub mod Heard

@@ -4,9 +4,11 @@ ghost use Rattle.types.specs.declared.limits.TheConstants.{MOST_THREADS, PAST_LI
 ghost use Rattle.replay_walk.specs.Standing.{MayBeTaken};
 ghost use Rattle.search_scheduled.specs.Courses.{BeginsCourse, IsOnARun, StaysOnItsRuns};
 ghost use Rattle.search_scheduled.specs.Courses.{IsEachReady, GoesOn, IsLed, IsGivenUp, Hears, HearsAt, Steps};
+ghost use Rattle.search_scheduled.specs.Heard.{StaysHeard};
 ghost use Rattle.search_scheduled.specs.Nowhere.{IsStranded, MakesNoEntry};
 ghost use Rattle.search_scheduled.specs.declared.course.CourseFault.TheVariants as faults;
 
+use crate::ear::{Ear, hear_at};
 use crate::hearing::hear;
 use crate::making::go_on;
 use crate::settled::settle_going;
@@ -72,12 +74,17 @@ impl<T: TakesTurns> Course<T> {
         }
     }
 
-    /// A thread takes the answer that is due to it, if one is.
-    fn hear(&mut self, n: u32) -> Result<(), CourseFault>
+    /// A thread takes the answer that is due to it, if one is, and is heard before.
+    fn hear<E: Ear<T>>(&mut self, n: u32, ear: &mut E) -> Result<(), CourseFault>
         requires { IsOnARun T.meaning self.old }
         ensures heard { OnOk result (HearsAt T.meaning n self.old self.new) }
+        ensures ear { OnOk result (StaysHeard T.meaning E.hears self.old ear.old self.new ear.new) }
         ensures fault { IfErr result (λ fault. fault ≡ faults.NoMemory) }
     {
+        if self.walk.stage.queue.due(n).is_none() {
+            return Ok(());
+        }
+        hear_at(&self.walk.threads, n, ear)?;
         if let Some(answer) = hear(&mut self.walk, n) {
             self.log.push(Entry {
                 thread: n,
@@ -89,13 +96,14 @@ impl<T: TakesTurns> Course<T> {
     }
 
     /// All threads take the answers that are due to them.
-    fn hear_all(&mut self) -> Result<(), CourseFault>
+    fn hear_all<E: Ear<T>>(&mut self, ear: &mut E) -> Result<(), CourseFault>
         requires { IsOnARun T.meaning self.old }
         ensures heard { OnOk result (Hears T.meaning self.old self.new) }
+        ensures ear { OnOk result (StaysHeard T.meaning E.hears self.old ear.old self.new ear.new) }
         ensures fault { IfErr result (λ fault. fault ≡ faults.NoMemory) }
     {
         for n in 0..self.walk.stage.started {
-            self.hear(n)?;
+            self.hear(n, ear)?;
         }
         Ok(())
     }
@@ -105,14 +113,21 @@ impl<T: TakesTurns> Course<T> {
     /// # Errors
     /// `NoEntry` where it can't go on, or makes none; `GivenUp` where the strategy gives the run up meanwhile;
     /// `NoMemory`.
-    fn step<S: Strategy>(&mut self, n: u32, strategy: &S) -> Result<Entry, CourseFault>
+    fn step<S: Strategy, E: Ear<T>>(
+        &mut self,
+        n: u32,
+        strategy: &S,
+        ear: &mut E,
+    ) -> Result<Entry, CourseFault>
         requires { IsOnARun T.meaning self.old }
         ensures goes { IfOk result (λ e. Steps T.meaning n e self.old self.new) }
+        ensures ear { OnOk result (StaysHeard T.meaning E.hears self.old ear.old self.new ear.new) }
         ensures none { IfErr result (λ fault. fault ≡ faults.NoEntry
             → MayBeTaken T.meaning self.old.walk.stage n → MakesNoEntry T.meaning self.old.walk n) }
         ensures over { IfErr result (λ fault. fault ≡ faults.GivenUp → S.may_end strategy.now) }
     {
         let turn = settle_going(&mut self.walk, n, self.fuel, strategy)?;
+        hear_at(&self.walk.threads, n, ear)?;
         let Some(entry) = go_on(&mut self.walk, n, turn, self.log.len(), self.limit) else {
             return Err(CourseFault::NoEntry);
         };
@@ -125,16 +140,22 @@ impl<T: TakesTurns> Course<T> {
     ///
     /// # Errors
     /// As of `step`.
-    fn advance<S: Strategy>(&mut self, n: u32, strategy: &S) -> Result<Entry, CourseFault>
+    fn advance<S: Strategy, E: Ear<T>>(
+        &mut self,
+        n: u32,
+        strategy: &S,
+        ear: &mut E,
+    ) -> Result<Entry, CourseFault>
         requires { IsOnARun T.meaning self.old }
         ensures goes { IfOk result (λ e. GoesOn T.meaning n e self.old self.new) }
+        ensures ear { OnOk result (StaysHeard T.meaning E.hears self.old ear.old self.new ear.new) }
         ensures none { IfErr result (λ fault. fault ≡ faults.NoEntry
             → MayBeTaken T.meaning self.old.walk.stage n → MakesNoEntry T.meaning self.old.walk n) }
         ensures over { IfErr result (λ fault. fault ≡ faults.GivenUp → S.may_end strategy.now) }
     {
-        let entry = self.step(n, strategy)?;
+        let entry = self.step(n, strategy, ear)?;
         if let Event::Ask(_) = entry.event {
-            self.hear_all()?;
+            self.hear_all(ear)?;
         }
         Ok(entry)
     }
@@ -155,14 +176,19 @@ impl<T: TakesTurns> Course<T> {
     }
 
     /// Goes on until nobody can: before each event the strategy says who makes it, and hears the entry then. It stops
-    /// too where the log has 192 entries more than its limit, which no run comes to.
+    /// too where the log has 192 entries more than its limit, which no run comes to. The thread of each entry is heard.
     ///
     /// # Errors
     /// `NoMemory`; `GivenUp` where the strategy names nobody, or gives the run up while a thread makes turns of its own;
     /// and `NoEntry` where the thread that is named makes none, after which the course stands nowhere.
-    pub fn go<S: Strategy>(&mut self, strategy: &mut S) -> Result<(), CourseFault>
+    pub fn go<S: Strategy, E: Ear<T>>(
+        &mut self,
+        strategy: &mut S,
+        ear: &mut E,
+    ) -> Result<(), CourseFault>
         requires { IsOnARun T.meaning self.old }
         ensures runs { OnOk result (StaysOnItsRuns T.meaning self.old self.new) }
+        ensures ear { OnOk result (StaysHeard T.meaning E.hears self.old ear.old self.new ear.new) }
         ensures led { OnOk result
             (IsLed T.meaning S.chooses S.hears self.old strategy.old self.new strategy.new) }
         ensures ends { OnOk result (IsEachReady T.meaning self.new.walk.stage []
@@ -181,7 +207,7 @@ impl<T: TakesTurns> Course<T> {
             let Some(place) = strategy.choose(&ready) else {
                 return Err(CourseFault::GivenUp);
             };
-            let entry = self.advance(ready[place], strategy)?;
+            let entry = self.advance(ready[place], strategy, ear)?;
             strategy.hear(&entry);
         }
         Ok(())

@@ -11,6 +11,8 @@
 //!   `IsToldOn`), `settle_going` (a thread that can go on makes its turns of its own; one that sleeps, has left or
 //!   wasn't started is left as it is: `SettlesOn`, specs/Settled.antt), `leave` and `make` (what a settled thread does
 //!   then, its leave or its event).
+//! - An `Ear` hears of each entry the thread that makes it, where that stands (`IsHeard`, specs/Heard.antt): `Places` notes
+//!   the place in the code, if that is asked for.
 //! - `conclude` reads the ends off the walk, compares each with where the walk stands as a replay does, and makes the
 //!   record's parts.
 //! - `run_along` puts it together. Whatever the strategy, the record is of a run of the module (`IsRunOf`), and its log
@@ -20,6 +22,7 @@
 
 mod concluding;
 mod course;
+mod ear;
 mod fault;
 mod hearing;
 mod making;
@@ -28,6 +31,7 @@ mod settled;
 mod threads;
 
 pub use course::{Course, CourseFault};
+pub use ear::{Ear, Places};
 pub use fault::SearchFault;
 pub use running::{MadeRun, run_along, run_with_spares};
 pub use threads::Spares;

@@ -8,6 +8,7 @@ ghost use Rattle.shared_memory.specs.Memory.{reply_of, state_after};
 ghost use Rattle.shared_memory.specs.Events.{IsEvent};
 ghost use Rattle.interp_trait.specs.declared.turn.Turn.TheVariants as turns;
 ghost use Rattle.replay_walk.specs.Standing.{IsToMakeOn};
+ghost use Rattle.search_scheduled.specs.Heard.{IsMadeBy};
 ghost use Rattle.search_scheduled.specs.Settled.{IsToGoOn, IsToLeave, IsToMakeEvent, StageMade, StandsMade};
 ghost use Rattle.search_scheduled.specs.Settled.{KeepsStage, TakesLeave, TakesNext};
 
@@ -21,6 +22,7 @@ fn leave<T: TakesTurns>(walk: &mut Walk<T>, n: u32, outcome: Outcome) -> Entry
     requires { IsToLeave T.meaning n outcome walk.old }
     ensures count { length walk.new.threads.items ≡ length walk.old.threads.items }
     ensures taken { TakesLeave T.meaning n outcome walk.old result walk.new }
+    ensures threads { walk.new.threads.items ≡ walk.old.threads.items }
     ensures entry { result ≡ record { thread = n; event = events.Ask Leave; reply = Done } }
 {
     walk.stage.leave::<T>(n, outcome);
@@ -89,6 +91,7 @@ pub(crate) fn go_on<T: TakesTurns>(
     ensures taken { TakesNext T.meaning n turn limit at walk.old result walk.new }
     ensures none { result ≡ None → turn ≡ turns.Awaits }
     ensures thread { IfSome result (λ e. e.thread ≡ n) }
+    ensures made { IfSome result (λ e. IsMadeBy e.event turn walk.old.threads.items walk.new.threads.items) }
     ensures kept { IfSome result (λ e. KeepsStage e.event walk.old.stage walk.new.stage) }
 {
     match turn {

@@ -6,12 +6,14 @@ ghost use Rattle.validate_module.specs.Pages.{HasPagesWithin};
 ghost use Rattle.interp.specs.Threads.{meaning_in};
 ghost use Rattle.replay.specs.Runs.{IsRunOf};
 ghost use Rattle.search_scheduled.specs.Headers.{IsOfRequest};
+ghost use Rattle.search_scheduled.specs.Heard.{IsHeardRun};
 ghost use Rattle.search_scheduled.specs.Led.{IsGivenUpRun, IsLedRun};
 ghost use Rattle.search_scheduled.specs.Nowhere.{HasNoEnd};
 ghost use Rattle.search_scheduled.specs.SpareThreads.{HasBegunFor, HoldsSpares};
 
 use crate::Course;
 use crate::concluding::{Concluded, conclude};
+use crate::ear::Places;
 use crate::fault::SearchFault;
 use crate::threads::{Spares, opening, threads_of};
 use interp::Thread;
@@ -22,11 +24,12 @@ use std::alloc::{AllocError, Global};
 use types::{MOST_PAGES, MOST_THREADS, Name, Sequence};
 use validate_module::ValidModule;
 
-/// A run that was made: its record, and what it left.
+/// A run that was made: its record, what it left, and where the threads of its entries stood, if that was heard.
 #[derive(Drop)]
 pub struct MadeRun {
     pub record: Record,
     pub end: EndState,
+    pub heard: Places,
 }
 
 /// A valid module's memory has no more pages than any may have. It does nothing else.
@@ -80,6 +83,7 @@ pub fn run_along<S: Strategy>(
 ) -> Result<MadeRun, SearchFault>
     ensures header { IfOk result (λ made. IsOfRequest request.now limit made.record) }
     ensures run { IfOk result (λ made. IsRunOf request.now.parts made.record made.end) }
+    ensures heard { IfOk result (λ made. IsHeardRun request.now limit made.record made.heard) }
     ensures led { IfOk result (λ made.
         IsLedRun S.chooses S.hears request.now limit strategy.old strategy.new made.record) }
     ensures given_up { IfErr result (λ fault. fault ≡ SearchFault.GivenUp
@@ -87,7 +91,14 @@ pub fn run_along<S: Strategy>(
     ensures no_end { IfErr result (λ fault. fault ≡ SearchFault.NoEnd
         → HasNoEnd request.now limit S.chooses S.hears strategy.old) }
 {
-    run_with_spares(alloc, request, limit, strategy, &mut Spares::new(alloc))
+    run_with_spares(
+        alloc,
+        request,
+        limit,
+        false,
+        strategy,
+        &mut Spares::new(alloc),
+    )
 }
 
 /// A course before the first turn.
@@ -111,7 +122,7 @@ fn course_of<'m>(
 }
 
 /// `run_along` with the threads that the runs before it didn't start: those of this run that aren't started are given
-/// back.
+/// back. Where that is asked for, it is heard of each entry where its thread stands.
 ///
 /// # Errors
 /// As of `run_along`.
@@ -119,12 +130,14 @@ pub fn run_with_spares<'m, S: Strategy>(
     alloc: Global,
     request: &Request<'m, '_>,
     limit: u32,
+    hears: bool,
     strategy: &mut S,
     spares: &mut Spares<'m>,
 ) -> Result<MadeRun, SearchFault>
     requires spares { HoldsSpares request.now.parts request.now.fuel spares.old }
     ensures header { IfOk result (λ made. IsOfRequest request.now limit made.record) }
     ensures run { IfOk result (λ made. IsRunOf request.now.parts made.record made.end) }
+    ensures heard { IfOk result (λ made. IsHeardRun request.now limit made.record made.heard) }
     ensures led { IfOk result (λ made.
         IsLedRun S.chooses S.hears request.now limit strategy.old strategy.new made.record) }
     ensures given_up { IfErr result (λ fault. fault ≡ SearchFault.GivenUp
@@ -138,11 +151,12 @@ pub fn run_with_spares<'m, S: Strategy>(
     show_pages_fit(module);
     let header = header_of(alloc, request, limit)?;
     let mut course = course_of(alloc, request, limit, spares)?;
-    course.go(strategy)?;
+    let mut heard = Places::new(alloc, hears);
+    course.go(strategy, &mut heard)?;
     let Concluded { parts, end, unused } = conclude(alloc, course, header)?;
     spares.take_back(module, unused)?;
     match Record::new(parts) {
-        Ok(record) => Ok(MadeRun { record, end }),
+        Ok(record) => Ok(MadeRun { record, end, heard }),
         Err(_) => Err(SearchFault::NoEnd),
     }
 }

@@ -81,6 +81,7 @@ pub(crate) fn settle_going<T: TakesTurns, S: Strategy>(
     ensures memory { walk.new.memory ≡ walk.old.memory }
     ensures stage { walk.new.stage ≡ walk.old.stage }
     ensures settled { IfOk result (λ turn. SettlesWhereGoing T.meaning n walk.old turn walk.new) }
+    ensures settles { IfOk result (λ turn. SettlesThread T.meaning walk.old.threads.items n turn walk.new.threads.items) }
     ensures gone { IfErr result (λ fault. fault ≡ faults.NoEntry → HasGoneIfFree T.meaning walk.old.stage n) }
     ensures kept { IfErr result (λ fault. fault ≡ faults.NoEntry → walk.new.threads.items ≡ walk.old.threads.items) }
     ensures over { IfErr result (λ fault. fault ≡ faults.GivenUp → S.may_end strategy.now) }

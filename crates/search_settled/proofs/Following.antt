@@ -1,5 +1,6 @@
 -- The next states, of one thread after the other.
-use Rattle.std.proofs.Common.{◌≡◌, ◌⊎◌, inl, inr, ℕ, zero, suc, ◌+◌, ◌^◌, ◌<◌, ◌≤◌, List, [], ◌∷◌, ◌++◌, length, Option, Some, None, refl, sym, ◌∙◌, ap, subst, arith, Contains}
+use Rattle.std.proofs.Common.{◌≡◌, ◌⊎◌, inl, inr, ℕ, zero, suc, ◌+◌, ◌^◌, ◌<◌, ◌≤◌, List, [], ◌∷◌, ◌++◌, length, Option}
+use Rattle.std.proofs.Common.{Some, None, refl, sym, ◌∙◌, ap, subst, arith, Contains}
 use Rattle.std.specs.List.{slice_get}
 use Rattle.std.proofs.lemmas.Bool.{cases_lt}
 use Rattle.std.proofs.lemmas.List.Elements.{Contains-push, Contains-push_cases, Contains-append_left}
@@ -8,13 +9,14 @@ use Rattle.schedule.specs.System.{Want.Calls, Want.Awaits, Want.Gone, State, put
 use Rattle.schedule.specs.Scheduled.{after_event, hears_any, or_started}
 use Rattle.schedule.proofs.Basics.{put-other}
 use Rattle.search_settled.specs.Settled.{Settles, IsReached, AreTame}
-use Rattle.search_reach.specs.declared.explores.Next.{Next}
+use Rattle.search_reach.specs.declared.explores.NextState.{NextState}
 use Rattle.search_reach.proofs.Ascending.{ascend-none, ascend-same, ascend-more}
 use Rattle.search_settled.specs.Next.{IsAt, IsNextBy, IsNextOf, IsSomewhere, IsStuckAfter, HasNext}
-use Rattle.search_settled.specs.declared.flat.Flat.{Flat}
+use Rattle.search_settled.specs.declared.flat.RestingState.{RestingState}
 use Rattle.search_settled.specs.Known.{AllComeFrom}
 use Rattle.search_settled.specs.Threads.{ThreadSystem}
-use Rattle.search_settled.specs.Flat.{AreBounded, IsThreadOf, IsEventOf, IsEventAt, RestsAfter, IsMove, AllComeAfter, MovesSomewhere, IsStuckByMove, HasNextBelow}
+use Rattle.search_settled.specs.Flat.{AreBounded, IsThreadOf, IsEventOf, IsEventAt, RestsAfter, IsMove, AllComeAfter}
+use Rattle.search_settled.specs.Flat.{MovesSomewhere, IsStuckByMove, HasNextBelow}
 
 slice_get-get_some : {B : Type 0} (xs : List B) (m : ℕ) → m < length xs → (x : B) × (slice_get xs m ≡ Some x)
 slice_get-get_some [] m within = absurd (omega (arith, within))
@@ -23,23 +25,23 @@ slice_get-get_some (x ∷ xs) (suc m) within = slice_get-get_some xs m (omega (a
 
 module _ {X T E V A G H M : Type 0} (k : ThreadSystem X T E V A G H M) where
   -- a thread of the state
-  pub thread-of : (c : Flat G H) → IsSomewhere k c → (n : ℕ) (t : H) → slice_get c.threads.items n ≡ Some t
+  pub thread-of : (c : RestingState G H) → IsSomewhere k c → (n : ℕ) (t : H) → slice_get c.threads.items n ≡ Some t
       → (z : State X T) × IsThreadOf k c.shared t n z
   thread-of c at n t h = (at.0, (at.1.reached, (at.1.settled_is).shared, (at.1.settled_is).each n t h))
 
   -- what a call for an event answered
-  pub told-some : (c : Flat G H) (t : H) (n : ℕ) (o : Option (G × M)) (p : G × M) → o ≡ Some p
+  pub told-some : (c : RestingState G H) (t : H) (n : ℕ) (o : Option (G × M)) (p : G × M) → o ≡ Some p
       → IsEventAt k c.shared t n o
       → IsEventAt k c.shared t n (Some p)
   told-some c t n o p is h z of = subst (IsEventOf k z n) is (h z of)
 
-  pub told-none : (c : Flat G H) (t : H) (n : ℕ) (o : Option (G × M)) → o ≡ None
+  pub told-none : (c : RestingState G H) (t : H) (n : ℕ) (o : Option (G × M)) → o ≡ None
       → IsEventAt k c.shared t n o
       → IsEventAt k c.shared t n None
   told-none c t n o is h z of = subst (IsEventOf k z n) is (h z of)
 
   -- what is asked of the threads' call after an event
-  move : (c : Flat G H) (z : State X T) → IsAt k c z → (n : ℕ) (e : E) (p : G × M) (threads : List H) → threads ≡ c.threads.items
+  move : (c : RestingState G H) (z : State X T) → IsAt k c z → (n : ℕ) (e : E) (p : G × M) (threads : List H) → threads ≡ c.threads.items
       → k.system.wants (z.threads n) ≡ Calls e → k.shares p.0 (k.system.after z.shared n e) → k.makes p.1 z.shared n e
       → IsMove k p.0 p.1 n threads z e
   move c z at n e p threads same wants shared by = record {
@@ -49,7 +51,7 @@ module _ {X T E V A G H M : Type 0} (k : ThreadSystem X T E V A G H M) where
     each = λ m u k. (at.settled_is).each m u (ap (λ l. slice_get l m) (sym same) ∙ k);
   }
 
-  pub asked : (c : Flat G H) → IsSomewhere k c → (n : ℕ) (t : H) → slice_get c.threads.items n ≡ Some t
+  pub asked : (c : RestingState G H) → IsSomewhere k c → (n : ℕ) (t : H) → slice_get c.threads.items n ≡ Some t
       → (p : G × M) (threads : List H) → threads ≡ c.threads.items
       → IsEventAt k c.shared t n (Some p)
       → MovesSomewhere k p.0 p.1 n threads
@@ -71,13 +73,15 @@ module _ {X T E V A G H M : Type 0} (k : ThreadSystem X T E V A G H M) where
 
     pub stays : k.count (k.system.after z.shared n e) ≤ m → (after_event k.system z n e).threads m ≡ z.threads m
     stays past =
-        ap (λ o. or_started o (hears_any k.system (put z.threads n (k.system.takes (z.threads n) (k.system.reply z.shared n e)) m) (k.system.gives z.shared n e m)))
+        ap (λ o. or_started o (hears_any k.system (put z.threads n (k.system.takes (z.threads n) (k.system.reply z.shared n e)) m)
+        (k.system.gives z.shared n e m)))
         (bounded.none z reached n m e calls past)
-        ∙ (ap (λ o. hears_any k.system (put z.threads n (k.system.takes (z.threads n) (k.system.reply z.shared n e)) m) o) (no_answer (k.system.gives z.shared n e m) refl)
+        ∙ (ap (λ o. hears_any k.system (put z.threads n (k.system.takes (z.threads n) (k.system.reply z.shared n e)) m) o)
+        (no_answer (k.system.gives z.shared n e m) refl)
         ∙ put-other z.threads n (k.system.takes (z.threads n) (k.system.reply z.shared n e)) m apart)
 
   module _ (tame : AreTame k.system k.first k.most) (bounded : AreBounded k.system k.first k.count k.most)
-      (c : Flat G H) (z : State X T) (at : IsAt k c z) (n : ℕ) (e : E)
+      (c : RestingState G H) (z : State X T) (at : IsAt k c z) (n : ℕ) (e : E)
       (x : G) (made : M) (is : k.system.wants (z.threads n) ≡ Calls e) (shared : k.shares x (k.system.after z.shared n e)) (by : k.makes made z.shared n e)
       (rested : List H) (all : AllComeFrom k c x made n rested) where
     moved : IsMove k x made n c.threads.items z e
@@ -128,7 +132,7 @@ module _ {X T E V A G H M : Type 0} (k : ThreadSystem X T E V A G H M) where
               is_gone = λ p. gone;
             }
 
-    pub next-by : (y : Flat G H) → y.shared ≡ x → y.threads.items ≡ rested → IsNextBy k z n e y
+    pub next-by : (y : RestingState G H) → y.shared ≡ x → y.threads.items ≡ rested → IsNextBy k z n e y
     next-by y same_shared same_threads = record {
       settled = record { shared = k.system.after z.shared n e; threads = λ m. (rest m).thread };
       rest = record { shared = refl; each = λ m. (rest m).settles };
@@ -141,31 +145,32 @@ module _ {X T E V A G H M : Type 0} (k : ThreadSystem X T E V A G H M) where
     }
 
   -- from what holds of all threads that are moved so
-  pub come-from : (c : Flat G H) (x : G) (made : M) (n : ℕ) (rested : List H) → AllComeAfter k x made n c.threads.items rested → AllComeFrom k c x made n rested
+  pub come-from : (c : RestingState G H) (x : G) (made : M) (n : ℕ) (rested : List H) → AllComeAfter k x made n c.threads.items rested →
+      AllComeFrom k c x made n rested
   come-from c x made n rested all = record { len = λ z e at move. all.len z e move; each = λ z e at move. all.each z e move }
 
   -- one thread after the other
-  abbrev Below : Flat G H → ℕ → List (Next (Flat G H)) → Type 0
+  abbrev Below : RestingState G H → ℕ → List (NextState (RestingState G H)) → Type 0
   Below c i xs = HasNextBelow k c i xs
 
-  pub below-none : (c : Flat G H) → Below c 0 []
+  pub below-none : (c : RestingState G H) → Below c 0 []
   below-none c = record {
     all = λ z at n low. absurd (omega (arith, low));
     sound = λ z at x among. absurd (omega (arith, among.1));
     ascend = ascend-none;
   }
 
-  later : (z : State X T) (n : ℕ) (e : E) (xs : List (Next (Flat G H))) (y : Next (Flat G H))
-      → (x : Next (Flat G H)) × Contains xs x × (x.thread ≡ n) × IsNextBy k z n e x.state
-      → (x : Next (Flat G H)) × Contains (xs ++ y ∷ []) x × (x.thread ≡ n) × IsNextBy k z n e x.state
+  later : (z : State X T) (n : ℕ) (e : E) (xs : List (NextState (RestingState G H))) (y : NextState (RestingState G H))
+      → (x : NextState (RestingState G H)) × Contains xs x × (x.thread ≡ n) × IsNextBy k z n e x.state
+      → (x : NextState (RestingState G H)) × Contains (xs ++ y ∷ []) x × (x.thread ≡ n) × IsNextBy k z n e x.state
   later z n e xs y found = (found.0, Contains-append_left xs (y ∷ []) found.0 found.1, found.2, found.3)
 
-  thread-at : (c : Flat G H) (z : State X T) → IsAt k c z → (n : ℕ) (t : H) → slice_get c.threads.items n ≡ Some t
+  thread-at : (c : RestingState G H) (z : State X T) → IsAt k c z → (n : ℕ) (t : H) → slice_get c.threads.items n ≡ Some t
       → IsThreadOf k c.shared t n z
   thread-at c z at n t h = (at.reached, (at.settled_is).shared, (at.settled_is).each n t h)
 
   -- where it cannot tell what comes of the threads after the event of one
-  pub stuck-by : (stuck : State X T → Type 0) (c : Flat G H) (n : ℕ) (t : H) → slice_get c.threads.items n ≡ Some t → (p : G × M) (threads : List H)
+  pub stuck-by : (stuck : State X T → Type 0) (c : RestingState G H) (n : ℕ) (t : H) → slice_get c.threads.items n ≡ Some t → (p : G × M) (threads : List H)
       → threads ≡ c.threads.items → IsEventAt k c.shared t n (Some p)
       → IsStuckByMove k stuck p.0 p.1 n threads
       → IsStuckAfter k stuck c
@@ -177,7 +182,8 @@ module _ {X T E V A G H M : Type 0} (k : ThreadSystem X T E V A G H M) where
   split n i low = elim (cases_lt n i) [ inl h ↦ inl h | inr h ↦ inr (omega (arith, h, low)) ]
 
   -- a thread that wants no event
-  pub below-same : (c : Flat G H) (i : ℕ) (xs : List (Next (Flat G H))) (t : H) → Below c i xs → slice_get c.threads.items i ≡ Some t → IsEventAt k c.shared t i None
+  pub below-same : (c : RestingState G H) (i : ℕ) (xs : List (NextState (RestingState G H))) (t : H) → Below c i xs → slice_get c.threads.items i ≡ Some t →
+      IsEventAt k c.shared t i None
       → Below c (i + 1) xs
   below-same c i xs t so at none = record {
     all = λ z is n low e wants. elim (split n i low) [
@@ -190,7 +196,7 @@ module _ {X T E V A G H M : Type 0} (k : ThreadSystem X T E V A G H M) where
 
   -- a thread that wants one
   pub below-more : AreTame k.system k.first k.most → AreBounded k.system k.first k.count k.most
-      → (c : Flat G H) (i : ℕ) (xs : List (Next (Flat G H))) (t : H) (p : G × M) (y : Flat G H) (rested : List H) → Below c i xs
+      → (c : RestingState G H) (i : ℕ) (xs : List (NextState (RestingState G H))) (t : H) (p : G × M) (y : RestingState G H) (rested : List H) → Below c i xs
       → slice_get c.threads.items i ≡ Some t → IsEventAt k c.shared t i (Some p)
       → AllComeFrom k c p.0 p.1 i rested
       → y.shared ≡ p.0 → y.threads.items ≡ rested → Below c (i + 1) (xs ++ record { thread = i; state = y } ∷ [])
@@ -207,7 +213,7 @@ module _ {X T E V A G H M : Type 0} (k : ThreadSystem X T E V A G H M) where
     ascend = ascend-more i xs new refl so.ascend;
   }
     where
-      new : Next (Flat G H)
+      new : NextState (RestingState G H)
       new = record { thread = i; state = y }
 
       here : (z : State X T) (is : IsAt k c z) → IsNextBy k z i (some z (thread-at c z is i t at)).0 y
@@ -222,7 +228,7 @@ module _ {X T E V A G H M : Type 0} (k : ThreadSystem X T E V A G H M) where
           let event : a.0 ≡ e = cc (a.1, wants_i) in
           subst (λ j. IsNextBy k z j e y) (sym same) (subst (λ v. IsNextBy k z i v y) event (here z is))
 
-  pub below-all : (c : Flat G H) (i : ℕ) (xs : List (Next (Flat G H))) → Below c i xs → length c.threads.items ≤ i → HasNext k c xs
+  pub below-all : (c : RestingState G H) (i : ℕ) (xs : List (NextState (RestingState G H))) → Below c i xs → length c.threads.items ≤ i → HasNext k c xs
   below-all c i xs so past = record {
     all = λ z is n e wants. so.all z is n (low z is n e wants) e wants;
     sound = so.sound;
@@ -236,7 +242,8 @@ module _ {X T E V A G H M : Type 0} (k : ThreadSystem X T E V A G H M) where
       ]
 
   -- the number of a thread that is there fits
-  pub number-fits : AreBounded k.system k.first k.count k.most → (c : Flat G H) → IsSomewhere k c → (n : ℕ) (t : H) → slice_get c.threads.items n ≡ Some t
+  pub number-fits : AreBounded k.system k.first k.count k.most → (c : RestingState G H) → IsSomewhere k c →
+      (n : ℕ) (t : H) → slice_get c.threads.items n ≡ Some t
       → n < 2 ^ 32
   number-fits bounded c at n t h =
       let is = at.1.settled_is in

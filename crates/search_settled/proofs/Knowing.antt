@@ -6,12 +6,12 @@ use Rattle.std.proofs.lemmas.Bool.{cases_lt}
 use Rattle.std.proofs.lemmas.List.{length-set}
 use Rattle.std.proofs.lemmas.Option.{none-some, slice_get_within}
 use Rattle.schedule.specs.System.{State}
-use Rattle.search_table.specs.declared.parts.Parts.{Parts}
+use Rattle.search_table.specs.declared.parts.StateParts.{StateParts}
 use Rattle.search_table.specs.Tables.{Keeps, Grows}
 use Rattle.search_settled.specs.declared.met.Known.{Known}
-use Rattle.search_settled.specs.declared.met.Met.{Met}
-use Rattle.search_settled.specs.declared.met.Turn.{Turn}
-use Rattle.search_settled.specs.declared.met.Turn.TheVariants.{Still, Alone}
+use Rattle.search_settled.specs.declared.met.MetParts.{MetParts}
+use Rattle.search_settled.specs.declared.met.QuietTurn.{QuietTurn}
+use Rattle.search_settled.specs.declared.met.QuietTurn.TheVariants.{Still, Alone}
 use Rattle.search_settled.specs.Threads.{ThreadSystem}
 use Rattle.search_settled.specs.Flat.{AreBounded, IsThreadOf, IsEventOf, IsEventAt, RestsAfter, ComesAfter, IsBeforeSome, IsStuckBy}
 use Rattle.search_settled.specs.Alone.{IsUnheard}
@@ -30,8 +30,8 @@ set-at (z ∷ xs) (suc n) y (suc m) x at = elim (set-at xs n y m x at) [
 ]
 
 module _ {X T E V A G H M : Type 0} (k : ThreadSystem X T E V A G H M) where
-  module _ (t u : Parts G H) (shared : Keeps t.shared.keys u.shared.keys) (threads : Keeps t.threads.keys u.threads.keys) where
-    turn-stays : (g : G) (h : H) (n : ℕ) (turn : Turn) → IsTurn k t g h n turn → IsTurn k u g h n turn
+  module _ (t u : StateParts G H) (shared : Keeps t.shared.keys u.shared.keys) (threads : Keeps t.threads.keys u.threads.keys) where
+    turn-stays : (g : G) (h : H) (n : ℕ) (turn : QuietTurn) → IsTurn k t g h n turn → IsTurn k u g h n turn
     turn-stays g h n Still is = is
     turn-stays g h n (Alone s r) is = (is.0, is.1, shared s is.0 is.2, threads r is.1 is.3, is.4)
 
@@ -50,26 +50,26 @@ module _ {X T E V A G H M : Type 0} (k : ThreadSystem X T E V A G H M) where
         → (slot : ℕ) (known : Known) → slice_get ls slot ≡ Some (Some known) → IsRight k u known
     known-stays ks ls same so slot known at = right-stays known (so slot known (ap (λ l. slice_get l slot) (sym same) ∙ at))
 
-  pub turn-grows : (t u : Parts G H) → Grows t u → (g : G) (h : H) (n : ℕ) (turn : Turn) → IsTurn k t g h n turn → IsTurn k u g h n turn
+  pub turn-grows : (t u : StateParts G H) → Grows t u → (g : G) (h : H) (n : ℕ) (turn : QuietTurn) → IsTurn k t g h n turn → IsTurn k u g h n turn
   turn-grows t u grows = turn-stays t u grows.shared grows.threads
 
-  pub known-grows : (m : Met G H) (new : Met G H) → AreKnown k m → Grows m.parts new.parts → new.known.items ≡ m.known.items → AreKnown k new
+  pub known-grows : (m : MetParts G H) (new : MetParts G H) → AreKnown k m → Grows m.parts new.parts → new.known.items ≡ m.known.items → AreKnown k new
   known-grows m new so grows same = known-stays m.parts new.parts grows.shared grows.threads m.known.items new.known.items same so
 
-  pub known-noted : (m : Met G H) (new : Met G H) (one : Known) → AreKnown k m → new.parts ≡ m.parts → AreFrom m.known.items one new.known.items
+  pub known-noted : (m : MetParts G H) (new : MetParts G H) (one : Known) → AreKnown k m → new.parts ≡ m.parts → AreFrom m.known.items one new.known.items
       → IsRight k m.parts one → AreKnown k new
-  known-noted m new one so same from right = λ slot known at. subst (λ (t : Parts G H). IsRight k t known) (sym same) (elim (from slot known at) [
+  known-noted m new one so same from right = λ slot known at. subst (λ (t : StateParts G H). IsRight k t known) (sym same) (elim (from slot known at) [
     | inl is ↦ subst (IsRight k m.parts) (sym is) right
     | inr was ↦ so was.0 known was.1
   ])
 
   -- and where some are forgotten
-  pub known-fewer : (m : Met G H) (new : Met G H) → AreKnown k m → new.parts ≡ m.parts → HasNoOther m.known.items new.known.items → AreKnown k new
+  pub known-fewer : (m : MetParts G H) (new : MetParts G H) → AreKnown k m → new.parts ≡ m.parts → HasNoOther m.known.items new.known.items → AreKnown k new
   known-fewer m new so same no-other = λ slot known at. (let was = no-other slot known at in
-      subst (λ (t : Parts G H). IsRight k t known) (sym same) (so was.0 known was.1))
+      subst (λ (t : StateParts G H). IsRight k t known) (sym same) (so was.0 known was.1))
 
   -- what was noted of a turn
-  pub recalled : (m : Met G H) → AreKnown k m → (shared thread n : ℕ) (turn : Turn) → IsNotedIn m.known.items shared thread n turn
+  pub recalled : (m : MetParts G H) → AreKnown k m → (shared thread n : ℕ) (turn : QuietTurn) → IsNotedIn m.known.items shared thread n turn
       → OfNumbers k m.parts shared thread (λ g h. IsTurn k m.parts g h n turn)
   recalled m so shared thread n turn noted g h shared_at thread_at =
       let right = so noted.0 (record { shared = shared; thread = thread; n = n; turn = turn }) noted.1 in
@@ -88,7 +88,7 @@ module _ {X T E V A G H M : Type 0} (k : ThreadSystem X T E V A G H M) where
   ]
 
   -- what has these numbers
-  pub of-read : (t : Parts G H) (shared thread n : ℕ) → AreOfThread k t shared thread n → (g : G) (h : H) → slice_get t.shared.keys shared ≡ Some g
+  pub of-read : (t : StateParts G H) (shared thread n : ℕ) → AreOfThread k t shared thread n → (g : G) (h : H) → slice_get t.shared.keys shared ≡ Some g
       → slice_get t.threads.keys thread ≡ Some h → (z : State X T) × IsThreadOf k g h n z
   of-read t shared thread n of g h shared_at thread_at =
       let same : of.shared_is ≡ g = cc (of.shared_at, shared_at) in
@@ -105,7 +105,7 @@ module _ {X T E V A G H M : Type 0} (k : ThreadSystem X T E V A G H M) where
       let same = is z.shared of.1 in
       omega (arith, few, same)
 
-  pub of-numbers : (t : Parts G H) (shared thread : ℕ) (P : G → H → Type 0) (g : G) (h : H) → slice_get t.shared.keys shared ≡ Some g
+  pub of-numbers : (t : StateParts G H) (shared thread : ℕ) (P : G → H → Type 0) (g : G) (h : H) → slice_get t.shared.keys shared ≡ Some g
       → slice_get t.threads.keys thread ≡ Some h → P g h → OfNumbers k t shared thread P
   of-numbers t shared thread P g h shared_at thread_at so x y at there =
       let same : g ≡ x = cc (shared_at, at) in
@@ -125,7 +125,8 @@ module _ {X T E V A G H M : Type 0} (k : ThreadSystem X T E V A G H M) where
       (z, a.0, record { reached = of.0; wants = a.1; is = a.3 }, of.2)
 
   -- where nothing can be told of it
-  pub own-lost : (stuck : State X T → Type 0) (g : G) (h : H) (n : ℕ) (p : G × M) → IsEventAt k g h n (Some p) → IsStuckBy k stuck p.1 n h n → IsLostBy k stuck n g h
+  pub own-lost : (stuck : State X T → Type 0) (g : G) (h : H) (n : ℕ) (p : G × M) → IsEventAt k g h n (Some p) → IsStuckBy k stuck p.1 n h n →
+      IsLostBy k stuck n g h
   own-lost stuck g h n p event lost z of =
       let a = event z of in
       (a.0, a.1, lost z a.0 (record { reached = of.0; wants = a.1; is = a.3 }) of.2)
@@ -133,7 +134,8 @@ module _ {X T E V A G H M : Type 0} (k : ThreadSystem X T E V A G H M) where
   module _ (eq_shared : G → G → Bool) (eq_thread : H → H → Bool) (symm : (x y : G) → eq_shared x y ≡ true → eq_shared y x ≡ true)
       (same_shared : (x y : G) → eq_shared x y ≡ true → (w : X) → k.shares x w → k.shares y w)
       (same_thread : (x y : H) → eq_thread x y ≡ true → (w : T) → k.is_thread x w → k.is_thread y w) where
-    pub event-alike : (g : G) (h : H) (n : ℕ) (x y : G) (made : M) → eq_shared x y ≡ true → IsEventAt k g h n (Some (x, made)) → IsEventAt k g h n (Some (y, made))
+    pub event-alike : (g : G) (h : H) (n : ℕ) (x y : G) (made : M) → eq_shared x y ≡ true → IsEventAt k g h n (Some (x, made)) →
+        IsEventAt k g h n (Some (y, made))
     event-alike g h n x y made e is z of =
         let a = is z of in
         (a.0, a.1, same_shared x y e (k.system.after z.shared n a.0) a.2, a.3)
@@ -174,7 +176,8 @@ noted-at known slot o one at is shared thread n a b c = (
 )
 
 pub from-put : (items : List (Option Known)) (slot : ℕ) (new : Known) (before : List (Option Known))
-    → ((s : ℕ) (k : Known) → slice_get items s ≡ Some (Some k) → (was : ℕ) × (slice_get before was ≡ Some (Some k))) → AreFrom before new (slice_set items slot (Some new))
+    → ((s : ℕ) (k : Known) → slice_get items s ≡ Some (Some k) → (was : ℕ) × (slice_get before was ≡ Some (Some k))) →
+    AreFrom before new (slice_set items slot (Some new))
 from-put items slot new before old s k at = elim (set-at items slot (Some new) s (Some k) at) [
   | inl h ↦ (let same : new ≡ k = cc h.1 in inl (sym same))
   | inr h ↦ inr (old s k h.1)

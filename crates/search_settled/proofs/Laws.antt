@@ -6,11 +6,11 @@ use Rattle.schedule.specs.System.{Want.Turns, Want.Calls, Kind.Turn, State, put}
 use Rattle.schedule.specs.Scheduled.{after_turn, after_mark, after_event, with_thread}
 use Rattle.schedule.proofs.Basics.{put-same, put-other}
 use Rattle.search_graph.specs.Paths.{Reaches}
-use Rattle.search_reach.specs.declared.explores.Next.{Next}
+use Rattle.search_reach.specs.declared.explores.NextState.{NextState}
 use Rattle.search_reach.specs.Search.{StepSystem, RestsIn, HasOf, StaysIn, LeadsOn, ComesBy, AreNext, IsFirst, IsMet, IsEnding, AllGetStuck, CanGetStuck}
 use Rattle.search_reach.proofs.Paths.{stays, one_step, onward}
 use Rattle.search_settled.specs.Settled.{ComesTo, ComesToRest, ComesToRestBy, CanGoOn, StepsBy, AreTame}
-use Rattle.search_settled.specs.declared.flat.Flat.{Flat}
+use Rattle.search_settled.specs.declared.flat.RestingState.{RestingState}
 use Rattle.search_settled.specs.Threads.{ThreadSystem, IsFlat}
 use Rattle.search_settled.specs.Flat.{AreBounded}
 use Rattle.search_settled.specs.Next.{StandsForState, IsBeginning, IsAt, IsSomewhere, IsNextBy, IsStuckAfter, HasNext, HasEnded, NobodyTurns}
@@ -30,10 +30,10 @@ pub where-none : {B F : Type 0} (P Q : Type 0) → (P → Q) → (r : Result (Op
 where-none P Q f r h = IfOk-weaker r (λ o. o ≡ None → P) (λ o. o ≡ None → Q) (λ o k none. f (k none)) h
 
 module _ {X T E V A G H M O : Type 0} (k : ThreadSystem X T E V A G H M) (ends : State X T → O → Type 0) (stuck : State X T → Type 0) where
-  abbrev Turning : StepSystem (Flat G H) (State X T) O
+  abbrev Turning : StepSystem (RestingState G H) (State X T) O
   Turning = turn_steps k ends stuck
 
-  pub first-is : (c : Flat G H) → IsBeginning k c → IsFirst Turning c
+  pub first-is : (c : RestingState G H) → IsBeginning k c → IsFirst Turning c
   first-is c b = record {
     all = λ w begins. (
       turns_to k.system k.first b.settled b.rest,
@@ -52,24 +52,24 @@ module _ {X T E V A G H M O : Type 0} (k : ThreadSystem X T E V A G H M) (ends :
   stuck-first is-stuck = record { from = k.first; begun = refl; gets = record { end = k.first; path = stays (StepsBy k.system) k.first; is = is-stuck } }
 
   module _ (tame : AreTame k.system k.first k.most) where
-    to_settled : (c : Flat G H) (w : State X T) (turns : ℕ → ℕ) (st : StandsForState k c w turns) → Reaches (StepsBy k.system) w st.settled
+    to_settled : (c : RestingState G H) (w : State X T) (turns : ℕ → ℕ) (st : StandsForState k c w turns) → Reaches (StepsBy k.system) w st.settled
     to_settled c w turns st = to_rest k.system k.most w st.settled (tame.few w st.reached) (rest_by k.system turns w st.settled st.rest)
 
-    at_settled : (c : Flat G H) (w : State X T) (turns : ℕ → ℕ) (st : StandsForState k c w turns) → IsAt k c st.settled
+    at_settled : (c : RestingState G H) (w : State X T) (turns : ℕ → ℕ) (st : StandsForState k c w turns) → IsAt k c st.settled
     at_settled c w turns st = record {
       reached = onward (StepsBy k.system) k.first w st.settled st.reached (to_settled c w turns st);
       settled_is = st.settled_is;
     }
 
     -- where all rest
-    at_rest_is : (c : Flat G H) (w : State X T) → RestsIn Turning c w → IsAt k c w
+    at_rest_is : (c : RestingState G H) (w : State X T) → RestsIn Turning c w → IsAt k c w
     at_rest_is c w st = record { reached = st.reached; settled_is = subst (IsFlat k c) (sym (self_rests k.system w st.settled st.rest)) st.settled_is }
 
-    pub somewhere : (c : Flat G H) → IsMet Turning c → IsSomewhere k c
+    pub somewhere : (c : RestingState G H) → IsMet Turning c → IsSomewhere k c
     somewhere c met = let st = met.comes.is.1 in (st.settled, at_settled c met.comes.end met.comes.is.0 st)
 
     -- what comes to rest where it is stuck after an event gets stuck
-    pub gets-stuck : (c : Flat G H) → IsStuckAfter k stuck c → AllGetStuck Turning c
+    pub gets-stuck : (c : RestingState G H) → IsStuckAfter k stuck c → AllGetStuck Turning c
     gets-stuck c after w stands =
         let st = stands.1 in
         let a = after st.settled (at_settled c w stands.0 st) in
@@ -80,7 +80,8 @@ module _ {X T E V A G H M O : Type 0} (k : ThreadSystem X T E V A G H M) (ends :
           is = a.3;
         }
 
-    module _ (bounded : AreBounded k.system k.first k.count k.most) (c : Flat G H) (xs : List (Next (Flat G H))) (next : HasNext k c xs) where
+    module _ (bounded : AreBounded k.system k.first k.count k.most) (c : RestingState G H) (xs : List (NextState (RestingState G H)))
+        (next : HasNext k c xs) where
       -- a thread with a next state makes an event once it rests
       calls_at : (w : State X T) (turns : ℕ → ℕ) (st : StandsForState k c w turns) (u : ℕ) → HasOf xs u
           → (e : E) × (k.system.wants (st.settled.threads u) ≡ Calls e)
@@ -99,7 +100,7 @@ module _ {X T E V A G H M O : Type 0} (k : ThreadSystem X T E V A G H M) (ends :
 
       -- and has as many turns left after an event of another
       module _ (w : State X T) (turns : ℕ → ℕ) (st : StandsForState k c w turns) (n : ℕ) (e : E) (calls : k.system.wants (w.threads n) ≡ Calls e)
-          (x : Next (Flat G H)) (among : Contains xs x) (by : x.thread ≡ n) (at : IsNextBy k st.settled n e x.state) where
+          (x : NextState (RestingState G H)) (among : Contains xs x) (by : x.thread ≡ n) (at : IsNextBy k st.settled n e x.state) where
         rest_on : ComesToRest k.system (after_event k.system w n e) at.settled
         rest_on = event k.system w st.settled n e (tame.answers w st.reached) (rest_by k.system turns w st.settled st.rest) calls at.settled at.rest
 
@@ -170,7 +171,7 @@ module _ {X T E V A G H M O : Type 0} (k : ThreadSystem X T E V A G H M) (ends :
           let x = next.all w (at_rest_is c w st) n calls.0 calls.1 in
           record { next = x.0; among = x.1; is = x.2 }
 
-      comes : (w : State X T) → RestsIn Turning c w → (x : Next (Flat G H)) → Contains xs x → ComesBy Turning x.thread w x.state
+      comes : (w : State X T) → RestsIn Turning c w → (x : NextState (RestingState G H)) → Contains xs x → ComesBy Turning x.thread w x.state
       comes w st x among =
           let at = at_rest_is c w st in
           let of = next.sound w at x among in
@@ -202,7 +203,7 @@ module _ {X T E V A G H M O : Type 0} (k : ThreadSystem X T E V A G H M) (ends :
         ascend = next.ascend;
       }
 
-    pub ending-is : NobodyTurns k.system ends → (c : Flat G H) (r : Option O)
+    pub ending-is : NobodyTurns k.system ends → (c : RestingState G H) (r : Option O)
         → HasEnded k ends c r → IsEnding Turning c r
     ending-is over c r ended = record {
       all = λ w o stands end.
@@ -227,7 +228,7 @@ module _ {X T E V A G H M O : Type 0} (k : ThreadSystem X T E V A G H M) (ends :
 
 -- The same of what a call answers.
 module _ {X T E V A G H M O F : Type 0} (k : ThreadSystem X T E V A G H M) (ends : State X T → O → Type 0) (stuck : State X T → Type 0) where
-  pub first-answer : (r : Result (Option (Flat G H)) F) → IfOk r (λ o. IfSome o (IsBeginning k))
+  pub first-answer : (r : Result (Option (RestingState G H)) F) → IfOk r (λ o. IfSome o (IsBeginning k))
       → IfOk r (λ o. IfSome o (IsFirst (turn_steps k ends stuck)))
   first-answer r h = IfOk-weaker r (λ o. IfSome o (IsBeginning k)) (λ o. IfSome o (IsFirst (turn_steps k ends stuck)))
       (if-some (IsBeginning k) (IsFirst (turn_steps k ends stuck)) (first-is k ends stuck)) h

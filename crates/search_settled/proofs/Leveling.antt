@@ -9,7 +9,7 @@ use Rattle.search_reach.specs.Levels.{IsQuiet, HasEndsWithin}
 use Rattle.search_reach.specs.declared.ending.Ended.{Ended}
 use Rattle.search_reach.proofs.Paths.{one_step, onward}
 use Rattle.search_settled.specs.Settled.{ComesToRestBy, StepsBy}
-use Rattle.search_settled.specs.declared.flat.Flat.{Flat}
+use Rattle.search_settled.specs.declared.flat.RestingState.{RestingState}
 use Rattle.search_settled.specs.Threads.{ThreadSystem}
 use Rattle.search_settled.specs.Next.{StandsForState}
 use Rattle.search_settled.specs.Turns.{turn_steps}
@@ -18,7 +18,7 @@ use Rattle.search_settled.proofs.Stepping.{own}
 use Rattle.search_settled.proofs.Laws.{if-some}
 
 module _ {X T E V A G H M O : Type 0} (k : ThreadSystem X T E V A G H M) (ends : State X T → O → Type 0) (stuck : State X T → Type 0) where
-  own-stays : (c : Flat G H) (w y : State X T) (turns : ℕ → ℕ) (n : ℕ) → StandsForState k c w turns → k.system.wants (w.threads n) ≡ Turns
+  own-stays : (c : RestingState G H) (w y : State X T) (turns : ℕ → ℕ) (n : ℕ) → StandsForState k c w turns → k.system.wants (w.threads n) ≡ Turns
       → y ≡ after_mark k.system w n Turn → StandsFor (turn_steps k ends stuck) c y
   own-stays c w y turns n st wants step =
       let is : y ≡ with_thread k.system w n (k.system.own_turn (w.threads n)) = step ∙ ap (after_turn k.system w n) wants in

@@ -8,7 +8,7 @@ use Rattle.search_graph.specs.declared.graph.Move.{Move}
 use Rattle.search_table.specs.Tables.{AreThreads, Grows, AreStates, states_of, with_row}
 use Rattle.search_reach.specs.Search.{IsEnding, AllGetStuck}
 use Rattle.search_reach.specs.Meeting.{HasMetAt, OfStateAt, HasFirst, GoesOn}
-use Rattle.search_settled.specs.declared.flat.Flat.{Flat}
+use Rattle.search_settled.specs.declared.flat.RestingState.{RestingState}
 use Rattle.search_settled.specs.declared.met.NextRow.{NextRow}
 use Rattle.search_settled.specs.declared.met.Tables.{Tables}
 use Rattle.search_settled.specs.Settled.{AreTame}
@@ -39,7 +39,7 @@ module _ {X T E V A G H M O : Type 0} (k : ThreadSystem X T E V A G H M) (ends :
     are = subst (λ rs. AllZip (IsOf (t.met).parts) rs []) (sym empty) tt;
   }
 
-  pub counted : (t : Tables G H) (cs : List (Flat G H)) → HasStates k t cs → (count : ℕ) → count ≡ length (states_of t.states) → count ≡ length cs
+  pub counted : (t : Tables G H) (cs : List (RestingState G H)) → HasStates k t cs → (count : ℕ) → count ≡ length (states_of t.states) → count ≡ length cs
   counted t cs has count is = is ∙ sym (zip-length (IsOf (t.met).parts) (states_of t.states) cs has.are)
 
   -- the first state, whose parts were put in, and its row
@@ -48,7 +48,7 @@ module _ {X T E V A G H M O : Type 0} (k : ThreadSystem X T E V A G H M) (ends :
       → ((x y : H) → eq_thread x y ≡ true → (w : T) → k.is_thread x w → k.is_thread y w)
       → (old new : Tables G H) → HasStates k old [] → Grows (old.met).parts (new.met).parts → (new.met).known.items ≡ (old.met).known.items
       → AreStates new.states → (row : List ℕ) → states_of new.states ≡ with_row (states_of old.states) row
-      → (flat : Flat G H) → IsBeginning k flat → IsRowOfEqual eq_shared eq_thread (new.met).parts flat row
+      → (flat : RestingState G H) → IsBeginning k flat → IsRowOfEqual eq_shared eq_thread (new.met).parts flat row
       → HasFirst (turn_steps k ends stuck) (HasStates k new)
   unfolding with_parts
   first-put eq_shared eq_thread same_shared same_thread old new has grows known table row put flat begins w =
@@ -92,7 +92,7 @@ module _ {X T E V A G H M O : Type 0} (k : ThreadSystem X T E V A G H M) (ends :
 
   module _ (tame : AreTame k.system k.first k.most) (m : Tables G H) (at : ℕ) (row : List ℕ) (is : slice_get (states_of m.states) at ≡ Some row) where
     -- what is so of the state of the row
-    of-row : (so : Flat G H → Type 0) → OfRow k (m.met).parts row so
+    of-row : (so : RestingState G H → Type 0) → OfRow k (m.met).parts row so
         → OfStateAt (turn_steps k ends stuck) (HasStates k m) at (λ ks s. so s)
     of-row so all ks s held there met =
         let r = beside-back (IsOf (m.met).parts) (states_of m.states) ks held.are at s there in
@@ -107,7 +107,7 @@ module _ {X T E V A G H M O : Type 0} (k : ThreadSystem X T E V A G H M) (ends :
     pub ended-at : NobodyTurns k.system ends → (number : ℕ) (numbers : List ℕ) → row ≡ number ∷ numbers → (shared : G) (each : List H)
         → slice_get (m.met).parts.shared.keys number ≡ Some shared
         → ((xs : List H) → AreThreads (m.met).parts numbers xs → each ≡ xs)
-        → (o : Option O) → ((c : Flat G H) → HasParts shared each c → HasEnded k ends c o)
+        → (o : Option O) → ((c : RestingState G H) → HasParts shared each c → HasEnded k ends c o)
         → OfStateAt (turn_steps k ends stuck) (HasStates k m) at (λ ks s. IsEnding (turn_steps k ends stuck) s o)
     ended-at over number numbers row_is shared each there all o ended =
         of-row (λ c. IsEnding (turn_steps k ends stuck) c o)

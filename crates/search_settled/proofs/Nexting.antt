@@ -1,5 +1,6 @@
 -- The rows of the next states, of one thread after the other.
-use Rattle.std.proofs.Common.{◌≡◌, inl, inr, ℕ, zero, suc, ◌+◌, ◌^◌, ◌<◌, ◌≤◌, ◌&&◌, Bool, true, List, [], ◌∷◌, ◌++◌, length, Some, None, refl, sym, ◌∙◌, ap, subst, arith, true≢false}
+use Rattle.std.proofs.Common.{◌≡◌, inl, inr, ℕ, zero, suc, ◌+◌, ◌^◌, ◌<◌, ◌≤◌, ◌&&◌, Bool, true, List, [], ◌∷◌, ◌++◌}
+use Rattle.std.proofs.Common.{length, Some, None, refl, sym, ◌∙◌, ap, subst, arith, true≢false}
 use Rattle.std.specs.Prelude.{slice_set, take}
 use Rattle.std.specs.Cmp.{first_so, second_so}
 use Rattle.std.specs.List.{slice_get, AllZip}
@@ -9,28 +10,29 @@ use Rattle.std.proofs.lemmas.List.Elements.{Contains-push, Contains-push_cases, 
 use Rattle.std.proofs.lemmas.Option.{slice_get_within, get_or_from_slice_get}
 use Rattle.std.proofs.lemmas.Slice.Zip.{all_zipped_more}
 use Rattle.schedule.specs.System.{State}
-use Rattle.search_table.specs.declared.parts.Parts.{Parts}
+use Rattle.search_table.specs.declared.parts.StateParts.{StateParts}
 use Rattle.search_table.specs.Tables.{AreThreads, IsRow, HasEqual, Grows}
-use Rattle.search_reach.specs.declared.explores.Next.{Next}
+use Rattle.search_reach.specs.declared.explores.NextState.{NextState}
 use Rattle.search_reach.proofs.Ascending.{ascend-alike}
-use Rattle.search_settled.specs.declared.flat.Flat.{Flat}
+use Rattle.search_settled.specs.declared.flat.RestingState.{RestingState}
 use Rattle.search_settled.specs.declared.met.NextRow.{NextRow}
-use Rattle.search_settled.specs.declared.met.Turn.{Turn}
-use Rattle.search_settled.specs.declared.met.Turn.TheVariants.{Still, Alone}
-use Rattle.search_settled.specs.declared.turns.Made.{Made}
-use Rattle.search_settled.specs.declared.turns.Made.TheVariants.{Told, Heard}
+use Rattle.search_settled.specs.declared.met.QuietTurn.{QuietTurn}
+use Rattle.search_settled.specs.declared.met.QuietTurn.TheVariants.{Still, Alone}
+use Rattle.search_settled.specs.declared.turns.EventOutcome.{EventOutcome}
+use Rattle.search_settled.specs.declared.turns.EventOutcome.TheVariants.{Told, Heard}
 use Rattle.search_settled.specs.Settled.{AreTame}
 use Rattle.search_settled.specs.Threads.{ThreadSystem, IsFlat}
 use Rattle.search_settled.specs.Next.{IsAt, IsSomewhere, IsNextBy, IsNextOf, IsStuckAfter}
 use Rattle.search_settled.specs.Flat.{AreBounded, IsThreadOf, IsEventAt, HasNextBelow}
 use Rattle.search_settled.specs.Same.{same_length, flat_eq, flat_alike}
-use Rattle.search_settled.specs.Known.{IsOf, IsNextRow, IsTurn, IsMade, OfNumbers, AreOfThread, IsThreadAt, AreNextBelow, AreNextRows, IsRowAfter, IsRowOfEqual, IsLostBy}
+use Rattle.search_settled.specs.Known.{IsOf, IsNextRow, IsTurn, IsMade, OfNumbers, AreOfThread, IsThreadAt}
+use Rattle.search_settled.specs.Known.{AreNextBelow, AreNextRows, IsRowAfter, IsRowOfEqual, IsLostBy}
 use Rattle.search_settled.proofs.Rows.{grows-then, next-grow, row-grows, threads-grow, beside, zip-length}
 use Rattle.search_settled.proofs.Knowing.{of-numbers}
 use Rattle.search_settled.proofs.Following.{come-from, below-none, below-same, below-more, below-all}
 
 -- the state with other parts
-unfoldable pub with_parts : {G H : Type 0} (c : Flat G H) → G → (xs : List H) → length xs < 2 ^ 63 → Flat G H
+unfoldable pub with_parts : {G H : Type 0} (c : RestingState G H) → G → (xs : List H) → length xs < 2 ^ 63 → RestingState G H
 with_parts c g xs few = record {
   shared = g;
   threads = record {
@@ -61,7 +63,7 @@ zip-set P (c ∷ xs) (d ∷ ys) are zero x y is = (is, are.1)
 zip-set P (c ∷ xs) (d ∷ ys) are (suc n) x y is = (are.0, zip-set P xs ys are.1 n x y is)
 
 module _ {X T E V A G H M : Type 0} (k : ThreadSystem X T E V A G H M) where
-  few-threads : AreBounded k.system k.first k.count k.most → (c : Flat G H) → IsSomewhere k c → length c.threads.items < 2 ^ 63
+  few-threads : AreBounded k.system k.first k.count k.most → (c : RestingState G H) → IsSomewhere k c → length c.threads.items < 2 ^ 63
   few-threads bounded c at =
       let is = at.1.settled_is in
       let len = is.len in
@@ -69,12 +71,14 @@ module _ {X T E V A G H M : Type 0} (k : ThreadSystem X T E V A G H M) where
       let low = bounded.numbered in
       omega (arith, len, few, low)
 
-  pub of-state : (t : Parts G H) (shared : ℕ) (numbers : List ℕ) (thread n : ℕ) (c : Flat G H) → (a : IsThreadAt k t (shared ∷ numbers) thread n c) → (z : State X T) → IsAt k c z
+  pub of-state : (t : StateParts G H) (shared : ℕ) (numbers : List ℕ) (thread n : ℕ) (c : RestingState G H) →
+      (a : IsThreadAt k t (shared ∷ numbers) thread n c) → (z : State X T) → IsAt k c z
       → IsThreadOf k c.shared a.thread_is n z
   of-state t shared numbers thread n c a z at = (at.reached, (at.settled_is).shared, (at.settled_is).each n a.thread_is a.among)
 
   -- its number
-  pub low-at : AreBounded k.system k.first k.count k.most → (t : Parts G H) (shared : ℕ) (numbers : List ℕ) (thread n : ℕ) (c : Flat G H) → IsThreadAt k t (shared ∷ numbers) thread n c → n < k.most
+  pub low-at : AreBounded k.system k.first k.count k.most → (t : StateParts G H) (shared : ℕ) (numbers : List ℕ) (thread n : ℕ) (c : RestingState G H) →
+      IsThreadAt k t (shared ∷ numbers) thread n c → n < k.most
   low-at bounded t shared numbers thread n c a =
       let at = a.somewhere in
       let is = at.1.settled_is in
@@ -84,14 +88,15 @@ module _ {X T E V A G H M : Type 0} (k : ThreadSystem X T E V A G H M) where
       omega (arith, len, few, within)
 
   -- so many numbers there are
-  pub within-at : (t : Parts G H) (shared : ℕ) (numbers : List ℕ) (thread n : ℕ) (c : Flat G H) → IsThreadAt k t (shared ∷ numbers) thread n c
+  pub within-at : (t : StateParts G H) (shared : ℕ) (numbers : List ℕ) (thread n : ℕ) (c : RestingState G H) → IsThreadAt k t (shared ∷ numbers) thread n c
       → n < length numbers
   within-at t shared numbers thread n c a =
       let long = zip-length (λ m x. slice_get t.threads.keys m ≡ Some x) numbers c.threads.items (a.of).1 in
       let low = slice_get_within c.threads.items n a.thread_is a.among in
       omega (arith, long, low)
 
-  pub of-thread : (t : Parts G H) (shared : ℕ) (numbers : List ℕ) (thread n : ℕ) (c : Flat G H) → IsThreadAt k t (shared ∷ numbers) thread n c → AreOfThread k t shared thread n
+  pub of-thread : (t : StateParts G H) (shared : ℕ) (numbers : List ℕ) (thread n : ℕ) (c : RestingState G H) → IsThreadAt k t (shared ∷ numbers) thread n c →
+      AreOfThread k t shared thread n
   of-thread t shared numbers thread n c a =
       let at = a.somewhere in
       record {
@@ -104,10 +109,12 @@ module _ {X T E V A G H M : Type 0} (k : ThreadSystem X T E V A G H M) where
       }
 
   -- the same next state by another name
-  next-alike : (f y : Flat G H) → ((z : State X T) → IsFlat k f z → IsFlat k y z) → (z : State X T) (n : ℕ) (e : E) → IsNextBy k z n e f → IsNextBy k z n e y
+  next-alike : (f y : RestingState G H) → ((z : State X T) → IsFlat k f z → IsFlat k y z) → (z : State X T) (n : ℕ) (e : E) → IsNextBy k z n e f →
+      IsNextBy k z n e y
   next-alike f y alike z n e is = record { settled = is.settled; rest = is.rest; settled_is = alike is.settled is.settled_is }
 
-  below-alike : (c : Flat G H) (i n : ℕ) (xs : List (Next (Flat G H))) (f y : Flat G H) → ((z : State X T) → IsFlat k f z → IsFlat k y z)
+  below-alike : (c : RestingState G H) (i n : ℕ) (xs : List (NextState (RestingState G H))) (f y : RestingState G H) →
+      ((z : State X T) → IsFlat k f z → IsFlat k y z)
       → HasNextBelow k c i (xs ++ record { thread = n; state = f } ∷ []) → HasNextBelow k c i (xs ++ record { thread = n; state = y } ∷ [])
   below-alike c i n xs f y alike so = record {
     all = λ z is m low e wants. (let r = so.all z is m low e wants in elim (Contains-push_cases xs old r.0 r.1) [
@@ -122,14 +129,15 @@ module _ {X T E V A G H M : Type 0} (k : ThreadSystem X T E V A G H M) where
     ascend = ascend-alike i xs old new refl so.ascend;
   }
     where
-      old : Next (Flat G H)
+      old : NextState (RestingState G H)
       old = record { thread = n; state = f }
 
-      new : Next (Flat G H)
+      new : NextState (RestingState G H)
       new = record { thread = n; state = y }
 
   -- as the table grows
-  pub at-grows : (t u : Parts G H) → Grows t u → (shared : ℕ) (numbers : List ℕ) (thread n : ℕ) (c : Flat G H) → IsThreadAt k t (shared ∷ numbers) thread n c → IsThreadAt k u (shared ∷ numbers) thread n c
+  pub at-grows : (t u : StateParts G H) → Grows t u → (shared : ℕ) (numbers : List ℕ) (thread n : ℕ) (c : RestingState G H) →
+      IsThreadAt k t (shared ∷ numbers) thread n c → IsThreadAt k u (shared ∷ numbers) thread n c
   at-grows t u grows shared numbers thread n c a = record {
     of = row-grows t u grows (shared ∷ numbers) c.shared c.threads.items a.of;
     somewhere = a.somewhere;
@@ -138,25 +146,28 @@ module _ {X T E V A G H M : Type 0} (k : ThreadSystem X T E V A G H M) where
     among = a.among;
   }
 
-  pub below-grows : (t u : Parts G H) → Grows t u → (c : Flat G H) (n : ℕ) (rs : List NextRow) → AreNextBelow k t c n rs → AreNextBelow k u c n rs
+  pub below-grows : (t u : StateParts G H) → Grows t u → (c : RestingState G H) (n : ℕ) (rs : List NextRow) → AreNextBelow k t c n rs → AreNextBelow k u c n rs
   below-grows t u grows c n rs so = record { next = so.next; below = so.below; are = next-grow t u grows rs so.next so.are }
 
   -- the turn that it is told to be
-  pub told-of : (t u : Parts G H) → Grows t u → (shared : ℕ) (numbers : List ℕ) (thread n : ℕ) (c : Flat G H) → IsThreadAt k t (shared ∷ numbers) thread n c → (m : Made G M) (turn : Turn)
+  pub told-of : (t u : StateParts G H) → Grows t u → (shared : ℕ) (numbers : List ℕ) (thread n : ℕ) (c : RestingState G H) →
+      IsThreadAt k t (shared ∷ numbers) thread n c → (m : EventOutcome G M) (turn : QuietTurn)
       → m ≡ Told turn → OfNumbers k t shared thread (λ g h. IsMade k u g h n m) → OfNumbers k u shared thread (λ g h. IsTurn k u g h n turn)
   unfolding at-grows
   told-of t u grows shared numbers thread n c a m turn is so =
       let b = at-grows t u grows shared numbers thread n c a in
       of-numbers k u shared thread (λ g h. IsTurn k u g h n turn) c.shared a.thread_is (b.of).0 b.thread_at
-      (subst (λ (x : Made G M). IsMade k u c.shared a.thread_is n x) is (so c.shared a.thread_is (a.of).0 a.thread_at))
+      (subst (λ (x : EventOutcome G M). IsMade k u c.shared a.thread_is n x) is (so c.shared a.thread_is (a.of).0 a.thread_at))
 
-  pub heard-of : (t u : Parts G H) (shared thread n : ℕ) (m : Made G M) (after : G) (made : M) → m ≡ Heard after made
+  pub heard-of : (t u : StateParts G H) (shared thread n : ℕ) (m : EventOutcome G M) (after : G) (made : M) → m ≡ Heard after made
       → OfNumbers k t shared thread (λ g h. IsMade k u g h n m) → OfNumbers k t shared thread (λ g h. IsEventAt k g h n (Some (after, made)))
-  heard-of t u shared thread n m after made is so g h a b = subst (λ (x : Made G M). IsMade k u g h n x) is (so g h a b)
+  heard-of t u shared thread n m after made is so g h a b = subst (λ (x : EventOutcome G M). IsMade k u g h n x) is (so g h a b)
 
   -- what put_next adds
-  module _ (tame : AreTame k.system k.first k.most) (bounded : AreBounded k.system k.first k.count k.most) (t u v : Parts G H) (first : Grows t u) (second : Grows u v)
-      (shared : ℕ) (numbers : List ℕ) (thread n : ℕ) (c : Flat G H) (at : IsThreadAt k t (shared ∷ numbers) thread n c) (rs : List NextRow) (so : AreNextBelow k t c n rs) where
+  module _ (tame : AreTame k.system k.first k.most) (bounded : AreBounded k.system k.first k.count k.most) (t u v : StateParts G H) (first : Grows t u)
+      (second : Grows u v)
+      (shared : ℕ) (numbers : List ℕ) (thread n : ℕ) (c : RestingState G H) (at : IsThreadAt k t (shared ∷ numbers) thread n c) (rs : List NextRow)
+      (so : AreNextBelow k t c n rs) where
     both : Grows t v
     both = grows-then t u v first second
 
@@ -216,37 +227,38 @@ module _ {X T E V A G H M : Type 0} (k : ThreadSystem X T E V A G H M) where
                 (next-grow t v both rs so.next so.are) (record { thread = sym by; of = w.of });
           }
 
-  pub stuck-lost : (stuck : State X T → Type 0) (t : Parts G H) (shared : ℕ) (numbers : List ℕ) (thread n : ℕ) (c : Flat G H) → IsThreadAt k t (shared ∷ numbers) thread n c
+  pub stuck-lost : (stuck : State X T → Type 0) (t : StateParts G H) (shared : ℕ) (numbers : List ℕ) (thread n : ℕ) (c : RestingState G H) →
+      IsThreadAt k t (shared ∷ numbers) thread n c
       → OfNumbers k t shared thread (IsLostBy k stuck n) → IsStuckAfter k stuck c
   stuck-lost stuck t shared numbers thread n c at lost z is =
       let l = lost c.shared at.thread_is (at.of).0 at.thread_at z (of-state t shared numbers thread n c at z is) in
       (n, l.0, l.1, l.2)
 
   -- from thread to thread
-  pub below-first : (t : Parts G H) (c : Flat G H) → AreNextBelow k t c 0 []
+  pub below-first : (t : StateParts G H) (c : RestingState G H) → AreNextBelow k t c 0 []
   below-first t c = record { next = []; below = below-none k c; are = tt }
 
-  pub thread-at : (t : Parts G H) (shared : ℕ) (numbers : List ℕ) (c : Flat G H) → IsOf t (shared ∷ numbers) c → IsSomewhere k c → (n thread : ℕ)
+  pub thread-at : (t : StateParts G H) (shared : ℕ) (numbers : List ℕ) (c : RestingState G H) → IsOf t (shared ∷ numbers) c → IsSomewhere k c → (n thread : ℕ)
       → slice_get numbers n ≡ Some thread → IsThreadAt k t (shared ∷ numbers) thread n c
   thread-at t shared numbers c of at n thread is =
       let b = beside (λ m x. slice_get t.threads.keys m ≡ Some x) numbers c.threads.items of.1 n thread is in
       record { of = of; somewhere = at; thread_is = b.0; thread_at = b.2; among = b.1 }
 
-  pub below-done : (t u : Parts G H) (shared : ℕ) (numbers : List ℕ) (c : Flat G H) → IsOf t (shared ∷ numbers) c → (n : ℕ) → length numbers ≤ n
+  pub below-done : (t u : StateParts G H) (shared : ℕ) (numbers : List ℕ) (c : RestingState G H) → IsOf t (shared ∷ numbers) c → (n : ℕ) → length numbers ≤ n
       → (rs : List NextRow) → AreNextBelow k u c n rs → AreNextRows k u c rs
   below-done t u shared numbers c of n past rs so =
       let long = zip-length (λ m x. slice_get t.threads.keys m ≡ Some x) numbers c.threads.items of.1 in
       record { next = so.next; has = below-all k c n so.next so.below (omega (arith, long, past)); are = so.are }
 
 -- the threads of numbers, of which so many were read
-unfoldable pub Read : {G H : Type 0} → Parts G H → List ℕ → ℕ → List H → Type 0
+unfoldable pub Read : {G H : Type 0} → StateParts G H → List ℕ → ℕ → List H → Type 0
 Read {G} {H} t numbers n read = (xs : List H) → AreThreads t numbers xs → read ≡ take n xs
 
-pub read-first : {G H : Type 0} (t : Parts G H) (numbers : List ℕ) → Read t numbers 0 []
+pub read-first : {G H : Type 0} (t : StateParts G H) (numbers : List ℕ) → Read t numbers 0 []
 unfolding Read
 read-first t numbers xs are = refl
 
-pub read-more : {G H : Type 0} (t : Parts G H) (numbers : List ℕ) (n number : ℕ) (read : List H) (x : H) → slice_get numbers n ≡ Some number
+pub read-more : {G H : Type 0} (t : StateParts G H) (numbers : List ℕ) (n number : ℕ) (read : List H) (x : H) → slice_get numbers n ≡ Some number
     → slice_get t.threads.keys number ≡ Some x → Read t numbers n read → Read t numbers (n + 1) (read ++ x ∷ [])
 unfolding Read
 read-more t numbers n number read x at is so xs are =
@@ -257,14 +269,14 @@ read-more t numbers n number read x at is so xs are =
     ap (λ l. l ++ x ∷ []) (so xs are) ∙ (ap (λ y. take n xs ++ y ∷ []) (sym (one ∙ same)) ∙ sym (take_more xs n x within))
 
 -- a number that stands for no thread is in no state
-pub read-none : {G H : Type 0} (t : Parts G H) (numbers : List ℕ) (n number : ℕ) (read : List H) → slice_get numbers n ≡ Some number
+pub read-none : {G H : Type 0} (t : StateParts G H) (numbers : List ℕ) (n number : ℕ) (read : List H) → slice_get numbers n ≡ Some number
     → slice_get t.threads.keys number ≡ None → Read t numbers n read → Read t numbers (n + 1) read
 unfolding Read
 read-none t numbers n number read at none so xs are =
     let b = beside (λ m y. slice_get t.threads.keys m ≡ Some y) numbers xs are n number at in
     absurd (cc (b.2, none))
 
-pub read-all : {G H : Type 0} (t : Parts G H) (numbers : List ℕ) (n : ℕ) (read : List H) → length numbers ≤ n → Read t numbers n read
+pub read-all : {G H : Type 0} (t : StateParts G H) (numbers : List ℕ) (n : ℕ) (read : List H) → length numbers ≤ n → Read t numbers n read
     → (xs : List H) → AreThreads t numbers xs → read ≡ xs
 unfolding Read
 read-all t numbers n read past so xs are =
@@ -272,7 +284,7 @@ read-all t numbers n read past so xs are =
     so xs are ∙ take_all n xs (omega (arith, long, past))
 
 -- a row with the numbers of these threads
-pub record RowSoFar {G H : Type 0} (eq : H → H → Bool) (t : Parts G H) (first : ℕ) (all : List H) (row : List ℕ) : Type 0 where
+pub record RowSoFar {G H : Type 0} (eq : H → H → Bool) (t : StateParts G H) (first : ℕ) (all : List H) (row : List ℕ) : Type 0 where
   pub numbers : List ℕ
   pub equal : List H
   pub are : row ≡ first ∷ numbers
@@ -289,10 +301,11 @@ module _ {H : Type 0} (eq : H → H → Bool) where
       ∙ pointwise-more xs ys x y (second_so (eq c d) (pointwise eq xs ys) e) is
 
 module _ {G H : Type 0} (eq : H → H → Bool) where
-  pub row-first : (t : Parts G H) (first : ℕ) (row : List ℕ) → row ≡ first ∷ [] → RowSoFar eq t first [] row
+  pub row-first : (t : StateParts G H) (first : ℕ) (row : List ℕ) → row ≡ first ∷ [] → RowSoFar eq t first [] row
   row-first t first row is = record { numbers = []; equal = []; are = is; same = refl; threads = tt }
 
-  pub row-more : (t u : Parts G H) → Grows t u → (first : ℕ) (threads : List H) (row after : List ℕ) (thread : H) (number : ℕ) → RowSoFar eq t first threads row
+  pub row-more : (t u : StateParts G H) → Grows t u → (first : ℕ) (threads : List H) (row after : List ℕ) (thread : H) (number : ℕ) →
+      RowSoFar eq t first threads row
       → HasEqual eq u.threads.keys number thread → after ≡ row ++ number ∷ [] → RowSoFar eq u first (threads ++ thread ∷ []) after
   row-more t u grows first threads row after thread number so has pushed = record {
     numbers = so.numbers ++ number ∷ [];
@@ -303,8 +316,9 @@ module _ {G H : Type 0} (eq : H → H → Bool) where
         (threads-grow t u grows so.numbers so.equal so.threads) has.at;
   }
 
-pub row-done : {G H : Type 0} (eq_shared : G → G → Bool) (eq_thread : H → H → Bool) (t u : Parts G H) → Grows t u → (c : Flat G H) (first : ℕ)
-    → HasEqual eq_shared t.shared.keys first c.shared → (row : List ℕ) → RowSoFar eq_thread u first c.threads.items row → IsRowOfEqual eq_shared eq_thread u c row
+pub row-done : {G H : Type 0} (eq_shared : G → G → Bool) (eq_thread : H → H → Bool) (t u : StateParts G H) → Grows t u → (c : RestingState G H) (first : ℕ)
+    → HasEqual eq_shared t.shared.keys first c.shared → (row : List ℕ) → RowSoFar eq_thread u first c.threads.items row →
+    IsRowOfEqual eq_shared eq_thread u c row
 row-done eq_shared eq_thread t u grows c first has row so = record {
   shared = has.key;
   threads = so.equal;

@@ -9,7 +9,7 @@ use Rattle.search_graph.specs.Worlds.{CanStep}
 use Rattle.search_reach.specs.Search.{StandsFor, RestsIn, IsOrderly}
 use Rattle.search_reach.proofs.Paths.{stays, one_step, onward, by_others}
 use Rattle.search_settled.specs.Settled.{ComesTo, CanGoOn, turning, StepsBy, AnswersFit, StartsFit, IsReached, AreTame}
-use Rattle.search_settled.specs.declared.flat.Flat.{Flat}
+use Rattle.search_settled.specs.declared.flat.RestingState.{RestingState}
 use Rattle.search_settled.specs.Threads.{ThreadSystem}
 use Rattle.search_settled.specs.Flat.{AreBounded}
 use Rattle.search_settled.specs.Turns.{turn_steps}
@@ -76,7 +76,7 @@ module _ {X T E V A : Type 0} (s : System X T E V A) where
       subst (λ t. (s.wants t ≡ Turns) ⊎ ((e : E) × (s.wants t ≡ Calls e))) (sym same) going
 
 module _ {X T E V A G H M O : Type 0} (k : ThreadSystem X T E V A G H M) (ends : State X T → O → Type 0) (stuck : State X T → Type 0)
-    (tame : AreTame k.system k.first k.most) (bounded : AreBounded k.system k.first k.count k.most) (c : Flat G H) where
+    (tame : AreTame k.system k.first k.most) (bounded : AreBounded k.system k.first k.count k.most) (c : RestingState G H) where
   abbrev Stands : State X T → Type 0
   Stands = StandsFor (turn_steps k ends stuck) c
 

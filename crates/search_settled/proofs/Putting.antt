@@ -6,27 +6,27 @@ use Rattle.std.proofs.lemmas.List.Elements.{Contains-push, Contains-push_cases, 
 use Rattle.std.proofs.lemmas.Option.{slice_get_within}
 use Rattle.std.proofs.lemmas.Slice.Zip.{all_zipped_more}
 use Rattle.search_graph.specs.declared.graph.Move.{Move}
-use Rattle.search_table.specs.declared.parts.Parts.{Parts}
+use Rattle.search_table.specs.declared.parts.StateParts.{StateParts}
 use Rattle.search_table.specs.declared.states.States.{States}
 use Rattle.search_table.specs.Tables.{states_of, words_eq, with_row}
-use Rattle.search_reach.specs.declared.explores.Next.{Next}
+use Rattle.search_reach.specs.declared.explores.NextState.{NextState}
 use Rattle.search_reach.specs.Explored.{Gains, HasAt, IsNoted, Notes}
 use Rattle.search_reach.proofs.Searching.{Begins, Begins-self, noted-longer, gains-none, notes-none}
-use Rattle.search_settled.specs.declared.flat.Flat.{Flat}
+use Rattle.search_settled.specs.declared.flat.RestingState.{RestingState}
 use Rattle.search_settled.specs.declared.met.NextRow.{NextRow}
 use Rattle.search_settled.specs.Same.{flat_eq}
 use Rattle.search_settled.specs.Known.{IsOf, AreOf, IsNextRow, PutsRows}
 use Rattle.search_settled.proofs.Rows.{beside, parted, row-alike}
 
 module _ {S : Type 0} where
-  gains-old : (ks ls : List S) (xs : List (Next S)) (x : Next S) → Gains ks xs ls → Gains ks (xs ++ x ∷ []) ls
+  gains-old : (ks ls : List S) (xs : List (NextState S)) (x : NextState S) → Gains ks xs ls → Gains ks (xs ++ x ∷ []) ls
   gains-old ks ls xs x g = record {
     more = g.more;
     is = g.is;
     among = λ s c. (let f = g.among s c in (f.0, Contains-append_left xs (x ∷ []) f.0 f.1, f.2));
   }
 
-  gains-new : (ks ls : List S) (xs : List (Next S)) (x : Next S) → Gains ks xs ls → Gains ks (xs ++ x ∷ []) (ls ++ x.state ∷ [])
+  gains-new : (ks ls : List S) (xs : List (NextState S)) (x : NextState S) → Gains ks xs ls → Gains ks (xs ++ x ∷ []) (ls ++ x.state ∷ [])
   gains-new ks ls xs x g = record {
     more = g.more ++ x.state ∷ [];
     is = ap (λ l. l ++ x.state ∷ []) g.is ∙ append_assoc ks g.more (x.state ∷ []);
@@ -36,7 +36,7 @@ module _ {S : Type 0} where
     ];
   }
 
-  notes-one : (eq : S → S → Bool) (ks ls : List S) (at : ℕ) (xs : List (Next S)) (x : Next S) (before between after : List Move) (number : ℕ)
+  notes-one : (eq : S → S → Bool) (ks ls : List S) (at : ℕ) (xs : List (NextState S)) (x : NextState S) (before between after : List Move) (number : ℕ)
       → Begins ks ls → HasAt eq ls number x.state → after ≡ between ++ record { from = at; thread = x.thread; next = number } ∷ []
       → Notes eq ks at xs before between → Notes eq ls at (xs ++ x ∷ []) before after
   notes-one eq ks ls at xs x before between after number longer has pushed n =
@@ -49,20 +49,22 @@ module _ {S : Type 0} where
       }
 
 module _ {G H : Type 0} (eq_shared : G → G → Bool) (eq_thread : H → H → Bool) where
-  pub puts-none : (t : Parts G H) (s : States) (at : ℕ) (moves : List Move) → PutsRows eq_shared eq_thread t s s at [] moves moves
+  pub puts-none : (t : StateParts G H) (s : States) (at : ℕ) (moves : List Move) → PutsRows eq_shared eq_thread t s s at [] moves moves
   puts-none t s at moves ks [] are next = (ks, are, gains-none (flat_eq eq_shared eq_thread) ks, λ few. notes-none (flat_eq eq_shared eq_thread) ks at moves)
   puts-none t s at moves ks (x ∷ xs) are next = absurd next
 
   -- what is among the rows then
-  record Put (t : Parts G H) (v : States) (ks ls : List (Flat G H)) (xs : List (Next (Flat G H))) (x : Next (Flat G H)) : Type 0 where
-    pub states : List (Flat G H)
+  record Put (t : StateParts G H) (v : States) (ks ls : List (RestingState G H)) (xs : List (NextState (RestingState G H))) (x : NextState (RestingState G H)) :
+      Type 0 where
+    pub states : List (RestingState G H)
     pub are : AreOf t v states
     pub begins : Begins ls states
     pub gains : Gains ks (xs ++ x ∷ []) states
 
-  module _ (self_shared : (x : G) → eq_shared x x ≡ true) (self_thread : (x : H) → eq_thread x x ≡ true) (t : Parts G H) (s u v : States)
+  module _ (self_shared : (x : G) → eq_shared x x ≡ true) (self_thread : (x : H) → eq_thread x x ≡ true) (t : StateParts G H) (s u v : States)
       (r : NextRow) (put : states_of v ≡ with_row (states_of u) r.row.items) where
-    put-one : (ks ls : List (Flat G H)) (xs : List (Next (Flat G H))) (x : Next (Flat G H)) → IsNextRow t r x → AreOf t u ls → Gains ks xs ls → Put t v ks ls xs x
+    put-one : (ks ls : List (RestingState G H)) (xs : List (NextState (RestingState G H))) (x : NextState (RestingState G H)) → IsNextRow t r x → AreOf t u ls →
+        Gains ks xs ls → Put t v ks ls xs x
     put-one ks ls xs x is are gains = by (list_any (words_eq r.row.items) (states_of u)) refl
       where
         by : (b : Bool) → list_any (words_eq r.row.items) (states_of u) ≡ b → Put t v ks ls xs x
@@ -109,5 +111,5 @@ module _ {G H : Type 0} (eq_shared : G → G → Bool) (eq_thread : H → H → 
               (f.3 (omega (arith, long, few)))),
         )
       where
-        length-begins : (ls ms : List (Flat G H)) → Begins ls ms → length ls ≤ length ms
+        length-begins : (ls ms : List (RestingState G H)) → Begins ls ms → length ls ≤ length ms
         length-begins ls ms b = omega (arith, ap length b.is, length-append ls b.more)

@@ -45,11 +45,14 @@ module _ {X T E V A : Type 0} (s : System X T E V A) where
         (λ m. Settles s (or_started (s.starts x n e m) (hears_any s (put g n (s.takes (g n) (s.reply x n e)) m) (s.gives x n e m))) r
         → Settles s (or_started (s.starts x n e m) (hears_any s (put f n (s.takes (f n) (s.reply x n e)) m) (s.gives x n e m))) r)
         (λ on. subst (λ v. Settles s (or_started (s.starts x n e n) (hears_any s v (s.gives x n e n))) r)
-        (put-same g n (s.takes (g n) (s.reply x n e)) ∙ (ap (λ v. s.takes v (s.reply x n e)) (sym here_same) ∙ sym (put-same f n (s.takes (f n) (s.reply x n e))))) on)
-        (λ m apart on. subst (λ v. Settles s (or_started (s.starts x n e m) (hears_any s v (s.gives x n e m))) r) (sym (put-other f n (s.takes (f n) (s.reply x n e)) m apart))
+        (put-same g n (s.takes (g n) (s.reply x n e)) ∙
+        (ap (λ v. s.takes v (s.reply x n e)) (sym here_same) ∙ sym (put-same f n (s.takes (f n) (s.reply x n e))))) on)
+        (λ m apart on. subst (λ v. Settles s (or_started (s.starts x n e m) (hears_any s v (s.gives x n e m))) r)
+        (sym (put-other f n (s.takes (f n) (s.reply x n e)) m apart))
         (after_other s (s.starts x n e m) (s.gives x n e m) (f m) (g m) r (each m)
         (λ a given. at_rest s (f m) (g m) (each m) (λ t. let awaits = fit m a given apart in cc (awaits, t)))
-        (subst (λ v. Settles s (or_started (s.starts x n e m) (hears_any s v (s.gives x n e m))) r) (put-other g n (s.takes (g n) (s.reply x n e)) m apart) on)))
+        (subst (λ v. Settles s (or_started (s.starts x n e m) (hears_any s v (s.gives x n e m))) r)
+        (put-other g n (s.takes (g n) (s.reply x n e)) m apart) on)))
         m
 
   pub event : (w z : State X T) (n : ℕ) (e : E) → AnswersFit s w → ComesToRest s w z → s.wants (w.threads n) ≡ Calls e

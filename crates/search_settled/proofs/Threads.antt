@@ -1,5 +1,6 @@
 -- The threads after an event, one by one.
-use Rattle.std.proofs.Common.{◌≡◌, ◌⊎◌, inl, inr, ℕ, zero, suc, ◌+◌, ◌<◌, ◌≤◌, List, [], ◌∷◌, ◌++◌, length, Option, Some, None, refl, sym, ◌∙◌, ap, subst, arith, length-append, get_or}
+use Rattle.std.proofs.Common.{◌≡◌, ◌⊎◌, inl, inr, ℕ, zero, suc, ◌+◌, ◌<◌, ◌≤◌, List, [], ◌∷◌, ◌++◌, length, Option}
+use Rattle.std.proofs.Common.{Some, None, refl, sym, ◌∙◌, ap, subst, arith, length-append, get_or}
 use Rattle.std.specs.Prelude.{Result, IfOk, IfSome}
 use Rattle.std.specs.List.{slice_get}
 use Rattle.std.proofs.lemmas.Option.{slice_get-get_or}
@@ -11,7 +12,8 @@ use Rattle.search_settled.specs.Settled.{StepsBy}
 use Rattle.search_settled.proofs.Reaching.{by_event}
 use Rattle.search_settled.proofs.Laws.{if-some}
 use Rattle.search_settled.specs.Threads.{ThreadSystem}
-use Rattle.search_settled.specs.Flat.{AreBounded, IsMadeBy, RestsAfter, AreBefore, RestsBehind, IsMove, AllComeAfter, ComesAfter, BeginsAfter, IsStuckBy, IsStuckByStart, IsStuckBehind}
+use Rattle.search_settled.specs.Flat.{AreBounded, IsMadeBy, RestsAfter, AreBefore, RestsBehind, IsMove, AllComeAfter}
+use Rattle.search_settled.specs.Flat.{ComesAfter, BeginsAfter, IsStuckBy, IsStuckByStart, IsStuckBehind}
 
 pub if-some-at : {B : Type 0} (P : B → Type 0) (o : Option B) (x : B) → o ≡ Some x → IfSome o P → P x
 if-some-at P None x is h = absurd (cc is)
@@ -29,7 +31,8 @@ pub at-end : {B : Type 0} (xs ys : List B) (m : ℕ) → xs ≡ ys → length xs
 at-end xs ys m same past = subst (λ l. length l ≤ m) same past
 
 -- what stands at a place of a list with one more
-pub slice_get_push : {B : Type 0} (xs : List B) (x : B) (m : ℕ) (t : B) → slice_get (xs ++ x ∷ []) m ≡ Some t → (slice_get xs m ≡ Some t) ⊎ ((m ≡ length xs) × (x ≡ t))
+pub slice_get_push : {B : Type 0} (xs : List B) (x : B) (m : ℕ) (t : B) → slice_get (xs ++ x ∷ []) m ≡ Some t →
+    (slice_get xs m ≡ Some t) ⊎ ((m ≡ length xs) × (x ≡ t))
 slice_get_push [] x zero t h = inr (refl, cc h)
 slice_get_push [] x (suc m) t h = absurd (cc h)
 slice_get_push (y ∷ xs) x zero t h = inl h

@@ -5,10 +5,10 @@ use Rattle.schedule.specs.System.{Want.Calls, System, State}
 use Rattle.schedule.specs.Scheduled.{after_event}
 use Rattle.search_settled.specs.Settled.{Settles, IsReached}
 use Rattle.search_settled.specs.Threads.{ThreadSystem}
-use Rattle.search_reach.specs.declared.explores.Next.{Next}
+use Rattle.search_reach.specs.declared.explores.NextState.{NextState}
 use Rattle.search_reach.specs.Search.{AscendBelow}
 use Rattle.search_settled.specs.Next.{IsAt, IsNextBy, IsNextOf}
-use Rattle.search_settled.specs.declared.flat.Flat.{Flat}
+use Rattle.search_settled.specs.declared.flat.RestingState.{RestingState}
 
 -- So many threads were started, and no more than can be, each with a number of 32 bits: an event takes none back, and
 -- starts none but those that are counted then.
@@ -119,12 +119,13 @@ module _ {X T E V A G H M : Type 0} (k : ThreadSystem X T E V A G H M) where
       → stuck (after_event k.system z n e)
 
   -- The next states by the events of the threads below a number.
-  pub record HasNextBelow (c : Flat G H) (i : ℕ) (xs : List (Next (Flat G H))) : Type 0 where
+  pub record HasNextBelow (c : RestingState G H) (i : ℕ) (xs : List (NextState (RestingState G H))) : Type 0 where
     pub all : (z : State X T) → IsAt k c z → (n : ℕ) → n < i → (e : E) → k.system.wants (z.threads n) ≡ Calls e
-        → (x : Next (Flat G H)) × Contains xs x × (x.thread ≡ n) × IsNextBy k z n e x.state
-    pub sound : (z : State X T) → IsAt k c z → (x : Next (Flat G H)) → Contains xs x → IsNextOf k z x
+        → (x : NextState (RestingState G H)) × Contains xs x × (x.thread ≡ n) × IsNextBy k z n e x.state
+    pub sound : (z : State X T) → IsAt k c z → (x : NextState (RestingState G H)) → Contains xs x → IsNextOf k z x
     pub ascend : AscendBelow i xs
 
   -- With what was put to them, they are those by the event of one thread more.
-  abbrev pub HasOneMore : Flat G H → ℕ → List (Next (Flat G H)) → List (Next (Flat G H)) → Type 0
+  abbrev pub HasOneMore : RestingState G H → ℕ → List (NextState (RestingState G H))
+      → List (NextState (RestingState G H)) → Type 0
   HasOneMore c n before after = HasNextBelow c n before → HasNextBelow c (n + 1) after

@@ -5,7 +5,7 @@ use Rattle.std.specs.Cmp.{first_so, second_so, IsEquivalence, partial_equiv_from
 use Rattle.std.specs.Cmp.Lexicographic.{pointwise, lists_per}
 use Rattle.std.specs.List.{slice_get}
 use Rattle.schedule.specs.System.{State}
-use Rattle.search_settled.specs.declared.flat.Flat.{Flat}
+use Rattle.search_settled.specs.declared.flat.RestingState.{RestingState}
 use Rattle.search_settled.specs.Threads.{ThreadSystem, IsFlat}
 use Rattle.search_settled.specs.Next.{StandsForState}
 
@@ -28,12 +28,12 @@ module _ {H : Type 0} (eq : H → H → Bool) where
   one_at (x ∷ xs) (z ∷ ys) (suc m) y e at = one_at xs ys m y (second_so (eq x z) (pointwise eq xs ys) e) at
 
 -- Flat states that are equal.
-abbrev pub flat_eq : {G H : Type 0} → (G → G → Bool) → (H → H → Bool) → Flat G H → Flat G H → Bool
+abbrev pub flat_eq : {G H : Type 0} → (G → G → Bool) → (H → H → Bool) → RestingState G H → RestingState G H → Bool
 flat_eq eq_shared eq_thread x y = eq_shared x.shared y.shared && pointwise eq_thread x.threads.items y.threads.items
 
 -- the other way round
 pub flat_eq_back : {G H : Type 0} (eq_shared : G → G → Bool) (eq_thread : H → H → Bool) → IsEquivalence eq_shared → IsEquivalence eq_thread
-    → (x y : Flat G H) → flat_eq eq_shared eq_thread x y ≡ true → flat_eq eq_shared eq_thread y x ≡ true
+    → (x y : RestingState G H) → flat_eq eq_shared eq_thread x y ≡ true → flat_eq eq_shared eq_thread y x ≡ true
 flat_eq_back eq_shared eq_thread shared thread x y e =
     let per = lists_per (partial_equiv_from_equiv thread) in
     let a = shared.symm y.shared x.shared ∙ first_so (eq_shared x.shared y.shared) (pointwise eq_thread x.threads.items y.threads.items) e in
@@ -44,7 +44,7 @@ pub flat_alike : {X T E V A G H M : Type 0} (eq_shared : G → G → Bool) (eq_t
     → Bool) (k : ThreadSystem X T E V A G H M)
     → ((x y : G) → eq_shared x y ≡ true → (w : X) → k.shares x w → k.shares y w)
     → ((x y : H) → eq_thread x y ≡ true → (w : T) → k.is_thread x w → k.is_thread y w)
-    → (x y : Flat G H) → flat_eq eq_shared eq_thread x y ≡ true
+    → (x y : RestingState G H) → flat_eq eq_shared eq_thread x y ≡ true
     → (z : State X T) → IsFlat k x z → IsFlat k y z
 flat_alike eq_shared eq_thread k same_shared same_thread x y e z is =
     let a = first_so (eq_shared x.shared y.shared) (pointwise eq_thread x.threads.items y.threads.items) e in
@@ -58,7 +58,7 @@ flat_alike eq_shared eq_thread k same_shared same_thread x y e z is =
     }
 
 -- What is the same settled state stands for the same.
-pub stands_alike : {X T E V A G H M : Type 0} (k : ThreadSystem X T E V A G H M) (x y : Flat G H)
+pub stands_alike : {X T E V A G H M : Type 0} (k : ThreadSystem X T E V A G H M) (x y : RestingState G H)
     → ((z : State X T) → IsFlat k x z → IsFlat k y z) → (w : State X T) (turns : ℕ → ℕ)
     → StandsForState k x w turns → StandsForState k y w turns
 stands_alike k x y same w turns st =

@@ -3,7 +3,7 @@
 /// What the next turn of a thread does with the memory: a turn of its own touches nothing, nor does what is out of
 /// bounds, or asks for the page count or of the desk; an access touches its bytes, which are none where `width` is 0.
 #[derive(Clone, Copy, PartialEq, Eq, PartialOrd, Ord, Hash, Debug)]
-pub struct Access {
+pub struct NextAccess {
     /// Whether nobody else can tell when it is made: it is a turn of its own, or an access within bounds that isn't
     /// atomic.
     pub plain: bool,

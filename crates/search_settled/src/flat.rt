@@ -2,7 +2,7 @@
 
 /// What threads share, and the threads, each at rest.
 #[derive(Drop, PartialEq, Eq, Hash)]
-pub struct Flat<S, T> {
+pub struct RestingState<S, T> {
     pub shared: S,
     pub threads: Vec<T>,
 }

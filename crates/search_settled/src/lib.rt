@@ -17,8 +17,9 @@
 //!   turns. `proofs/Orderly.antt`: a thread that can go on can until it makes a turn.
 //! - `specs/Known.antt`: turns that are known, and the states of a table. `proofs/Knowing.antt`: what is known stays so as
 //!   the table grows. `proofs/Nexting.antt`, `proofs/Putting.antt`: the rows of next states, and the moves to them.
-//! - `Flat` is a settled state as a value, `Moves` what a system supplies, whose threads are moved one by one, and
-//!   `search_all` the search: at `Verdict::All` the list has the ending of each run, whatever the order of the turns.
+//! - `RestingState` is a settled state as a value, `Moves` what a system supplies, whose threads are moved one by one,
+//!   and `search_all` the search: at `Verdict::All` the list has the ending of each run, whatever the order of the
+//!   turns.
 #![tactic(auto)]
 
 mod access;
@@ -29,8 +30,8 @@ mod next;
 mod states;
 mod turns;
 
-pub use access::Access;
-pub use flat::Flat;
+pub use access::NextAccess;
+pub use flat::RestingState;
 pub use met::NextRow;
 pub use moves::Moves;
 pub use next::{row_of, threads_after, threads_of};

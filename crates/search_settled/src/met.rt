@@ -2,13 +2,13 @@
 ghost use Rattle.std.specs.Prelude.{◌<◌, IfSome, OnOk};
 ghost use Rattle.search_settled.specs.Known.{IsNotedIn, AreFrom, HasNoOther};
 
-use search_table::{Parts, States};
+use search_table::{StateParts, States};
 use std::alloc::{AllocError, Global};
 use std::hash::Hash;
 
 /// What comes of the event that a thread wants, where nobody else hears of it.
 #[derive(Clone, Copy)]
-pub(crate) enum Turn {
+pub(crate) enum QuietTurn {
     /// It wants none.
     Still,
     /// By their numbers: what is shared after it, and where the thread comes to rest. All others rest where they did.
@@ -21,7 +21,7 @@ pub(crate) struct Known {
     pub(crate) shared: u32,
     pub(crate) thread: u32,
     pub(crate) n: u32,
-    pub(crate) turn: Turn,
+    pub(crate) turn: QuietTurn,
 }
 
 /// The row of a next state of a state, and the thread whose event leads there.
@@ -33,15 +33,15 @@ pub struct NextRow {
 
 /// The parts of the states that were met, and the turns that are known: those of the last ones to whom a slot fell.
 #[derive(Drop)]
-pub(crate) struct Met<S: Eq + Hash, T: Eq + Hash> {
-    pub(crate) parts: Parts<S, T>,
+pub(crate) struct MetParts<S: Eq + Hash, T: Eq + Hash> {
+    pub(crate) parts: StateParts<S, T>,
     pub(crate) known: Vec<Option<Known>>,
 }
 
 /// The states that were met, and what is known of them.
 #[derive(Drop)]
 pub(crate) struct Tables<S: Eq + Hash, T: Eq + Hash> {
-    pub(crate) met: Met<S, T>,
+    pub(crate) met: MetParts<S, T>,
     pub(crate) states: States,
 }
 
@@ -63,7 +63,7 @@ fn slot_of(shared: u32, thread: u32, n: u32, slots: usize) -> usize
 }
 
 /// The turn of this thread, as the n-th one, where this is shared, if it is known.
-pub(crate) fn recall(known: &[Option<Known>], shared: u32, thread: u32, n: u32) -> Option<Turn>
+pub(crate) fn recall(known: &[Option<Known>], shared: u32, thread: u32, n: u32) -> Option<QuietTurn>
     ensures { IfSome result (IsNotedIn known.now shared thread n) }
 {
     if known.is_empty() {

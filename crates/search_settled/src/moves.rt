@@ -5,7 +5,7 @@ ghost use Rattle.search_settled.specs.Settled.{AreTame};
 ghost use Rattle.search_settled.specs.Next.{IsBeginning, IsSomewhere, HasEnded, NobodyTurns};
 ghost use Rattle.search_settled.specs.Threads.{ThreadSystem};
 ghost use Rattle.search_settled.specs.Parts.{HasParts};
-ghost use Rattle.search_settled.specs.declared.flat.Flat.{Flat as FlatState};
+ghost use Rattle.search_settled.specs.declared.flat.RestingState.{RestingState as StateAtRest};
 ghost use Rattle.search_settled.specs.Flat.{
   AreBounded,
   IsThreadOf,
@@ -18,7 +18,7 @@ ghost use Rattle.search_settled.specs.Flat.{
   IsStuckByStart,
 };
 
-use crate::Flat;
+use crate::RestingState;
 use std::alloc::{AllocError, Global};
 use std::hash::Hash;
 
@@ -57,7 +57,10 @@ pub trait Moves {
     ghost stuck: { Self → State X T → Type 0 };
 
     /// Where all threads come to rest in the beginning, or nothing where it cannot tell that.
-    fn first(&self, alloc: Global) -> Result<Option<Flat<Self::Shared, Self::Thread>>, AllocError>
+    fn first(
+        &self,
+        alloc: Global,
+    ) -> Result<Option<RestingState<Self::Shared, Self::Thread>>, AllocError>
         ensures first { IfOk result (λ o. IfSome o (IsBeginning (threads self.now))) }
         ensures gives_up { IfOk result (λ o. o ≡ None → stuck self.now (threads self.now).first) };
 
@@ -125,8 +128,9 @@ pub trait Moves {
         shared: &Self::Shared,
         each: &[Self::Thread],
     ) -> Result<Option<Self::Ending>, AllocError>
-        requires { (c : FlatState Self.Shared Self.Thread) × HasParts shared.now each.now c × IsSomewhere (threads self.now) c }
-        ensures { IfOk result (λ o. (c : FlatState Self.Shared Self.Thread) → HasParts shared.now each.now c
+        requires { (c : StateAtRest Self.Shared Self.Thread) × HasParts shared.now each.now c
+            × IsSomewhere (threads self.now) c }
+        ensures { IfOk result (λ o. (c : StateAtRest Self.Shared Self.Thread) → HasParts shared.now each.now c
             → HasEnded (threads self.now) (ends self.now) c o) };
 
     /// Answers go to who awaits them, and no more threads are there than can be.

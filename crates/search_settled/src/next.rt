@@ -1,18 +1,20 @@
 //! The next states: of each thread that wants an event, what comes of it.
 ghost use Rattle.std.specs.Prelude.{◌≡◌, ◌+◌, ◌^◌, ◌<◌, List, [], ◌∷◌, ◌++◌, length, slice_get, slice_set, true, false, Some, None, IfOk, IfSome, OnOk};
 ghost use Rattle.search_table.specs.Tables.{AreThreads, Grows};
-ghost use Rattle.search_settled.specs.declared.flat.Flat.{Flat as FlatState};
 ghost use Rattle.search_settled.specs.Next.{IsStuckAfter};
 ghost use Rattle.search_settled.specs.Known.{
   AreKnown,
   IsRowOfEqual,
   IsRowAfter,
-  IsThreadAt,
   IsTurn,
   OfNumbers,
-  AreNextBelow,
   IsSomeRow,
   OfRow,
+  OfThread,
+  OfThreads,
+  OfSomeThreads,
+  HasThread,
+  AddsNext,
   AreNextRows,
 };
 ghost use Rattle.search_settled.specs.Flat.{
@@ -24,10 +26,10 @@ ghost use Rattle.search_settled.specs.Flat.{
   IsStuckByMove,
 };
 
-use crate::met::{Met, NextRow, Turn, recall};
-use crate::turns::{Made, made_by};
-use crate::{Flat, Moves};
-use search_table::Parts;
+use crate::met::{MetParts, NextRow, QuietTurn};
+use crate::turns::{EventOutcome, made_by};
+use crate::{Moves, RestingState};
+use search_table::StateParts;
 use std::alloc::{AllocError, Global};
 use std::hash::Hash;
 
@@ -82,8 +84,8 @@ pub fn threads_after<M: Moves>(
     Ok(Some(rested))
 }
 
-/// The number at a place.
-fn number_at(numbers: &[u32], n: usize) -> u32
+/// The number of the part at a place.
+fn part_at(numbers: &[u32], n: usize) -> u32
     requires { n < length numbers.now }
     ensures { slice_get numbers.now n ≡ Some result }
 {
@@ -97,14 +99,14 @@ fn number_at(numbers: &[u32], n: usize) -> u32
 pub fn threads_of<M: Moves, S: Eq + Hash + Drop>(
     alloc: Global,
     system: &M,
-    parts: &Parts<S, M::Thread>,
+    parts: &StateParts<S, M::Thread>,
     numbers: &[u32],
 ) -> Result<Vec<M::Thread>, AllocError>
     ensures { IfOk result (λ v. (xs : List M.Thread) → AreThreads parts.now numbers.now xs → v.items ≡ xs) }
 {
     let mut all = Vec::with_capacity(alloc, numbers.len())?;
     for n in 0..numbers.len() {
-        let number = number_at(numbers, n);
+        let number = part_at(numbers, n);
         let Some(thread) = parts.threads.get_index(number as usize) else {
             continue;
         };
@@ -119,13 +121,13 @@ pub fn threads_of<M: Moves, S: Eq + Hash + Drop>(
 /// Where memory is refused, or there are too many parts.
 pub fn row_of<S: Eq + Hash + Drop, T: Eq + Hash + Drop>(
     alloc: Global,
-    parts: &mut Parts<S, T>,
-    flat: Flat<S, T>,
+    parts: &mut StateParts<S, T>,
+    flat: RestingState<S, T>,
 ) -> Result<Vec<u32>, AllocError>
     ensures grows { OnOk result (Grows parts.old parts.new) }
     ensures row { IfOk result (λ row. IsRowOfEqual S.eq T.eq parts.new flat row.items) }
 {
-    let Flat { shared, threads } = flat;
+    let RestingState { shared, threads } = flat;
     let mut row = Vec::with_capacity(alloc, threads.len().saturating_add(1))?;
     let first = parts.put_shared(shared)?;
     row.push(first)?;
@@ -136,32 +138,40 @@ pub fn row_of<S: Eq + Hash + Drop, T: Eq + Hash + Drop>(
     Ok(row)
 }
 
+/// Thread n of a state, by the numbers of what is shared, of all threads, and of that one.
+#[derive(Clone, Copy)]
+struct ThreadOf<'r> {
+    shared: u32,
+    threads: &'r [u32],
+    n: usize,
+    thread: u32,
+}
+
 /// The row of the state after an event of thread n of which others hear, or nothing where it can't be told.
 fn row_after<M: Moves>(
     alloc: Global,
     system: &M,
-    parts: &mut Parts<M::Shared, M::Thread>,
-    numbers: &[u32],
-    n: usize,
+    parts: &mut StateParts<M::Shared, M::Thread>,
+    of: &ThreadOf,
     shared: M::Shared,
     made: &M::Effect,
 ) -> Result<Option<Vec<u32>>, AllocError>
-    requires { (xs : List M.Thread) × AreThreads parts.old numbers.now xs
-        × MovesSomewhere (M.threads system.now) shared made.now n xs }
+    requires { OfSomeThreads parts.old of.now.threads.now
+        (MovesSomewhere (M.threads system.now) shared made.now of.now.n) }
     ensures grows { OnOk result (Grows parts.old parts.new) }
-    ensures row { IfOk result (λ o. IfSome o (λ r. (xs : List M.Thread) → AreThreads parts.old numbers.now xs
-        → IsRowAfter (M.threads system.now) M.Shared.eq M.Thread.eq parts.new shared made.now n xs r.items)) }
-    ensures gives_up { IfOk result (λ o. o ≡ None → (xs : List M.Thread) → AreThreads parts.old numbers.now xs
-        → IsStuckByMove (M.threads system.now) (M.stuck system.now) shared made.now n xs) }
+    ensures row { IfOk result (λ o. IfSome o (λ r. OfThreads parts.old of.now.threads.now
+        (λ xs. IsRowAfter (M.threads system.now) M.Shared.eq M.Thread.eq parts.new shared made.now of.now.n xs r.items))) }
+    ensures gives_up { IfOk result (λ o. o ≡ None → OfThreads parts.old of.now.threads.now
+        (IsStuckByMove (M.threads system.now) (M.stuck system.now) shared made.now of.now.n)) }
 {
-    let threads = threads_of(alloc, system, parts, numbers)?;
-    let Some(rested) = threads_after(alloc, system, &shared, made, n, threads.as_slice())? else {
+    let threads = threads_of(alloc, system, parts, of.threads)?;
+    let Some(rested) = threads_after(alloc, system, &shared, made, of.n, threads.as_slice())? else {
         return Ok(None);
     };
     let row = row_of(
         alloc,
         parts,
-        Flat {
+        RestingState {
             shared,
             threads: rested,
         },
@@ -199,80 +209,28 @@ fn put(all: &mut Vec<NextRow>, n: usize, row: Vec<u32>) -> Result<(), AllocError
     Ok(())
 }
 
-/// Thread n of a state, by the numbers of what is shared and of that thread.
-#[derive(Clone, Copy)]
-struct ThreadOf {
-    shared: u32,
-    n: usize,
-    thread: u32,
-}
-
 /// Puts the row of the next state by this turn of a thread, if it makes one, behind those of the threads before it.
 fn put_turn<M: Moves>(
     alloc: Global,
     system: &M,
-    parts: &Parts<M::Shared, M::Thread>,
-    threads: &[u32],
-    of: ThreadOf,
-    turn: Turn,
+    parts: &StateParts<M::Shared, M::Thread>,
+    of: &ThreadOf,
+    turn: QuietTurn,
     all: &mut Vec<NextRow>,
 ) -> Result<(), AllocError>
-    requires at { (c : FlatState M.Shared M.Thread)
-        × IsThreadAt (M.threads system.now) parts.now (of.shared ∷ threads.now) of.thread of.n c }
-    requires turn { OfNumbers (M.threads system.now) parts.now of.shared of.thread
-        (λ g h. IsTurn (M.threads system.now) parts.now g h of.n turn) }
-    ensures { OnOk result ((c : FlatState M.Shared M.Thread)
-        → IsThreadAt (M.threads system.now) parts.now (of.shared ∷ threads.now) of.thread of.n c
-        → AreNextBelow (M.threads system.now) parts.now c of.n all.old.items
-        → AreNextBelow (M.threads system.now) parts.now c (of.n + 1) all.new.items) }
+    requires at { HasThread (M.threads system.now) parts.now of.now }
+    requires turn { OfNumbers (M.threads system.now) parts.now of.now.shared of.now.thread
+        (λ g h. IsTurn (M.threads system.now) parts.now g h of.now.n turn) }
+    ensures { OnOk result (OfThread (M.threads system.now) parts.now of.now
+        (AddsNext (M.threads system.now) parts.now parts.now of.now all.old.items all.new.items)) }
 {
     match turn {
-        Turn::Still => Ok(()),
-        Turn::Alone { shared, thread } => {
-            let next = row_alone(alloc, threads, of.n, shared, thread)?;
+        QuietTurn::Still => Ok(()),
+        QuietTurn::Alone { shared, thread } => {
+            let next = row_alone(alloc, of.threads, of.n, shared, thread)?;
             put(all, of.n, next)?;
             Ok(())
         }
-    }
-}
-
-/// As `put_next`, where the turn of the thread is not known.
-fn put_anew<M: Moves>(
-    alloc: Global,
-    system: &M,
-    met: &mut Met<M::Shared, M::Thread>,
-    threads: &[u32],
-    of: ThreadOf,
-    all: &mut Vec<NextRow>,
-) -> Result<bool, AllocError>
-    requires known { AreKnown (M.threads system.now) met.old }
-    requires at { (c : FlatState M.Shared M.Thread)
-        × IsThreadAt (M.threads system.now) met.old.parts (of.shared ∷ threads.now) of.thread of.n c }
-    ensures grows { OnOk result (Grows met.old.parts met.new.parts) }
-    ensures known { OnOk result (AreKnown (M.threads system.now) met.new) }
-    ensures next { IfOk result (λ told. told ≡ true → (c : FlatState M.Shared M.Thread)
-        → IsThreadAt (M.threads system.now) met.old.parts (of.shared ∷ threads.now) of.thread of.n c
-        → AreNextBelow (M.threads system.now) met.old.parts c of.n all.old.items
-        → AreNextBelow (M.threads system.now) met.new.parts c (of.n + 1) all.new.items) }
-    ensures gives_up { IfOk result (λ told. told ≡ false → (c : FlatState M.Shared M.Thread)
-        → IsThreadAt (M.threads system.now) met.old.parts (of.shared ∷ threads.now) of.thread of.n c
-        → IsStuckAfter (M.threads system.now) (M.stuck system.now) c) }
-{
-    let turn = made_by(alloc, system, met, of.shared, of.thread, of.n)?;
-    match turn {
-        Made::Told(turn) => {
-            put_turn(alloc, system, &met.parts, threads, of, turn, all)?;
-            Ok(true)
-        }
-        Made::Heard(shared, made) => {
-            let parts = &mut met.parts;
-            let Some(next) = row_after(alloc, system, parts, threads, of.n, shared, &made)? else {
-                return Ok(false);
-            };
-            put(all, of.n, next)?;
-            Ok(true)
-        }
-        Made::Unknown => Ok(false),
     }
 }
 
@@ -281,37 +239,42 @@ fn put_anew<M: Moves>(
 fn put_next<M: Moves>(
     alloc: Global,
     system: &M,
-    met: &mut Met<M::Shared, M::Thread>,
-    threads: &[u32],
-    of: ThreadOf,
+    met: &mut MetParts<M::Shared, M::Thread>,
+    of: &ThreadOf,
     all: &mut Vec<NextRow>,
 ) -> Result<bool, AllocError>
     requires known { AreKnown (M.threads system.now) met.old }
-    requires at { (c : FlatState M.Shared M.Thread)
-        × IsThreadAt (M.threads system.now) met.old.parts (of.shared ∷ threads.now) of.thread of.n c }
+    requires at { HasThread (M.threads system.now) met.old.parts of.now }
     ensures grows { OnOk result (Grows met.old.parts met.new.parts) }
     ensures known { OnOk result (AreKnown (M.threads system.now) met.new) }
-    ensures next { IfOk result (λ told. told ≡ true → (c : FlatState M.Shared M.Thread)
-        → IsThreadAt (M.threads system.now) met.old.parts (of.shared ∷ threads.now) of.thread of.n c
-        → AreNextBelow (M.threads system.now) met.old.parts c of.n all.old.items
-        → AreNextBelow (M.threads system.now) met.new.parts c (of.n + 1) all.new.items) }
-    ensures gives_up { IfOk result (λ told. told ≡ false → (c : FlatState M.Shared M.Thread)
-        → IsThreadAt (M.threads system.now) met.old.parts (of.shared ∷ threads.now) of.thread of.n c
-        → IsStuckAfter (M.threads system.now) (M.stuck system.now) c) }
+    ensures next { IfOk result (λ told. told ≡ true → OfThread (M.threads system.now) met.old.parts of.now
+        (AddsNext (M.threads system.now) met.old.parts met.new.parts of.now all.old.items all.new.items)) }
+    ensures gives_up { IfOk result (λ told. told ≡ false → OfThread (M.threads system.now) met.old.parts of.now
+        (IsStuckAfter (M.threads system.now) (M.stuck system.now))) }
 {
-    let known = met.known.as_slice();
-    if let Some(turn) = recall(known, of.shared, of.thread, of.n as u32) {
-        put_turn(alloc, system, &met.parts, threads, of, turn, all)?;
-        return Ok(true);
+    let turn = made_by(alloc, system, met, of.shared, of.thread, of.n)?;
+    match turn {
+        EventOutcome::Told(turn) => {
+            put_turn(alloc, system, &met.parts, of, turn, all)?;
+            Ok(true)
+        }
+        EventOutcome::Heard(shared, made) => {
+            let parts = &mut met.parts;
+            let Some(next) = row_after(alloc, system, parts, of, shared, &made)? else {
+                return Ok(false);
+            };
+            put(all, of.n, next)?;
+            Ok(true)
+        }
+        EventOutcome::Unknown => Ok(false),
     }
-    put_anew(alloc, system, met, threads, of, all)
 }
 
 /// The rows of the next states of the one of these numbers, each with the thread whose event leads there.
 pub(crate) fn next_rows<M: Moves>(
     alloc: Global,
     system: &M,
-    met: &mut Met<M::Shared, M::Thread>,
+    met: &mut MetParts<M::Shared, M::Thread>,
     shared: u32,
     threads: &[u32],
 ) -> Result<Option<Vec<NextRow>>, AllocError>
@@ -326,9 +289,14 @@ pub(crate) fn next_rows<M: Moves>(
 {
     let mut all = Vec::new(alloc);
     for n in 0..threads.len() {
-        let thread = number_at(threads, n);
-        let of = ThreadOf { shared, n, thread };
-        if !put_next(alloc, system, met, threads, of, &mut all)? {
+        let thread = part_at(threads, n);
+        let of = ThreadOf {
+            shared,
+            threads,
+            n,
+            thread,
+        };
+        if !put_next(alloc, system, met, &of, &mut all)? {
             return Ok(None);
         }
     }

@@ -13,11 +13,11 @@ ghost use Rattle.search_settled.specs.Same.{flat_eq};
 ghost use Rattle.search_settled.specs.Known.{PutsRows};
 
 use crate::Moves;
-use crate::met::{Met, NextRow, Tables, make_room};
+use crate::met::{MetParts, NextRow, Tables, make_room};
 use crate::next::{next_rows, row_of, threads_of};
 use search_graph::Move;
-use search_reach::{Ended, Follows, Meets, Order, Seeks, all_endings};
-use search_table::{Parts, States};
+use search_reach::{Ended, Follows, Meets, SearchPlan, Seeks, all_endings};
+use search_table::{StateParts, States};
 use std::alloc::{AllocError, Global};
 use std::hash::Hash;
 
@@ -33,7 +33,7 @@ struct Turns<'s, M> {
 /// # Errors
 /// Where memory is refused.
 pub fn put_rows<S: Eq + Hash + Drop, T: Eq + Hash + Drop>(
-    parts: &Parts<S, T>,
+    parts: &StateParts<S, T>,
     states: &mut States,
     moves: &mut Vec<Move>,
     at: u32,
@@ -56,7 +56,7 @@ pub fn put_rows<S: Eq + Hash + Drop, T: Eq + Hash + Drop>(
 
 impl<M: Moves> Meets for Turns<'_, M> {
     ghost use Rattle.schedule.specs.System.{State as SystemState};
-    ghost use Rattle.search_settled.specs.declared.flat.Flat.{Flat as FlatState};
+    ghost use Rattle.search_settled.specs.declared.flat.RestingState.{RestingState as StateAtRest};
     ghost use Rattle.search_settled.specs.Known.{HasStates};
     ghost use Rattle.search_settled.specs.Turns.{turns};
     ghost use Rattle.search_settled.specs.Same.{flat_eq, flat_eq_back, flat_alike, stands_alike};
@@ -65,7 +65,7 @@ impl<M: Moves> Meets for Turns<'_, M> {
 
     type Ending = M::Ending;
 
-    ghost State = { FlatState M.Shared M.Thread };
+    ghost State = { StateAtRest M.Shared M.Thread };
 
     ghost World = { SystemState M.X M.T };
 
@@ -83,8 +83,8 @@ impl<M: Moves> Meets for Turns<'_, M> {
 
     fn table(&self, alloc: Global) -> Tables<M::Shared, M::Thread> {
         Tables {
-            met: Met {
-                parts: Parts::new(alloc),
+            met: MetParts {
+                parts: StateParts::new(alloc),
                 known: Vec::new(alloc),
             },
             states: States::new(alloc),
@@ -152,33 +152,31 @@ impl<M: Moves> Meets for Turns<'_, M> {
     }
 }
 
-/// The endings of all runs of threads, whatever the order of their turns; it meets no more than `most` settled states
-/// and a few, those before one that is looked for, and those before it is told to end. Where it met all, it says of which
+/// The endings of all runs of threads, whatever the order of their turns; it meets no more than the plan's most settled
+/// states and a few, those before one that is looked for, and those before it is told to end. Where it met all, it says of which
 /// states no run ends, and whether every fair run ends: one in which each thread that wants a turn of its own or an event
 /// makes its next turn. The list has each ending of a run with no more events than levels are complete. Depth first no
 /// levels are counted.
 pub fn search_all<M: Moves, Q: Seeks<M::Ending>, F: Follows>(
     alloc: Global,
     system: &M,
-    order: Order,
-    most: u32,
-    sought: &Q,
+    plan: &SearchPlan<Q>,
     follower: &mut F,
 ) -> Result<Ended<M::Ending>, AllocError>
-    ensures found { IfOk result (AreEndings (turns M.Moves system.now) M.Ending.eq most (F.wish follower.new)) }
+    ensures found { IfOk result (AreEndings (turns M.Moves system.now) M.Ending.eq plan.now.most (F.wish follower.new)) }
     ensures paths { IfOk result (λ r. vec_len r.paths ≡ index_set_len r.endings) }
     ensures ways { IfOk result (HasWays (turns M.Moves system.now) (flat_eq M.Shared.eq M.Thread.eq)) }
     ensures count { IfOk result
         (λ r. IsCount (turns M.Moves system.now) (flat_eq M.Shared.eq M.Thread.eq) r.states) }
     ensures live { IfOk result
         (λ r. IsLiveWhereAll (turns M.Moves system.now) (flat_eq M.Shared.eq M.Thread.eq) r.states r.verdict r.liveness) }
-    ensures seeks { IfOk result (λ r. SeeksIn (Q.sought sought.now) M.Ending.eq r.verdict r.endings.keys) }
+    ensures seeks { IfOk result (λ r. SeeksIn (Q.sought plan.now.sought) M.Ending.eq r.verdict r.endings.keys) }
     ensures levels { IfOk result (λ r. IfSome r.levels (HasEndsBehind (M.threads system.now).system
         (M.threads system.now).first (M.ends system.now) M.Ending.eq r.endings.keys)) }
-    ensures leveled { IfOk result (λ r. IsLeveled order r.levels (r.states ≡ 0)) }
+    ensures leveled { IfOk result (λ r. IsLeveled plan.now.order r.levels (r.states ≡ 0)) }
     ensures obeys { IfOk result (λ r.
         Obeys (F.wish follower.old) (F.wish follower.new) (F.told_at follower.new) r.verdict r.states) }
 {
     let states = Turns { system };
-    all_endings(alloc, &states, order, most, sought, follower)
+    all_endings(alloc, &states, plan, follower)
 }

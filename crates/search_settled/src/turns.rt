@@ -1,20 +1,20 @@
 //! The turn of a thread, by the numbers of a table.
 ghost use Rattle.std.specs.Prelude.{◌≡◌, ◌≢◌, ◌<◌, ◌≤◌, true, false, IfOk, OnOk};
 ghost use Rattle.search_table.specs.Tables.{Grows};
-ghost use Rattle.search_settled.specs.declared.turns.Made.TheVariants.{Unknown};
+ghost use Rattle.search_settled.specs.declared.turns.EventOutcome.TheVariants.{Unknown};
 ghost use Rattle.search_settled.specs.Known.{AreKnown, AreOfThread, OfNumbers, IsMade, IsLostBy};
 ghost use Rattle.search_settled.specs.Alone.{IsUnheard};
 ghost use Rattle.search_settled.specs.Flat.{ComesAfter};
 
 use crate::Moves;
-use crate::met::{Known, Met, Turn, note};
+use crate::met::{Known, MetParts, QuietTurn, note, recall};
 use std::alloc::{AllocError, Global};
 
 /// What comes of the event that a thread wants.
 #[derive(Drop)]
-pub(crate) enum Made<S, E> {
+pub(crate) enum EventOutcome<S, E> {
     /// Its turn.
-    Told(Turn),
+    Told(QuietTurn),
     /// Others hear of it: what is shared after it, and what it makes.
     Heard(S, E),
     /// That can't be told.
@@ -59,11 +59,11 @@ fn is_quiet<M: Moves>(
 fn made_anew<M: Moves>(
     alloc: Global,
     system: &M,
-    met: &mut Met<M::Shared, M::Thread>,
+    met: &mut MetParts<M::Shared, M::Thread>,
     shared: u32,
     thread: u32,
     n: usize,
-) -> Result<Made<M::Shared, M::Effect>, AllocError>
+) -> Result<EventOutcome<M::Shared, M::Effect>, AllocError>
     requires known { AreKnown (M.threads system.now) met.old }
     requires of { AreOfThread (M.threads system.now) met.old.parts shared thread n }
     requires few { n < (M.threads system.now).most }
@@ -75,35 +75,36 @@ fn made_anew<M: Moves>(
         (IsLostBy (M.threads system.now) (M.stuck system.now) n)) }
 {
     let Some(old) = met.parts.shared.get_index(shared as usize) else {
-        return Ok(Made::Unknown);
+        return Ok(EventOutcome::Unknown);
     };
     let Some(own) = met.parts.threads.get_index(thread as usize) else {
-        return Ok(Made::Unknown);
+        return Ok(EventOutcome::Unknown);
     };
     let count = system.started(old);
     let Some((new, made)) = system.event(alloc, old, own, n)? else {
-        return Ok(Made::Told(Turn::Still));
+        return Ok(EventOutcome::Told(QuietTurn::Still));
     };
     if !is_quiet(system, &new, &made, n, count) {
-        return Ok(Made::Heard(new, made));
+        return Ok(EventOutcome::Heard(new, made));
     }
     let Some(rested) = system.after(alloc, &made, n, own, n)? else {
-        return Ok(Made::Unknown);
+        return Ok(EventOutcome::Unknown);
     };
     let shared = met.parts.put_shared(new)?;
     let thread = met.parts.put_thread(rested)?;
-    Ok(Made::Told(Turn::Alone { shared, thread }))
+    Ok(EventOutcome::Told(QuietTurn::Alone { shared, thread }))
 }
 
-/// What comes of the event that thread n wants, which was not known, and is noted if nobody else hears of it.
+/// What comes of the event that thread n wants: its turn, if that is known; else what is found now, and is noted if nobody
+/// else hears of it.
 pub(crate) fn made_by<M: Moves>(
     alloc: Global,
     system: &M,
-    met: &mut Met<M::Shared, M::Thread>,
+    met: &mut MetParts<M::Shared, M::Thread>,
     shared: u32,
     thread: u32,
     n: usize,
-) -> Result<Made<M::Shared, M::Effect>, AllocError>
+) -> Result<EventOutcome<M::Shared, M::Effect>, AllocError>
     requires known { AreKnown (M.threads system.now) met.old }
     requires of { AreOfThread (M.threads system.now) met.old.parts shared thread n }
     requires few { n < (M.threads system.now).most }
@@ -114,8 +115,12 @@ pub(crate) fn made_by<M: Moves>(
     ensures gives_up { IfOk result (λ r. r ≡ Unknown → OfNumbers (M.threads system.now) met.old.parts shared thread
         (IsLostBy (M.threads system.now) (M.stuck system.now) n)) }
 {
+    let known = met.known.as_slice();
+    if let Some(turn) = recall(known, shared, thread, n as u32) {
+        return Ok(EventOutcome::Told(turn));
+    }
     let made = made_anew(alloc, system, met, shared, thread, n)?;
-    if let Made::Told(turn) = made {
+    if let EventOutcome::Told(turn) = made {
         let n = n as u32;
         let new = Known {
             shared,

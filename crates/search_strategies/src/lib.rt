@@ -32,4 +32,4 @@ pub use random::Random;
 pub use rounds::Rounds;
 pub use spin::Spin;
 pub use strategy::Strategy;
-pub use watched::{Watch, Watched};
+pub use watched::{EndWatch, Watched};

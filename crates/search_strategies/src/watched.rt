@@ -8,12 +8,12 @@ use types::Entry;
 const PAUSE: u32 = 1000;
 
 /// Says, to any thread that asks, whether it is time to end.
-pub trait Watch {
+pub trait EndWatch {
     fn is_over(&self) -> bool;
 }
 
 /// It never is.
-impl Watch for () {
+impl EndWatch for () {
     fn is_over(&self) -> bool {
         false
     }
@@ -42,7 +42,7 @@ impl<'a, S, W> Watched<'a, S, W> {
     }
 }
 
-impl<S: Strategy, W: Watch> Strategy for Watched<'_, S, W> {
+impl<S: Strategy, W: EndWatch> Strategy for Watched<'_, S, W> {
     ghost chooses = { λ before ready answer after.
         ((before.left ≡ 0) × (answer ≡ None)) ⊎ S.chooses before.strategy ready answer after.strategy };
 

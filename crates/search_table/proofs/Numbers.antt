@@ -1,5 +1,7 @@
 -- Numbers of states: a look-up that comes to a free number has seen all.
-use Rattle.std.specs.Prelude.{ℕ, zero, suc, ◌≡◌, ◌+◌, ◌%◌, ◌^◌, ◌<◌, Bool, true, false, List, [], ◌∷◌, ◌++◌, length, get_or, Option, Some, None, nat_eq, nat_lt, position, Result, Ok, Err, IfOk, OnOk, refl, if◌then◌else◌}
+use Rattle.std.specs.Prelude.{ℕ, zero, suc, ◌≡◌, ◌+◌, ◌%◌, ◌^◌, ◌<◌, Bool, true, false, List, [], ◌∷◌, ◌++◌, length}
+use Rattle.std.specs.Prelude.{get_or, Option, Some, None, nat_eq, nat_lt, position, Result, Ok, Err, IfOk, OnOk, refl}
+use Rattle.std.specs.Prelude.{if◌then◌else◌}
 use Rattle.std.proofs.Common.{ap, subst, sym, ◌∙◌, arith, ◌⊎◌, inl, inr, true≢false}
 use Rattle.std.proofs.lemmas.Bool.{eqb-true, eq-eqb, ltb-true, cases_lt}
 use Rattle.std.proofs.lemmas.Option.{none-some, cond_some, slice_get-get_or}
@@ -11,7 +13,8 @@ use Rattle.std.specs.Cmp.{first_so, second_so}
 use Rattle.std.specs.List.{slice_get, list_any, position_or_len, IsDistinct}
 use Rattle.indexmap.specs.IndexSet.{insert_key}
 use Rattle.search_table.specs.declared.states.States.{States}
-use Rattle.search_table.specs.Tables.{Keeps, AreRows, rows_of, states_of, words_eq, is_row, with_row, row_digest, number_after, IsTaken, HasNumber, AreStates, IsOthers, IsFree}
+use Rattle.search_table.specs.Tables.{Keeps, AreRows, rows_of, states_of, words_eq, is_row, with_row, row_digest}
+use Rattle.search_table.specs.Tables.{number_after, IsTaken, HasNumber, AreStates, IsOthers, IsFree}
 use Rattle.search_table.proofs.Keeping.{keeps-longer, get-last, at-longer}
 use Rattle.search_table.proofs.Distinct.{same-place, none-equal}
 
@@ -56,7 +59,8 @@ at-number numbers n place is =
     a.1 ∙ ap (λ v. Some v) (sym (eqb-true n a.0 a.2))
 
 -- whether a row stands there
-pub row-there : (rows : List (List ℕ)) (place : ℕ) (row : List ℕ) (b : Bool) → b ≡ is_row (slice_get rows place) row → b ≡ true → slice_get rows place ≡ Some row
+pub row-there : (rows : List (List ℕ)) (place : ℕ) (row : List ℕ) (b : Bool) → b ≡ is_row (slice_get rows place) row → b ≡ true →
+    slice_get rows place ≡ Some row
 row-there rows place row b is holds = by (slice_get rows place) (sym is ∙ holds)
   where
     by : (o : Option (List ℕ)) → is_row o row ≡ true → o ≡ Some row

@@ -3,11 +3,11 @@ use Rattle.std.specs.Prelude.{ℕ, zero, suc, ◌≡◌, ◌+◌, ◌*◌, ◌/�
 use Rattle.std.specs.List.{slice_get, IsDistinct, AllZip, fold}
 use Rattle.std.specs.Cmp.Lexicographic.{pointwise}
 use Rattle.indexmap.specs.IndexSet.{insert_key}
-use Rattle.search_table.specs.declared.parts.Parts.{Parts}
-use Rattle.search_table.specs.declared.rows.Rows.{Rows}
+use Rattle.search_table.specs.declared.parts.StateParts.{StateParts}
+use Rattle.search_table.specs.declared.rows.PackedRows.{PackedRows}
 use Rattle.search_table.specs.declared.states.States.{States}
-use Rattle.search_table.specs.declared.states.Place.{Place}
-use Rattle.search_table.specs.declared.states.Place.TheVariants.{Known, Free}
+use Rattle.search_table.specs.declared.states.RowPlace.{RowPlace}
+use Rattle.search_table.specs.declared.states.RowPlace.TheVariants.{Known, Free}
 
 -- What stands in the one list stands at the same place of the other.
 abbrev pub Keeps : {A : Type 0} → List A → List A → Type 0
@@ -21,25 +21,25 @@ pub record HasEqual {A : Type 0} (eq : A → A → Bool) (xs : List A) (n : ℕ)
 
 module _ {G H : Type 0} where
   -- All numbers stand for what they stood for.
-  pub record Grows (before after : Parts G H) : Type 0 where
+  pub record Grows (before after : StateParts G H) : Type 0 where
     pub shared : Keeps before.shared.keys after.shared.keys
     pub threads : Keeps before.threads.keys after.threads.keys
 
   -- These are the threads of these numbers.
-  abbrev pub AreThreads : Parts G H → List ℕ → List H → Type 0
+  abbrev pub AreThreads : StateParts G H → List ℕ → List H → Type 0
   AreThreads t numbers threads = AllZip (λ n x. slice_get t.threads.keys n ≡ Some x) numbers threads
 
   -- The row is of the state with this shared, and these threads.
-  abbrev pub IsRow : Parts G H → List ℕ → G → List H → Type 0
+  abbrev pub IsRow : StateParts G H → List ℕ → G → List H → Type 0
   IsRow t [] shared threads = ⊥
   IsRow t (number ∷ numbers) shared threads = (slice_get t.shared.keys number ≡ Some shared) × AreThreads t numbers threads
 
-  pub record AreNoParts (t : Parts G H) : Type 0 where
+  pub record AreNoParts (t : StateParts G H) : Type 0 where
     pub shared : t.shared.keys ≡ []
     pub threads : t.threads.keys ≡ []
 
   -- No two of one list are equal.
-  pub record ArePartsDistinct (eq_shared : G → G → Bool) (eq_thread : H → H → Bool) (t : Parts G H) : Type 0 where
+  pub record ArePartsDistinct (eq_shared : G → G → Bool) (eq_thread : H → H → Bool) (t : StateParts G H) : Type 0 where
     pub shared : IsDistinct eq_shared t.shared.keys
     pub threads : IsDistinct eq_thread t.threads.keys
 
@@ -59,10 +59,10 @@ EndAt len from [] = from ≡ len
 EndAt len from (end ∷ ends) = (from ≤ end) × (end ≤ len) × EndAt len end ends
 
 -- The rows.
-abbrev pub rows_of : Rows → List (List ℕ)
+abbrev pub rows_of : PackedRows → List (List ℕ)
 rows_of r = cut r.words.items 0 r.ends.items
 
-abbrev pub AreRows : Rows → Type 0
+abbrev pub AreRows : PackedRows → Type 0
 AreRows r = EndAt (length r.words.items) 0 r.ends.items
 
 -- The states that were met, each by its row, in the order of their meeting.
@@ -128,6 +128,6 @@ pub record IsFree (s : States) (row : List ℕ) (number : ℕ) : Type 0 where
   pub free : IsTaken s.digests.keys number → ⊥
 
 -- Where a row was found, or isn't.
-abbrev pub IsPlace : States → List ℕ → Place → Type 0
+abbrev pub IsPlace : States → List ℕ → RowPlace → Type 0
 IsPlace s row (Known place) = slice_get (states_of s) place ≡ Some row
 IsPlace s row (Free number) = IsFree s row number

@@ -18,6 +18,6 @@ mod parts;
 mod rows;
 mod states;
 
-pub use parts::Parts;
-pub use rows::Rows;
+pub use parts::StateParts;
+pub use rows::PackedRows;
 pub use states::States;

@@ -8,7 +8,7 @@ use std::hash::Hash;
 
 /// The parts of states, each once, by their numbers.
 #[derive(Drop)]
-pub struct Parts<S: Eq + Hash, T: Eq + Hash> {
+pub struct StateParts<S: Eq + Hash, T: Eq + Hash> {
     pub shared: IndexSet<S>,
     pub threads: IndexSet<T>,
 }
@@ -23,12 +23,12 @@ fn number(place: usize) -> Result<u32, AllocError>
     }
 }
 
-impl<S: Eq + Hash + Drop, T: Eq + Hash + Drop> Parts<S, T> {
+impl<S: Eq + Hash + Drop, T: Eq + Hash + Drop> StateParts<S, T> {
     /// None.
-    pub fn new(alloc: Global) -> Parts<S, T>
+    pub fn new(alloc: Global) -> StateParts<S, T>
         ensures { AreNoParts result }
     {
-        Parts {
+        StateParts {
             shared: IndexSet::new(alloc),
             threads: IndexSet::new(alloc),
         }

@@ -6,7 +6,7 @@ use std::alloc::{AllocError, Global};
 
 /// Rows of words: all words, one row's behind the other's, and where those of each end.
 #[derive(Drop)]
-pub struct Rows {
+pub struct PackedRows {
     pub words: Vec<u32>,
     pub ends: Vec<usize>,
 }
@@ -37,13 +37,13 @@ fn words_between(words: &[u32], from: usize, to: usize) -> &[u32]
     &words[from..to]
 }
 
-impl Rows {
+impl PackedRows {
     /// None.
-    pub fn new(alloc: Global) -> Rows
+    pub fn new(alloc: Global) -> PackedRows
         ensures rows { rows_of result ≡ [] }
         ensures are { AreRows result }
     {
-        Rows {
+        PackedRows {
             words: Vec::new(alloc),
             ends: Vec::new(alloc),
         }

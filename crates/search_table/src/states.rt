@@ -2,7 +2,7 @@
 ghost use Rattle.std.specs.Prelude.{◌≡◌, ◌+◌, ◌%◌, ◌^◌, ◌∷◌, [], ◌++◌, length, Some, IfOk, IfSome, OnOk, slice_get, option_copied};
 ghost use Rattle.search_table.specs.Tables.{AreStates, IsFree, IsPlace, is_row, mix, row_digest, states_of, with_row, words_eq};
 
-use crate::rows::Rows;
+use crate::rows::PackedRows;
 use indexmap::IndexSet;
 use std::alloc::{AllocError, Global};
 
@@ -10,14 +10,14 @@ use std::alloc::{AllocError, Global};
 /// and behind it those of its threads.
 #[derive(Drop)]
 pub struct States {
-    pub rows: Rows,
+    pub rows: PackedRows,
     /// A number of each state: the digest of its row, or the first behind it that no state before it has.
     pub digests: IndexSet<u64>,
 }
 
 /// Where a row was found, or isn't.
 #[derive(Clone, Copy)]
-enum Place {
+enum RowPlace {
     /// It is there.
     Known(usize),
     /// It isn't, and this number is free for it.
@@ -64,7 +64,7 @@ impl States {
         ensures are { AreStates result }
     {
         States {
-            rows: Rows::new(alloc),
+            rows: PackedRows::new(alloc),
             digests: IndexSet::new(alloc),
         }
     }
@@ -97,7 +97,7 @@ impl States {
 
     /// Where a row is, or the first number from its digest on that no state has. None where it has seen more numbers than
     /// there are states.
-    fn place_of(&self, row: &[u32]) -> Option<Place>
+    fn place_of(&self, row: &[u32]) -> Option<RowPlace>
         requires { AreStates self.now }
         ensures { IfSome result (IsPlace self.now row.now) }
     {
@@ -105,10 +105,10 @@ impl States {
         let most = self.rows.len().saturating_add(1);
         for passed in 0..most {
             let Some(place) = self.digests.get_index_of(&number) else {
-                return Some(Place::Free(number));
+                return Some(RowPlace::Free(number));
             };
             if self.is_at(place, row) {
-                return Some(Place::Known(place));
+                return Some(RowPlace::Known(place));
             }
             let behind = number_behind(number);
             number = behind;
@@ -144,8 +144,8 @@ impl States {
             return Err(AllocError);
         };
         match found {
-            Place::Known(place) => Ok(place),
-            Place::Free(number) => self.push(row, number),
+            RowPlace::Known(place) => Ok(place),
+            RowPlace::Free(number) => self.push(row, number),
         }
     }
 }

@@ -1,7 +1,6 @@
 //! The numbers that a run draws, beside those of PCG's reference code.
 
 use search_strategies::Draws;
-use std::process::Abort;
 use std::test::Fail;
 
 /// The first words that PCG's demonstration (`pcg32-demo.c`) prints of the state 42 and the stream 54.
@@ -15,16 +14,12 @@ static WORDS: [u32; 6] = [
 ];
 
 /// Below 2^32 - 1 the number of a word W above 0 is W - 1.
-fn check_words<R: Abort>(rt: &R) {
+#[test]
+fn words_are_those_of_the_reference(rt: HostRuntime) -> Result<(), Fail> {
     let mut draws = Draws::new(42, 54);
     for word in WORDS {
         let number = draws.below(u32::MAX);
         assert!(rt; number.checked_add(1) == Some(word), "{number}");
     }
-}
-
-#[test]
-fn words_are_those_of_the_reference(rt: HostRuntime) -> Result<(), Fail> {
-    check_words(&rt);
     Ok(())
 }

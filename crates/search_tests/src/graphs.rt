@@ -1,5 +1,5 @@
 //! Small graphs whose answers are known: two threads that spin, lock and wait.
-use search_fairness::{Fairness, judge};
+use search_fairness::{Fairness, find_hint, judge};
 use search_graph::{Graph, Move, cannot_end, is_graph};
 use std::alloc::{AllocError, Global};
 use std::test::Fail;
@@ -65,7 +65,7 @@ fn says(
         return Ok(false);
     }
     let found = cannot_end(alloc, &graph, marks.as_slice())?;
-    let fairness = judge(alloc, &graph)?;
+    let fairness = judge(alloc, &graph, find_hint(alloc, &graph)?)?;
     Ok(found.as_slice() == stuck && is_as_wanted(&fairness, wanted))
 }
 

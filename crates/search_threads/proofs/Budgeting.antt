@@ -166,5 +166,6 @@ module _ {C E V A O : Type 0} (k : Machine C E V A O) where
     pub runs_with_budget : (x : X) (first : ℕ → Option C) (turns : List ℕ) → length turns < fuel
         → RunsWithBudget k reply after gives starts fuel x first turns
     runs_with_budget x first turns within =
-        let a = agree turns within x (λ m. first_with fuel (first m)) (λ m. first_without (first m)) (λ m. first_more C O (length turns) fuel (first m) within) in
+        let a = agree turns within x (λ m. first_with fuel (first m)) (λ m. first_without (first m)) (λ m. first_more C O (length turns) fuel (first m) within)
+        in
         record { entries = a.entries; shared = a.shared; threads = a.threads }

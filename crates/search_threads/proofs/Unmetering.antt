@@ -147,7 +147,8 @@ module _ {C E V A O : Type 0} (k : Machine C E V A O) where
     unmet (Acts (Heard a) ∷ r) (Left o n) end here fine run = absurd (cc (run.0))
 
     -- the places of a history
-    placed_same : (o : Option C) (g : Option A) (b : Bool) (p : Place A) → placed {A = A} {B = Thread C O} (started_with fuel o) g b p ≡ placed {A = A} {B = Unlimited C O}
+    placed_same : (o : Option C) (g : Option A) (b : Bool) (p : Place A) → placed {A = A} {B = Thread C O} (started_with fuel o) g b p ≡ placed {A = A}
+        {B = Unlimited C O}
         (started_without o) g b p
     placed_same (Some c) g b p = refl
     placed_same None (Some a) b p = refl

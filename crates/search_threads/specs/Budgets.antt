@@ -70,6 +70,13 @@ module _ {C E V A O X : Type 0} (k : Machine C E V A O) (reply : X → ℕ → E
   abbrev pub first_state_without : X → (ℕ → Option C) → State X (Unlimited C O)
   first_state_without x first = record { shared = x; threads = λ m. first_without (first m) }
 
+  -- The states to which these come along so many turns of threads.
+  abbrev pub end_with : ℕ → X → (ℕ → Option C) → List ℕ → State X (Thread C O)
+  end_with fuel x first turns = scheduled_run (with_budget fuel) (first_state_with fuel x first) (turns_of turns)
+
+  abbrev pub end_without : X → (ℕ → Option C) → List ℕ → State X (Unlimited C O)
+  end_without x first turns = scheduled_run without_budget (first_state_without x first) (turns_of turns)
+
   -- No thread that is gone in the end stopped for want of units or for a full log.
   abbrev pub NobodyStops : (ℕ → Thread C O) → Type 0
   NobodyStops ends = (m left : ℕ) (o : O) → ends m ≡ Left o left → (o ≡ k.out_of_fuel) ⊎ (o ≡ k.record_full) → ⊥
@@ -79,20 +86,16 @@ module _ {C E V A O X : Type 0} (k : Machine C E V A O) (reply : X → ℕ → E
       (H : List (Entry E V A)) : Type 0 where
     pub turns : List ℕ
     pub makes : Makes without_budget (first_state_without x first) H (turns_of turns)
-    pub shared : (scheduled_run without_budget (first_state_without x first) (turns_of turns)).shared
-        ≡ shared_after without_budget x H
+    pub shared : (end_without x first turns).shared ≡ shared_after without_budget x H
     pub threads : (m : ℕ) → (places_after without_budget x places H m ≡ Unstarted → ⊥)
-        → (scheduled_run without_budget (first_state_without x first) (turns_of turns)).threads m ≡ unmetered (ends m)
+        → (end_without x first turns).threads m ≡ unmetered (ends m)
 
   -- Along the same turns threads with a budget make the same entries, and come to the same but for units.
   pub record RunsWithBudget (fuel : ℕ) (x : X) (first : ℕ → Option C) (turns : List ℕ) : Type 0 where
     pub entries : entries_made (with_budget fuel) (first_state_with fuel x first) (turns_of turns)
         ≡ entries_made without_budget (first_state_without x first) (turns_of turns)
-    pub shared : (scheduled_run (with_budget fuel) (first_state_with fuel x first) (turns_of turns)).shared
-        ≡ (scheduled_run without_budget (first_state_without x first) (turns_of turns)).shared
-    pub threads : (m : ℕ) → IsSame
-        ((scheduled_run without_budget (first_state_without x first) (turns_of turns)).threads m)
-        ((scheduled_run (with_budget fuel) (first_state_with fuel x first) (turns_of turns)).threads m)
+    pub shared : (end_with fuel x first turns).shared ≡ (end_without x first turns).shared
+    pub threads : (m : ℕ) → IsSame ((end_without x first turns).threads m) ((end_with fuel x first turns).threads m)
 
 -- Threads without a budget keep the laws of threads.
 abbrev pub UnlimitedThreadsKeepTheLaws : (C E V A O X : Type 0) → Type 0

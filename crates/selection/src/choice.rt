@@ -9,21 +9,21 @@ use types::{Entry, Event, Question};
 
 /// Numbers from one up to another, both among them.
 #[derive(Clone, Copy, Debug, PartialEq, Eq)]
-pub struct Span {
+pub struct NumberSpan {
     pub first: u64,
     pub last: u64,
 }
 
-impl Span {
+impl NumberSpan {
     /// Of a text `A` or `A-B`, where A and B are unsigned decimals and A isn't above B.
-    pub fn read(text: &str) -> Option<Span>
+    pub fn read(text: &str) -> Option<NumberSpan>
         ensures { IfSome result (λ s. s.first ≤ s.last) }
     {
         let (first, last) = text.split_once('-').unwrap_or((text, text));
         let first = first.parse::<u64>().ok()?;
         let last = last.parse::<u64>().ok()?;
         if first <= last {
-            Some(Span { first, last })
+            Some(NumberSpan { first, last })
         } else {
             None
         }
@@ -37,7 +37,7 @@ impl Span {
     }
 
     /// Whether two spans have a number in common.
-    pub fn meets(self, other: Span) -> bool
+    pub fn meets(self, other: NumberSpan) -> bool
         ensures { result ≡ specified.meets self other }
     {
         self.first <= other.last && other.first <= self.last
@@ -48,9 +48,9 @@ impl Span {
 /// given, all are.
 #[derive(Drop)]
 pub struct Choice {
-    pub lines: Vec<Span>,
+    pub lines: Vec<NumberSpan>,
     pub threads: Vec<u32>,
-    pub addrs: Vec<Span>,
+    pub addrs: Vec<NumberSpan>,
 }
 
 impl Choice {
@@ -94,21 +94,21 @@ fn is_among(threads: &[u32], thread: u32) -> bool
 }
 
 /// Whether a number is in one of these spans.
-fn some_has(spans: &[Span], number: u64) -> bool
+fn some_has(spans: &[NumberSpan], number: u64) -> bool
     ensures { result ≡ list_any (λ span. specified.has span number) spans.now }
 {
     spans.iter().any(|span| span.has(number))
 }
 
 /// Whether a span meets one of these.
-fn some_meets(spans: &[Span], other: Span) -> bool
+fn some_meets(spans: &[NumberSpan], other: NumberSpan) -> bool
     ensures { result ≡ list_any (λ span. specified.meets span other) spans.now }
 {
     spans.iter().any(|span| span.meets(other))
 }
 
 /// The addresses of the bytes that an event touches, or at which it waits or wakes.
-pub fn touched(event: Event) -> Option<Span>
+pub fn touched(event: Event) -> Option<NumberSpan>
     ensures { result ≡ specified.touched event }
 {
     let (addr, width) = match event {
@@ -121,7 +121,7 @@ pub fn touched(event: Event) -> Option<Span>
         _ => return None,
     };
     let last = addr.saturating_add(u64::from(width.saturating_sub(1)));
-    Some(Span { first: addr, last })
+    Some(NumberSpan { first: addr, last })
 }
 
 /// When threads have colors.

@@ -9,6 +9,6 @@ mod choice;
 mod sought;
 mod way;
 
-pub use choice::{Choice, Color, Look, Span, touched};
-pub use sought::{Find, Sought, Target};
+pub use choice::{Choice, Color, Look, NumberSpan, touched};
+pub use sought::{Find, SearchTarget, Sought};
 pub use way::{MIX, MOST_DEPTH, Way};

@@ -21,7 +21,7 @@ pub enum Find<'a> {
 /// What is looked for: a run that has a line of a thread with this, or whose thread 0 comes to another result than is
 /// expected.
 #[derive(Clone, Copy)]
-pub struct Target<'a> {
+pub struct SearchTarget<'a> {
     pub find: Find<'a>,
     pub expect: Option<Outcome>,
 }
@@ -42,7 +42,7 @@ pub struct Sought<'a> {
     /// How many bytes of the memory belong to an ending.
     pub dump: u32,
     /// What is looked for.
-    pub target: Target<'a>,
+    pub target: SearchTarget<'a>,
     /// Whether the first run that is looked for is the last that is made.
     pub stops: bool,
 }

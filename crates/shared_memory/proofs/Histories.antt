@@ -117,7 +117,8 @@ pub queue_after-entry : (xs : List Entry) (n : ℕ) (event : Event) (reply : Rep
     → queue_after (xs ++ entry n event reply ∷ []) ≡ queue_step (queue_after xs) n event reply
 unfolding queue_after
 queue_after-entry xs n event reply is =
-    ap (queue_from (first_queue MOST_THREADS)) (of_queue-append xs (entry n event reply ∷ []) ∙ ap (λ w. of_queue xs ++ w) (of_queue-one (entry n event reply) is))
+    ap (queue_from (first_queue MOST_THREADS)) (of_queue-append xs (entry n event reply ∷ []) ∙ ap (λ w. of_queue xs ++ w)
+    (of_queue-one (entry n event reply) is))
     ∙ queue_from-append (first_queue MOST_THREADS) (of_queue xs) (entry n event reply ∷ [])
 
 pub IsQueueLegal-entry : (xs : List Entry) (n : ℕ) (event : Event) (reply : Reply) → is_of_queue event ≡ true → IsQueueLegal xs → MayEnter n event xs
@@ -126,12 +127,14 @@ unfolding IsQueueLegal MayEnter queue_after
 IsQueueLegal-entry xs n event reply is legal may =
     let split : of_queue (xs ++ entry n event reply ∷ []) ≡ of_queue xs ++ entry n event reply ∷ [] =
     of_queue-append xs (entry n event reply ∷ []) ∙ ap (λ w. of_queue xs ++ w) (of_queue-one (entry n event reply) is) in
-    subst (IsQueueLegalFrom (first_queue MOST_THREADS)) (sym split) (IsQueueLegalFrom-append (first_queue MOST_THREADS) (of_queue xs) (entry n event reply ∷ []) legal (may, tt))
+    subst (IsQueueLegalFrom (first_queue MOST_THREADS)) (sym split) (IsQueueLegalFrom-append (first_queue MOST_THREADS) (of_queue xs) (entry n event reply ∷ [])
+    legal (may, tt))
 
 -- a prefix of a history that is legal for the queue is legal for it
 pub IsQueueLegal-prefix : (xs ys : List Entry) → IsQueueLegal (xs ++ ys) → IsQueueLegal xs
 unfolding IsQueueLegal
-IsQueueLegal-prefix xs ys h = IsQueueLegalFrom-prefix (first_queue MOST_THREADS) (of_queue xs) (of_queue ys) (subst (IsQueueLegalFrom (first_queue MOST_THREADS)) (of_queue-append xs ys) h)
+IsQueueLegal-prefix xs ys h = IsQueueLegalFrom-prefix (first_queue MOST_THREADS) (of_queue xs) (of_queue ys)
+    (subst (IsQueueLegalFrom (first_queue MOST_THREADS)) (of_queue-append xs ys) h)
 
 -- and one that is well formed is well formed
 IsWellFormedFrom-prefix : (q : WaitQueue) (xs ys : List Entry) → IsWellFormedFrom q (xs ++ ys) → IsWellFormedFrom q xs

@@ -179,7 +179,8 @@ others_of_queue n (e ∷ xs) none =
 pub Keeps-after : (n : ℕ) (xs ys : List Entry) → entries_of n ys ≡ [] → IsQueueLegal (xs ++ ys) → Keeps n (queue_after xs) (queue_after (xs ++ ys))
 unfolding queue_after IsQueueLegal
 Keeps-after n xs ys none legal =
-    let split : IsQueueLegalFrom (first_queue MOST_THREADS) (of_queue xs ++ of_queue ys) = subst (IsQueueLegalFrom (first_queue MOST_THREADS)) (of_queue-append xs ys) legal in
+    let split : IsQueueLegalFrom (first_queue MOST_THREADS) (of_queue xs ++ of_queue ys) = subst (IsQueueLegalFrom (first_queue MOST_THREADS))
+    (of_queue-append xs ys) legal in
     let kept : Keeps n (queue_after xs) (queue_from (queue_after xs) (of_queue ys)) =
     Keeps-from n (queue_after xs) (of_queue ys) (others_of_queue n ys none) (IsQueueLegalFrom-rest (first_queue MOST_THREADS) (of_queue xs) (of_queue ys) split)
     (IsSound-after xs (IsQueueLegal-prefix xs ys legal)) in

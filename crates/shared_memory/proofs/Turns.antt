@@ -43,7 +43,8 @@ unfolding IsQueueLegal queue_after
 last_of_queue xs n event reply is legal =
     let split : of_queue (xs ++ entry n event reply ∷ []) ≡ of_queue xs ++ entry n event reply ∷ [] =
     of_queue-append xs (entry n event reply ∷ []) ∙ ap (λ w. of_queue xs ++ w) (of_queue-one (entry n event reply) is) in
-    (IsQueueLegalFrom-rest (first_queue MOST_THREADS) (of_queue xs) (entry n event reply ∷ []) (subst (IsQueueLegalFrom (first_queue MOST_THREADS)) split legal)).0
+    (IsQueueLegalFrom-rest (first_queue MOST_THREADS) (of_queue xs) (entry n event reply ∷ [])
+    (subst (IsQueueLegalFrom (first_queue MOST_THREADS)) split legal)).0
 
 -- and was allowed
 pub last_allowed : (xs : List Entry) (n : ℕ) (event : Event) (reply : Reply)

@@ -124,6 +124,7 @@ none_open n = quiet_not_open (queue_after []) n (quiet_first n)
 pub exchanges_alternate : (history : List Entry) (n : ℕ) → IsQueueLegal history → Alternate (exchanges_of n history)
 unfolding IsQueueLegal queue_after
 exchanges_alternate history n legal =
-    let all : TakeTurns (has_open_question (first_queue MOST_THREADS) n) (exchanges_of n (of_queue history)) = turns n (first_queue MOST_THREADS) (of_queue history) legal IsSound-first in
+    let all : TakeTurns (has_open_question (first_queue MOST_THREADS) n) (exchanges_of n (of_queue history)) = turns n (first_queue MOST_THREADS)
+    (of_queue history) legal IsSound-first in
     let from : TakeTurns false (exchanges_of n (of_queue history)) = subst (λ b. TakeTurns b (exchanges_of n (of_queue history))) (none_open n) all in
     subst (λ w. Alternate w) (same_exchanges n history) (from_turns (exchanges_of n (of_queue history)) from)

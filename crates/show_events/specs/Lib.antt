@@ -1,4 +1,5 @@
 pub mod Around
+pub mod EntryRows
 pub mod Events
 pub mod Forward
 pub mod Lines

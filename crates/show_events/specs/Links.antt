@@ -105,15 +105,19 @@ spawn_link log contexts firsts at =
 abbrev pub race_link : ℕ → Race → Option Link
 race_link long race = link_between long kinds.Race race.first (Some race.second)
 
+-- These links, where questions are answered and threads begin there.
+abbrev pub links_of : List Entry → Story → List Race → List (Option ℕ) → List (Option ℕ) → List Link
+links_of log story races answers firsts = filter_map (wake_link (length log) answers) story.wakes.all.items
+    ++ filter_map (spawn_link log story.contexts.items firsts) (range_with_len 0 (length log))
+    ++ filter_map (race_link (length log)) races
+
 -- The links of a log: of its wake-ups, in the story's order, of its spawns, in the log's, and of these races.
 pub record AreLinks (log : List Entry) (story : Story) (races : List Race) (links : List Link) : Type 0 where
   pub answers : List (Option ℕ)
   pub are_answers : AreAnswers story.contexts.items (length log) answers
   pub firsts : List (Option ℕ)
   pub are_firsts : AreFirsts log firsts
-  pub are : links ≡ filter_map (wake_link (length log) answers) story.wakes.all.items
-      ++ filter_map (spawn_link log story.contexts.items firsts) (range_with_len 0 (length log))
-      ++ filter_map (race_link (length log)) races
+  pub are : links ≡ links_of log story races answers firsts
 
 -- Where questions are answered, when one more entry is looked at.
 abbrev pub noted_answer : Context → ℕ → List (Option ℕ) → List (Option ℕ)

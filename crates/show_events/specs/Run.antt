@@ -30,14 +30,19 @@ abbrev pub moment_json : MomentText → List ℕ
 moment_json moment = codes "{\"moment\":" ++ (decimal moment.at ++ (codes ",\"text\":"
     ++ (quoted (string_bytes moment.text) ++ codes "}")))
 
+-- What is written is a line that has the JSON of this;
+abbrev pub Adds : {X : Type 0} → (X → List ℕ) → X → Option (List ℕ) → Option (List ℕ) → Type 0
+Adds json x old new = Appends old new (line_text Next (json x))
+
+-- of an argument; of how a thread has ended; and of a moment.
 abbrev pub AddsArgument : Value → Option (List ℕ) → Option (List ℕ) → Type 0
-AddsArgument value old new = Appends old new (line_text Next (argument_json value))
+AddsArgument = Adds argument_json
 
 abbrev pub AddsEnded : ThreadReport → Option (List ℕ) → Option (List ℕ) → Type 0
-AddsEnded report old new = Appends old new (line_text Next (ended_json report.outcome))
+AddsEnded = Adds (λ report. ended_json report.outcome)
 
 abbrev pub AddsMoment : MomentText → Option (List ℕ) → Option (List ℕ) → Type 0
-AddsMoment moment old new = Appends old new (line_text Next (moment_json moment))
+AddsMoment = Adds moment_json
 
 -- What is written is the head of a record, with so many entries that are chosen; each argument, each thread's end and
 -- each of these moments, in order.

@@ -43,14 +43,12 @@ fn is_stop(outcome: Option<Outcome>) -> bool
     matches!(outcome, Some(Outcome::Stop(_)))
 }
 
-/// Whether a thread leaves by this entry that trapped.
 fn leaves_trapped(ends: &[ThreadReport], entry: &Entry) -> bool
     ensures { result ≡ leaves_as specified.is_trap ends.now entry.now }
 {
     is_trap(outcome_of(ends, entry))
 }
 
-/// Whether a thread leaves by this entry that was stopped.
 fn leaves_stopped(ends: &[ThreadReport], entry: &Entry) -> bool
     ensures { result ≡ leaves_as specified.is_stop ends.now entry.now }
 {
@@ -87,7 +85,6 @@ pub fn failure_of(record: &RecordParts) -> usize
     log.len().saturating_sub(1)
 }
 
-/// How many of these places stand before one.
 fn count_before(places: &[usize], at: usize) -> usize
     ensures { result ≡ count_before at places.now }
 {

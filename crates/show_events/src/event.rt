@@ -3,6 +3,7 @@
 
 ghost use Rattle.std.specs.Prelude.{◌≡◌, string_bytes, IfOk};
 ghost use Rattle.show_events.specs.Events as specified;
+ghost use Rattle.show_events.specs.EntryRows.{event_row};
 ghost use Rattle.show_events.specs.Events.{entry_json, name_json, start_json, finish_json};
 
 use serde_json::Value;
@@ -33,13 +34,13 @@ pub(crate) struct EntryEvent<'a> {
 
 /// The front of an entry: its words, as JSON has them, its number in the log, and how long it is.
 #[derive(Clone, Copy)]
-struct Named<'a> {
+struct EventFront<'a> {
     words: &'a str,
     at: u64,
     length: u64,
 }
 
-impl fmt::Display for Named<'_> {
+impl fmt::Display for EventFront<'_> {
     ghost use Rattle.std.specs.Prelude.{Some};
     ghost use Rattle.show_events.specs.Events.{named_json};
 
@@ -79,16 +80,12 @@ impl fmt::Display for Placed<'_> {
 
 /// An entry with its words, from its number on and so many long.
 pub(crate) fn entry_event(alloc: Global, event: EntryEvent) -> Result<String, AllocError>
-    ensures { IfOk result (λ s. string_bytes s ≡ entry_json (record {
-      line = event.entry.line;
-      thread = event.entry.thread;
-      words = event.entry.words.now;
-      place = event.entry.place.now;
-    }) event.entry.at event.entry.length) }
+    ensures { IfOk result
+        (λ s. string_bytes s ≡ entry_json (event_row event.entry) event.entry.at event.entry.length) }
 {
     let words = quoted(alloc, event.words)?;
     let place = quoted(alloc, event.place)?;
-    let named = Named {
+    let named = EventFront {
         words: words.as_str(),
         at: event.at,
         length: event.length,

@@ -108,7 +108,6 @@ fn link_between(long: usize, kind: LinkKind, from: usize, to: Option<usize>) -> 
     }
 }
 
-/// Adds a link, if there is one.
 fn add_link(links: &mut Vec<Link>, link: Option<Link>) -> Result<(), AllocError>
     ensures { OnOk result (links.new.items ≡ links.old.items ++ option_to_list link) }
 {
@@ -153,7 +152,6 @@ fn add_spawns(
     Ok(())
 }
 
-/// Adds a link for each race.
 fn add_races(links: &mut Vec<Link>, long: usize, races: &[Race]) -> Result<(), AllocError>
     ensures { OnOk result (links.new.items ≡ links.old.items ++ filter_map (race_link long) races.now) }
 {
@@ -164,14 +162,12 @@ fn add_races(links: &mut Vec<Link>, long: usize, races: &[Race]) -> Result<(), A
     Ok(())
 }
 
-/// What stands at a place of a list, or nothing.
 fn in_list(places: &[Option<usize>], at: usize) -> Option<usize>
     ensures { result ≡ specified.in_list places.now at }
 {
     *places.get(at)?
 }
 
-/// Puts a place at one of a list, if there is that one.
 fn put_at(places: &mut [Option<usize>], n: usize, place: usize)
     ensures { places.new ≡ slice_set places.old n (Some place) }
 {
@@ -180,7 +176,6 @@ fn put_at(places: &mut [Option<usize>], n: usize, place: usize)
     }
 }
 
-/// Notes that the entry at a place is an answer, if it is one.
 fn note_answer(answers: &mut [Option<usize>], context: Context, at: usize)
     ensures { answers.new ≡ noted_answer context at answers.old }
 {
@@ -189,7 +184,6 @@ fn note_answer(answers: &mut [Option<usize>], context: Context, at: usize)
     }
 }
 
-/// So many places, none of which is known.
 fn none_known(alloc: Global, long: usize) -> Result<Vec<Option<usize>>, AllocError>
     ensures { IfOk result (λ places. places.items ≡ replicate long None) }
 {
@@ -212,7 +206,6 @@ fn answers_of(
     Ok(answers)
 }
 
-/// What is noted at one of a list.
 fn noted_at(places: &[Option<usize>], n: usize) -> Option<Option<usize>>
     ensures { result ≡ slice_get places.now n }
 {
@@ -228,7 +221,6 @@ fn note_first(firsts: &mut [Option<usize>], thread: u32, at: usize)
     }
 }
 
-/// The place of the first entry of each thread.
 fn first_entries(alloc: Global, log: &[Entry]) -> Result<Vec<Option<usize>>, AllocError>
     ensures { IfOk result (λ firsts. AreFirsts log.now firsts.items) }
 {
@@ -239,7 +231,6 @@ fn first_entries(alloc: Global, log: &[Entry]) -> Result<Vec<Option<usize>>, All
     Ok(firsts)
 }
 
-/// Whether the entry at a place is a spawn.
 fn is_spawn_at(log: &[Entry], at: usize) -> bool
     ensures { result ≡ is_spawn_at log.now at }
 {

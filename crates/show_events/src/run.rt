@@ -1,10 +1,10 @@
 //! What a page has of its run beside the entries: the call, how it ended, where it failed, and moments.
 
-ghost use Rattle.std.specs.Prelude.{◌≡◌, ◌≤◌, ℕ, length, string_bytes, IfOk, OnOk};
+ghost use Rattle.std.specs.Prelude.{◌≡◌, ◌≤◌, ℕ, List, length, string_bytes, IfOk, OnOk};
 ghost use Rattle.show_events.specs.Lines.{AddsLine, AddsLines};
 ghost use Rattle.show_events.specs.Events.{InTurn};
 ghost use Rattle.show_events.specs.Run.{argument_json, ended_json, head_json, moment_json};
-ghost use Rattle.show_events.specs.Run.{AddsArgument, AddsEnded, AddsMoment, AddsRun};
+ghost use Rattle.show_events.specs.Run.{Adds, AddsRun};
 
 use crate::around::failure_of;
 use crate::event::quoted;
@@ -13,7 +13,7 @@ use replay_text::RecordParts;
 use show_text::Unwritten;
 use std::alloc::{AllocError, Global};
 use std::io::Write;
-use types::{Outcome, ThreadReport, Value};
+use types::{ThreadReport, Value};
 
 /// What threads and memory are like before the entry at a place of the log.
 #[derive(Drop)]
@@ -35,91 +35,60 @@ fn head_json(alloc: Global, record: &RecordParts, chosen: usize) -> Result<Strin
     )
 }
 
-fn argument_json(alloc: Global, value: Value) -> Result<String, AllocError>
-    ensures { IfOk result (λ s. string_bytes s ≡ argument_json value) }
-{
-    format!(in alloc; "{{\"argument\":\"{value}\"}}")
+/// What a page has a line of.
+trait PageLine {
+    /// Its JSON.
+    ghost json: { Self → List ℕ };
+
+    fn to_json(&self, alloc: Global) -> Result<String, AllocError>
+        ensures { IfOk result (λ s. string_bytes s ≡ json self.now) };
 }
 
-fn ended_json(alloc: Global, outcome: Outcome) -> Result<String, AllocError>
-    ensures { IfOk result (λ s. string_bytes s ≡ ended_json outcome) }
-{
-    format!(in alloc; "{{\"ended\":\"{outcome}\"}}")
-}
+/// An argument of the call.
+impl PageLine for Value {
+    ghost json = { argument_json };
 
-fn moment_json(alloc: Global, moment: &MomentText) -> Result<String, AllocError>
-    ensures { IfOk result (λ s. string_bytes s ≡ moment_json moment.now) }
-{
-    let at = moment.at;
-    let quoted = quoted(alloc, moment.text.as_str())?;
-    let text = quoted.as_str();
-    format!(in alloc; "{{\"moment\":{at},\"text\":{text}}}")
-}
-
-/// Writes an argument of the call.
-fn write_argument<W: Write>(alloc: Global, value: Value, out: &mut W) -> Result<(), Unwritten>
-    ensures line { OnOk result (AddsLine (W.contents out.old) (W.contents out.new)) }
-    ensures which { OnOk result (AddsArgument value (W.contents out.old) (W.contents out.new)) }
-{
-    let json = argument_json(alloc, value)?;
-    write_line(alloc, out, Front::Next, json.as_str())
-}
-
-/// Writes the arguments of the call.
-fn write_arguments<W: Write>(alloc: Global, values: &[Value], out: &mut W) -> Result<(), Unwritten>
-    ensures lines { OnOk result (AddsLines (length values.now) (W.contents out.old) (W.contents out.new)) }
-    ensures which { OnOk result (InTurn AddsArgument values.now (W.contents out.old) (W.contents out.new)) }
-{
-    for place in 0..values.len() {
-        write_argument(alloc, values[place], out)?;
+    fn to_json(&self, alloc: Global) -> Result<String, AllocError> {
+        let value = *self;
+        format!(in alloc; "{{\"argument\":\"{value}\"}}")
     }
-    Ok(())
 }
 
-/// Writes how a thread has ended.
-fn write_end<W: Write>(alloc: Global, report: ThreadReport, out: &mut W) -> Result<(), Unwritten>
-    ensures line { OnOk result (AddsLine (W.contents out.old) (W.contents out.new)) }
-    ensures which { OnOk result (AddsEnded report (W.contents out.old) (W.contents out.new)) }
-{
-    let json = ended_json(alloc, report.outcome)?;
-    write_line(alloc, out, Front::Next, json.as_str())
-}
+/// How a thread has ended.
+impl PageLine for ThreadReport {
+    ghost json = { λ report. ended_json report.outcome };
 
-/// Writes how the threads have ended.
-fn write_ends<W: Write>(
-    alloc: Global,
-    reports: &[ThreadReport],
-    out: &mut W,
-) -> Result<(), Unwritten>
-    ensures lines { OnOk result (AddsLines (length reports.now) (W.contents out.old) (W.contents out.new)) }
-    ensures which { OnOk result (InTurn AddsEnded reports.now (W.contents out.old) (W.contents out.new)) }
-{
-    for place in 0..reports.len() {
-        write_end(alloc, reports[place], out)?;
+    fn to_json(&self, alloc: Global) -> Result<String, AllocError> {
+        let outcome = self.outcome;
+        format!(in alloc; "{{\"ended\":\"{outcome}\"}}")
     }
-    Ok(())
 }
 
-/// Writes a moment.
-fn write_moment<W: Write>(alloc: Global, moment: &MomentText, out: &mut W) -> Result<(), Unwritten>
+impl PageLine for MomentText {
+    ghost json = { moment_json };
+
+    fn to_json(&self, alloc: Global) -> Result<String, AllocError> {
+        let at = self.at;
+        let quoted = quoted(alloc, self.text.as_str())?;
+        let text = quoted.as_str();
+        format!(in alloc; "{{\"moment\":{at},\"text\":{text}}}")
+    }
+}
+
+fn write_item<W: Write, T: PageLine>(alloc: Global, item: &T, out: &mut W) -> Result<(), Unwritten>
     ensures line { OnOk result (AddsLine (W.contents out.old) (W.contents out.new)) }
-    ensures which { OnOk result (AddsMoment moment.now (W.contents out.old) (W.contents out.new)) }
+    ensures which { OnOk result (Adds T.json item.now (W.contents out.old) (W.contents out.new)) }
 {
-    let json = moment_json(alloc, moment)?;
+    let json = item.to_json(alloc)?;
     write_line(alloc, out, Front::Next, json.as_str())
 }
 
-/// Writes moments.
-fn write_moments<W: Write>(
-    alloc: Global,
-    moments: &[MomentText],
-    out: &mut W,
-) -> Result<(), Unwritten>
-    ensures lines { OnOk result (AddsLines (length moments.now) (W.contents out.old) (W.contents out.new)) }
-    ensures which { OnOk result (InTurn AddsMoment moments.now (W.contents out.old) (W.contents out.new)) }
+fn write_each<W: Write, T: PageLine>(alloc: Global, all: &[T], out: &mut W) -> Result<(), Unwritten>
+    ensures lines { OnOk result (AddsLines (length all.now) (W.contents out.old) (W.contents out.new)) }
+    ensures which { OnOk result (InTurn (Adds T.json) all.now (W.contents out.old) (W.contents out.new)) }
 {
-    for place in 0..moments.len() {
-        write_moment(alloc, &moments[place], out)?;
+    for place in 0..all.len() {
+        write_item(alloc, &all[place], out)?;
     }
     Ok(())
 }
@@ -138,9 +107,9 @@ pub(crate) fn write_run<W: Write>(
 {
     let head = head_json(alloc, record, chosen)?;
     write_line(alloc, out, Front::Open, head.as_str())?;
-    write_arguments(alloc, record.args.as_slice(), out)?;
-    write_ends(alloc, record.ends.as_slice(), out)?;
-    write_moments(alloc, moments, out)?;
+    write_each(alloc, record.args.as_slice(), out)?;
+    write_each(alloc, record.ends.as_slice(), out)?;
+    write_each(alloc, moments, out)?;
     write_line(alloc, out, Front::Close, "")?;
     Ok(())
 }

@@ -19,27 +19,22 @@ const threads = events.filter(e => e.ph === 'M' && e.name === 'thread_name').map
 const lane = new Map(threads.map((t, place) => [t, place]));
 // Neighbours differ in lightness, so that gray tells them apart.
 const color = t => `oklch(var(--l${lane.get(t) % 4}) var(--vivid) ${(lane.get(t) * 67 + 255) % 360})`;
-// Of each thread its rows, and the last of them before a row.
-const own = new Map(threads.map(t => [t, []]));
-entries.forEach((e, row) => own.get(e.tid).push(row));
-const lastOf = (t, row) => {
-  const rows = own.get(t);
-  let low = 0, high = rows.length;
+const clamp = (least, n, most) => Math.max(least, Math.min(most, n));
+// How many items at the front of a list are so.
+const countSo = (items, isSo) => {
+  let low = 0, high = items.length;
   while (low < high) {
     const middle = (low + high) >> 1;
-    if (rows[middle] < row) low = middle + 1; else high = middle;
-  }
-  return low - 1;
-};
-// The first row from a number of the log on.
-const firstRow = ts => {
-  let low = 0, high = entries.length;
-  while (low < high) {
-    const middle = (low + high) >> 1;
-    if (entries[middle].ts < ts) low = middle + 1; else high = middle;
+    if (isSo(items[middle])) low = middle + 1; else high = middle;
   }
   return low;
 };
+// Of each thread its rows, and the last of them before a row.
+const own = new Map(threads.map(t => [t, []]));
+entries.forEach((e, row) => own.get(e.tid).push(row));
+const lastOf = (t, row) => countSo(own.get(t), other => other < row) - 1;
+// The first row from a number of the log on.
+const firstRow = ts => countSo(entries, e => e.ts < ts);
 const arrows = [], begun = new Map();
 for (const e of events) {
   if (e.ph === 's') begun.set(e.id, firstRow(e.ts));
@@ -50,7 +45,9 @@ const racing = new Set(arrows.filter(a => a.kind === 'races').flatMap(a => [a.fr
 const bars = entries.flatMap((e, from) => e.dur > 1 ? [{ from, to: firstRow(e.ts + e.dur), tid: e.tid }] : []);
 // Where the page opens: at the failure, or at the last row before it that is there.
 const failure = Math.max(0, firstRow(run.failure + 1) - 1);
-const hasFailed = end => /^(trap|stop)/.test(end.ended);
+const hasFailed = ended => /^(trap|stop)/.test(ended);
+const px = n => n + 'px';
+const style = (node, values) => { Object.assign(node.style, values); return node; };
 const view = byId('view'), sheet = byId('sheet'), lanes = byId('lanes'), details = byId('details');
 const over = byId('over'), map = byId('map'), here = byId('here');
 let pitch = PITCH, width = LEAST, chosen = -1, found = [], foundSet = new Set();
@@ -73,11 +70,8 @@ function drawRow(row) {
   const e = entries[row], [name, spot] = parted(e.args.place);
   const node = make('div', 'row' + (racing.has(row) ? ' racing' : '') + (foundSet.has(row) ? ' found' : '')
     + (/^(ends: (trap|stop)|asleep for good)/.test(e.name) ? ' failed' : '') + (row === chosen ? ' chosen' : ''));
-  node.style.top = row * ROW + 'px';
-  node.dataset.row = row;
-  const cell = make('span', 'cell');
-  cell.style.left = left(e.tid) + 'px';
-  cell.style.color = color(e.tid);
+  style(node, { top: px(row * ROW) }).dataset.row = row;
+  const cell = style(make('span', 'cell'), { left: px(left(e.tid)), color: color(e.tid) });
   cell.title = plain(e.name + '\n' + e.args.place);
   cell.append(make('b', '', 't' + e.tid), make('span', 'words', e.name), make('span', 'name', name),
     make('span', 'spot', spot));
@@ -87,7 +81,7 @@ function drawRow(row) {
 function drawArrow(svg, arrow, first, last) {
   const from = entries[arrow.from], to = entries[arrow.to];
   // The end that isn't in sight is cut off: dashes of a line of a million pixels take minutes.
-  const within = row => middleOf(Math.max(first - 20, Math.min(last + 20, row)));
+  const within = row => middleOf(clamp(first - 20, row, last + 20));
   const x = left(from.tid) + 4, y = within(arrow.from), u = left(to.tid) + 4, v = within(arrow.to);
   const bend = Math.min(60, Math.abs(v - y) / 2 + 10);
   const path = document.createElementNS('http://www.w3.org/2000/svg', 'path');
@@ -98,20 +92,11 @@ function drawArrow(svg, arrow, first, last) {
 function draw() {
   const first = Math.max(0, Math.floor(view.scrollTop / ROW) - 10);
   const last = Math.min(entries.length, first + Math.ceil(view.clientHeight / ROW) + 20);
-  const parts = threads.map(t => {
-    const line = make('div', 'lane');
-    line.style.left = left(t) + 'px';
-    return line;
-  });
-  for (const bar of bars) {
-    if (bar.from >= last || bar.to < first) continue;
-    const node = make('div', 'bar');
-    node.style.left = left(bar.tid) + 'px';
-    node.style.top = middleOf(bar.from) + 'px';
-    node.style.height = Math.max(4, (bar.to - bar.from) * ROW) + 'px';
-    node.style.background = color(bar.tid);
-    parts.push(node);
-  }
+  const parts = threads.map(t => style(make('div', 'lane'), { left: px(left(t)) }));
+  for (const bar of bars) if (bar.from < last && bar.to >= first) parts.push(style(make('div', 'bar'), {
+    left: px(left(bar.tid)), top: px(middleOf(bar.from)),
+    height: px(Math.max(4, (bar.to - bar.from) * ROW)), background: color(bar.tid),
+  }));
   for (let row = first; row < last; row++) parts.push(drawRow(row));
   const svg = document.createElementNS('http://www.w3.org/2000/svg', 'svg');
   svg.setAttribute('width', '100%');
@@ -137,23 +122,18 @@ function lay() {
   const wide = characters => Math.ceil(characters * 7.25) + 10;
   width = Math.max(LEAST, wide(longest.cut), Math.min(wide(longest.whole), room - PITCH * others));
   pitch = others ? Math.max(PITCH, Math.min(width, Math.floor((room - width) / others))) : width;
-  sheet.style.height = entries.length * ROW + 'px';
-  sheet.style.width = lanes.style.width = GUTTER + pitch * others + width + 'px';
-  lanes.replaceChildren(...threads.map(t => {
-    const name = make('b', '', 't' + t);
-    name.style.left = left(t) + 8 + 'px';
-    name.style.color = color(t);
-    return name;
-  }));
-  over.style.width = Math.max(56, Math.min(192, threads.length * 16)) + 8 + 'px';
+  style(sheet, { height: px(entries.length * ROW), width: px(GUTTER + pitch * others + width) });
+  lanes.style.width = sheet.style.width;
+  lanes.replaceChildren(...threads.map(t =>
+    style(make('b', '', 't' + t), { left: px(left(t) + 8), color: color(t) })));
+  over.style.width = px(clamp(56, threads.length * 16, 192) + 8);
   survey();
   draw();
 }
 // The overview: of each thread how much of a stretch is its own, and where it sleeps.
 function survey() {
   const scale = devicePixelRatio || 1, wide = over.clientWidth, high = Math.max(1, over.clientHeight - HEAD);
-  map.style.width = wide + 'px';
-  map.style.height = high + 'px';
+  style(map, { width: px(wide), height: px(high) });
   map.width = wide * scale;
   map.height = high * scale;
   const pen = map.getContext('2d'), column = (wide - 8) / Math.max(1, threads.length);
@@ -189,25 +169,25 @@ function survey() {
   over.querySelectorAll('b').forEach(node => node.remove());
   threads.forEach((t, place) => {
     const name = make('b', '', column >= 14 ? 't' + t : column >= 9 ? t : '');
-    name.style.cssText = `left:${4 + place * column}px;width:${column}px;color:${color(t)}`;
-    over.append(name);
+    over.append(style(name, { left: px(4 + place * column), width: px(column), color: color(t) }));
   });
 }
 // The rows that the list shows, in the overview.
 function frame() {
   const high = Math.max(1, over.clientHeight - HEAD), each = high / (zoom.to - zoom.from);
-  const top = Math.max(-4, Math.min(high, (view.scrollTop / ROW - zoom.from) * each));
-  const end = Math.max(0, Math.min(high, ((view.scrollTop + view.clientHeight) / ROW - zoom.from) * each));
-  here.style.top = HEAD + top + 'px';
-  here.style.height = Math.max(4, end - top) + 'px';
+  const top = clamp(-4, (view.scrollTop / ROW - zoom.from) * each, high);
+  const end = clamp(0, ((view.scrollTop + view.clientHeight) / ROW - zoom.from) * each, high);
+  style(here, { top: px(HEAD + top), height: px(Math.max(4, end - top)) });
 }
-function zoomBy(factor, row) {
-  const most = Math.max(1, entries.length);
-  const size = Math.max(Math.min(40, most), Math.min(most, (zoom.to - zoom.from) * factor));
-  const part = (row - zoom.from) / (zoom.to - zoom.from);
-  const from = Math.max(0, Math.min(most - size, row - part * size));
+function zoomTo(from, size) {
+  from = clamp(0, from, Math.max(1, entries.length) - size);
   zoom = { from, to: from + size };
   survey();
+}
+function zoomBy(factor, row) {
+  const most = Math.max(1, entries.length), now = zoom.to - zoom.from;
+  const size = clamp(Math.min(40, most), now * factor, most);
+  zoomTo(row - (row - zoom.from) / now * size, size);
   frame();
 }
 const middleRow = () => (view.scrollTop + view.clientHeight / 2) / ROW;
@@ -215,11 +195,8 @@ const rowAt = event =>
   zoom.from + (event.clientY - map.getBoundingClientRect().top) / map.clientHeight * (zoom.to - zoom.from);
 // Where the list shows rows that the overview doesn't, this goes there.
 function follow() {
-  const row = Math.min(entries.length, Math.max(0, middleRow())), size = zoom.to - zoom.from;
-  if (row >= zoom.from && row <= zoom.to) return;
-  const from = Math.max(0, Math.min(entries.length - size, row - size / 2));
-  zoom = { from, to: from + size };
-  survey();
+  const row = clamp(0, middleRow(), entries.length), size = zoom.to - zoom.from;
+  if (row < zoom.from || row > zoom.to) zoomTo(row - size / 2, size);
 }
 function jump(text, row) {
   const button = make('button', '', `${text}: line ${entries[row].args.line}`);
@@ -271,10 +248,8 @@ function show(row) {
 }
 function find() {
   const text = byId('find').value.trim().toLowerCase();
-  found = [];
-  if (text) entries.forEach((e, row) => {
-    if (`${e.args.line} t${e.tid} ${e.name} ${e.args.place}`.toLowerCase().includes(text)) found.push(row);
-  });
+  const has = e => `${e.args.line} t${e.tid} ${e.name} ${e.args.place}`.toLowerCase().includes(text);
+  found = text ? [...entries.keys()].filter(row => has(entries[row])) : [];
   foundSet = new Set(found);
   tell();
   draw();
@@ -287,7 +262,7 @@ function tell() {
 function step(by) {
   if (!found.length) return;
   const next = by > 0 ? found.find(row => row > chosen) : found.findLast(row => row < chosen);
-  choose(next !== undefined ? next : by > 0 ? found[0] : found[found.length - 1]);
+  choose(next ?? found.at(by > 0 ? 0 : -1));
   tell();
 }
 function paper() {
@@ -313,14 +288,14 @@ function paper() {
 function entitle() {
   const ways = new Map();
   reports.forEach((end, t) => ways.set(end.ended, [...(ways.get(end.ended) || []), t]));
-  const sorted = [...ways].sort(([a], [b]) => hasFailed({ ended: b }) - hasFailed({ ended: a }));
+  const sorted = [...ways].sort(([a], [b]) => hasFailed(b) - hasFailed(a));
   const texts = sorted.map(([ended, who]) => `${who.map(t => 't' + t).join(', ')}: ${ended}`);
   byId('call').textContent = plain(call);
   document.title = plain(`${call}, ${texts.join('; ')}`
     + (run.module ? `, module of ${number(run.module)} bytes` : ''));
   byId('call').title = document.title;
   byId('ends').replaceChildren(...sorted.map(([ended, who], at) => {
-    const button = make('button', hasFailed({ ended }) ? 'failed' : '', texts[at]);
+    const button = make('button', hasFailed(ended) ? 'failed' : '', texts[at]);
     button.title = 'Go to its end';
     button.addEventListener('click', () => {
       const row = entries.findIndex(e => e.tid === who[0] && e.name.startsWith('ends: '));
@@ -340,16 +315,13 @@ sheet.addEventListener('click', event => {
   const row = event.target.closest('.row');
   if (row) choose(Number(row.dataset.row), true);
 });
-let dragged = false;
 const scrollTo_ = event => { view.scrollTop = rowAt(event) * ROW - view.clientHeight / 2; };
 over.addEventListener('pointerdown', event => {
   if (event.target !== map) return;
-  dragged = true;
   over.setPointerCapture(event.pointerId);
   scrollTo_(event);
 });
-over.addEventListener('pointermove', event => { if (dragged) scrollTo_(event); });
-over.addEventListener('pointerup', () => { dragged = false; });
+over.addEventListener('pointermove', event => { if (over.hasPointerCapture(event.pointerId)) scrollTo_(event); });
 over.addEventListener('wheel', event => {
   zoomBy(event.deltaY > 0 ? 1.25 : .8, rowAt(event));
   event.preventDefault();

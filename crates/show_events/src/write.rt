@@ -77,7 +77,6 @@ pub fn write_events<W: Write>(
     Ok(())
 }
 
-/// The thread of each of the entries at these places.
 fn threads_at(alloc: Global, log: &[Entry], chosen: &[usize]) -> Result<Vec<u32>, AllocError>
     requires { All (λ at. at < length log.now) chosen.now }
     ensures { IfOk result (λ threads. AllZip (IsThreadAt log.now) chosen.now threads.items) }
@@ -126,7 +125,6 @@ fn threads_among(
     Ok(among)
 }
 
-/// Writes the names of these threads.
 fn write_threads<W: Write>(alloc: Global, threads: &[u32], out: &mut W) -> Result<(), Unwritten>
     ensures lines { OnOk result (AddsLines (length threads.now) (W.contents out.old) (W.contents out.new)) }
     ensures which { OnOk result (InTurn AddsName threads.now (W.contents out.old) (W.contents out.new)) }
@@ -137,7 +135,6 @@ fn write_threads<W: Write>(alloc: Global, threads: &[u32], out: &mut W) -> Resul
     Ok(())
 }
 
-/// Writes the name of a thread.
 fn write_thread<W: Write>(alloc: Global, thread: u32, out: &mut W) -> Result<(), Unwritten>
     ensures line { OnOk result (AddsLine (W.contents out.old) (W.contents out.new)) }
     ensures which { OnOk result (AddsName thread (W.contents out.old) (W.contents out.new)) }
@@ -146,7 +143,6 @@ fn write_thread<W: Write>(alloc: Global, thread: u32, out: &mut W) -> Result<(),
     write_line(alloc, out, Front::Next, name.as_str())
 }
 
-/// Writes the entries at these places.
 fn write_entries<W: Write>(
     alloc: Global,
     shown: Shown,
@@ -168,7 +164,6 @@ fn write_entries<W: Write>(
     Ok(())
 }
 
-/// Writes the entry at a place.
 fn write_entry<W: Write>(
     alloc: Global,
     shown: Shown,
@@ -217,7 +212,6 @@ fn write_links<W: Write>(
     Ok(())
 }
 
-/// What a link means.
 fn kind_text(kind: LinkKind) -> &'static str
     ensures { result.now ≡ kind_text kind }
 {
@@ -228,7 +222,6 @@ fn kind_text(kind: LinkKind) -> &'static str
     }
 }
 
-/// The thread of the entry at a place, if it is known.
 fn thread_among(among: &[Option<u32>], at: usize) -> Option<u32>
     ensures { result ≡ in_list among.now at }
 {

@@ -3,4 +3,4 @@ pub mod Walked
 mod Listed
 mod Nexts
 mod Scenes
-mod Told
+mod Telling

@@ -3,8 +3,7 @@ use Rattle.std.proofs.Common.{◌≡◌, ◌==◌, ◌∙◌, ℕ, ◌+◌, ◌<
 use Rattle.std.specs.List.{enumerate_from, flat_map}
 use Rattle.std.proofs.lemmas.List.{take_more, take_all, flat_map_more}
 use Rattle.std.proofs.lemmas.List.FromFn.{length-enumerate_from, get_or-enumerate_from}
-use Rattle.types.specs.declared.value.ValType.{ValType}
-use Rattle.show_moments.specs.Texts.{typed_text, listed_text, byte_text, dump_text}
+use Rattle.show_moments.specs.Texts.{byte_text, dump_text}
 
 -- One more item.
 pub item_next : {X : Type 0} (f : X → List ℕ) (xs : List X) (k : ℕ) (z x : X) (a b c : List ℕ) → k < length xs
@@ -28,14 +27,6 @@ numbered_next {X} f xs k z x a b c lt is before adds =
 
 none : {P : Type 0} (b : Bool) → b ≡ true → b ≡ false → P
 none b empty not = absurd (cc (sym empty ∙ not))
-
-pub listed : (name : List ℕ) (words : List ℕ) (types : List ValType) (k : ℕ) (text : List ℕ) (b : Bool)
-    → b ≡ (length words == 0) → b ≡ false → length words ≤ k
-    → text ≡ (codes "  " ++ name) ++ flat_map (typed_text types) (take k (enumerate_from 0 words))
-    → text ≡ listed_text name words types
-listed name [] types k text b empty not le is = none b empty not
-listed name (w ∷ words) types k text b empty not le is = is ∙ ap (λ (xs : List (ℕ × ℕ)). codes "  " ++ (name ++ flat_map (typed_text types) xs))
-    (take_all k (enumerate_from 0 (w ∷ words)) (omega (arith, le, length-enumerate_from 0 (w ∷ words))))
 
 pub dumped : (addr : ℕ) (bytes : List ℕ) (k : ℕ) (text all : List ℕ) (b : Bool) → b ≡ (length bytes == 0) → b ≡ false → length bytes ≤ k
     → text ≡ flat_map (byte_text addr) (take k (enumerate_from 0 bytes)) → all ≡ text ++ codes "\n" → all ≡ dump_text addr bytes

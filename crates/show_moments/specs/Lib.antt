@@ -1,3 +1,4 @@
+pub mod Lines
 pub mod Moments
 pub mod Opened
 pub mod Scenes

@@ -81,6 +81,12 @@ pub record KeepsRound (old new : Moment) : Type 0 where
   pub memory : new.memory ≡ old.memory
   pub here : new.here ≡ old.here
 
+-- From the moment on a thread is seen that left by the last of so many entries.
+abbrev pub SeesLeft : Moment → ℕ → List Thread → Moment → Type 0
+SeesLeft old entries threads new = (last : ℕ) (made : Entry) → entries ≡ last + 1 → old.at ≤ last
+    → slice_get old.log.now last ≡ Some made → new.is_short ≡ false
+    → SeesLeave threads made.thread made.event old.next.items new.next.items
+
 -- Behind so many entries, the walk that stands there is looked at where the moment is, and nowhere else; from there on
 -- a thread is seen that left by the last one.
 pub record SeesCame (old : Moment) (entries : ℕ) (walk : Walk Thread) (new : Moment) : Type 0 where
@@ -89,8 +95,7 @@ pub record SeesCame (old : Moment) (entries : ℕ) (walk : Walk Thread) (new : M
   pub there : entries ≡ old.at → new.is_short ≡ false → IsRound new walk
   pub elsewhere : entries ≢ old.at → KeepsRound old new
   pub before : entries ≤ old.at → new.next ≡ old.next
-  pub left : (last : ℕ) (made : Entry) → entries ≡ last + 1 → old.at ≤ last → slice_get old.log.now last ≡ Some made
-      → new.is_short ≡ false → SeesLeave walk.threads.items made.thread made.event old.next.items new.next.items
+  pub left : SeesLeft old entries walk.threads.items new
 
 -- What a thread wants first from this moment on, it wants where it stands; before that nothing is seen of it.
 pub record SeesWanted (old : Moment) (n : ℕ) (thread : Thread) (new : Moment) : Type 0 where

@@ -1,11 +1,10 @@
--- A moment as text.
-use Rattle.std.specs.Prelude.{ℕ, ◌≡◌, ◌⊎◌, ◌+◌, ◌-◌, ◌^◌, ◌<◌, ◌≤◌, ◌==◌, ◌||◌, not, min, zero, suc, nat_le, Bool, true, false}
-use Rattle.std.specs.Prelude.{if◌then◌else◌, cond, List, [], ◌∷◌, ◌++◌, codes, find, length, Option, Some, None, IsSome}
-use Rattle.std.specs.Prelude.{option_and_then, option_map, string_bytes}
-use Rattle.std.specs.Global.{Vec}
-use Rattle.std.specs.List.{slice_get, list_any}
-use Rattle.std.specs.Fmt.{decimal}
-use Rattle.std.specs.Io.KnownBytes.{Appends}
+-- What is told of a moment.
+use Rattle.std.specs.Prelude.{ℕ, ◌≡◌, ◌≤◌, ◌<◌, ◌+◌, ◌-◌, ◌^◌, ◌==◌, ◌||◌, not, min, zero, suc, nat_le, Bool, true, false}
+use Rattle.std.specs.Prelude.{if◌then◌else◌, cond, List, [], ◌∷◌, ◌++◌, map, filter_map, flat_map, find, length, option_to_list}
+use Rattle.std.specs.Prelude.{Option, Some, None, IsSome, String, option_and_then, option_map, string_bytes}
+use Rattle.std.specs.Borrow.{Bor}
+use Rattle.std.specs.Global.{Global, Vec}
+use Rattle.std.specs.List.{AllZip, enumerate_from, slice_get, list_any}
 use Rattle.types.specs.declared.event.Event.{Event}
 use Rattle.types.specs.declared.event.Event.TheVariants.{Ask, Told}
 use Rattle.types.specs.declared.event.Question.TheVariants.{Leave}
@@ -15,42 +14,44 @@ use Rattle.types.specs.declared.parts.Parts.{Parts}
 use Rattle.types.specs.declared.value.ValType.{ValType}
 use Rattle.waiters.specs.declared.kept.KeptQueue.{KeptQueue}
 use Rattle.race_history.specs.declared.race.Race.{Race}
-use Rattle.selection.specs.declared.choice.Span.{Span}
+use Rattle.selection.specs.declared.choice.NumberSpan.{NumberSpan}
 use Rattle.selection.specs.Choices.{touched}
 use Rattle.validate.specs.Operands.{OwnOperandsAt}
 use Rattle.validate_module.specs.Own.{FindsLocals}
 use Rattle.show_text.specs.declared.context.Context.{Context}
 use Rattle.show_text.specs.declared.context.Context.TheVariants.{Asked}
-use Rattle.show_text.specs.declared.words.Words.{Words}
-use Rattle.show_text.specs.Words.{words_text}
 use Rattle.show_rows.specs.declared.listing.Shown.{Shown}
 use Rattle.show_rows.specs.declared.listing.Story.{Story}
-use Rattle.show_rows.specs.declared.spot.Spot.{Spot}
-use Rattle.show_rows.specs.Listing.{line_at, context_at, made_at, AreWordsOf, IsStoryOf}
+use Rattle.show_rows.specs.Listing.{context_at, made_at}
 use Rattle.show_rows.specs.Spots.{IsSpotOf, named_offset, range_at}
-use Rattle.show_rows.specs.Around.{around_text, lines_around}
-use Rattle.show_rows.specs.declared.around.Around.{Around}
+use Rattle.show_rows.specs.Around.{lines_around}
+use Rattle.show_spots.specs.declared.around.Around.{Around}
 use Rattle.show_rows.specs.declared.code.CodeMap.{CodeMap}
 use Rattle.interp.specs.declared.place.CodePlace.{CodePlace}
 use Rattle.dwarf_units.specs.Spans.{holds}
-use Rattle.dwarf_frames.specs.declared.frames.Frame.{Frame}
-use Rattle.dwarf_frames.specs.declared.kinds.Kind.{Kind}
+use Rattle.dwarf_frames.specs.declared.frames.CallFrame.{CallFrame}
+use Rattle.dwarf_frames.specs.declared.kinds.ValueKind.{ValueKind}
 use Rattle.dwarf_frames.specs.declared.values.FrameValue.{FrameValue}
-use Rattle.show_text.specs.Plain.{plain_text}
 use Rattle.show_named.specs.declared.data_map.DataMap.{DataMap}
-use Rattle.show_rows.specs.Entries.{IsEntryText}
-use Rattle.show_named.specs.LastTexts.{SaysLast}
+use Rattle.show_named.specs.Lasts.{IsLastIfAny}
 use Rattle.show_named.specs.declared.lasts.Act.TheVariants as acts
+use Rattle.show_told.specs.declared.functions.ToldFunction.{ToldFunction}
+use Rattle.show_told.specs.declared.values.ToldNumber.{ToldNumber}
+use Rattle.show_told.specs.declared.values.ToldValue.{ToldValue}
+use Rattle.show_told.specs.declared.values.TypedWord.{TypedWord}
 use Rattle.show_moments.specs.declared.moment.Moment.{Moment}
 use Rattle.show_moments.specs.declared.scene.MomentView.{MomentView}
 use Rattle.show_moments.specs.declared.scene.Scene.{Scene}
 use Rattle.show_moments.specs.declared.standing.ThreadSnapshot.{ThreadSnapshot}
 use Rattle.show_moments.specs.declared.standing.OpenFunction.{OpenFunction}
+use Rattle.show_moments.specs.declared.told.Stance.{Stance}
+use Rattle.show_moments.specs.declared.told.Stance.TheVariants as stances
+use Rattle.show_moments.specs.declared.told.ToldMoment.{ToldMoment}
+use Rattle.show_moments.specs.declared.told.ToldNext.{ToldNext}
+use Rattle.show_moments.specs.declared.told.ToldThread.{ToldThread}
 use Rattle.show_moments.specs.Moments.{standing_at}
 use Rattle.show_moments.specs.Opened.{IsOpenFunction}
-use Rattle.show_moments.specs.Texts.{listed_text, queue_text, dump_text}
-use Rattle.show_moments.specs.Values.{chained_text, has_parts, is_pointer, is_signed, number_of, number_text}
-use Rattle.show_moments.specs.declared.values.FrameNumber.{FrameNumber}
+use Rattle.show_moments.specs.Values.{has_parts, is_pointer, is_signed, number_of}
 
 -- A moment of a run of a module, with what is shown of its record, what the log says, what a debug section says, and
 -- whether all locals and operands are listed.
@@ -75,6 +76,9 @@ seen_by v story moment = record {
 abbrev pub seen : Scene → Seen
 seen s = seen_by s.view s.story.now s.moment.now
 
+abbrev pub log_of : Seen → List Entry
+log_of s = s.shown.record.now.log
+
 -- Thread 0 is there from the start, and the others stand in the queue with their arguments.
 abbrev pub is_spawned : Option KeptQueue → ℕ → Bool
 is_spawned None thread = false
@@ -93,188 +97,164 @@ IsNextOf log from thread None = (at : ℕ) → from ≤ at → thread_at log at 
 IsNextOf log from thread (Some at) = (from ≤ at) × (thread_at log at ≡ Some thread)
     × ((k : ℕ) → from ≤ k → k < at → thread_at log k ≡ Some thread → ⊥)
 
--- The question on which a thread sleeps, in words, and where it stands.
-abbrev pub IsAskedText : Seen → ℕ → Option Entry → List ℕ → Type 0
-IsAskedText s asked None text = text ≡ codes "sleeps; "
-IsAskedText s asked (Some made) text = (said : Words) × AreWordsOf s.shown s.story asked made said
-    × (text ≡ words_text said ++ (codes ", since line " ++ (decimal (line_at s.shown asked) ++ codes "; ")))
-
 -- Of a thread whose answer comes next: on what it sleeps, by its context; else it is owed that.
-abbrev pub IsOwedText : Seen → Bool → Option Context → List ℕ → Type 0
-IsOwedText s true (Some (Asked question asked)) text =
-    IsAskedText s asked (slice_get s.shown.record.now.log asked) text
-IsOwedText s sleeps context text = text ≡ codes "is owed its answer; "
+abbrev pub owed : Bool → Option Context → Stance
+owed true (Some (Asked question asked)) = stances.Asleep asked
+owed sleeps context = stances.Owed
 
 -- How a thread stands to its first entry.
-abbrev pub IsFrontText : Seen → ℕ → ℕ → Event → List ℕ → Type 0
-IsFrontText s at thread (Told answer) text =
-    IsOwedText s (is_asleep s.moment.queue thread) (slice_get s.story.contexts.items at) text
-IsFrontText s at thread (Ask Leave) text = text ≡ codes "is at its end; "
-IsFrontText s at thread event text = text ≡ codes "wants, "
-
--- What a thread comes to next: how it stands to its first entry, the line of that, and its words.
-pub record IsNextText (s : Seen) (at : ℕ) (text : List ℕ) : Type 0 where
-  pub made : Entry
-  pub stands : slice_get s.shown.record.now.log at ≡ Some made
-  pub front : List ℕ
-  pub front_is : IsFrontText s at made.thread made.event front
-  pub said : Words
-  pub words_of : AreWordsOf s.shown s.story at made said
-  pub is : text ≡ front ++ (codes "on line " ++ (decimal (line_at s.shown at)
-      ++ (codes ": " ++ (words_text said ++ codes "\n"))))
+abbrev pub stance_at : Seen → ℕ → ℕ → Event → Stance
+stance_at s at thread (Told answer) =
+    owed (is_asleep s.moment.queue thread) (slice_get s.story.contexts.items at)
+stance_at s at thread (Ask Leave) = stances.Ends
+stance_at s at thread event = stances.Wants
 
 abbrev pub types_of : Option (Vec ValType) → List ValType
 types_of None = []
 types_of (Some types) = types.items
 
--- Words behind a name stand there where they are asked for, or no functions are known.
-abbrev pub listing_text : Seen → Frame → List ℕ → List ℕ → List ValType → List ℕ
-listing_text s frame name words types = cond (s.raw || not frame.is_known) (listed_text name words types) []
+-- Words with the types at their places.
+abbrev pub typed_word : List ValType → ℕ × ℕ → TypedWord
+typed_word types (place, word) = record { of = slice_get types place; word = word }
+
+abbrev pub typed_words : List ℕ → List ValType → List TypedWord
+typed_words words types = map (typed_word types) (enumerate_from 0 words)
+
+-- They are listed where that is asked for, or no functions are known.
+abbrev pub listed : Seen → CallFrame → List ℕ → List ValType → List TypedWord
+listed s frame words types = cond (s.raw || not frame.is_known) (typed_words words types) []
 
 -- The lines of source around a place.
 abbrev pub around_of : CodeMap → CodePlace → Around
 around_of code place = lines_around code.sources.files.items (range_at code place)
 
--- An open function: where it is, and its locals and operands, each as a value of its type; and the lines of source around
--- it.
-pub record IsFunctionText (s : Seen) (o : OpenFunction) (frame : Frame) (text : List ℕ) : Type 0 where
-  pub spot : Spot
-  pub spot_is : IsSpotOf s.shown.code.now o.place spot
+-- The name of the static data to which a pointer points, if it does.
+pub record Points (map : DataMap) (kind : ValueKind) (number : ℕ) : Type 0 where
+  pub points : is_pointer kind ≡ true
+  pub within : IsSome (find (holds number) map.spans.items.items)
+
+abbrev pub IsTarget : Seen → ValueKind → ℕ → Option (String Global) → Type 0
+IsTarget s kind number None = Unit {0}
+IsTarget s kind number (Some name) = Points s.map kind number
+
+-- What is told of a value: its type and name, its number, and to what it points.
+abbrev pub told_number : FrameValue → ℕ → ToldNumber
+told_number v number = record { is_signed = is_signed v.kind; bits = v.bits; number = number }
+
+pub record IsToldOf (v : FrameValue) (number : Option ToldNumber) (target : Option (String Global)) (told : ToldValue) : Type 0 where
+  pub label : string_bytes told.label ≡ string_bytes v.label
+  pub number_is : told.number ≡ number
+  pub target_is : told.target ≡ target
+
+-- It is told if it is a number in its frame.
+abbrev pub IsNumber : Seen → FrameValue → Option ℕ → Option ToldValue → Type 0
+IsNumber s v (Some number) (Some told) =
+    (target : Option (String Global)) × IsTarget s v.kind number target × IsToldOf v (Some (told_number v number)) target told
+IsNumber s v None None = Unit {0}
+IsNumber s v number told = ⊥
+
+-- One with parts stands for those that aren't told. The number is that in this frame, and in the memory of the moment.
+abbrev pub IsValueBy : Seen → OpenFunction → FrameValue → Bool → Option ToldValue → Type 0
+IsValueBy s o v true (Some told) = IsToldOf v None None told
+IsValueBy s o v true None = ⊥
+IsValueBy s o v false told = IsNumber s v (number_of o s.moment.memory.items v) told
+
+abbrev pub IsValue : Seen → OpenFunction → FrameValue → Option ToldValue → Type 0
+IsValue s o v = IsValueBy s o v (has_parts v.kind)
+
+-- Those of these values that are told, in order.
+abbrev pub AreValues : Seen → OpenFunction → List FrameValue → List ToldValue → Type 0
+AreValues s o values told = (all : List (Option ToldValue)) × AllZip (IsValue s o) values all × (told ≡ filter_map (λ v. v) all)
+
+-- An open function: where it is, its locals and operands, each with its type, the lines of source around it, and the values
+-- that the debug section has of that place.
+pub record IsFunction (s : Seen) (o : OpenFunction) (told : ToldFunction) : Type 0 where
+  pub frame : CallFrame
+  pub there : frame.offset ≡ named_offset s.shown.code.now o.place
+  pub spot : IsSpotOf s.shown.code.now o.place told.spot
+  pub chain : told.chain ≡ frame.chain
   pub locals : Option (Vec ValType)
   pub locals_are : FindsLocals s.m o.place.function locals
   pub operands : Option (Vec ValType)
   pub operands_are : OwnOperandsAt s.m o.place.function o.place.instr operands
-  pub is : text ≡ codes "    " ++ (chained_text spot frame.chain
-      ++ (listing_text s frame (codes "locals") o.locals.now (types_of locals)
-      ++ (listing_text s frame (codes "operands") o.operands.now (types_of operands)
-      ++ (codes "\n" ++ around_text (around_of s.shown.code.now o.place)))))
+  pub has_locals : told.locals.items ≡ listed s frame o.locals.now (types_of locals)
+  pub has_operands : told.operands.items ≡ listed s frame o.operands.now (types_of operands)
+  pub around : told.around ≡ around_of s.shown.code.now o.place
+  pub values : AreValues s o frame.values.items told.values.items
 
--- The name of the static data to which a pointer points, if it does.
-pub record NamesTarget (map : DataMap) (kind : Kind) (number : ℕ) (text : List ℕ) : Type 0 where
-  pub points : is_pointer kind ≡ true
-  pub within : IsSome (find (holds number) map.spans.items.items)
-  pub name : List ℕ
-  pub words : text ≡ codes " <" ++ (plain_text name ++ codes ">")
+-- That of the one with a number,
+abbrev pub IsFunctionOf : Seen → ThreadSnapshot → ℕ → ToldFunction → Type 0
+IsFunctionOf s standing number told = (o : OpenFunction) × IsOpenFunction standing number o × IsFunction s o told
 
-abbrev pub IsTargetText : Seen → Kind → ℕ → List ℕ → Type 0
-IsTargetText s kind number text = (text ≡ []) ⊎ NamesTarget s.map kind number text
-
--- A value, if it is a number in its frame: its type and name, the number, and to what it points.
-abbrev pub shown_number : FrameValue → ℕ → FrameNumber
-shown_number v number = record { is_signed = is_signed v.kind; bits = v.bits; number = number }
-
-abbrev pub IsNumberText : Seen → FrameValue → Option ℕ → List ℕ → Type 0
-IsNumberText s v None text = text ≡ []
-IsNumberText s v (Some number) text = (target : List ℕ) × IsTargetText s v.kind number target
-    × (text ≡ codes "        " ++ (plain_text (string_bytes v.label)
-    ++ (codes " = " ++ (number_text (shown_number v number) ++ (target ++ codes "\n")))))
-
--- One with parts stands for those that aren't told. The number is that in this frame, and in the memory of the moment.
-abbrev pub IsValueBy : Seen → OpenFunction → FrameValue → Bool → List ℕ → Type 0
-IsValueBy s o v true text = text ≡ codes "        " ++ (plain_text (string_bytes v.label) ++ codes " ..\n")
-IsValueBy s o v false text = IsNumberText s v (number_of o s.moment.memory.items v) text
-
-abbrev pub IsValueText : Seen → OpenFunction → FrameValue → List ℕ → Type 0
-IsValueText s o v = IsValueBy s o v (has_parts v.kind)
-
-abbrev pub AddsValue : Seen → OpenFunction → FrameValue → Option (List ℕ) → Option (List ℕ) → Type 0
-AddsValue s o v old new = (text : List ℕ) × IsValueText s o v text × Appends old new text
-
--- Each of these values is written, in order.
-abbrev pub AddsValues : Seen → OpenFunction → List FrameValue → Option (List ℕ) → Option (List ℕ) → Type 0
-AddsValues s o [] old new = new ≡ old
-AddsValues s o (v ∷ values) old new =
-    (middle : Option (List ℕ)) × AddsValue s o v old middle × AddsValues s o values middle new
-
--- What is written is an open function, with the values that the debug section has of the place where it is.
-pub record AddsOpened (s : Seen) (o : OpenFunction) (old new : Option (List ℕ)) : Type 0 where
-  pub frame : Frame
-  pub there : frame.offset ≡ named_offset s.shown.code.now o.place
-  pub text : List ℕ
-  pub says : IsFunctionText s o frame text
-  pub middle : Option (List ℕ)
-  pub adds : Appends old middle text
-  pub values : AddsValues s o frame.values.items middle new
-
--- That is the one with a number,
-abbrev pub AddsFunction : Seen → ThreadSnapshot → ℕ → Option (List ℕ) → Option (List ℕ) → Type 0
-AddsFunction s standing number old new =
-    (o : OpenFunction) × IsOpenFunction standing number o × AddsOpened s o old new
-
--- and all below a number, the one with the highest first.
-abbrev pub AddsFunctions : Seen → ThreadSnapshot → ℕ → Option (List ℕ) → Option (List ℕ) → Type 0
-AddsFunctions s standing zero old new = new ≡ old
-AddsFunctions s standing (suc number) old new = (middle : Option (List ℕ))
-    × AddsFunction s standing number old middle × AddsFunctions s standing number middle new
+-- and of all below a number, the one with the highest first.
+abbrev pub AreFunctions : Seen → ThreadSnapshot → ℕ → List ToldFunction → Type 0
+AreFunctions s standing zero told = told ≡ []
+AreFunctions s standing (suc number) told = (first : ToldFunction) × (others : List ToldFunction) × (told ≡ first ∷ others)
+    × IsFunctionOf s standing number first × AreFunctions s standing number others
 
 abbrev pub depth : ThreadSnapshot → ℕ
 depth standing = min (length standing.callers.items + 1) (2 ^ 64 - 1)
 
+-- Those of a thread that stands somewhere.
+abbrev pub IsStanding : Seen → Option ThreadSnapshot → List ToldFunction → Type 0
+IsStanding s None told = told ≡ []
+IsStanding s (Some standing) told = AreFunctions s standing (depth standing) told
+
+abbrev pub standing_of : Option (Bor ThreadSnapshot) → Option ThreadSnapshot
+standing_of standing = option_map (λ s. s.now) standing
+
 -- Of an answer it is the question that comes to bytes.
-abbrev pub touched_at : Seen → ℕ → Option Span
-touched_at s at = option_and_then (λ made. touched made.event)
-    (slice_get s.shown.record.now.log (made_at (context_at s.story at) at))
+abbrev pub touched_at : Seen → ℕ → Option NumberSpan
+touched_at s at = option_and_then (λ made. touched made.event) (slice_get (log_of s) (made_at (context_at s.story at) at))
 
--- Who wrote these bytes last before the moment is written, if there are some.
-abbrev pub AddsLast : Seen → Option Span → Option (List ℕ) → Option (List ℕ) → Type 0
-AddsLast s None old new = new ≡ old
-AddsLast s (Some addrs) old new = (text : List ℕ)
-    × SaysLast s.shown s.map s.story s.moment.at (acts.Write addrs) (codes "nobody") text
-    × Appends old new (codes "    last write there: " ++ (text ++ codes "\n"))
+-- The last entry before the moment that wrote one of these bytes, if there are some.
+abbrev pub IsLastThere : Seen → Option NumberSpan → Option ℕ → Type 0
+IsLastThere s None last = last ≡ None
+IsLastThere s (Some addrs) last = IsLastIfAny (acts.Write addrs) (log_of s) s.moment.at last
 
-abbrev pub AddsStanding : Seen → Option ThreadSnapshot → Option (List ℕ) → Option (List ℕ) → Type 0
-AddsStanding s None old new = new ≡ old
-AddsStanding s (Some standing) old new = AddsFunctions s standing (depth standing) old new
+-- What a thread comes to: its first entry from the moment on, how it stands to that, who wrote last the bytes to which it
+-- comes, and its open functions where it stands.
+pub record IsNext (s : Seen) (at : ℕ) (next : ToldNext) : Type 0 where
+  pub made : Entry
+  pub stands : slice_get (log_of s) at ≡ Some made
+  pub at_is : next.at ≡ at
+  pub stance : next.stance ≡ stance_at s at made.thread made.event
+  pub touches : next.touched ≡ touched_at s at
+  pub last : IsLastThere s (touched_at s at) next.last
+  pub functions : IsStanding s (standing_at s.moment made) next.functions.items
 
--- What is written is what a thread comes to next, who wrote these bytes last, and its open functions where it stands;
--- or that it is gone.
-abbrev pub AddsNext : Seen → ℕ → Option ℕ → Option (List ℕ) → Option (List ℕ) → Type 0
-AddsNext s thread None old new = Appends old new (codes "t" ++ (decimal thread ++ codes " is gone\n"))
-AddsNext s thread (Some at) old new = (made : Entry) × (slice_get s.shown.record.now.log at ≡ Some made)
-    × (next : List ℕ) × IsNextText s at next × (told behind : Option (List ℕ))
-    × Appends old told (codes "t" ++ (decimal thread ++ (codes " " ++ next)))
-    × AddsLast s (touched_at s at) told behind × AddsStanding s (standing_at s.moment made) behind new
+abbrev pub IsNextBy : Seen → Option ℕ → Option ToldNext → Type 0
+IsNextBy s (Some at) (Some next) = IsNext s at next
+IsNextBy s None None = Unit {0}
+IsNextBy s at next = ⊥
 
--- Of a thread that wasn't spawned nothing is written.
-abbrev pub AddsSpawned : Seen → ℕ → Bool → Option (List ℕ) → Option (List ℕ) → Type 0
-AddsSpawned s thread false old new = new ≡ old
-AddsSpawned s thread true old new = (next : Option ℕ)
-    × IsNextOf s.shown.record.now.log s.moment.at thread next × AddsNext s thread next old new
+-- That of a thread; nothing where it is gone.
+abbrev pub IsNextIfAny : Seen → ℕ → Option ToldNext → Type 0
+IsNextIfAny s thread next = (at : Option ℕ) × IsNextOf (log_of s) s.moment.at thread at × IsNextBy s at next
 
-abbrev pub AddsThread : Seen → ℕ → Option (List ℕ) → Option (List ℕ) → Type 0
-AddsThread s thread = AddsSpawned s thread (is_spawned s.moment.queue thread)
+-- Of a thread that wasn't spawned nothing is told.
+abbrev pub IsThreadBy : Seen → ℕ → Bool → Option ToldThread → Type 0
+IsThreadBy s thread false None = Unit {0}
+IsThreadBy s thread true (Some told) = (told.thread ≡ thread) × IsNextIfAny s thread told.next
+IsThreadBy s thread spawned told = ⊥
+
+abbrev pub IsThread : Seen → ℕ → Option ToldThread → Type 0
+IsThread s thread = IsThreadBy s thread (is_spawned s.moment.queue thread)
 
 -- The threads below a number, in order.
-unfoldable pub AddsThreads : Seen → ℕ → Option (List ℕ) → Option (List ℕ) → Type 0
-AddsThreads s zero old new = new ≡ old
-AddsThreads s (suc thread) old new =
-    (middle : Option (List ℕ)) × AddsThreads s thread old middle × AddsThread s thread middle new
+unfoldable pub AreThreads : Seen → ℕ → List ToldThread → Type 0
+AreThreads s zero told = told ≡ []
+AreThreads s (suc thread) told = (front : List ToldThread) × (last : Option ToldThread) × (told ≡ front ++ option_to_list last)
+    × AreThreads s thread front × IsThread s thread last
 
 -- The other entry of a race, if this one is one of the two.
 abbrev pub other_of : ℕ → Race → Option ℕ
 other_of at race = if race.first == at then Some race.second else if race.second == at then Some race.first else None
 
--- What is written is that the entry of the moment races with another one;
-abbrev pub AddsOther : Seen → Option ℕ → Option (List ℕ) → Option (List ℕ) → Type 0
-AddsOther s None old new = new ≡ old
-AddsOther s (Some other) old new = (text : List ℕ) × IsEntryText s.shown s.story other text × Appends old new
-    (codes "line " ++ (decimal (line_at s.shown s.moment.at) ++ (codes " races with " ++ (text ++ codes "\n"))))
+abbrev pub others_of : ℕ → Race → List ℕ
+others_of at race = option_to_list (other_of at race)
 
-abbrev pub AddsRace : Seen → Race → Option (List ℕ) → Option (List ℕ) → Type 0
-AddsRace s race = AddsOther s (other_of s.moment.at race)
-
--- and so for each race that it is in, in order.
-abbrev pub AddsRaces : Seen → List Race → Option (List ℕ) → Option (List ℕ) → Type 0
-AddsRaces s [] old new = new ≡ old
-AddsRaces s (race ∷ races) old new =
-    (middle : Option (List ℕ)) × AddsRace s race old middle × AddsRaces s races middle new
-
--- What is written is what each thread comes to, what the entry of the moment races with, who sleeps, and the bytes.
-pub record WritesMoment (view : MomentView) (moment : Moment) (races : List Race) (old new : Option (List ℕ)) : Type 0 where
-  pub story : Story
-  pub of_log : IsStoryOf view.shown.record.now.log story
-  pub said : Option (List ℕ)
-  pub says : AddsThreads (seen_by view story moment) MOST_THREADS old said
-  pub raced : Option (List ℕ)
-  pub races_with : AddsRaces (seen_by view story moment) races said raced
-  pub ends : Appends raced new (queue_text moment.queue ++ dump_text moment.wanted.addr moment.bytes.items)
+-- What is told of a moment: what each thread comes to, and with which entries that of the moment races, of these races.
+pub record IsTold (s : Seen) (races : List Race) (told : ToldMoment) : Type 0 where
+  pub threads : AreThreads s MOST_THREADS told.threads.items
+  pub others : told.races.items ≡ flat_map (others_of s.moment.at) races

@@ -1,29 +1,11 @@
--- Words, a queue and bytes, as they are printed.
+-- A queue and bytes, as they are printed.
 use Rattle.std.specs.Prelude.{ℕ, ℤ, pos, negsuc, ◌+◌, ◌-◌, ◌%◌, ◌^◌, ◌==◌, min, false, if◌then◌else◌}
 use Rattle.std.specs.Prelude.{List, [], ◌∷◌, ◌++◌, codes, flat_map, Option, Some, None}
-use Rattle.std.specs.List.{enumerate_from, slice_get}
+use Rattle.std.specs.List.{enumerate_from}
 use Rattle.std.specs.Fmt.{decimal, digits, padded_integral, format_spec}
 use Rattle.shared_memory.specs.declared.sleeper.Sleeper.{Sleeper}
-use Rattle.types.specs.declared.value.ValType.{ValType}
-use Rattle.types.specs.declared.value.ValType.TheVariants.{I32, I64}
-use Rattle.types.specs.declared.value.Value.TheVariants as values
-use Rattle.types.specs.Values.{value_text}
 use Rattle.waiters.specs.declared.kept.KeptQueue.{KeptQueue}
 use Rattle.show_moments.specs.declared.texts.TheConstants.{IN_A_LINE}
-
--- A word as a value of its type, and one whose type isn't known as its number.
-abbrev pub word_text : Option ValType → ℕ → List ℕ
-word_text (Some I32) word = value_text (values.I32 (word % 2 ^ 32))
-word_text (Some I64) word = value_text (values.I64 word)
-word_text None word = decimal word
-
-abbrev pub typed_text : List ValType → ℕ × ℕ → List ℕ
-typed_text types (place, word) = codes " " ++ word_text (slice_get types place) word
-
--- Words behind a name, if there are any.
-abbrev pub listed_text : List ℕ → List ℕ → List ValType → List ℕ
-listed_text name [] types = []
-listed_text name (w ∷ words) types = codes "  " ++ (name ++ flat_map (typed_text types) (enumerate_from 0 (w ∷ words)))
 
 -- On what a thread sleeps, and how long at most; a time below 0 has no end.
 abbrev pub time_text : ℤ → List ℕ

@@ -1,77 +1,15 @@
-//! Words, a queue and bytes, as they are printed.
+//! A queue and bytes, as they are printed.
 
-ghost use Rattle.std.specs.Prelude.{◌≡◌, IfOk, length, string_bytes};
-ghost use Rattle.std.specs.List.{slice_get};
+ghost use Rattle.std.specs.Prelude.{◌≡◌, IfOk, string_bytes};
 ghost use Rattle.show_moments.specs.Texts as specified;
 
 use shared_memory::Sleeper;
 use std::alloc::{AllocError, Global};
 use std::fmt::{self, Formatter};
-use types::{ValType, Value};
 use waiters::KeptQueue;
 
 /// How many bytes stand in a line.
 pub(crate) const IN_A_LINE: u64 = 16;
-
-/// A word as a value of its type, and one whose type isn't known as its number.
-#[derive(Clone, Copy)]
-struct Typed {
-    of: Option<ValType>,
-    word: u64,
-}
-
-impl fmt::Display for Typed {
-    ghost use Rattle.std.specs.Prelude.{Some};
-    ghost use Rattle.show_moments.specs.Texts.{word_text};
-
-    ghost output = { λ t. Some (word_text t.of t.word) };
-
-    fn fmt<W: fmt::Write>(&self, f: &mut Formatter<W>) -> fmt::Result {
-        let word = self.word;
-        match self.of {
-            Some(ValType::I32) => {
-                let value = Value::I32((word % (1 << 32)) as u32);
-                write!(f, "{value}")
-            }
-            Some(ValType::I64) => {
-                let value = Value::I64(word);
-                write!(f, "{value}")
-            }
-            None => write!(f, "{word}"),
-        }
-    }
-}
-
-/// The type at a place, if there are so many.
-fn type_at(types: &[ValType], place: usize) -> Option<ValType>
-    ensures { result ≡ slice_get types.now place }
-{
-    types.get(place).copied()
-}
-
-/// Words behind a name, if there are any.
-pub(crate) fn listed_text(
-    alloc: Global,
-    name: &str,
-    words: &[u64],
-    types: &[ValType],
-) -> Result<String, AllocError>
-    ensures { IfOk result (λ text. string_bytes text ≡ specified.listed_text name.now words.now types.now) }
-{
-    let mut text = String::new(alloc);
-    if words.is_empty() {
-        return Ok(text);
-    }
-    write!(text, "  {name}")?;
-    for place in 0..words.len() {
-        let typed = Typed {
-            of: type_at(types, place),
-            word: words[place],
-        };
-        write!(text, " {typed}")?;
-    }
-    Ok(text)
-}
 
 /// How long a thread sleeps at most; a time below 0 has no end.
 #[derive(Clone, Copy)]
@@ -148,7 +86,10 @@ impl fmt::Display for Byte {
 }
 
 /// Bytes from an address on, with the address of the first one in each line.
-pub(crate) fn dump_text(alloc: Global, addr: u64, bytes: &[u8]) -> Result<String, AllocError>
+///
+/// # Errors
+/// Where memory is refused.
+pub fn dump_text(alloc: Global, addr: u64, bytes: &[u8]) -> Result<String, AllocError>
     ensures { IfOk result (λ text. string_bytes text ≡ specified.dump_text addr bytes.now) }
 {
     let mut text = String::new(alloc);

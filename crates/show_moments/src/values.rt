@@ -4,11 +4,9 @@ ghost use Rattle.std.specs.Prelude.{◌≡◌, ◌<◌, ◌^◌};
 ghost use Rattle.show_moments.specs.Values as specified;
 
 use crate::standing::OpenFunction;
-use dwarf_frames::{Chain, FrameValue, Kind};
+use dwarf_frames::{FrameValue, ValueKind};
 use dwarf_units::{Base, Location};
-use show_rows::{Spot, number_in};
-use show_text::Plain;
-use std::fmt::{self, Formatter};
+use show_rows::number_in;
 
 /// A power of two.
 fn power(exponent: u32) -> u64
@@ -83,106 +81,23 @@ pub(crate) fn number_of(opened: OpenFunction, memory: &[u8], value: &FrameValue)
     Some(low_bits(bits_from(number, value.first_bit), value.bits))
 }
 
-/// A number of so many bits, which may have a sign in two's complement.
-#[derive(Clone, Copy)]
-pub(crate) struct FrameNumber {
-    pub is_signed: bool,
-    pub bits: u32,
-    pub number: u64,
-}
-
-impl FrameNumber {
-    /// The highest of its bits, if it has a sign.
-    fn sign(self) -> Option<u64>
-        ensures { result ≡ specified.sign_of self }
-    {
-        if self.is_signed && self.bits > 0 && self.bits <= 64 {
-            Some(power(self.bits - 1))
-        } else {
-            None
-        }
-    }
-}
-
-impl fmt::Display for FrameNumber {
-    ghost use Rattle.std.specs.Prelude.{Some};
-    ghost use Rattle.show_moments.specs.Values.{number_text};
-
-    ghost output = { λ t. Some (number_text t) };
-
-    fn fmt<W: fmt::Write>(&self, f: &mut Formatter<W>) -> fmt::Result {
-        let number = self.number;
-        match self.sign() {
-            Some(sign) if sign <= number => {
-                let below = sign.saturating_sub(number - sign);
-                write!(f, "-{below}")
-            }
-            _ => write!(f, "{number}"),
-        }
-    }
-}
-
 /// Whether the bytes of a value are read as a number with a sign.
-pub(crate) fn is_signed(kind: Kind) -> bool
+pub(crate) fn is_signed(kind: ValueKind) -> bool
     ensures { result ≡ specified.is_signed kind }
 {
-    matches!(kind, Kind::Signed)
+    matches!(kind, ValueKind::Signed)
 }
 
 /// Whether they are an address.
-pub(crate) fn is_pointer(kind: Kind) -> bool
+pub(crate) fn is_pointer(kind: ValueKind) -> bool
     ensures { result ≡ specified.is_pointer kind }
 {
-    matches!(kind, Kind::Pointer)
+    matches!(kind, ValueKind::Pointer)
 }
 
 /// Whether it has parts of its own.
-pub(crate) fn has_parts(kind: Kind) -> bool
+pub(crate) fn has_parts(kind: ValueKind) -> bool
     ensures { result ≡ specified.has_parts kind }
 {
-    matches!(kind, Kind::Parts)
-}
-
-/// A place in the code, with the calls whose functions were put in their places there.
-#[derive(Clone, Copy)]
-pub(crate) struct FrameSpot<'a> {
-    pub spot: Spot<'a>,
-    pub chain: Option<&'a Chain>,
-}
-
-impl fmt::Display for FrameSpot<'_> {
-    ghost use Rattle.std.specs.Prelude.{Some};
-    ghost use Rattle.show_moments.specs.Values.{frame_spot_text};
-
-    ghost output = { λ s. Some (frame_spot_text s) };
-
-    /// As `body+0x38a lock queue.c:31 < take queue.c:88 < body queue.c:120`.
-    fn fmt<W: fmt::Write>(&self, f: &mut Formatter<W>) -> fmt::Result {
-        let Spot {
-            name,
-            offset,
-            source,
-            text: _,
-        } = self.spot;
-        let Some(chain) = self.chain else {
-            let whole = Spot {
-                text: None,
-                ..self.spot
-            };
-            return write!(f, "{whole}");
-        };
-        let front = Spot {
-            name,
-            offset,
-            source: None,
-            text: None,
-        };
-        let (innermost, calls) = (Plain(chain.innermost.as_str()), Plain(chain.calls.as_str()));
-        write!(f, "{front} {innermost}")?;
-        if let Some((file, line)) = source {
-            let file = Plain(file);
-            write!(f, " {file}:{line}")?;
-        }
-        write!(f, "{calls}")
-    }
+    matches!(kind, ValueKind::Parts)
 }

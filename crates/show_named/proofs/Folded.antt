@@ -18,8 +18,10 @@ use Rattle.show_rows.specs.declared.listing.Story.{Story}
 use Rattle.show_rows.specs.Listing.{IsCallText, IsPlaceText, context_at, is_atomic_row, line_at, row_at}
 use Rattle.show_rows.proofs.Chosen.{keeps_same}
 use Rattle.show_named.specs.declared.data_map.DataMap.{DataMap}
-use Rattle.show_named.specs.declared.folds.Rounds.{Rounds}
-use Rattle.show_named.specs.Folds.{AddsFolded, AddsNoted, AddsPart, AddsParts, AreAlike, AreOfOne, AreRounds, AreToldAlike, AreNamedWords, IsAnswered, IsBy, IsRoundsOf, Repeats, often_text, without_caller}
+use Rattle.show_named.specs.declared.folds.FoldedRounds.{FoldedRounds}
+use Rattle.show_named.specs.Folds.{AddsFolded, AddsNoted, AddsPart, AddsParts, AreAlike, AreOfOne, AreRounds}
+use Rattle.show_named.specs.Folds.{AreToldAlike, AreNamedWords, IsAnswered, IsBy, IsRoundsOf, Repeats, often_text}
+use Rattle.show_named.specs.Folds.{without_caller}
 use Rattle.show_named.specs.Rows.{AddsEntries}
 use Rattle.show_named.proofs.Listed.{entry_behind, keeps_keeps, keeps_then}
 
@@ -184,7 +186,7 @@ module _ (shown : Shown) (map : DataMap) (story : Story) where
   }
 
   -- And once more.
-  pub next_round : (places : List ℕ) (r : Rounds) (size : ℕ) → IsRoundsOf shown map story places r → r.length ≡ size
+  pub next_round : (places : List ℕ) (r : FoldedRounds) (size : ℕ) → IsRoundsOf shown map story places r → r.length ≡ size
       → r.count + r.length ≤ length places
       → Repeats shown map story (take r.length places) (take r.length (drop r.count places))
       → IsRoundsOf shown map story places (record { length = size; times = r.times + 1; count = r.count + size })
@@ -199,7 +201,7 @@ module _ (shown : Shown) (map : DataMap) (story : Story) where
       })
 
   -- The rows of a round are written, with how often it was made.
-  pub rounds_written : (places : List ℕ) (r : Rounds) (k z at : ℕ) (note : List ℕ) (a b c : Option (List ℕ))
+  pub rounds_written : (places : List ℕ) (r : FoldedRounds) (k z at : ℕ) (note : List ℕ) (a b c : Option (List ℕ))
       → IsRoundsOf shown map story places r → r.length ≡ k + 1 → at ≡ get_or places k z → note ≡ often_text r.length r.times
       → AddsEntries shown map story (take k places) a b → AddsNoted shown map story note at b c
       → AddsPart shown map story (take r.count places) a c

@@ -1,3 +1,4 @@
 mod Folded
 mod Listed
 mod Saying
+pub mod Places

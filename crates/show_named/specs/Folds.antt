@@ -19,7 +19,7 @@ use Rattle.show_rows.specs.Listing.{AreWordsOf, IsStoryOf, call_of, chosen, cont
 use Rattle.show_named.specs.declared.data_map.DataMap.{DataMap}
 use Rattle.show_named.specs.declared.folds.Piece.{Piece}
 use Rattle.show_named.specs.declared.folds.Piece.TheVariants as pieces
-use Rattle.show_named.specs.declared.folds.Rounds.{Rounds}
+use Rattle.show_named.specs.declared.folds.FoldedRounds.{FoldedRounds}
 use Rattle.show_named.specs.Rows.{AddsEntries, IsDataAt, SaysNamed, with_name}
 
 -- Two entries are alike: what a row says of the one, it says of the other but for the line.
@@ -125,7 +125,8 @@ WritesFolded shown map look old new = (story : Story) × IsStoryOf shown.record.
     × AddsFolded shown map story (chosen shown look) old new
 
 -- The rounds with which entries begin.
-pub record IsRoundsOf (shown : Shown) (map : DataMap) (story : Story) (places : List ℕ) (r : Rounds) : Type 0 where
+pub record IsRoundsOf (shown : Shown) (map : DataMap) (story : Story) (places : List ℕ)
+    (r : FoldedRounds) : Type 0 where
   pub some : 1 ≤ r.length
   pub within : r.count ≤ length places
   pub long : r.length ≤ r.count

@@ -1,19 +1,19 @@
 -- Which entry of a log was the last to write some bytes, or to notify an address.
-use Rattle.std.specs.Prelude.{ℕ, ◌≡◌, ◌≢◌, ◌<◌, ◌≤◌, true, false, List, Some}
+use Rattle.std.specs.Prelude.{ℕ, ◌≡◌, ◌≢◌, ◌<◌, ◌≤◌, true, false, List, Option, Some, None}
 use Rattle.std.specs.List.{slice_get}
 use Rattle.types.specs.declared.event.Entry.{Entry}
 use Rattle.types.specs.declared.event.Event.TheVariants.{Ask}
 use Rattle.types.specs.declared.event.Question.TheVariants.{Notify}
 use Rattle.race_history.specs.Accesses.{access_of, is_out_of_bounds, HasByte}
-use Rattle.race_history.specs.declared.access.Access.{Access}
-use Rattle.race_history.specs.declared.access.Kind.TheVariants.{Plain}
-use Rattle.selection.specs.declared.choice.Span.{Span}
+use Rattle.race_history.specs.declared.access.ThreadAccess.{ThreadAccess}
+use Rattle.race_history.specs.declared.access.AccessKind.TheVariants.{Plain}
+use Rattle.selection.specs.declared.choice.NumberSpan.{NumberSpan}
 use Rattle.show_named.specs.declared.lasts.Act.{Act}
 use Rattle.show_named.specs.declared.lasts.Act.TheVariants as acts
 
 -- The entry writes a byte at one of these addresses. Whether its access is plain or atomic makes no difference to that.
-pub record Writes (addrs : Span) (e : Entry) : Type 0 where
-  pub access : Access
+pub record Writes (addrs : NumberSpan) (e : Entry) : Type 0 where
+  pub access : ThreadAccess
   pub is : access_of e Plain ≡ Some access
   pub writes : access.writes ≡ true
   pub byte : ℕ
@@ -43,3 +43,8 @@ pub record IsLast (s : Act) (log : List Entry) (before k : ℕ) : Type 0 where
 -- None before that place does.
 abbrev pub HasNone : Act → List Entry → ℕ → Type 0
 HasNone s log before = (j : ℕ) (e : Entry) → j < before → slice_get log j ≡ Some e → Does s e → ⊥
+
+-- The place of the last one, or none.
+abbrev pub IsLastIfAny : Act → List Entry → ℕ → Option ℕ → Type 0
+IsLastIfAny s log before (Some k) = IsLast s log before k
+IsLastIfAny s log before None = HasNone s log before

@@ -2,10 +2,10 @@
 ghost use Rattle.std.specs.Prelude.{◌≡◌, IfOk, IsSome, OnSome, find, string_bytes};
 ghost use Rattle.dwarf_data.specs.Within.{NamesWithin};
 ghost use Rattle.dwarf_units.specs.Spans.{holds};
-ghost use Rattle.show_named.specs.Names.{IsDataText};
+ghost use Rattle.show_named.specs.Names.{HasData, IsDataText};
 
-use dwarf_data::{Sought, name_at, place_of, read_data};
-use dwarf_frames::{Frame, read_frame, read_functions};
+use dwarf_data::{NamedBytes, name_at, place_of, read_data};
+use dwarf_frames::{CallFrame, read_frame, read_functions};
 use dwarf_lines::DebugSections;
 use dwarf_units::{InfoSections, Spans, Units, read_units};
 use selection::touched;
@@ -67,7 +67,7 @@ impl<'n> DataMap<'n> {
     }
 
     /// What is said of a frame whose function is at an offset of the code.
-    pub fn frame(&self, alloc: Global, offset: Option<usize>) -> Result<Frame, AllocError>
+    pub fn frame(&self, alloc: Global, offset: Option<usize>) -> Result<CallFrame, AllocError>
         ensures { IfOk result (λ frame. frame.offset ≡ offset) }
     {
         read_frame(alloc, &self.units, self.lines, &self.functions, offset)
@@ -85,16 +85,25 @@ impl<'n> DataMap<'n> {
         name_at(alloc, &self.units, &self.spans, address, its_type)
     }
 
-    /// What the data is called that an event touches first, or at which it waits or wakes, behind `at`; empty
-    /// where that has no name.
+    /// What the data is called that an event touches first, or at which it waits or wakes.
+    ///
+    /// # Errors
+    /// Where memory is refused.
+    pub fn data_of(&self, alloc: Global, event: Event) -> Result<Option<String>, AllocError>
+        ensures { IfOk result (λ name. OnSome name (HasData self.now event)) }
+    {
+        let Some(addrs) = touched(event) else {
+            return Ok(None);
+        };
+        self.units.allow(NAME_STEPS);
+        self.name(alloc, addrs.first, None)
+    }
+
+    /// The same behind `at`; empty where that has no name.
     pub(crate) fn text(&self, alloc: Global, event: Event) -> Result<String, AllocError>
         ensures { IfOk result (λ text. IsDataText self.now event (string_bytes text)) }
     {
-        let Some(addrs) = touched(event) else {
-            return Ok(String::new(alloc));
-        };
-        self.units.allow(NAME_STEPS);
-        let Some(name) = self.name(alloc, addrs.first, None)? else {
+        let Some(name) = self.data_of(alloc, event)? else {
             return Ok(String::new(alloc));
         };
         let name = Plain(name.as_str());
@@ -103,7 +112,7 @@ impl<'n> DataMap<'n> {
     }
 
     /// The bytes of data that words name, as `slots[3].item`.
-    pub fn named(&self, alloc: Global, words: &str) -> Result<Sought, AllocError>
+    pub fn named(&self, alloc: Global, words: &str) -> Result<NamedBytes, AllocError>
         ensures { IfOk result (NamesWithin self.now.spans.items.items) }
     {
         self.units.allow(self.steps);

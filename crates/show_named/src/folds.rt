@@ -15,7 +15,7 @@ const MOST_ROUND: usize = 8;
 
 /// Rounds of a thread in which it does the same again and again.
 #[derive(Clone, Copy, PartialEq, Eq, Debug)]
-pub(crate) struct Rounds {
+pub(crate) struct FoldedRounds {
     /// How many entries each has, 1 at least.
     pub length: usize,
     /// How many there are.
@@ -28,14 +28,14 @@ pub(crate) struct Rounds {
 #[derive(Clone, Copy, PartialEq, Eq, Debug)]
 pub(crate) enum Piece {
     /// Rounds, of which the first one has rows.
-    Rounds(Rounds),
+    Rounds(FoldedRounds),
     /// A question and its answer, which have one row.
     Answered,
 }
 
 /// What stands behind the last row of a round.
 #[derive(Clone, Copy)]
-pub(crate) struct HowOften(pub(crate) Rounds);
+pub(crate) struct HowOften(pub(crate) FoldedRounds);
 
 impl fmt::Display for HowOften {
     ghost use Rattle.std.specs.Prelude.{Some};
@@ -44,7 +44,7 @@ impl fmt::Display for HowOften {
     ghost output = { λ r. Some (often_text r.0.length r.0.times) };
 
     fn fmt<W: fmt::Write>(&self, f: &mut Formatter<W>) -> fmt::Result {
-        let Rounds { length, times, .. } = self.0;
+        let FoldedRounds { length, times, .. } = self.0;
         if times == 1 {
             return Ok(());
         }
@@ -170,13 +170,13 @@ impl Listing<'_, '_, '_, '_, '_, '_, '_, '_> {
     }
 
     /// The rounds of so many entries with which entries begin.
-    fn rounds_of(&self, places: &[usize], size: usize) -> Rounds
+    fn rounds_of(&self, places: &[usize], size: usize) -> FoldedRounds
         requires some { 1 ≤ size }
         requires within { size ≤ length places.now }
         requires of_one { AreOfOne self.now.shown (take size places.now) }
         ensures { IsRoundsOf self.now.shown self.now.map.now self.now.story.now places.now result }
     {
-        let mut rounds = Rounds {
+        let mut rounds = FoldedRounds {
             length: size,
             times: 1,
             count: size,
@@ -185,7 +185,7 @@ impl Listing<'_, '_, '_, '_, '_, '_, '_, '_> {
             if !self.goes_on(places, rounds) {
                 return rounds;
             }
-            rounds = Rounds {
+            rounds = FoldedRounds {
                 length: size,
                 times: rounds.times + 1,
                 count: rounds.count + size,
@@ -195,14 +195,14 @@ impl Listing<'_, '_, '_, '_, '_, '_, '_, '_> {
     }
 
     /// Whether a further round is behind these.
-    fn goes_on(&self, places: &[usize], rounds: Rounds) -> bool
+    fn goes_on(&self, places: &[usize], rounds: FoldedRounds) -> bool
         requires long { rounds.length ≤ length places.now }
         requires within { rounds.count ≤ length places.now }
         ensures within { result ≡ true → rounds.count + rounds.length ≤ length places.now }
         ensures repeats { result ≡ true → Repeats self.now.shown self.now.map.now self.now.story.now
             (take rounds.length places.now) (take rounds.length (drop rounds.count places.now)) }
     {
-        let Rounds { length, count, .. } = rounds;
+        let FoldedRounds { length, count, .. } = rounds;
         if places.len() - count < length {
             return false;
         }
@@ -210,7 +210,7 @@ impl Listing<'_, '_, '_, '_, '_, '_, '_, '_> {
     }
 
     /// The rounds with which entries begin, those that have most of them.
-    fn longest_rounds(&self, places: &[usize]) -> Rounds
+    fn longest_rounds(&self, places: &[usize]) -> FoldedRounds
         requires known { All (λ at. at < length self.now.shown.record.now.log) places.now }
         requires some { 1 ≤ length places.now }
         ensures { IsRoundsOf self.now.shown self.now.map.now self.now.story.now places.now result }

@@ -1,43 +1,57 @@
 //! The last entry that did something, as text.
 ghost use Rattle.std.specs.Prelude.{◌≡◌, IfOk, OnOk, string_bytes};
 ghost use Rattle.show_named.specs.declared.lasts.Act.TheVariants as acts;
-ghost use Rattle.show_named.specs.LastTexts.{SaysLast, WritesLast, unwritten_text};
+ghost use Rattle.show_named.specs.LastTexts.{SaysLast, SaysPlace, WritesLast, unwritten_text};
 
 use crate::data_map::DataMap;
-use crate::lasts::{Act, last_of};
+use crate::lasts::SoughtWrite;
 use crate::rows::named_text;
-use selection::Span;
+use selection::NumberSpan;
 use show_rows::{Shown, Story};
 use show_text::Unwritten;
 use std::alloc::{AllocError, Global};
 use std::fmt::{self, Formatter};
 use std::io::Write;
 
-/// The words of the last entry before the one of this place, counted from 0, that does something, or these where none
-/// does.
-///
-/// # Errors
-/// Where memory is refused.
-pub fn last_text(
+/// The words of the last entry that is sought, or these where none writes there.
+fn last_text(
     alloc: Global,
     shown: Shown,
     map: &DataMap,
     story: &Story,
-    before: usize,
-    act: Act,
+    sought: SoughtWrite,
     none: &str,
 ) -> Result<String, AllocError>
-    ensures { IfOk result (λ text. SaysLast shown.entry map.now story.now before act none.now (string_bytes text)) }
+    ensures { IfOk result (λ text. SaysLast shown.entry map.now story.now sought.before (acts.Write sought.addrs) none.now
+        (string_bytes text)) }
 {
-    match last_of(shown.record.log.as_slice(), before, act) {
-        Some(at) => named_text(alloc, shown, map, story, at),
-        None => none.to_string(alloc),
+    let place = sought.place_in(shown.record.log.as_slice());
+    told_text(alloc, shown, map, story, place, none)
+}
+
+/// The words of the entry at this place of the log, or these where there is none.
+///
+/// # Errors
+/// Where memory is refused.
+pub fn told_text(
+    alloc: Global,
+    shown: Shown,
+    map: &DataMap,
+    story: &Story,
+    place: Option<usize>,
+    none: &str,
+) -> Result<String, AllocError>
+    ensures { IfOk result (λ text. SaysPlace shown.entry map.now story.now none.now place (string_bytes text)) }
+{
+    match place {
+        Some(at) if at < shown.record.log.len() => named_text(alloc, shown, map, story, at),
+        _ => none.to_string(alloc),
     }
 }
 
 /// Addresses: one, or the first and the last.
 #[derive(Clone, Copy)]
-struct Addresses(Span);
+struct Addresses(NumberSpan);
 
 impl fmt::Display for Addresses {
     ghost use Rattle.std.specs.Prelude.{Some};
@@ -46,7 +60,7 @@ impl fmt::Display for Addresses {
     ghost output = { λ a. Some (addresses_text a.0) };
 
     fn fmt<W: fmt::Write>(&self, f: &mut Formatter<W>) -> fmt::Result {
-        let Span { first, last } = self.0;
+        let NumberSpan { first, last } = self.0;
         if first == last {
             write!(f, "{first}")
         } else {
@@ -56,7 +70,7 @@ impl fmt::Display for Addresses {
 }
 
 /// What is said where none writes there.
-fn unwritten(alloc: Global, addrs: Span) -> Result<String, AllocError>
+fn unwritten(alloc: Global, addrs: NumberSpan) -> Result<String, AllocError>
     ensures { IfOk result (λ text. string_bytes text ≡ unwritten_text addrs) }
 {
     let addresses = Addresses(addrs);
@@ -66,8 +80,7 @@ fn unwritten(alloc: Global, addrs: Span) -> Result<String, AllocError>
     Ok(text)
 }
 
-/// Writes the words of the last entry before the one of this place, counted from 0, that writes one of the bytes at
-/// these addresses, or that none does.
+/// Writes the words of the last entry that is sought, or that no entry writes there.
 ///
 /// # Errors
 /// Where memory is refused, or the stream fails.
@@ -76,22 +89,13 @@ pub fn write_last<W: Write>(
     shown: Shown,
     map: &DataMap,
     story: &Story,
-    before: usize,
-    addrs: Span,
+    sought: SoughtWrite,
     out: &mut W,
 ) -> Result<(), Unwritten>
-    ensures { OnOk result (WritesLast shown.entry map.now story.now before addrs (W.contents out.old) (W.contents out.new)) }
+    ensures { OnOk result (WritesLast shown.entry map.now story.now sought (W.contents out.old) (W.contents out.new)) }
 {
-    let none = unwritten(alloc, addrs)?;
-    let text = last_text(
-        alloc,
-        shown,
-        map,
-        story,
-        before,
-        Act::Write(addrs),
-        none.as_str(),
-    )?;
+    let none = unwritten(alloc, sought.addrs)?;
+    let text = last_text(alloc, shown, map, story, sought, none.as_str())?;
     write!(out, "{text}\n")?;
     out.flush()?;
     Ok(())

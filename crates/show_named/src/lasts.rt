@@ -1,27 +1,28 @@
 //! The last entry that writes some bytes, or notifies an address.
 ghost use Rattle.std.specs.Prelude.{◌≡◌, ◌↔◌, true, None, IfSome};
-ghost use Rattle.show_named.specs.Lasts.{Does, HasNone, IsLast, Notifies, Writes};
+ghost use Rattle.show_named.specs.declared.lasts.Act.TheVariants as acts;
+ghost use Rattle.show_named.specs.Lasts.{Does, HasNone, IsLast, IsLastIfAny, Notifies, Writes};
 
-use race_history::{Kind, access_of};
-use selection::Span;
+use race_history::{AccessKind, access_of};
+use selection::NumberSpan;
 use types::{Entry, Event, Question, Reply};
 
 /// What an entry does that is sought.
 #[derive(Clone, Copy, PartialEq, Eq, Debug)]
 pub enum Act {
     /// It writes a byte at one of these addresses.
-    Write(Span),
+    Write(NumberSpan),
     /// It does so, and is of another thread than this one.
-    OtherWrite(Span, usize),
+    OtherWrite(NumberSpan, usize),
     /// It notifies those that wait at this address.
     Notify(u64),
 }
 
 /// Whether an entry writes a byte at one of these addresses.
-fn writes(entry: &Entry, addrs: Span) -> bool
+fn writes(entry: &Entry, addrs: NumberSpan) -> bool
     ensures { (result ≡ true) ↔ Writes addrs entry.now }
 {
-    let Some(access) = access_of(entry, Kind::Plain) else {
+    let Some(access) = access_of(entry, AccessKind::Plain) else {
         return false;
     };
     let low = addrs.first.max(access.addr);
@@ -63,4 +64,22 @@ pub fn last_of(log: &[Entry], before: usize, act: Act) -> Option<usize>
         }
     }
     None
+}
+
+/// The last entry of a log that writes some bytes, before a moment.
+#[derive(Clone, Copy, PartialEq, Eq, Debug)]
+pub struct SoughtWrite {
+    /// It writes a byte at one of these addresses.
+    pub addrs: NumberSpan,
+    /// How many entries are before the moment.
+    pub before: usize,
+}
+
+impl SoughtWrite {
+    /// Its place in a log, counted from 0, if one writes there.
+    pub fn place_in(self, log: &[Entry]) -> Option<usize>
+        ensures { IsLastIfAny (acts.Write self.addrs) log.now self.before result }
+    {
+        last_of(log, self.before, Act::Write(self.addrs))
+    }
 }

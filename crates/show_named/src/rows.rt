@@ -4,9 +4,9 @@ ghost use Rattle.show_named.specs.Folds.{AddsFolded, AddsNoted, AddsPart, AreNam
 ghost use Rattle.show_named.specs.Rows.{AddsEntries, AddsEntry, IsEntryText, WritesRows};
 
 use crate::data_map::DataMap;
-use crate::folds::{HowOften, Listing, Piece, Rounds};
+use crate::folds::{FoldedRounds, HowOften, Listing, Piece};
 use selection::{Color, Look};
-use show_rows::{Behind, Shown, Story, chosen_entries};
+use show_rows::{PlaceBehind, Shown, Story, chosen_entries};
 use show_text::{Sheet, Unwritten};
 use std::alloc::{AllocError, Global};
 use std::io::Write;
@@ -141,7 +141,7 @@ impl Listing<'_, '_, '_, '_, '_, '_, '_, '_> {
         &self,
         sheet: &Sheet,
         places: &[usize],
-        rounds: Rounds,
+        rounds: FoldedRounds,
         out: &mut W,
     ) -> Result<(), Unwritten>
         requires known { All (λ at. at < length self.now.shown.record.now.log) places.now }
@@ -241,7 +241,7 @@ pub fn named_text(
     let name = map.text(alloc, entry.event)?;
     let said = format!(in alloc; "{words}{name}")?;
     let place = shown.place_text(alloc, story, at)?;
-    let behind = Behind(place.as_str());
-    let text = format!(in alloc; "t{thread} {said} on line {line}{behind}")?;
+    let behind = PlaceBehind(place.as_str());
+    let text = format!(in alloc; "t{thread} {said}, entry {line}{behind}")?;
     Ok(text)
 }

@@ -45,7 +45,6 @@ fn behind_header(bytes: &[u8]) -> Option<Reader<'_>>
     Some(reader)
 }
 
-/// The first section of an id.
 fn find<'a>(reader: &mut Reader<'a>, id: u8) -> Option<Section<'a>>
     ensures { FindsPart reader.old.bounds reader.old.rest.now id result }
 {

@@ -1,12 +1,13 @@
 -- What is found of the races of a run, from what is told of all of them.
-use Rattle.std.proofs.Common.{ℕ, zero, suc, ◌≡◌, ◌∙◌, ◌≤◌, ◌<◌, ◌+◌, Bool, true, false, List, [], ◌∷◌, ◌++◌, All, Contains, length, get_or, inl, inr, ap, refl, sym, subst, arith}
+use Rattle.std.proofs.Common.{ℕ, zero, suc, ◌≡◌, ◌∙◌, ◌≤◌, ◌<◌, ◌+◌, Bool, true, false, List, [], ◌∷◌, ◌++◌, All}
+use Rattle.std.proofs.Common.{Contains, length, get_or, inl, inr, ap, refl, sym, subst, arith}
 use Rattle.std.proofs.lemmas.Bool.{cases_lt}
 use Rattle.std.proofs.lemmas.List.Elements.{All-contains, Contains-get_or}
 use Rattle.std.proofs.lemmas.List.{length-append}
 use Rattle.types.specs.declared.event.Entry.{Entry}
-use Rattle.race_history.specs.declared.access.Kind.{Kind}
+use Rattle.race_history.specs.declared.access.AccessKind.{AccessKind}
 use Rattle.race_history.specs.declared.race.Race.{Race}
-use Rattle.race_history.specs.declared.access.Access.{Access}
+use Rattle.race_history.specs.declared.access.ThreadAccess.{ThreadAccess}
 use Rattle.race_history.specs.Places.{IsAccess}
 use Rattle.race_history.specs.Races.{AreRaces, HasEach, IsCut, IsLastRace}
 use Rattle.race_history.proofs.Places.{IsAccess-same}
@@ -23,10 +24,10 @@ pub one_longer : (told : List Race) (x : Race) → length (told ++ x ∷ []) ≡
 one_longer told x = length-append told (x ∷ [])
 
 -- what is known of a log and its kinds is known of the same ones by another name
-pub carried : (P : List Entry → List Kind → Type 0) (l m : List Entry) (j k : List Kind) → l ≡ m → j ≡ k → P l j → P m k
+pub carried : (P : List Entry → List AccessKind → Type 0) (l m : List Entry) (j k : List AccessKind) → l ≡ m → j ≡ k → P l j → P m k
 carried P l m j k same alike p = subst (P m) alike (subst (λ (x : List Entry). P x j) same p)
 
-module _ (log : List Entry) (kinds : List Kind) where
+module _ (log : List Entry) (kinds : List AccessKind) where
   -- some of the races are races
   pub some_races : (all told : List Race) → AreRaces log kinds all → All (Contains all) told → AreRaces log kinds told
   some_races all told races from r has = races r (All-contains (Contains all) told r from has)
@@ -62,7 +63,8 @@ module _ (log : List Entry) (kinds : List Kind) where
       let here : r.first < r.second = m.racing.earlier in
       let there : s.first < s.second = t.racing.earlier in
       elim (cases_lt r.first s.first) [
-        | inl before ↦ absurd (m.last s.first before (omega (arith, there, met)) (subst (λ (a : Access). IsAccess log kinds s.first a) (sym same) t.racing.made))
+        | inl before ↦ absurd (m.last s.first before (omega (arith, there, met))
+            (subst (λ (a : ThreadAccess). IsAccess log kinds s.first a) (sym same) t.racing.made))
         | inr ge ↦ elim (cases_lt s.first r.first) [
           | inl after ↦ absurd (t.last r.first after (omega (arith, here, met)) made)
           | inr le ↦

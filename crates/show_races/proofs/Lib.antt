@@ -1,4 +1,6 @@
 pub mod Alike
 pub mod Firsts
 pub mod Laws
+pub mod Pulled
 pub mod Telling
+pub mod Told

@@ -5,12 +5,12 @@ use Rattle.std.specs.List.{AllZip, concat, slice_get}
 use Rattle.std.specs.Io.KnownBytes.{Appends}
 use Rattle.std.proofs.lemmas.Option.{same_Some, slice_get-get_or}
 use Rattle.types.specs.declared.event.Entry.{Entry}
-use Rattle.race_history.specs.declared.access.Kind.{Kind}
+use Rattle.race_history.specs.declared.access.AccessKind.{AccessKind}
 use Rattle.race_history.specs.declared.race.Race.{Race}
 use Rattle.show_rows.specs.declared.listing.Shown.{Shown}
 use Rattle.show_rows.specs.declared.listing.Story.{Story}
 use Rattle.show_rows.specs.Listing.{line_at}
-use Rattle.show_races.specs.declared.found.Races.{Races}
+use Rattle.show_races.specs.declared.found.RecordRaces.{RecordRaces}
 use Rattle.show_rows.specs.Entries.{entry_text, IsEntryText}
 use Rattle.show_races.specs.Written.{end_text, leads_text, name_text, order_text, IsNextWrite, IsOrderText, SaysRace, TellsRaces}
 
@@ -18,7 +18,7 @@ stands : (log whole : List Entry) (at : ℕ) (d : Entry) → log ≡ whole → a
 stands log whole at d same within = subst (λ (l : List Entry). slice_get l at ≡ Some (get_or log at d)) same
     (slice_get-get_or log at d (subst (λ (l : List Entry). at < length l) (sym same) within))
 
-pub order_of : (shown : Shown) (kinds : List Kind) (r : Race) (log : List Entry) (d e : Entry) (next : Option ℕ) (text : List ℕ)
+pub order_of : (shown : Shown) (kinds : List AccessKind) (r : Race) (log : List Entry) (d e : Entry) (next : Option ℕ) (text : List ℕ)
     → log ≡ shown.record.now.log → r.first < length shown.record.now.log → r.second < length shown.record.now.log
     → IsNextWrite log kinds (get_or log r.first d).thread r.first next
     → text ≡ order_text shown r (get_or log r.first d).thread (get_or log r.second e).thread next → IsOrderText shown kinds r text
@@ -32,31 +32,31 @@ order_of shown kinds r log d e next text same first second is_next is = (
   is,
 )
 
-pub some_order : (shown : Shown) (kinds : List Kind) (r : Race) (log : List Entry) (d e : Entry) (at line : ℕ) (text : List ℕ)
+pub some_order : (shown : Shown) (kinds : List AccessKind) (r : Race) (log : List Entry) (d e : Entry) (at line : ℕ) (text : List ℕ)
     → log ≡ shown.record.now.log → r.first < length shown.record.now.log → r.second < length shown.record.now.log
     → IsNextWrite log kinds (get_or log r.first d).thread r.first (Some at) → line ≡ line_at shown at
     → text ≡ codes "  nothing told t" ++ (decimal (get_or log r.second e).thread ++ (codes " that t"
     ++ (decimal (get_or log r.first d).thread ++ (codes " was done: t" ++ (decimal (get_or log r.first d).thread
-    ++ (codes "'s next atomic write is on line " ++ (decimal line ++ leads_text (nat_lt at r.second) (get_or log r.second e).thread)))))))
+    ++ (codes "'s next atomic write is entry " ++ (decimal line ++ leads_text (nat_lt at r.second) (get_or log r.second e).thread)))))))
     → IsOrderText shown kinds r text
 some_order shown kinds r log d e at line text same first second is_next line_is is =
     order_of shown kinds r log d e (Some at) text same first second is_next (is
     ∙ ap (λ (n : ℕ). codes "  nothing told t" ++ (decimal (get_or log r.second e).thread ++ (codes " that t"
     ++ (decimal (get_or log r.first d).thread ++ (codes " was done: t" ++ (decimal (get_or log r.first d).thread
-    ++ (codes "'s next atomic write is on line " ++ (decimal n ++ leads_text (nat_lt at r.second) (get_or log r.second e).thread)))))))) line_is)
+    ++ (codes "'s next atomic write is entry " ++ (decimal n ++ leads_text (nat_lt at r.second) (get_or log r.second e).thread)))))))) line_is)
 
 -- Of all races, by the slices that were gone through.
-pub told_all : (shown : Shown) (story : Story) (races : Races) (kinds : List Kind) (pairs : List Race) (a d : Option (List ℕ))
+pub told_all : (shown : Shown) (story : Story) (races : RecordRaces) (kinds : List AccessKind) (pairs : List Race) (a d : Option (List ℕ))
     → kinds ≡ races.kinds.items → pairs ≡ races.pairs.items
     → ((texts : List (List ℕ)) × AllZip (SaysRace shown story kinds) pairs texts × Appends a d (concat texts ++ end_text races.is_cut (length pairs)))
     → TellsRaces shown story races a d
 told_all shown story races kinds pairs a d same alike told =
-    subst (λ (ks : List Kind). (texts : List (List ℕ)) × AllZip (SaysRace shown story ks) races.pairs.items texts
+    subst (λ (ks : List AccessKind). (texts : List (List ℕ)) × AllZip (SaysRace shown story ks) races.pairs.items texts
     × Appends a d (concat texts ++ end_text races.is_cut (length races.pairs.items))) same
     (subst (λ (ps : List Race). (texts : List (List ℕ)) × AllZip (SaysRace shown story kinds) ps texts
     × Appends a d (concat texts ++ end_text races.is_cut (length ps))) alike told)
 
-pub race_says : (shown : Shown) (story : Story) (kinds : List Kind) (r : Race) (name one other order text : List ℕ)
+pub race_says : (shown : Shown) (story : Story) (kinds : List AccessKind) (r : Race) (name one other order text : List ℕ)
     → name ≡ name_text kinds r → IsEntryText shown story r.first one → IsEntryText shown story r.second other → IsOrderText shown kinds r order
     → text ≡ name ++ (codes ": " ++ (one ++ (codes "; " ++ (other ++ (codes "\n" ++ (order ++ codes "\n"))))))
     → SaysRace shown story kinds r text
@@ -76,5 +76,6 @@ race_says shown story kinds r name one other order text named (row, says, one_is
           ∙ (ap (λ (x : List ℕ). x ++ (codes ": " ++ (one ++ (codes "; " ++ (other ++ (codes "\n" ++ (order ++ codes "\n"))))))) named
           ∙ (ap (λ (x : List ℕ). name_text kinds r ++ (codes ": " ++ (x ++ (codes "; " ++ (other ++ (codes "\n" ++ (order ++ codes "\n"))))))) one_is
           ∙ (ap (λ (x : List ℕ). name_text kinds r ++ (codes ": " ++ (entry_text row ++ (codes "; " ++ (x ++ (codes "\n" ++ (order ++ codes "\n"))))))) other_is
-          ∙ ap (λ (x : List ℕ). name_text kinds r ++ (codes ": " ++ (entry_text row ++ (codes "; " ++ (entry_text row2 ++ (codes "\n" ++ (x ++ codes "\n"))))))) ordered)));
+          ∙ ap (λ (x : List ℕ). name_text kinds r ++ (codes ": " ++ (entry_text row ++ (codes "; " ++ (entry_text row2 ++ (codes "\n" ++ (x ++ codes "\n")))))))
+          ordered)));
     }

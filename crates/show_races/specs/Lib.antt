@@ -1,3 +1,5 @@
 pub mod Kinds
+pub mod Races
+pub mod Rows
 pub mod Told
 pub mod Written

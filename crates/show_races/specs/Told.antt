@@ -3,8 +3,8 @@ use Rattle.std.specs.Prelude.{ℕ, ◌≡◌, ◌⊎◌, ◌<◌, ◌==◌, ◌&
 use Rattle.std.specs.Prelude.{slice_index_or}
 use Rattle.types.specs.declared.event.Entry.{Entry}
 use Rattle.interp.specs.declared.place.CodePlace.{CodePlace}
-use Rattle.race_history.specs.declared.access.Access.{Access}
-use Rattle.race_history.specs.declared.access.Kind.{Kind}
+use Rattle.race_history.specs.declared.access.ThreadAccess.{ThreadAccess}
+use Rattle.race_history.specs.declared.access.AccessKind.{AccessKind}
 use Rattle.race_history.specs.declared.race.Race.{Race}
 use Rattle.race_history.specs.Places.{IsAccess}
 use Rattle.race_history.specs.Races.{AreRacing, IsLastRace, IsEarlier, IsCut}
@@ -16,8 +16,8 @@ use Rattle.show_races.specs.declared.found.TheConstants.{MOST_PAIRS}
 use Rattle.show_races.specs.Kinds.{kinds_shown}
 
 -- No two entries race.
-abbrev pub HasNoRace : List Entry → List Kind → Type 0
-HasNoRace log kinds = (first second : ℕ) (a b : Access) → AreRacing log kinds first second a b → ⊥
+abbrev pub HasNoRace : List Entry → List AccessKind → Type 0
+HasNoRace log kinds = (first second : ℕ) (a b : ThreadAccess) → AreRacing log kinds first second a b → ⊥
 
 -- Both entries of a pair are entries of the log.
 abbrev pub IsWithin : List Entry → Race → Type 0
@@ -69,7 +69,7 @@ IsFirstThere shown story r =
     (s : Race) → IsLastShown shown s → AreAlike shown story s r → (r ≡ s) ⊎ IsEarlier r s
 
 -- Of a race: with the last entry that makes the same access as its first one, and the same second one, it is told.
-pub record IsToldOf (shown : Shown) (story : Story) (told : List Race) (a : Access) (second : ℕ) : Type 0 where
+pub record IsToldOf (shown : Shown) (story : Story) (told : List Race) (a : ThreadAccess) (second : ℕ) : Type 0 where
   pub race : Race
   pub last : IsLastShown shown race
   pub made : IsAccess shown.record.now.log (kinds_shown shown) race.first a
@@ -78,7 +78,7 @@ pub record IsToldOf (shown : Shown) (story : Story) (told : List Race) (a : Acce
 
 -- Each race of the run is told, at its two places in the code.
 abbrev pub TellsEach : Shown → Story → List Race → Type 0
-TellsEach shown story told = (first second : ℕ) (a b : Access)
+TellsEach shown story told = (first second : ℕ) (a b : ThreadAccess)
     → AreRacing shown.record.now.log (kinds_shown shown) first second a b → IsToldOf shown story told a second
 
 -- Just so many are told, and a race is left out that was made at other places.

@@ -11,7 +11,7 @@ ghost use Rattle.show_races.specs.Told.{IsTold, IsWithin, TellsEach};
 
 use crate::kinds::kinds_of;
 use interp::CodePlace;
-use race_history::{Kind, Race, Races as AllRaces, races_of};
+use race_history::{AccessKind, Race, Races, races_of};
 use show_rows::{Shown, Story};
 use std::alloc::{AllocError, Global};
 
@@ -20,9 +20,9 @@ const MOST_PAIRS: usize = 1_000_000;
 
 /// Races of a record's run.
 #[derive(Drop)]
-pub struct Races {
+pub struct RecordRaces {
     /// By which kind of instruction each entry was made.
-    pub kinds: Vec<Kind>,
+    pub kinds: Vec<AccessKind>,
     /// In the order of their second entries. No two were made at the same two places of the code.
     pub pairs: Vec<Race>,
     /// There are more, or more than are looked at.
@@ -122,9 +122,9 @@ fn find_firsts(
 fn all_races(
     alloc: Global,
     shown: Shown,
-    kinds: &[Kind],
+    kinds: &[AccessKind],
     most: usize,
-) -> Result<AllRaces, AllocError>
+) -> Result<Races, AllocError>
     requires kinds { kinds.now ≡ kinds_shown shown }
     requires entries { AreEntries shown.record.now.log }
     requires legal { IsQueueLegal shown.record.now.log }
@@ -155,7 +155,7 @@ pub fn races_shown(
     shown: Shown,
     story: &Story,
     most: usize,
-) -> Result<Races, AllocError>
+) -> Result<RecordRaces, AllocError>
     requires entries { AreEntries shown.record.now.log }
     requires legal { IsQueueLegal shown.record.now.log }
     requires some { 1 ≤ most }
@@ -175,7 +175,7 @@ pub fn races_shown(
     let kinds = kinds_of(alloc, shown)?;
     let all = all_races(alloc, shown, kinds.as_slice(), MOST_PAIRS)?;
     let told = find_firsts(alloc, shown, story, all.pairs.as_slice(), most)?;
-    Ok(Races {
+    Ok(RecordRaces {
         kinds,
         pairs: told.pairs,
         is_cut: either(all.is_cut, told.is_cut),

@@ -3,18 +3,18 @@
 ghost use Rattle.std.specs.Prelude.{◌≡◌, IfOk};
 ghost use Rattle.show_races.specs.Kinds.{kind_at, kinds_shown};
 
-use race_history::Kind;
+use race_history::AccessKind;
 use show_rows::Shown;
 use std::alloc::{AllocError, Global};
 
 /// The kind of the entry at a place.
-fn kind_at(shown: Shown, at: usize) -> Kind
+fn kind_at(shown: Shown, at: usize) -> AccessKind
     ensures { result ≡ kind_at shown.entry at }
 {
     if shown.is_atomic_at(at) {
-        Kind::Atomic
+        AccessKind::Atomic
     } else {
-        Kind::Plain
+        AccessKind::Plain
     }
 }
 
@@ -22,7 +22,7 @@ fn kind_at(shown: Shown, at: usize) -> Kind
 ///
 /// # Errors
 /// Where memory is refused.
-pub fn kinds_of(alloc: Global, shown: Shown) -> Result<Vec<Kind>, AllocError>
+pub fn kinds_of(alloc: Global, shown: Shown) -> Result<Vec<AccessKind>, AllocError>
     ensures { IfOk result (λ kinds. kinds.items ≡ kinds_shown shown.entry) }
 {
     let mut kinds = Vec::new(alloc);

@@ -4,11 +4,11 @@ ghost use Rattle.std.specs.Prelude.{◌≡◌, ◌<◌, length};
 ghost use Rattle.show_races.specs.Written as written;
 ghost use Rattle.show_races.specs.Written.{IsNextWrite};
 
-use race_history::{Kind, access_of};
+use race_history::{AccessKind, access_of};
 use types::Entry;
 
 /// Whether the entry at a place is an atomic write of this thread.
-fn is_atomic_write(log: &[Entry], kinds: &[Kind], thread: u32, at: usize) -> bool
+fn is_atomic_write(log: &[Entry], kinds: &[AccessKind], thread: u32, at: usize) -> bool
     ensures { result ≡ written.is_atomic_write log.now kinds.now thread at }
 {
     let (Some(entry), Some(kind)) = (log.get(at), kinds.get(at)) else {
@@ -21,7 +21,12 @@ fn is_atomic_write(log: &[Entry], kinds: &[Kind], thread: u32, at: usize) -> boo
 }
 
 /// The place of a thread's next atomic write behind a place, if it makes one.
-pub fn next_atomic_write(log: &[Entry], kinds: &[Kind], thread: u32, first: usize) -> Option<usize>
+pub fn next_atomic_write(
+    log: &[Entry],
+    kinds: &[AccessKind],
+    thread: u32,
+    first: usize,
+) -> Option<usize>
     requires { first < length log.now }
     ensures { IsNextWrite log.now kinds.now thread first result }
 {

@@ -4,9 +4,9 @@ ghost use Rattle.std.specs.Prelude.{◌≡◌, ◌<◌, All, IfOk, OnOk, length,
 ghost use Rattle.show_races.specs.Told.{IsWithin};
 ghost use Rattle.show_races.specs.Written.{IsOrderText, SaysRace, TellsRaces, WritesFirst, name_text};
 
-use crate::found::Races;
+use crate::found::RecordRaces;
 use crate::release::next_atomic_write;
-use race_history::{Kind, Race};
+use race_history::{AccessKind, Race};
 use show_rows::{Shown, Story, entry_text};
 use show_text::Unwritten;
 use std::alloc::{AllocError, Global};
@@ -14,11 +14,11 @@ use std::fmt::{self, Formatter};
 use std::io::Write;
 
 /// What a race is called: two atomic accesses race where they are of other bytes.
-fn name_of(kinds: &[Kind], race: Race) -> &'static str
+fn name_of(kinds: &[AccessKind], race: Race) -> &'static str
     ensures { result.now ≡ name_text kinds.now race }
 {
     match (kinds.get(race.first), kinds.get(race.second)) {
-        (Some(Kind::Atomic), Some(Kind::Atomic)) => "mixed",
+        (Some(AccessKind::Atomic), Some(AccessKind::Atomic)) => "mixed",
         _ => "race",
     }
 }
@@ -47,7 +47,12 @@ impl fmt::Display for Leads {
 }
 
 /// What would have ordered the first entry before the second.
-fn order_text(alloc: Global, shown: Shown, kinds: &[Kind], race: Race) -> Result<String, AllocError>
+fn order_text(
+    alloc: Global,
+    shown: Shown,
+    kinds: &[AccessKind],
+    race: Race,
+) -> Result<String, AllocError>
     requires first { race.first < length shown.record.now.log }
     requires second { race.second < length shown.record.now.log }
     ensures { IfOk result (λ text. IsOrderText shown.entry kinds.now race (string_bytes text)) }
@@ -66,7 +71,7 @@ fn order_text(alloc: Global, shown: Shown, kinds: &[Kind], race: Race) -> Result
     };
     let line = shown.line_of(write);
     let some = format!(in alloc;
-        "  nothing told t{second} that t{first} was done: t{first}'s next atomic write is on line {line}{leads}"
+        "  nothing told t{second} that t{first} was done: t{first}'s next atomic write is entry {line}{leads}"
     )?;
     Ok(some)
 }
@@ -76,7 +81,7 @@ fn race_text(
     alloc: Global,
     shown: Shown,
     story: &Story,
-    kinds: &[Kind],
+    kinds: &[AccessKind],
     race: Race,
 ) -> Result<String, AllocError>
     requires { IsWithin shown.record.now.log race }
@@ -98,7 +103,7 @@ pub fn write_first<W: Write>(
     alloc: Global,
     shown: Shown,
     story: &Story,
-    races: &Races,
+    races: &RecordRaces,
     out: &mut W,
 ) -> Result<bool, Unwritten>
     requires { All (IsWithin shown.record.now.log) races.now.pairs.items }
@@ -149,7 +154,7 @@ pub fn write_races<W: Write>(
     alloc: Global,
     shown: Shown,
     story: &Story,
-    races: &Races,
+    races: &RecordRaces,
     out: &mut W,
 ) -> Result<(), Unwritten>
     requires { All (IsWithin shown.record.now.log) races.now.pairs.items }

@@ -33,7 +33,7 @@ says_of shown story at log d said row same within of line thread words place = r
 pub entry_says : (shown : Shown) (story : Story) (at : ℕ) (log : List Entry) (d : Entry) (said : Words) (words place text : List ℕ) (line : ℕ)
     → log ≡ shown.record.now.log → at < length shown.record.now.log → AreWordsOf shown story at (get_or log at d) said
     → line ≡ line_at shown at → words ≡ words_text said → IsPlaceTextOf shown story at place
-    → text ≡ codes "t" ++ (decimal (get_or log at d).thread ++ (codes " " ++ (words ++ (codes " on line " ++ (decimal line ++ behind place)))))
+    → text ≡ codes "t" ++ (decimal (get_or log at d).thread ++ (codes " " ++ (words ++ (codes ", entry " ++ (decimal line ++ behind place)))))
     → IsEntryText shown story at text
 entry_says shown story at log d said words place text line same within of line_is words_are place_is is = (
   record { line = line; thread = (get_or log at d).thread; words = words; place = place },

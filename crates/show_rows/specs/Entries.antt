@@ -13,7 +13,7 @@ behind (b ∷ place) = codes ", " ++ (b ∷ place)
 
 -- An entry: its thread, its words, its line of the record, and where it was made.
 abbrev pub entry_text : RowText → List ℕ
-entry_text row = codes "t" ++ (decimal row.thread ++ (codes " " ++ (row.words ++ (codes " on line "
+entry_text row = codes "t" ++ (decimal row.thread ++ (codes " " ++ (row.words ++ (codes ", entry "
     ++ (decimal row.line ++ behind row.place)))))
 
 abbrev pub IsEntryText : Shown → Story → ℕ → List ℕ → Type 0

@@ -23,11 +23,12 @@ use Rattle.show_text.specs.Woken.{AreWakes, woken_in}
 use Rattle.show_text.specs.Words.{words_text}
 use Rattle.show_text.specs.Rows.{RowText, AddsRow}
 use Rattle.show_rows.specs.declared.rows.Row.{Row}
-use Rattle.show_rows.specs.declared.spot.Spot.{Spot}
+use Rattle.show_spots.specs.declared.spot.Spot.{Spot}
 use Rattle.show_rows.specs.declared.code.CodeMap.{CodeMap}
 use Rattle.show_rows.specs.declared.listing.Shown.{Shown}
 use Rattle.show_rows.specs.declared.listing.Story.{Story}
-use Rattle.show_rows.specs.Spots.{IsSpotOf, call_apart, call_text, is_atomic, spot_text}
+use Rattle.show_spots.specs.Spots.{call_text, spot_text}
+use Rattle.show_rows.specs.Spots.{IsSpotOf, call_apart, is_atomic}
 
 -- The line of the record that has the entry at a place.
 abbrev pub line_at : Shown → ℕ → ℕ

@@ -8,12 +8,11 @@ ghost use Rattle.dwarf_lines.specs.Sources.{IsTextOf, line_in};
 ghost use Rattle.show_rows.specs.Around.{lines_around};
 ghost use Rattle.show_rows.specs.Spots.{IsSpotOf, AreBodies, are_apart, is_function_import, range_at};
 
-use crate::around::Around;
-use crate::spot::Spot;
 use binary_wire::ReadFault;
 use dwarf_lines::{DebugSections, LineTable, Range, Sources, read_lines};
 use interp::CodePlace;
 use show_places::{BodyPlaces, Named, code_places, function_name, read_names, section_of};
+use show_spots::{Around, Spot};
 use std::alloc::{AllocError, Global};
 use types::{Import, ImportDesc, Instr, Parts, PlainInstr, Sequence};
 

@@ -9,9 +9,9 @@ use std::fmt::{self, Formatter};
 
 /// The text of the place behind an entry, where it is known.
 #[derive(Clone, Copy)]
-pub struct Behind<'a>(pub &'a str);
+pub struct PlaceBehind<'a>(pub &'a str);
 
-impl fmt::Display for Behind<'_> {
+impl fmt::Display for PlaceBehind<'_> {
     ghost use Rattle.std.specs.Prelude.{Some};
     ghost use Rattle.show_rows.specs.Entries.{behind};
 
@@ -43,7 +43,7 @@ pub fn entry_text(
     let (thread, line) = (entry.thread, shown.line_of(at));
     let words = shown.words_at(story, at, entry).to_string(alloc)?;
     let place = shown.place_text(alloc, story, at)?;
-    let behind = Behind(place.as_str());
-    let text = format!(in alloc; "t{thread} {words} on line {line}{behind}")?;
+    let behind = PlaceBehind(place.as_str());
+    let text = format!(in alloc; "t{thread} {words}, entry {line}{behind}")?;
     Ok(text)
 }

@@ -7,10 +7,10 @@ ghost use Rattle.show_rows.specs.Listing.{IsStoryOf, AreWordsOf, AddsEntry, Adds
 
 use crate::Row;
 use crate::code::CodeMap;
-use crate::spot::CallSpot;
 use interp::CodePlace;
 use replay_text::RecordParts;
 use selection::{Color, Look};
+use show_spots::CallSpot;
 use show_text::{Context, Sheet, Unwritten, Wakes, Words, contexts};
 use std::alloc::{AllocError, Global};
 use std::io::Write;

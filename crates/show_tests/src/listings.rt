@@ -6,7 +6,7 @@ use crate::made::{module_of, record_of, rows_of};
 use dwarf_lines::{SourceFile, Sources};
 use interp::CodePlace;
 use replay_text::Record;
-use selection::{Choice, Color, Look, Span};
+use selection::{Choice, Color, Look, NumberSpan};
 use show_rows::{CodeMap, Row, Shown, write_rows};
 use std::alloc::Global;
 use std::process::Abort;
@@ -21,9 +21,9 @@ struct Listing {
     record: &'static [u8],
     /// Files of source that are at hand: what each is called, and its text.
     sources: &'static [(&'static str, &'static str)],
-    lines: &'static [Span],
+    lines: &'static [NumberSpan],
     threads: &'static [u32],
-    addrs: &'static [Span],
+    addrs: &'static [NumberSpan],
     width: usize,
     color: Color,
     text: &'static str,
@@ -59,13 +59,16 @@ static LISTINGS: [Listing; 9] = [
     },
     // on several lines, and at several addresses
     Listing {
-        lines: &[Span { first: 6, last: 8 }, Span { first: 9, last: 9 }],
+        lines: &[
+            NumberSpan { first: 6, last: 8 },
+            NumberSpan { first: 9, last: 9 },
+        ],
         addrs: &[
-            Span {
+            NumberSpan {
                 first: 100,
                 last: 200,
             },
-            Span { first: 8, last: 8 },
+            NumberSpan { first: 8, last: 8 },
         ],
         text: "\
             \x20     8                              t1 sleeps on 8 while 0                     sleep?+0x8\n\
@@ -103,8 +106,8 @@ static LISTINGS: [Listing; 9] = [
     },
     // of some addresses and some lines, in colors
     Listing {
-        lines: &[Span { first: 8, last: 11 }],
-        addrs: &[Span { first: 0, last: 8 }],
+        lines: &[NumberSpan { first: 8, last: 11 }],
+        addrs: &[NumberSpan { first: 0, last: 8 }],
         width: 90,
         color: Color::Always,
         text: "\

@@ -1,16 +1,14 @@
 //! Lines that explain a refusal, by hand.
 
 use crate::asserts::same_text;
-use binary::read;
-use binary_wire::ReadFault;
-use replay_text::read_record;
-use report_reasons::{Instead, Misfit, Refused, explain};
+use interp_trait::Turn;
+use replay_text::{RecordFault, read_record};
+use report_jobs::{Advised, Done, JobResult, Refused, Undone, load_checked, of_refusal};
+use report_reasons::{JobInputs, UnfitThread, add_misfit, explain};
 use std::alloc::Global;
 use std::process::Abort;
 use std::test::Fail;
-use test_modules::TELLING;
-use types::{Event, Outcome, Parts, RmwOp, Stop};
-use validate::validate;
+use types::{Event, Outcome, RmwOp, Stop, Trap};
 
 /// Bytes, and the lines that are said of them.
 struct Case {
@@ -101,39 +99,38 @@ static MODULES: [Case; 14] = [
     },
 ];
 
-/// Adds the lines on bytes that are refused as a module.
-fn explain_module(alloc: Global, out: &mut String, bytes: &[u8]) -> Result<(), Fail> {
-    match read(alloc, bytes) {
-        Err(ReadFault::Malformed { kind, offset }) => {
-            let refused = Refused::Bytes {
-                bytes,
-                kind,
-                offset,
-            };
-            explain(alloc, out, &refused)?;
-        }
-        Err(fault) => return Err(fault.into()),
-        Ok(module) => {
-            if let Err(fault) = validate(alloc, module) {
-                explain(alloc, out, &Refused::Module(bytes, fault))?;
-            }
-        }
-    }
-    Ok(())
-}
-
-/// What is said of bytes that are refused as a module, behind a line that was there before.
-fn said_of_module(alloc: Global, bytes: &[u8]) -> Result<String, Fail> {
+/// What is said of what came of a job that was given these bytes, behind a line that was there before.
+fn said_of(alloc: Global, ended: &JobResult, given: JobInputs) -> Result<String, Fail> {
     let mut lines = String::new(alloc);
     lines.push_str("before\n")?;
-    explain_module(alloc, &mut lines, bytes)?;
-    Ok(lines)
+    explain(alloc, &mut lines, ended, given)?;
+    match lines.strip_prefix("before\n") {
+        Some(said) => Ok(String::from_str(alloc, said)?),
+        None => Err("the line before is gone".into()),
+    }
+}
+
+/// A job that was given this module, and nothing else.
+fn of_module(bytes: &[u8]) -> JobInputs<'_> {
+    JobInputs {
+        module: bytes,
+        saved: &[],
+        call: None,
+    }
+}
+
+/// What is said of bytes that are refused as a module.
+fn said_of_module(alloc: Global, bytes: &[u8]) -> Result<String, Fail> {
+    match load_checked(alloc, bytes) {
+        Err(refusal) => said_of(alloc, &Err(of_refusal(refusal)), of_module(bytes)),
+        Ok(_) => Err("a valid module".into()),
+    }
 }
 
 fn check_modules<R: Abort>(rt: &R, alloc: Global, cases: &[Case]) -> Result<(), Fail> {
     for case in cases {
         let lines = said_of_module(alloc, case.bytes)?;
-        same_text(rt, lines.strip_prefix("before\n").unwrap_or(""), case.lines);
+        same_text(rt, &lines, case.lines);
     }
     Ok(())
 }
@@ -175,19 +172,20 @@ static TEXTS: [Case; 6] = [
     },
 ];
 
-/// What is said of a refusal.
-fn said_of(alloc: Global, refused: &Refused) -> Result<String, Fail> {
-    let mut lines = String::new(alloc);
-    explain(alloc, &mut lines, refused)?;
-    Ok(lines)
-}
-
 /// What is said of bytes that are refused as a record.
 fn said_of_text(alloc: Global, bytes: &[u8]) -> Result<String, Fail> {
-    match read_record(alloc, bytes) {
-        Err(fault) => said_of(alloc, &Refused::Text(bytes, fault)),
-        Ok(_) => Err("a record".into()),
-    }
+    let refused = match read_record(alloc, bytes) {
+        Err(RecordFault::Header(line)) => Refused::Header(line),
+        Err(RecordFault::Unreadable(line)) => Refused::Unreadable(line),
+        Err(RecordFault::EndMissing) => Refused::EndMissing,
+        _ => return Err("a record".into()),
+    };
+    let given = JobInputs {
+        module: &[],
+        saved: bytes,
+        call: None,
+    };
+    said_of(alloc, &Err(Undone::Refused(refused)), given)
 }
 
 fn check_texts<R: Abort>(rt: &R, alloc: Global, cases: &[Case]) -> Result<(), Fail> {
@@ -208,17 +206,17 @@ const LOG: &[u8] =
 /// A line of `LOG` that doesn't fit, and the lines that are said of it.
 struct Unfit {
     number: usize,
-    misfit: Option<Misfit<'static>>,
+    thread: Option<UnfitThread<'static>>,
     lines: &'static str,
 }
 
 static UNFIT: [Unfit; 4] = [
     Unfit {
         number: 6,
-        misfit: Some(Misfit {
-            thread: 4,
-            instead: None,
-            spot: Some("lock+0x9"),
+        thread: Some(UnfitThread {
+            number: 4,
+            turn: None,
+            spot: "lock+0x9",
         }),
         lines: "line 6: the record has t4 cmpxchg 1024 4 0 1 = 0\n\
             t4 stands at lock+0x9 before it\n\
@@ -226,15 +224,15 @@ static UNFIT: [Unfit; 4] = [
     },
     Unfit {
         number: 6,
-        misfit: Some(Misfit {
-            thread: 4,
-            instead: Some(Instead::Wants(Event::Rmw {
+        thread: Some(UnfitThread {
+            number: 4,
+            turn: Some(Turn::Wants(Event::Rmw {
                 op: RmwOp::Xchg,
                 addr: 1024,
                 width: 4,
                 value: 2,
             })),
-            spot: Some("lock+0x9 lock.c:7"),
+            spot: "lock+0x9 lock.c:7",
         }),
         lines: "line 6: the record has t4 cmpxchg 1024 4 0 1 = 0\n\
             t4 would do rmw xchg 1024 4 2\n\
@@ -243,30 +241,28 @@ static UNFIT: [Unfit; 4] = [
     },
     Unfit {
         number: 6,
-        misfit: Some(Misfit {
-            thread: 4,
-            instead: Some(Instead::Ended(Outcome::Stop(Stop::OutOfFuel))),
-            spot: None,
+        thread: Some(UnfitThread {
+            number: 4,
+            turn: Some(Turn::Ended(Outcome::Stop(Stop::OutOfFuel))),
+            spot: "lock+0x9",
         }),
         lines: "line 6: the record has t4 cmpxchg 1024 4 0 1 = 0\n\
             t4 has ended: stop out of fuel\n\
+            t4 stands at lock+0x9 before it\n\
             no run of this module goes on so: is the record of another module, or of another build of it?\n",
     },
     Unfit {
         number: 9,
-        misfit: None,
+        thread: None,
         lines: "no run of this module goes on so: is the record of another module, or of another build of it?\n",
     },
 ];
 
 fn check_lines<R: Abort>(rt: &R, alloc: Global, saved: &[u8], cases: &[Unfit]) -> Result<(), Fail> {
     for unfit in cases {
-        let refused = Refused::Line {
-            saved,
-            number: unfit.number,
-            misfit: unfit.misfit,
-        };
-        same_text(rt, &said_of(alloc, &refused)?, unfit.lines);
+        let mut lines = String::new(alloc);
+        add_misfit(&mut lines, saved, unfit.number, unfit.thread)?;
+        same_text(rt, &lines, unfit.lines);
     }
     Ok(())
 }
@@ -276,24 +272,40 @@ fn lines_that_do_not_fit_are_explained(rt: HostRuntime) -> Result<(), Fail> {
     check_lines(&rt, rt.alloc(), LOG, &UNFIT)
 }
 
-/// What a run printed, and the lines that are said of it.
-static ENDS: [(&str, &str); 3] = [
+/// How threads ended, and the lines that are said of that.
+static ENDS: [(&[Outcome], &str); 3] = [
     (
-        "thread 0: ok\nthread 1: stop record full\npages 1\n",
+        &[Outcome::Done(None), Outcome::Stop(Stop::RecordFull)],
         "the record took no further entry: --limit takes up to 1000000, and --memory words has no limit and keeps no \
             record\n",
     ),
     (
-        "thread 0: stop asleep for good\nthread 1: trap unaligned atomic\npages 1\n",
-        "a thread sleeps where nobody is left to wake it: `show` has the line on which it fell asleep\n\
+        &[
+            Outcome::Trap(Trap::UnalignedAtomic),
+            Outcome::Stop(Stop::AsleepForGood),
+        ],
+        "a thread sleeps where nobody is left to wake it: `show` has the entry at which it fell asleep\n\
             an atomic access wants an address that its width divides\n",
     ),
-    ("thread 0: ok\npages 1\n", ""),
+    (&[Outcome::Done(None)], ""),
 ];
 
-fn check_ends<R: Abort>(rt: &R, alloc: Global, cases: &[(&str, &str)]) -> Result<(), Fail> {
-    for (printed, wanted) in cases {
-        same_text(rt, &said_of(alloc, &Refused::Ends(printed))?, wanted);
+/// What is said of a job whose threads ended so.
+fn said_of_ends(alloc: Global, outcomes: &[Outcome]) -> Result<String, Fail> {
+    let mut advised = Advised::none();
+    for outcome in outcomes {
+        advised.note(*outcome);
+    }
+    let done = Done {
+        advised,
+        ..Done::with(1)
+    };
+    said_of(alloc, &Ok(done), of_module(&[]))
+}
+
+fn check_ends<R: Abort>(rt: &R, alloc: Global, cases: &[(&[Outcome], &str)]) -> Result<(), Fail> {
+    for (outcomes, wanted) in cases {
+        same_text(rt, &said_of_ends(alloc, outcomes)?, wanted);
     }
     Ok(())
 }
@@ -301,49 +313,4 @@ fn check_ends<R: Abort>(rt: &R, alloc: Global, cases: &[(&str, &str)]) -> Result
 #[test]
 fn ends_are_explained(rt: HostRuntime) -> Result<(), Fail> {
     check_ends(&rt, rt.alloc(), &ENDS)
-}
-
-/// A call of `TELLING`, and the lines that are said of it.
-struct Call {
-    name: &'static str,
-    args: &'static [&'static str],
-    lines: &'static str,
-}
-
-static CALLS: [Call; 3] = [
-    Call {
-        name: "f",
-        args: &["1", "2"],
-        lines: "f is of type (i32) -> (i32); arguments wanted: 1, given: 2\n\
-            an argument is a number that fits its type, signed or unsigned, or hexadecimal behind 0x: 5, -5 or 0x10\n",
-    },
-    Call {
-        name: "f",
-        args: &["-0x1"],
-        lines: "f is of type (i32) -> (i32)\nargument 1 is no i32: -0x1\n\
-            an argument is a number that fits its type, signed or unsigned, or hexadecimal behind 0x: 5, -5 or 0x10\n",
-    },
-    Call {
-        name: "g",
-        args: &[],
-        lines: "there is --invoke f\nthere is --invoke wasi_thread_start\n",
-    },
-];
-
-fn check_calls<R: Abort>(rt: &R, alloc: Global, parts: &Parts, calls: &[Call]) -> Result<(), Fail> {
-    for call in calls {
-        let refused = Refused::Call {
-            parts,
-            name: call.name,
-            args: call.args,
-        };
-        same_text(rt, &said_of(alloc, &refused)?, call.lines);
-    }
-    Ok(())
-}
-
-#[test]
-fn calls_are_explained(rt: HostRuntime) -> Result<(), Fail> {
-    let module = read(rt.alloc(), TELLING)?;
-    check_calls(&rt, rt.alloc(), module.parts(), &CALLS)
 }

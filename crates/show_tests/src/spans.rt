@@ -1,15 +1,15 @@
 //! Spans, as they are written, and what is in one.
 
-use selection::Span;
+use selection::NumberSpan;
 use std::test::Fail;
 
-static SPANS: [(&str, Option<Span>); 9] = [
-    ("5", Some(Span { first: 5, last: 5 })),
-    ("5-7", Some(Span { first: 5, last: 7 })),
-    ("5-5", Some(Span { first: 5, last: 5 })),
+static SPANS: [(&str, Option<NumberSpan>); 9] = [
+    ("5", Some(NumberSpan { first: 5, last: 5 })),
+    ("5-7", Some(NumberSpan { first: 5, last: 7 })),
+    ("5-5", Some(NumberSpan { first: 5, last: 5 })),
     (
         "0-18446744073709551615",
-        Some(Span {
+        Some(NumberSpan {
             first: 0,
             last: u64::MAX,
         }),
@@ -24,7 +24,7 @@ static SPANS: [(&str, Option<Span>); 9] = [
 #[test]
 fn reads_spans(rt: HostRuntime) -> Result<(), Fail> {
     for (text, span) in SPANS {
-        assert_eq!(rt; Span::read(text), span, "{text}");
+        assert_eq!(rt; NumberSpan::read(text), span, "{text}");
     }
     Ok(())
 }
@@ -33,7 +33,7 @@ static HAS: [(u64, bool); 4] = [(4, false), (5, true), (7, true), (8, false)];
 
 #[test]
 fn knows_what_is_in_a_span(rt: HostRuntime) -> Result<(), Fail> {
-    let span = Span { first: 5, last: 7 };
+    let span = NumberSpan { first: 5, last: 7 };
     for (number, is_in) in HAS {
         assert_eq!(rt; span.has(number), is_in, "{number}");
     }

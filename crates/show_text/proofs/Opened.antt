@@ -1,5 +1,6 @@
 -- Which question is open behind one more entry, and what the contexts are then.
-use Rattle.std.proofs.Common.{◌≡◌, ◌∙◌, ◌⊎◌, ◌<◌, ◌≤◌, ◌+◌, ◌≢◌, ℕ, List, Option, Some, None, length, get_or, inl, inr, refl, sym, ap, subst, arith, slice_set, option_and_then}
+use Rattle.std.proofs.Common.{◌≡◌, ◌∙◌, ◌⊎◌, ◌<◌, ◌≤◌, ◌+◌, ◌≢◌, ℕ, List, Option, Some, None, length, get_or, inl, inr}
+use Rattle.std.proofs.Common.{refl, sym, ap, subst, arith, slice_set, option_and_then}
 use Rattle.std.specs.List.{slice_get}
 use Rattle.std.proofs.lemmas.Bool.{cases_eq, cases_lt}
 use Rattle.std.proofs.lemmas.List.{get_or-set_other, get_or-set_same, length-set}
@@ -102,7 +103,8 @@ module _ (log : List Entry) (n : ℕ) (m : Entry) (is : slice_get log n ≡ Some
       → AreOpen log (n + 1) (slice_set places m.thread o)
   opens_set places o new opens t x at = elim (cases_eq t m.thread) [
     | inl same ↦ (let lt = set_past places m.thread t x o at in
-        let e : o ≡ x = same_Some o x (sym (set_same places m.thread o (omega (arith, lt, same))) ∙ subst (λ (k : ℕ). slice_get (slice_set places m.thread o) k ≡ Some x) same at) in
+        let e : o ≡ x = same_Some o x (sym (set_same places m.thread o (omega (arith, lt, same))) ∙
+        subst (λ (k : ℕ). slice_get (slice_set places m.thread o) k ≡ Some x) same at) in
         subst (λ (k : ℕ). IsOpenAt log k (n + 1) x) (sym same) (subst (IsOpenAt log m.thread (n + 1)) e new))
     | inr apart ↦ open_keeps t x (λ same call. apart (sym same)) (opens t x (sym (set_other places m.thread t o apart) ∙ at))
   ]
@@ -175,15 +177,33 @@ module _ (log : List Entry) (n : ℕ) (m : Entry) (is : slice_get log n ≡ Some
           long = length-set first n (Asked q p) ∙ (long_first ∙ long);
           each = λ at c is_c. elim (cases_eq at n) [
             | inl same ↦
-                let e : Asked q p ≡ c = same_Some (Asked q p) c (sym (set_same first n (Asked q p) (omega (arith, n_in, long, long_first))) ∙ subst (λ (k : ℕ). slice_get (slice_set first n (Asked q p)) k ≡ Some c) same is_c) in
-                subst (IsContext log threads (n + 1) at) e (m.thread, a, within, omega (arith, same), subst (λ (k : ℕ). IsAnswered log m.thread p k q a) (sym same) answered)
+                let e : Asked q p ≡ c = same_Some (Asked q p) c (sym (set_same first n (Asked q p) (omega (arith, n_in, long, long_first))) ∙
+                subst (λ (k : ℕ). slice_get (slice_set first n (Asked q p)) k ≡ Some c) same is_c) in
+                subst (IsContext log threads (n + 1) at) e (
+                  m.thread,
+                  a,
+                  within,
+                  omega (arith, same),
+                  subst (λ (k : ℕ). IsAnswered log m.thread p k q a)
+                      (sym same) answered,
+                )
             | inr apart ↦ (let is_first = sym (set_other first n at (Asked q p) apart) ∙ is_c in
                 elim (cases_eq at p) [
                   | inl same ↦
-                      let e : Answered a ≡ c = same_Some (Answered a) c (sym (set_same contexts p (Answered a) (omega (arith, n_in, long, before))) ∙ subst (λ (k : ℕ). slice_get first k ≡ Some c) same is_first) in
-                      subst (IsContext log threads (n + 1) at) e (m.thread, n, q, within, omega arith, subst (λ (k : ℕ). IsAnswered log m.thread k n q a) (sym same) answered)
+                      let e : Answered a ≡ c = same_Some (Answered a) c (sym (set_same contexts p (Answered a) (omega (arith, n_in, long, before))) ∙
+                      subst (λ (k : ℕ). slice_get first k ≡ Some c) same is_first) in
+                      subst (IsContext log threads (n + 1) at) e (
+                        m.thread,
+                        n,
+                        q,
+                        within,
+                        omega arith,
+                        subst (λ (k : ℕ). IsAnswered log m.thread k n q a)
+                            (sym same) answered,
+                      )
                   | inr other ↦ context_keeps at c (λ t asked r b lt h2 place. elim place [
-                    | inl here_asked ↦ other (here_asked ∙ only m.thread asked p (subst (λ (k : ℕ). IsOpen log k n asked) (sym (thread_here t (Told b) h2.tells)) (was_open t asked r b h2)) opened)
+                    | inl here_asked ↦ other (here_asked ∙ only m.thread asked p
+                        (subst (λ (k : ℕ). IsOpen log k n asked) (sym (thread_here t (Told b) h2.tells)) (was_open t asked r b h2)) opened)
                     | inr here_told ↦ apart here_told
                   ]) (h.each at c (sym (set_other contexts p at (Answered a) other) ∙ is_first))
                 ])

@@ -3,7 +3,7 @@
 ghost use Rattle.std.specs.Prelude.{flat_map};
 ghost use Rattle.std.specs.Fmt.{WritesOnOk};
 ghost use Rattle.show_text.specs.Words.{question_text, wait_text, woken_text, wake_text, spawn_text};
-ghost use Rattle.show_text.specs.Words.{asleep_text, answer_text, told_text, waited_text};
+ghost use Rattle.show_text.specs.Words.{asleep_text, answer_text, count_text, limit_text, told_text, waited_text};
 
 use crate::context::Context;
 use crate::woken::Wake;
@@ -30,8 +30,8 @@ pub(crate) fn write_question<W: Write>(
             ..
         } => write_wait(f, addr, expected, timeout, reply),
         Question::Notify { addr, count } => {
-            let most = Most(count);
-            write!(f, "notify {addr}{most}")?;
+            write!(f, "notify {addr}")?;
+            write_most(f, count)?;
             write_woken(f, reply, words.woken)
         }
         Question::Spawn { arg } => write_spawn(f, arg, words.context),
@@ -59,60 +59,36 @@ fn write_wait<W: Write>(
 }
 
 /// What a wait does that finds the number that it expects.
-fn write_asleep<W: Write>(
-    f: &mut Formatter<W>,
-    addr: u64,
-    expected: u64,
-    timeout: i64,
-) -> fmt::Result
-    ensures { WritesOnOk W.write_str_gives f.old result (asleep_text addr expected timeout) f.new }
+fn write_asleep<W: Write>(f: &mut Formatter<W>, addr: u64, value: u64, timeout: i64) -> fmt::Result
+    ensures { WritesOnOk W.write_str_gives f.old result (asleep_text addr value timeout) f.new }
 {
     if timeout == 0 {
-        return write!(f, "wait {addr} while {expected}: no time to sleep");
+        return write!(f, "wait {addr} while {value}: no time to sleep");
     }
-    let limit = Limit(timeout);
-    write!(f, "sleeps on {addr} while {expected}{limit}")
+    write!(f, "sleeps on {addr} while {value}")?;
+    write_limit(f, timeout)
 }
 
 /// How long one sleeps at most.
-#[derive(Clone, Copy)]
-struct Limit(i64);
-
-impl fmt::Display for Limit {
-    ghost use Rattle.std.specs.Prelude.{Some};
-    ghost use Rattle.show_text.specs.Words.{limit_text};
-
-    ghost output = { λ l. Some (limit_text l.0) };
-
-    fn fmt<W: Write>(&self, f: &mut Formatter<W>) -> fmt::Result {
-        let timeout = self.0;
-        if timeout > 0 {
-            return write!(f, ", at most {timeout} ns");
-        }
-        Ok(())
+fn write_limit<W: Write>(f: &mut Formatter<W>, timeout: i64) -> fmt::Result
+    ensures { WritesOnOk W.write_str_gives f.old result (limit_text timeout) f.new }
+{
+    if timeout > 0 {
+        return write!(f, ", at most {timeout} ns");
     }
+    Ok(())
 }
 
 /// How many a notify wakes at most.
-#[derive(Clone, Copy)]
-struct Most(u32);
-
-impl fmt::Display for Most {
-    ghost use Rattle.std.specs.Prelude.{Some};
-    ghost use Rattle.show_text.specs.Words.{count_text};
-
-    ghost output = { λ m. Some (count_text m.0) };
-
-    fn fmt<W: Write>(&self, f: &mut Formatter<W>) -> fmt::Result {
-        let count = self.0;
-        if count == u32::MAX {
-            return Ok(());
-        }
-        write!(f, ", at most {count}")
+fn write_most<W: Write>(f: &mut Formatter<W>, count: u32) -> fmt::Result
+    ensures { WritesOnOk W.write_str_gives f.old result (count_text count) f.new }
+{
+    if count == u32::MAX {
+        return Ok(());
     }
+    write!(f, ", at most {count}")
 }
 
-/// Whom a notify woke.
 fn write_woken<W: Write>(f: &mut Formatter<W>, reply: Reply, woken: &[Wake]) -> fmt::Result
     ensures { WritesOnOk W.write_str_gives f.old result (woken_text reply woken.now) f.new }
 {
@@ -175,7 +151,6 @@ fn write_told<W: Write>(f: &mut Formatter<W>, question: Question, number: u32) -
     }
 }
 
-/// How a wait ended.
 fn write_waited<W: Write>(f: &mut Formatter<W>, number: u32) -> fmt::Result
     ensures { WritesOnOk W.write_str_gives f.old result (waited_text number) f.new }
 {

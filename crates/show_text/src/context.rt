@@ -21,11 +21,11 @@ pub enum Context {
 
 /// Where each thread asked its open question.
 #[derive(Drop)]
-struct Open {
+struct QuestionPlaces {
     places: Vec<Option<usize>>,
 }
 
-impl Open {
+impl QuestionPlaces {
     fn of(&self, thread: u32) -> Option<usize>
         ensures { result ≡ option_and_then (λ place. place) (slice_get self.now.places.items thread) }
     {
@@ -54,7 +54,7 @@ fn question_at(log: &[Entry], place: usize) -> Option<Question>
 /// Notes that the entry at a place is the answer to its thread's open question, if it has one.
 fn note_answer(
     contexts: &mut [Context],
-    asked: &Open,
+    asked: &QuestionPlaces,
     log: &[Entry],
     at: usize,
     thread: u32,
@@ -76,7 +76,7 @@ fn note_answer(
 }
 
 /// Notes the entry at a place, behind all those before it.
-fn note(contexts: &mut [Context], asked: &mut Open, log: &[Entry], at: usize, made: Entry)
+fn note(contexts: &mut [Context], asked: &mut QuestionPlaces, log: &[Entry], at: usize, made: Entry)
     requires stands { slice_get log.now at ≡ Some made }
     requires opens { AreOpen log.now at asked.old.places.items }
     requires contexts { AreContexts log.now (length asked.old.places.items) at contexts.old }
@@ -99,7 +99,7 @@ pub fn contexts(alloc: Global, log: &[Entry], threads: usize) -> Result<Vec<Cont
     ensures { IfOk result (λ contexts. AreContexts log.now threads (length log.now) contexts.items) }
 {
     let mut contexts = vec![in alloc; Context::Alone; log.len()]?;
-    let mut asked = Open {
+    let mut asked = QuestionPlaces {
         places: vec![in alloc; None; threads]?,
     };
     for at in 0..log.len() {

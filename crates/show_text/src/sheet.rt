@@ -55,7 +55,6 @@ pub struct Sheet {
     is_colored: bool,
 }
 
-/// How a row is laid out.
 #[derive(Clone, Copy)]
 struct Layout {
     /// The blanks before the number of the line.
@@ -83,7 +82,6 @@ impl Sheet {
         }
     }
 
-    /// Which column a thread has.
     fn column_of(&self, thread: u32) -> usize {
         self.threads
             .iter()
@@ -113,7 +111,7 @@ impl Sheet {
             thread,
             words,
         };
-        let place = Place {
+        let place = PlaceText {
             is_colored,
             gap: at.gap,
             place,
@@ -140,12 +138,10 @@ impl Sheet {
     }
 }
 
-/// How many digits a number has.
 fn digits_of(number: u64) -> usize {
     number.checked_ilog10().unwrap_or(0) as usize + 1
 }
 
-/// So many blanks.
 #[derive(Clone, Copy)]
 struct Blanks(usize);
 
@@ -190,13 +186,13 @@ impl fmt::Display for Said<'_> {
 
 /// The place behind the words, where it is known.
 #[derive(Clone, Copy)]
-struct Place<'a> {
+struct PlaceText<'a> {
     is_colored: bool,
     gap: usize,
     place: &'a str,
 }
 
-impl fmt::Display for Place<'_> {
+impl fmt::Display for PlaceText<'_> {
     ghost use Rattle.std.specs.Prelude.{Some};
     ghost use Rattle.show_text.specs.Rows.{place_text};
 

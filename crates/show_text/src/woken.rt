@@ -20,7 +20,7 @@ pub struct Wake {
 
 /// A thread that sleeps until it is woken.
 #[derive(Clone, Copy)]
-struct Sleeper {
+struct SleepingThread {
     addr: u64,
     wait: usize,
     thread: u32,
@@ -38,13 +38,13 @@ pub struct Wakes {
 /// Who sleeps, in the order in which they fell asleep, and who was woken.
 #[derive(Drop)]
 struct Sleepers {
-    sleepers: Vec<Sleeper>,
+    sleepers: Vec<SleepingThread>,
     wakes: Vec<Wake>,
 }
 
 /// A notify: where, and how many it wakes at most.
 #[derive(Clone, Copy)]
-struct Notified {
+struct NotifyCall {
     addr: u64,
     most: u32,
 }
@@ -56,12 +56,12 @@ struct Waking {
     addr: u64,
     /// How many it wakes yet.
     left: u32,
-    kept: Vec<Sleeper>,
+    kept: Vec<SleepingThread>,
 }
 
 impl Waking {
     /// Wakes a sleeper, or keeps him.
-    fn pass(&mut self, sleeper: Sleeper, wakes: &mut Vec<Wake>) -> Result<(), AllocError>
+    fn pass(&mut self, sleeper: SleepingThread, wakes: &mut Vec<Wake>) -> Result<(), AllocError>
         ensures same { (self.new.notify ≡ self.old.notify) × (self.new.addr ≡ self.old.addr) }
         ensures left { OnOk result (self.new.left ≡ specified.left_behind self.old sleeper) }
         ensures kept { OnOk result (self.new.kept.items ≡ self.old.kept.items ++ specified.kept_of self.old sleeper) }
@@ -84,11 +84,11 @@ impl Waking {
 /// Wakes the first sleepers at an address, at most so many; and who sleeps on.
 fn wake_first(
     alloc: Global,
-    sleepers: &[Sleeper],
+    sleepers: &[SleepingThread],
     notify: usize,
-    notified: Notified,
+    notified: NotifyCall,
     wakes: &mut Vec<Wake>,
-) -> Result<Vec<Sleeper>, AllocError>
+) -> Result<Vec<SleepingThread>, AllocError>
     ensures wakes { OnOk result (wakes.new.items ≡ wakes.old.items
         ++ woken_from notify (Some notified) (λ addr. filter (is_at addr) sleepers.now)) }
     ensures kept { IfOk result (λ kept. (addr : ℕ) → filter (is_at addr) kept.items
@@ -112,7 +112,7 @@ impl Sleepers {
         &mut self,
         alloc: Global,
         notify: usize,
-        notified: Option<Notified>,
+        notified: Option<NotifyCall>,
     ) -> Result<(), AllocError>
         ensures wakes { OnOk result (self.new.wakes.items ≡ self.old.wakes.items
             ++ woken_from notify notified (λ addr. filter (is_at addr) self.old.sleepers.items)) }
@@ -126,7 +126,7 @@ impl Sleepers {
     }
 
     /// Someone falls asleep, or nobody.
-    fn lay_down(&mut self, sleeper: Option<Sleeper>) -> Result<(), AllocError>
+    fn lay_down(&mut self, sleeper: Option<SleepingThread>) -> Result<(), AllocError>
         ensures sleepers { OnOk result (self.new.sleepers.items ≡ self.old.sleepers.items ++ option_to_list sleeper) }
         ensures wakes { OnOk result (self.new.wakes.items ≡ self.old.wakes.items) }
     {
@@ -158,11 +158,11 @@ fn most_of(context: Option<Context>, count: u32) -> u32
 }
 
 /// What an event is for those who sleep, if it is a notify.
-fn notified_by(event: Event, context: Option<Context>) -> Option<Notified>
+fn notified_by(event: Event, context: Option<Context>) -> Option<NotifyCall>
     ensures { result ≡ specified.notified_by context event }
 {
     match event {
-        Event::Ask(Question::Notify { addr, count }) => Some(Notified {
+        Event::Ask(Question::Notify { addr, count }) => Some(NotifyCall {
             addr,
             most: most_of(context, count),
         }),
@@ -171,7 +171,7 @@ fn notified_by(event: Event, context: Option<Context>) -> Option<Notified>
 }
 
 /// Who falls asleep by the entry at a place, until a notify wakes him.
-fn sleeper_of(at: usize, made: Entry, context: Option<Context>) -> Option<Sleeper>
+fn sleeper_of(at: usize, made: Entry, context: Option<Context>) -> Option<SleepingThread>
     ensures { result ≡ specified.sleeper_by at context made }
 {
     let Event::Ask(
@@ -186,7 +186,7 @@ fn sleeper_of(at: usize, made: Entry, context: Option<Context>) -> Option<Sleepe
         return None;
     };
     if made.reply == Reply::Value(expected) && timeout != 0 && is_woken(context) {
-        Some(Sleeper {
+        Some(SleepingThread {
             addr,
             wait: at,
             thread: made.thread,
@@ -196,7 +196,6 @@ fn sleeper_of(at: usize, made: Entry, context: Option<Context>) -> Option<Sleepe
     }
 }
 
-/// The context of the entry at a place.
 fn context_at(contexts: &[Context], at: usize) -> Option<Context>
     ensures { result ≡ slice_get contexts.now at }
 {

@@ -56,7 +56,7 @@ impl fmt::Display for Words<'_> {
                 width,
                 value,
             } => {
-                let (name, bits, sign) = (op_name(op), Bits(width), op_sign(op));
+                let (name, bits, sign) = (op_name(op), AccessBits(width), op_sign(op));
                 let got = Number(reply);
                 write!(f, "{name}{bits} {addr} {sign}{value} = {got}")
             }
@@ -66,7 +66,7 @@ impl fmt::Display for Words<'_> {
                 expected,
                 replacement,
             } => {
-                let bits = Bits(width);
+                let bits = AccessBits(width);
                 write!(f, "cmpxchg{bits} {addr} {expected} -> {replacement}")?;
                 write_exchanged(f, reply, expected)
             }
@@ -81,7 +81,7 @@ impl Words<'_> {
         ensures { WritesOnOk W.write_str_gives f.old result (load_text self.now addr width) f.new }
     {
         let (atomic, bits, got) = (
-            Atomic(self.is_atomic),
+            atomic_word(self.is_atomic),
             bits_of(width),
             Number(self.entry.reply),
         );
@@ -97,7 +97,7 @@ impl Words<'_> {
     ) -> fmt::Result
         ensures { WritesOnOk W.write_str_gives f.old result (store_text self.now addr width value) f.new }
     {
-        let (atomic, bits) = (Atomic(self.is_atomic), bits_of(width));
+        let (atomic, bits) = (atomic_word(self.is_atomic), bits_of(width));
         write!(f, "{atomic}store{bits} {addr} <- {value}")?;
         write_stored(f, self.entry.reply, self.before)
     }
@@ -115,21 +115,12 @@ fn write_stored<W: Write>(f: &mut Formatter<W>, reply: Reply, before: Option<u64
 }
 
 /// What an access is called that is atomic.
-#[derive(Clone, Copy)]
-struct Atomic(bool);
-
-impl fmt::Display for Atomic {
-    ghost use Rattle.std.specs.Prelude.{Some};
-    ghost use Rattle.show_text.specs.Words.{atomic_text};
-
-    ghost output = { λ a. Some (atomic_text a.0) };
-
-    fn fmt<W: Write>(&self, f: &mut Formatter<W>) -> fmt::Result {
-        f.write_str(if self.0 { "atomic " } else { "" })
-    }
+fn atomic_word(is_atomic: bool) -> &'static str
+    ensures { result.now ≡ specified.atomic_text is_atomic }
+{
+    if is_atomic { "atomic " } else { "" }
 }
 
-/// How many bits are in so many bytes.
 fn bits_of(width: u8) -> u32
     ensures { result ≡ width * 8 }
 {
@@ -177,9 +168,9 @@ impl fmt::Display for Grown {
 
 /// How many bits are accessed, where they aren't 32.
 #[derive(Clone, Copy)]
-struct Bits(u8);
+struct AccessBits(u8);
 
-impl fmt::Display for Bits {
+impl fmt::Display for AccessBits {
     ghost use Rattle.std.specs.Prelude.{Some};
     ghost use Rattle.show_text.specs.Words.{bits_text};
 

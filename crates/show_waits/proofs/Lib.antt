@@ -1,4 +1,5 @@
 pub mod Chained
+pub mod Cycling
 pub mod Owned
 pub mod Standing
 pub mod Telling

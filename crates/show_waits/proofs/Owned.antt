@@ -1,13 +1,13 @@
 -- Whether the last write at some addresses is a thread's own.
 use Rattle.std.proofs.Common.{◌≡◌, ℕ, List, Some, length, slice_get, slice_index_or, sym, ap, ◌∙◌}
 use Rattle.types.specs.declared.event.Entry.{Entry}
-use Rattle.selection.specs.declared.choice.Span.{Span}
+use Rattle.selection.specs.declared.choice.NumberSpan.{NumberSpan}
 use Rattle.show_named.specs.declared.lasts.Act.TheVariants as acts
 use Rattle.show_named.specs.Lasts.{HasNone, IsLast}
 use Rattle.show_waits.proofs.Waiting.{entry_of, same_last}
 use Rattle.show_waits.specs.Waits.{IsOwn}
 
-module _ (log : List Entry) (n : ℕ) (addrs : Span) where
+module _ (log : List Entry) (n : ℕ) (addrs : NumberSpan) where
   pub none_own : HasNone (acts.Write addrs) log (length log) → IsOwn log n addrs → ⊥
   none_own none own = none own.place own.last.entry own.last.earlier own.last.at own.last.does
 

@@ -10,7 +10,7 @@ use Rattle.types.specs.declared.event.Entry.{Entry}
 use Rattle.types.specs.declared.event.Event.TheVariants.{Size}
 use Rattle.types.specs.declared.event.Reply.TheVariants.{Value}
 use Rattle.selection.specs.Choices.{touched}
-use Rattle.selection.specs.declared.choice.Span.{Span}
+use Rattle.selection.specs.declared.choice.NumberSpan.{NumberSpan}
 use Rattle.show_waits.specs.declared.stands.Stand.{Stand}
 use Rattle.show_waits.specs.Stands.{TouchesAt, Stands, IsStand, is_touch}
 
@@ -28,7 +28,7 @@ of_no_bytes n e none = ap (λ o. (e.thread == n) && is_some o) none ∙ no_more 
     no_more true = refl
     no_more false = refl
 
-pub of_bytes : (n : ℕ) (e : Entry) (addrs : Span) → e.thread ≡ n → touched e.event ≡ Some addrs → is_touch n e ≡ true
+pub of_bytes : (n : ℕ) (e : Entry) (addrs : NumberSpan) → e.thread ≡ n → touched e.event ≡ Some addrs → is_touch n e ≡ true
 of_bytes n e addrs own touches = ap (λ o. (e.thread == n) && is_some o) touches ∙ ap (λ b. b && true) (alike e.thread n own)
   where
     alike : (a b : ℕ) → a ≡ b → (a == b) ≡ true
@@ -41,12 +41,12 @@ count_from n log place = length (filter (is_touch n) (drop place log))
 pub record IsSoFar (n : ℕ) (log : List Entry) (place : ℕ) (s : Stand) : Type 0 where
   pub stands : Stands n log s
   pub from : place ≤ s.since
-  pub between : (k : ℕ) (addrs : Span) → place ≤ k → k < s.since → TouchesAt n log k addrs → ⊥
+  pub between : (k : ℕ) (addrs : NumberSpan) → place ≤ k → k < s.since → TouchesAt n log k addrs → ⊥
   pub count : s.times ≡ count_from n log place
   pub few : s.times + place ≤ length log
 
 pub record IsNothing (n : ℕ) (log : List Entry) (place : ℕ) : Type 0 where
-  pub none : (k : ℕ) (addrs : Span) → place ≤ k → TouchesAt n log k addrs → ⊥
+  pub none : (k : ℕ) (addrs : NumberSpan) → place ≤ k → TouchesAt n log k addrs → ⊥
   pub count : count_from n log place ≡ 0
 
 pub record IsSeen (n : ℕ) (log : List Entry) (place : ℕ) (o : Option Stand) : Type 0 where
@@ -82,23 +82,24 @@ is_before log place some within =
 
 module _ (n : ℕ) {log : List Entry} {p q : ℕ} {e : Entry} (x : IsEntryAt log p q e) where
   -- it is of this entry
-  pub of_this : (addrs : Span) → (t : TouchesAt n log p addrs) → (e.thread ≡ n) × (touched e.event ≡ Some addrs)
+  pub of_this : (addrs : NumberSpan) → (t : TouchesAt n log p addrs) → (e.thread ≡ n) × (touched e.event ≡ Some addrs)
   of_this addrs t =
       let is : t.entry ≡ e = cc (t.at, x.at) in
       (ap (λ (y : Entry). y.thread) (sym is) ∙ t.own, ap (λ (y : Entry). touched y.event) (sym is) ∙ t.touches)
 
-  this_place : (k : ℕ) (addrs : Span) → k ≡ p → TouchesAt n log k addrs → TouchesAt n log p addrs
+  this_place : (k : ℕ) (addrs : NumberSpan) → k ≡ p → TouchesAt n log k addrs → TouchesAt n log p addrs
   this_place k addrs is t = subst (λ j. TouchesAt n log j addrs) is t
 
   counts : (b : Bool) → is_touch n e ≡ b → count_from n log p ≡ length (cond b (e ∷ filter (is_touch n) (drop q log)) (filter (is_touch n) (drop q log)))
-  counts b is = ap (λ l. length (filter (is_touch n) l)) x.more ∙ ap (λ c. length (cond c (e ∷ filter (is_touch n) (drop q log)) (filter (is_touch n) (drop q log)))) is
+  counts b is = ap (λ l. length (filter (is_touch n) l)) x.more ∙
+      ap (λ c. length (cond c (e ∷ filter (is_touch n) (drop q log)) (filter (is_touch n) (drop q log)))) is
 
   -- at this place or behind it
   above : (k : ℕ) → p ≤ k → (k ≡ p) ⊎ (q ≤ k)
   above k from = elim (cases_eq k p) [ inl is ↦ inl is | inr other ↦ inr (omega (arith, from, other, x.next)) ]
 
   -- the entry is no touch of the thread
-  module _ (other : is_touch n e ≡ false) (none : (addrs : Span) → TouchesAt n log p addrs → ⊥) where
+  module _ (other : is_touch n e ≡ false) (none : (addrs : NumberSpan) → TouchesAt n log p addrs → ⊥) where
     still_none : IsNothing n log q → IsNothing n log p
     still_none h = record {
       none = λ k addrs from t. elim (above k from) [ inl is ↦ none addrs (this_place k addrs is t) | inr past ↦ h.none k addrs past t ];
@@ -118,11 +119,11 @@ module _ (n : ℕ) {log : List Entry} {p q : ℕ} {e : Entry} (x : IsEntryAt log
     skips o h = record { none = λ is. still_none (h.none is); some = IfSome_then o h.some still_so }
 
   -- it is one, at these addresses
-  module _ (is : is_touch n e ≡ true) (own : e.thread ≡ n) (addrs : Span) (touches : touched e.event ≡ Some addrs) where
+  module _ (is : is_touch n e ≡ true) (own : e.thread ≡ n) (addrs : NumberSpan) (touches : touched e.event ≡ Some addrs) where
     here : TouchesAt n log p addrs
     here = record { entry = e; at = x.at; own = own; touches = touches }
 
-    same_here : (k : ℕ) (others : Span) → k ≡ p → TouchesAt n log k others → others ≡ addrs
+    same_here : (k : ℕ) (others : NumberSpan) → k ≡ p → TouchesAt n log k others → others ≡ addrs
     same_here k others place t = let h = of_this others (this_place k others place t) in let both : Some others ≡ Some addrs = sym (h.1) ∙ touches in cc both
 
     pub first : IsNothing n log q → IsSeen n log p (Some (record { addrs = addrs; since = p; last = p; times = 1 }))

@@ -25,30 +25,29 @@ use Rattle.show_waits.specs.Waits.{SaysEnd, SaysNowhere, SaysOther, SaysStand, S
 
 -- the text, by the number of the line
 abbrev stand_words : ℕ → List ℕ → ℕ → List ℕ → List ℕ → List ℕ → List ℕ
-stand_words times last line written other notified = last ++ (codes "\n  touches nothing else since line " ++ (decimal line
+stand_words times last line written other notified = last ++ (codes "\n  touches nothing else since entry " ++ (decimal line
     ++ (codes " (" ++ (times_text times ++ (codes ")\n  last write there: " ++ (written
     ++ (codes "\n" ++ (other ++ (codes "  last notify there: " ++ (notified ++ codes "\n"))))))))))
 
 module _ (shown : Shown) (map : DataMap) (story : Story) (n : ℕ) (stand : Stand) (is : IsStand n shown.record.now.log stand) where
-  pub says_stand : (end line : ℕ) (last written other notified text : List ℕ) → end ≡ length shown.record.now.log
-      → line ≡ line_at shown stand.since → IsEntryText shown map story stand.last last
-      → SaysLast shown map story end (acts.Write stand.addrs) (codes "nobody") written
+  pub says_stand : (line : ℕ) (last written other notified text : List ℕ) → line ≡ line_at shown stand.since
+      → IsEntryText shown map story stand.last last
+      → SaysLast shown map story (length shown.record.now.log) (acts.Write stand.addrs) (codes "nobody") written
       → SaysOther shown map story n stand.addrs other
-      → SaysLast shown map story end (acts.Notify stand.addrs.first) (codes "nobody") notified
+      → SaysLast shown map story (length shown.record.now.log) (acts.Notify stand.addrs.first) (codes "nobody") notified
       → text ≡ stand_words stand.times last line written other notified
       → SaysStand shown map story n text
-  says_stand end line last written other notified text whole line_is last_is written_is other_is notified_is words = record {
+  says_stand line last written other notified text line_is last_is written_is other_is notified_is words = record {
     stand = stand;
     is = is;
     last = last;
     last_is = last_is;
     written = written;
-    written_is = subst (λ k. SaysLast shown map story k (acts.Write stand.addrs) (codes "nobody") written) whole written_is;
+    written_is = written_is;
     other = other;
     other_is = other_is;
     notified = notified;
-    notified_is = subst (λ k. SaysLast shown map story k (acts.Notify stand.addrs.first) (codes "nobody") notified) whole
-        notified_is;
+    notified_is = notified_is;
     words = words ∙ ap (λ k. stand_words stand.times last k written other notified) line_is;
   }
 

@@ -1,5 +1,7 @@
 -- Who waits for whom, and where that comes back to where it began.
-use Rattle.std.proofs.Common.{◌≡◌, ◌<◌, ◌≤◌, ◌+◌, ◌++◌, inl, inr, ℕ, List, [], ◌∷◌, length, take, get_or, append_assoc, length-append, All, Option, Some, None, refl, sym, ap, subst, ◌∙◌, slice_get, slice_index_or, arith}
+use Rattle.std.proofs.Common.{◌≡◌, ◌<◌, ◌≤◌, ◌+◌, ◌++◌, inl, inr, ℕ, List, [], ◌∷◌, length, take, get_or, append_assoc}
+use Rattle.std.proofs.Common.{length-append, All, Option, Some, None, refl, sym, ap, subst, ◌∙◌, slice_get}
+use Rattle.std.proofs.Common.{slice_index_or, arith}
 use Rattle.std.proofs.lemmas.Bool.{cases_lt}
 use Rattle.std.proofs.lemmas.List.Elements.{All-head, All-nil, All-push, All-tail}
 use Rattle.std.proofs.lemmas.Option.{get_or_from_slice_get}
@@ -7,7 +9,7 @@ use Rattle.std.specs.List.{AllZip}
 use Rattle.types.specs.declared.event.Entry.{Entry}
 use Rattle.types.specs.declared.outcome.ThreadReport.{ThreadReport}
 use Rattle.selection.specs.Choices.{touched}
-use Rattle.selection.specs.declared.choice.Span.{Span}
+use Rattle.selection.specs.declared.choice.NumberSpan.{NumberSpan}
 use Rattle.show_rows.proofs.Zipped.{zip_next}
 use Rattle.show_named.specs.declared.lasts.Act.{Act}
 use Rattle.show_named.specs.declared.lasts.Act.TheVariants as acts
@@ -47,14 +49,15 @@ entry_of act log before k last d = ap (λ (e : Entry). e.thread) (get_or_from_sl
 -- for whom a thread waits, by where it stands
 module _ (log : List Entry) (ends : List ThreadReport) (n m : ℕ) (w : WaitsFor log ends n m) (s : Stand) (is : IsStand n log s) where
   last_there : IsLast (acts.OtherWrite s.addrs n) log (length log) w.place
-  last_there = subst (λ (a : Span). IsLast (acts.OtherWrite a n) log (length log) w.place) (same_stand n log w.stand s w.is is) w.last
+  last_there = subst (λ (a : NumberSpan). IsLast (acts.OtherWrite a n) log (length log) w.place) (same_stand n log w.stand s w.is is) w.last
 
   pub no_other : HasNone (acts.OtherWrite s.addrs n) log (length log) → ⊥
   no_other none = none w.place last_there.entry last_there.earlier last_there.at last_there.does
 
   pub same_writer : (k : ℕ) (last : IsLast (acts.OtherWrite s.addrs n) log (length log) k) → m ≡ last.entry.thread
   same_writer k last =
-      let e : Some w.last.entry ≡ Some last.entry = sym w.last.at ∙ (ap (slice_get log) (same_last (acts.OtherWrite s.addrs n) log (length log) w.place k last_there last) ∙ last.at) in
+      let e : Some w.last.entry ≡ Some last.entry = sym w.last.at ∙
+      (ap (slice_get log) (same_last (acts.OtherWrite s.addrs n) log (length log) w.place k last_there last) ∙ last.at) in
       let same : w.last.entry ≡ last.entry = cc e in
       sym w.writer ∙ ap (λ (x : Entry). x.thread) same
 

@@ -1,11 +1,12 @@
 -- Which threads wait for one another.
-use Rattle.std.specs.Prelude.{ℕ, ◌≡◌, ◌≢◌, ◌<◌, List, [], ◌∷◌, Option, None, Some, All, length, option_and_then}
+use Rattle.std.specs.Prelude.{ℕ, ◌≡◌, ◌≢◌, ◌<◌, List, [], ◌∷◌, Option, None, Some, All, filter_map, length, option_and_then}
+use Rattle.std.specs.Global.{Vec}
 use Rattle.std.specs.List.{AllZip, range_with_len, slice_get}
 use Rattle.types.specs.declared.event.Entry.{Entry}
 use Rattle.types.specs.declared.outcome.Outcome.TheVariants as outcomes
 use Rattle.types.specs.declared.outcome.Stop.{Stop}
 use Rattle.types.specs.declared.outcome.ThreadReport.{ThreadReport}
-use Rattle.selection.specs.declared.choice.Span.{Span}
+use Rattle.selection.specs.declared.choice.NumberSpan.{NumberSpan}
 use Rattle.show_named.specs.declared.lasts.Act.TheVariants as acts
 use Rattle.show_waits.specs.declared.stands.Stand.{Stand}
 use Rattle.show_named.specs.Lasts.{IsLast}
@@ -19,7 +20,7 @@ pub record IsStopped (ends : List ThreadReport) (n : ℕ) : Type 0 where
   pub is : report.outcome ≡ outcomes.Stop stop
 
 -- The thread stands at other bytes than these.
-pub record StandsElsewhere (m : ℕ) (log : List Entry) (addrs : Span) : Type 0 where
+pub record StandsElsewhere (m : ℕ) (log : List Entry) (addrs : NumberSpan) : Type 0 where
   pub stand : Stand
   pub is : IsStand m log stand
   pub apart : stand.addrs ≢ addrs
@@ -58,3 +59,14 @@ pub record IsCycle (waits : List (Option ℕ)) (n : ℕ) (others : List ℕ) : T
   pub chain : IsChain waits n others n
   pub higher : All (λ m. n < m) others
   pub few : length others < length waits
+
+-- A cycle from its thread of the lowest number on; where a thread is that of none, there is none.
+abbrev pub IsToldCycle : List (Option ℕ) → ℕ → Option (Vec ℕ) → Type 0
+IsToldCycle waits n (Some cycle) = (others : List ℕ) × IsCycle waits n others × (cycle.items ≡ n ∷ others)
+IsToldCycle waits n None = (others : List ℕ) → IsCycle waits n others → ⊥
+
+-- Those of all threads, in order.
+abbrev pub AreToldCycles : List Entry → List ThreadReport → List (Vec ℕ) → Type 0
+AreToldCycles log ends told = (waits : List (Option ℕ)) × AreWaits log ends waits
+    × (all : List (Option (Vec ℕ))) × AllZip (IsToldCycle waits) (range_with_len 0 (length ends)) all
+    × (told ≡ filter_map (λ cycle. cycle) all)

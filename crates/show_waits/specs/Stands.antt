@@ -4,7 +4,7 @@ use Rattle.std.specs.List.{slice_get}
 use Rattle.std.specs.Option.{is_some}
 use Rattle.types.specs.declared.event.Entry.{Entry}
 use Rattle.selection.specs.Choices.{touched}
-use Rattle.selection.specs.declared.choice.Span.{Span}
+use Rattle.selection.specs.declared.choice.NumberSpan.{NumberSpan}
 use Rattle.show_waits.specs.declared.stands.Stand.{Stand}
 
 -- An entry of the thread that touches bytes, or waits or wakes at an address.
@@ -12,7 +12,7 @@ abbrev pub is_touch : ℕ → Entry → Bool
 is_touch n e = (e.thread == n) && is_some (touched e.event)
 
 -- The entry of this place is one, at these addresses.
-pub record TouchesAt (n : ℕ) (log : List Entry) (k : ℕ) (addrs : Span) : Type 0 where
+pub record TouchesAt (n : ℕ) (log : List Entry) (k : ℕ) (addrs : NumberSpan) : Type 0 where
   pub entry : Entry
   pub at : slice_get log k ≡ Some entry
   pub own : entry.thread ≡ n
@@ -22,24 +22,24 @@ pub record TouchesAt (n : ℕ) (log : List Entry) (k : ℕ) (addrs : Span) : Typ
 -- addresses.
 pub record Stands (n : ℕ) (log : List Entry) (s : Stand) : Type 0 where
   pub last : TouchesAt n log s.last s.addrs
-  pub none : (k : ℕ) (addrs : Span) → s.last < k → TouchesAt n log k addrs → ⊥
+  pub none : (k : ℕ) (addrs : NumberSpan) → s.last < k → TouchesAt n log k addrs → ⊥
   pub since : TouchesAt n log s.since s.addrs
-  pub same : (k : ℕ) (addrs : Span) → s.since ≤ k → TouchesAt n log k addrs → addrs ≡ s.addrs
+  pub same : (k : ℕ) (addrs : NumberSpan) → s.since ≤ k → TouchesAt n log k addrs → addrs ≡ s.addrs
   pub times : s.times ≡ length (filter (is_touch n) (drop s.since log))
 
 -- The one before these, if there is one, is at others.
-pub record BeginsAt (n : ℕ) (log : List Entry) (s : Stand) (k : ℕ) (addrs : Span) : Type 0 where
+pub record BeginsAt (n : ℕ) (log : List Entry) (s : Stand) (k : ℕ) (addrs : NumberSpan) : Type 0 where
   pub place : ℕ
   pub from : k ≤ place
   pub to : place < s.since
-  pub others : Span
+  pub others : NumberSpan
   pub at : TouchesAt n log place others
   pub differ : others ≢ s.addrs
 
 pub record IsStand (n : ℕ) (log : List Entry) (s : Stand) : Type 0 where
   pub stands : Stands n log s
-  pub begins : (k : ℕ) (addrs : Span) → k < s.since → TouchesAt n log k addrs → BeginsAt n log s k addrs
+  pub begins : (k : ℕ) (addrs : NumberSpan) → k < s.since → TouchesAt n log k addrs → BeginsAt n log s k addrs
 
 -- The thread touches nothing.
 abbrev pub TouchesNothing : ℕ → List Entry → Type 0
-TouchesNothing n log = (k : ℕ) (addrs : Span) → TouchesAt n log k addrs → ⊥
+TouchesNothing n log = (k : ℕ) (addrs : NumberSpan) → TouchesAt n log k addrs → ⊥

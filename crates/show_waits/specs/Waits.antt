@@ -1,5 +1,5 @@
 -- What is told of a thread that was stopped: where it stood, and who made the bytes there what they are.
-use Rattle.std.specs.Prelude.{ℕ, ◌≡◌, ◌⊎◌, ◌==◌, ◌++◌, [], if◌then◌else◌, List, Option, Some, codes, length}
+use Rattle.std.specs.Prelude.{ℕ, ◌≡◌, ◌⊎◌, ◌↔◌, true, ◌==◌, ◌++◌, [], if◌then◌else◌, List, Option, Some, codes, length}
 use Rattle.std.specs.Fmt.{decimal}
 use Rattle.std.specs.List.{AllZip, concat, range_with_len, slice_get}
 use Rattle.std.specs.Io.KnownBytes.{Appends}
@@ -8,7 +8,7 @@ use Rattle.types.specs.declared.outcome.Outcome.{Outcome}
 use Rattle.types.specs.declared.outcome.Outcome.TheVariants as outcomes
 use Rattle.types.specs.declared.outcome.ThreadReport.{ThreadReport}
 use Rattle.types.specs.Outcomes.{outcome_text}
-use Rattle.selection.specs.declared.choice.Span.{Span}
+use Rattle.selection.specs.declared.choice.NumberSpan.{NumberSpan}
 use Rattle.show_rows.specs.declared.listing.Shown.{Shown}
 use Rattle.show_rows.specs.declared.listing.Story.{Story}
 use Rattle.show_rows.specs.Listing.{line_at}
@@ -16,7 +16,8 @@ use Rattle.show_named.specs.declared.data_map.DataMap.{DataMap}
 use Rattle.show_named.specs.Rows.{IsEntryText}
 use Rattle.show_named.specs.declared.lasts.Act.TheVariants as acts
 use Rattle.show_waits.specs.declared.stands.Stand.{Stand}
-use Rattle.show_named.specs.Lasts.{IsLast}
+use Rattle.show_waits.specs.declared.waits.ToldWait.{ToldWait}
+use Rattle.show_named.specs.Lasts.{IsLast, IsLastIfAny}
 use Rattle.show_waits.specs.Stands.{IsStand, TouchesNothing}
 use Rattle.show_waits.specs.CycleTexts.{AreCycles}
 use Rattle.show_named.specs.LastTexts.{SaysLast}
@@ -25,21 +26,38 @@ abbrev pub times_text : ℕ → List ℕ
 times_text n = if n == 1 then codes "once" else decimal n ++ codes " times"
 
 -- The last write at these addresses is the thread's own.
-pub record IsOwn (log : List Entry) (n : ℕ) (addrs : Span) : Type 0 where
+pub record IsOwn (log : List Entry) (n : ℕ) (addrs : NumberSpan) : Type 0 where
   pub place : ℕ
   pub last : IsLast (acts.Write addrs) log (length log) place
   pub own : last.entry.thread ≡ n
 
+-- What a thread waits for that was stopped: where it stands, who wrote these bytes last, and of the others where that is
+-- the thread itself, and who notified their first address last.
+pub record IsToldWait (n : ℕ) (log : List Entry) (w : ToldWait) : Type 0 where
+  pub stand : IsStand n log w.stand
+  pub written : IsLastIfAny (acts.Write w.stand.addrs) log (length log) w.written
+  pub own : (w.is_own ≡ true) ↔ IsOwn log n w.stand.addrs
+  pub other : IsLastIfAny (acts.OtherWrite w.stand.addrs n) log (length log) w.other
+  pub notified : IsLastIfAny (acts.Notify w.stand.addrs.first) log (length log) w.notified
+
 -- There it is told who was the last one of the others.
-pub record SaysLastOther (shown : Shown) (map : DataMap) (story : Story) (n : ℕ) (addrs : Span) (text : List ℕ) : Type 0 where
+pub record SaysLastOther (shown : Shown) (map : DataMap) (story : Story) (n : ℕ) (addrs : NumberSpan)
+    (text : List ℕ) : Type 0 where
   pub own : IsOwn shown.record.now.log n addrs
   pub other : List ℕ
   pub other_is : SaysLast shown map story (length shown.record.now.log) (acts.OtherWrite addrs n) (codes "nobody") other
   pub words : text ≡ codes "  last write there of another thread: " ++ (other ++ codes "\n")
 
-abbrev pub SaysOther : Shown → DataMap → Story → ℕ → Span → List ℕ → Type 0
+abbrev pub SaysOther : Shown → DataMap → Story → ℕ → NumberSpan → List ℕ → Type 0
 SaysOther shown map story n addrs text = SaysLastOther shown map story n addrs text
     ⊎ ((IsOwn shown.record.now.log n addrs → ⊥) × (text ≡ []))
+
+-- What is told of where a thread stands, of these texts: of its last entry, and of who was there last.
+abbrev pub stand_text : Shown → Stand → List ℕ → List ℕ → List ℕ → List ℕ → List ℕ
+stand_text shown stand last written other notified =
+    last ++ (codes "\n  touches nothing else since entry " ++ (decimal (line_at shown stand.since)
+    ++ (codes " (" ++ (times_text stand.times ++ (codes ")\n  last write there: " ++ (written
+    ++ (codes "\n" ++ (other ++ (codes "  last notify there: " ++ (notified ++ codes "\n"))))))))))
 
 -- Where a thread stands: its last entry that touches bytes, since which line it touches no others, and how often; then
 -- who wrote them last, and of the others where that is the thread itself, and who notified their first address last.
@@ -54,9 +72,7 @@ pub record SaysStand (shown : Shown) (map : DataMap) (story : Story) (n : ℕ) (
   pub other_is : SaysOther shown map story n stand.addrs other
   pub notified : List ℕ
   pub notified_is : SaysLast shown map story (length shown.record.now.log) (acts.Notify stand.addrs.first) (codes "nobody") notified
-  pub words : text ≡ last ++ (codes "\n  touches nothing else since line " ++ (decimal (line_at shown stand.since)
-      ++ (codes " (" ++ (times_text stand.times ++ (codes ")\n  last write there: " ++ (written
-      ++ (codes "\n" ++ (other ++ (codes "  last notify there: " ++ (notified ++ codes "\n"))))))))))
+  pub words : text ≡ stand_text shown stand last written other notified
 
 -- A thread that touches no bytes stands nowhere.
 abbrev pub SaysNowhere : Shown → ℕ → List ℕ → Type 0

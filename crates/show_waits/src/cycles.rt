@@ -1,9 +1,10 @@
 //! Which threads wait for one another.
-ghost use Rattle.std.specs.Prelude.{◌≡◌, ◌↔◌, ℕ, true, List, IfOk, MatchOption};
-ghost use Rattle.show_waits.specs.Cycles.{AreWaits, IsCycle, IsStopped, IsWait, StandsElsewhere, wait_in};
+ghost use Rattle.std.specs.Prelude.{◌≡◌, ◌↔◌, ◌++◌, ℕ, true, List, IfOk, MatchOption, OnOk, option_to_list};
+ghost use Rattle.show_waits.specs.Cycles.{AreToldCycles, AreWaits, IsCycle, IsStopped, IsToldCycle, IsWait};
+ghost use Rattle.show_waits.specs.Cycles.{StandsElsewhere, wait_in};
 
 use crate::stands::{is_same, stand_of};
-use selection::Span;
+use selection::NumberSpan;
 use show_named::{Act, last_of};
 use std::alloc::{AllocError, Global};
 use types::{Entry, Outcome, ThreadReport};
@@ -19,7 +20,7 @@ fn is_stopped(ends: &[ThreadReport], n: usize) -> bool
 }
 
 /// Whether a thread stands at other bytes than these.
-fn stands_elsewhere(log: &[Entry], m: usize, addrs: Span) -> bool
+fn stands_elsewhere(log: &[Entry], m: usize, addrs: NumberSpan) -> bool
     ensures { (result ≡ true) ↔ StandsElsewhere m log.now addrs }
 {
     match stand_of(log, m) {
@@ -100,4 +101,51 @@ pub(crate) fn cycle_from(
         at = next;
     }
     Ok(None)
+}
+
+/// The cycle of a thread, from it on, if it waits in one and is its thread of the lowest number.
+fn cycle_at(
+    alloc: Global,
+    waits: &[Option<usize>],
+    n: usize,
+) -> Result<Option<Vec<usize>>, AllocError>
+    ensures { IfOk result (IsToldCycle waits.now n) }
+{
+    let Some(others) = cycle_from(alloc, waits, n)? else {
+        return Ok(None);
+    };
+    let mut cycle = Vec::new(alloc);
+    cycle.push(n)?;
+    cycle.extend_from_slice(others.as_slice())?;
+    Ok(Some(cycle))
+}
+
+/// Puts a cycle behind the others, if there is one.
+fn put_if_any(cycles: &mut Vec<Vec<usize>>, cycle: Option<Vec<usize>>) -> Result<(), AllocError>
+    ensures { OnOk result (cycles.new.items ≡ cycles.old.items ++ option_to_list cycle) }
+{
+    if let Some(cycle) = cycle {
+        cycles.push(cycle)?;
+    }
+    Ok(())
+}
+
+/// The cycles in which threads wait for one another at the end of a log, each from its thread of the lowest number on.
+///
+/// # Errors
+/// Where memory is refused.
+pub fn cycles_told(
+    alloc: Global,
+    log: &[Entry],
+    ends: &[ThreadReport],
+) -> Result<Vec<Vec<usize>>, AllocError>
+    ensures { IfOk result (λ cycles. AreToldCycles log.now ends.now cycles.items) }
+{
+    let waits = waits_of(alloc, log, ends)?;
+    let mut cycles = Vec::new(alloc);
+    for n in 0..ends.len() {
+        let cycle = cycle_at(alloc, waits.as_slice(), n)?;
+        put_if_any(&mut cycles, cycle)?;
+    }
+    Ok(cycles)
 }

@@ -17,4 +17,6 @@ mod cycles;
 mod stands;
 mod waits;
 
-pub use waits::write_waits;
+pub use cycles::cycles_told;
+pub use stands::Stand;
+pub use waits::{ToldWait, wait_told, write_waits};

@@ -3,14 +3,14 @@ ghost use Rattle.std.specs.Prelude.{◌≡◌, ◌↔◌, true, None, IfSome};
 ghost use Rattle.selection.specs.Choices.{touched};
 ghost use Rattle.show_waits.specs.Stands.{IsStand, TouchesNothing};
 
-use selection::{Span, touched};
+use selection::{NumberSpan, touched};
 use types::Entry;
 
 /// Where a thread stands: the bytes that it touched last, or waited for, and since when it touched no others.
 #[derive(Clone, Copy, PartialEq, Eq, Debug)]
 pub struct Stand {
     /// The addresses of these bytes.
-    pub addrs: Span,
+    pub addrs: NumberSpan,
     /// The place of the first of its entries at its end that touch these alone, in the log, counted from 0.
     pub since: usize,
     /// The place of the last of them.
@@ -20,7 +20,7 @@ pub struct Stand {
 }
 
 /// Whether two spans are the same.
-pub(crate) fn is_same(a: Span, b: Span) -> bool
+pub(crate) fn is_same(a: NumberSpan, b: NumberSpan) -> bool
     ensures { (result ≡ true) ↔ (a ≡ b) }
 {
     a.first == b.first && a.last == b.last

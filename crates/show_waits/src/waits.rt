@@ -1,12 +1,13 @@
 //! What each thread waits for that was stopped, as text.
-ghost use Rattle.std.specs.Prelude.{◌≡◌, ◌<◌, ◌⊎◌, ◌↔◌, true, length, IfOk, OnOk, string_bytes};
-ghost use Rattle.show_waits.specs.Stands.{IsStand};
-ghost use Rattle.show_waits.specs.Waits.{IsOwn, SaysNowhere, SaysOther, SaysStand, SaysWait, WritesWaits};
+ghost use Rattle.std.specs.Prelude.{◌≡◌, ◌<◌, ◌⊎◌, ◌↔◌, None, true, length, IfOk, IfSome, OnOk, string_bytes};
+ghost use Rattle.show_named.specs.Lasts.{IsLastIfAny};
+ghost use Rattle.show_waits.specs.Stands.{TouchesNothing};
+ghost use Rattle.show_waits.specs.Waits.{IsOwn, IsToldWait, SaysNowhere, SaysOther, SaysStand, SaysWait, WritesWaits};
 
 use crate::cycle_texts::write_cycles;
 use crate::stands::{Stand, stand_of};
-use selection::Span;
-use show_named::{Act, DataMap, last_of, last_text, named_text};
+use selection::NumberSpan;
+use show_named::{Act, DataMap, last_of, named_text, told_text};
 use show_rows::{Shown, Story};
 use show_text::Unwritten;
 use std::alloc::{AllocError, Global};
@@ -35,13 +36,52 @@ impl fmt::Display for Times {
 }
 
 /// Whether the last write at these addresses is a thread's own.
-fn is_own(log: &[Entry], n: usize, addrs: Span) -> bool
+fn is_own(log: &[Entry], n: usize, addrs: NumberSpan) -> bool
     ensures { (result ≡ true) ↔ IsOwn log.now n addrs }
 {
     match last_of(log, log.len(), Act::Write(addrs)) {
         Some(at) => log[at].thread as usize == n,
         None => false,
     }
+}
+
+/// What a thread waits for that was stopped: where it stood, and who made the bytes there what they are. Places are those
+/// of entries in the log.
+#[derive(Clone, Copy, PartialEq, Eq, Debug)]
+pub struct ToldWait {
+    pub stand: Stand,
+    /// The last write of the bytes at which it stands.
+    pub written: Option<usize>,
+    /// Whether that is its own; and the last one of another thread.
+    pub is_own: bool,
+    pub other: Option<usize>,
+    /// The last notify of the first one's address.
+    pub notified: Option<usize>,
+}
+
+/// The last entry of a log that does something.
+fn last_in(log: &[Entry], act: Act) -> Option<usize>
+    ensures { IsLastIfAny act log.now (length log.now) result }
+{
+    last_of(log, log.len(), act)
+}
+
+/// What a thread waits for at the end of a log, or nothing where no entry of it touches any bytes.
+pub fn wait_told(log: &[Entry], n: usize) -> Option<ToldWait>
+    ensures waits { IfSome result (IsToldWait n log.now) }
+    ensures none { result ≡ None → TouchesNothing n log.now }
+{
+    let Some(stand) = stand_of(log, n) else {
+        return None;
+    };
+    let addrs = stand.addrs;
+    Some(ToldWait {
+        stand,
+        written: last_in(log, Act::Write(addrs)),
+        is_own: is_own(log, n, addrs),
+        other: last_in(log, Act::OtherWrite(addrs, n)),
+        notified: last_in(log, Act::Notify(addrs.first)),
+    })
 }
 
 /// Where the last write there is the thread's own, who was the last one of the others.
@@ -51,16 +91,15 @@ fn other_text(
     map: &DataMap,
     story: &Story,
     n: usize,
-    addrs: Span,
+    wait: ToldWait,
 ) -> Result<String, AllocError>
-    ensures { IfOk result (λ text. SaysOther shown.entry map.now story.now n addrs (string_bytes text)) }
+    requires { IsToldWait n shown.record.now.log wait }
+    ensures { IfOk result (λ text. SaysOther shown.entry map.now story.now n wait.stand.addrs (string_bytes text)) }
 {
-    let log = shown.record.log.as_slice();
-    if !is_own(log, n, addrs) {
+    if !wait.is_own {
         return Ok(String::new(alloc));
     }
-    let sought = Act::OtherWrite(addrs, n);
-    let other = last_text(alloc, shown, map, story, log.len(), sought, "nobody")?;
+    let other = told_text(alloc, shown, map, story, wait.other, "nobody")?;
     let text = format!(in alloc; "  last write there of another thread: {other}\n")?;
     Ok(text)
 }
@@ -72,33 +111,18 @@ fn stand_text(
     map: &DataMap,
     story: &Story,
     n: usize,
-    stand: Stand,
+    wait: ToldWait,
 ) -> Result<String, AllocError>
-    requires { IsStand n shown.record.now.log stand }
+    requires { IsToldWait n shown.record.now.log wait }
     ensures { IfOk result (λ text. SaysStand shown.entry map.now story.now n (string_bytes text)) }
 {
-    let end = shown.record.log.len();
-    let Stand {
-        addrs,
-        since,
-        last,
-        times,
-    } = stand;
-    let last = named_text(alloc, shown, map, story, last)?;
-    let written = last_text(alloc, shown, map, story, end, Act::Write(addrs), "nobody")?;
-    let other = other_text(alloc, shown, map, story, n, addrs)?;
-    let notified = last_text(
-        alloc,
-        shown,
-        map,
-        story,
-        end,
-        Act::Notify(addrs.first),
-        "nobody",
-    )?;
-    let (times, line) = (Times(times), shown.line_of(since));
+    let last = named_text(alloc, shown, map, story, wait.stand.last)?;
+    let written = told_text(alloc, shown, map, story, wait.written, "nobody")?;
+    let other = other_text(alloc, shown, map, story, n, wait)?;
+    let notified = told_text(alloc, shown, map, story, wait.notified, "nobody")?;
+    let (times, line) = (Times(wait.stand.times), shown.line_of(wait.stand.since));
     let text = format!(in alloc;
-        "{last}\n  touches nothing else since line {line} ({times})\n  last write there: {written}\n{other}  last notify there: {notified}\n"
+        "{last}\n  touches nothing else since entry {line} ({times})\n  last write there: {written}\n{other}  last notify there: {notified}\n"
     )?;
     Ok(text)
 }
@@ -114,8 +138,8 @@ fn place_text(
     ensures { IfOk result (λ text. SaysStand shown.entry map.now story.now n (string_bytes text)
         ⊎ SaysNowhere shown.entry n (string_bytes text)) }
 {
-    match stand_of(shown.record.log.as_slice(), n) {
-        Some(stand) => stand_text(alloc, shown, map, story, n, stand),
+    match wait_told(shown.record.log.as_slice(), n) {
+        Some(wait) => stand_text(alloc, shown, map, story, n, wait),
         None => "it touched nothing\n".to_string(alloc),
     }
 }

@@ -3,7 +3,7 @@
 use interp_trait::Gate;
 use replay::{ReplayFault, replay};
 use replay_text::Record;
-use report_jobs::{Refusal, load};
+use report_jobs::{ModuleRefusal, load};
 use report_runs::{Call, EndState, RecordRunFault, record_run, run_on_words};
 use std::alloc::{AllocError, Global};
 use std::sync::Wait;
@@ -33,7 +33,7 @@ pub(crate) const END: Ended = (Outcome::Done(None), None);
 /// Why there was no run.
 #[derive(Clone, Copy, PartialEq, Eq, Debug)]
 pub(crate) enum Trouble {
-    Refused(Refusal),
+    Refused(ModuleRefusal),
     Run(RecordRunFault),
     Replay(ReplayFault),
     /// A record can't have so much fuel.
@@ -49,8 +49,8 @@ impl From<AllocError> for Trouble {
     }
 }
 
-impl From<Refusal> for Trouble {
-    fn from(refusal: Refusal) -> Trouble {
+impl From<ModuleRefusal> for Trouble {
+    fn from(refusal: ModuleRefusal) -> Trouble {
         Trouble::Refused(refusal)
     }
 }

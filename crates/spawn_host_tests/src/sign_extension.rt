@@ -4,7 +4,7 @@
 use crate::runs::{BOTH, FUEL, has_ends, run};
 use interp_trait::OpenGate;
 use report_command::Form;
-use report_jobs::check;
+use report_jobs::{check, status_of, tell_ended};
 use std::test::Fail;
 use test_modules::{GIVING_I32, I32, I64, Small};
 use types::{Outcome, ValType, Value};
@@ -110,8 +110,9 @@ fn refuses_what_is_none(rt: HostRuntime) -> Result<(), Fail> {
         let bytes = module.bytes(rt.alloc())?;
         let mut out = Vec::new(rt.alloc());
         let mut err = Vec::new(rt.alloc());
-        let status = check(rt.alloc(), &bytes, Form::Lines, &mut out, &mut err);
-        assert_eq!(rt; status, 2);
+        let ended = check(rt.alloc(), &bytes, Form::Lines, &mut out);
+        tell_ended(&mut err, &ended);
+        assert_eq!(rt; status_of(&ended), 2);
         assert!(rt; err.as_slice() == refused.line.as_bytes(), "{err:?}");
     }
     Ok(())

@@ -107,7 +107,8 @@ over_from q (e ∷ xs) over legal =
 legal_rest : (xs ys : List Entry) → IsQueueLegal (xs ++ ys) → IsQueueLegalFrom (queue_after xs) (of_queue ys)
 unfolding queue_after IsQueueLegal
 legal_rest xs ys legal =
-    IsQueueLegalFrom-rest (first_queue MOST_THREADS) (of_queue xs) (of_queue ys) (subst (λ w. IsQueueLegalFrom (first_queue MOST_THREADS) w) (of_queue-append xs ys) legal)
+    IsQueueLegalFrom-rest (first_queue MOST_THREADS) (of_queue xs) (of_queue ys)
+    (subst (λ w. IsQueueLegalFrom (first_queue MOST_THREADS) w) (of_queue-append xs ys) legal)
 
 pub none_comes : (xs zs : List Entry) (n : ℕ) → IsPrefix xs zs → IsQueueLegal zs
     → WaitQueue.alive (queue_after xs) ≡ [] → arg_of (queue_after xs) n ≡ None → arg_of (queue_after zs) n ≡ None

@@ -41,7 +41,8 @@ module _ {G : Type 0} (gate : Ghosts G) (budget : ℕ) (p : Program) (loses : Bo
     ended = ended_by p t (given.Reply reply) turn turned.answer;
   }
 
-  pub steps_reply : (reply : Reply) (turn : Turn) (Stands : Running → Type 0) → MayTry e reply → Sees loses opening_memory limit n (try_of e reply) before.seen after.seen
+  pub steps_reply : (reply : Reply) (turn : Turn) (Stands : Running → Type 0) → MayTry e reply → Sees loses opening_memory limit n
+      (try_of e reply) before.seen after.seen
       → after.lost ≡ lost_after reply before.lost → gate.sees between n (budget - left_of t) after.gate
       → IsTurned p t (given.Reply reply) turn Stands → Steps gate budget p loses opening_memory limit n t turn Stands before after
   steps_reply reply turn Stands may sees tries called turned = record {
@@ -153,7 +154,8 @@ module _ {G : Type 0} (gate : Ghosts G) (budget : ℕ) (p : Program) (loses : Bo
           now = h.attends.now;
           stands = h.attends.stands;
           here = h.attends.here;
-          comes = comes_then loses opening_memory limit n gate budget p t g.now h.attends.now before (record middle { gate = g.last }) after g.comes h.attends.comes;
+          comes = comes_then loses opening_memory limit n gate budget p t g.now h.attends.now before (record middle { gate = g.last }) after g.comes
+              h.attends.comes;
           ended = h.attends.ended;
         };
         paid = paid_then p t g.now event g.spent g.why.1 turn h.attends.now h.paid;

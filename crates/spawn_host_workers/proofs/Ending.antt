@@ -75,7 +75,8 @@ module _
       subst (λ (l : List T). IsComposed mem meaning first l threads all) (sym h.0)
       (alone_by (WorkerEnd.report alone.head) (WorkerEnd.seat alone.head)
       (imports_none (meaning first) (length spawned) (ap length h.0) count) alone.ended.name_is alone.ended.works
-      (threads_are ∙ (ap (λ (l : List (WorkerEnd S G)). reported l) alone.parts ∙ ap (λ l. with_report (WorkerEnd.report alone.head) l) (idle_reported old work)))
+      (threads_are ∙ (ap (λ (l : List (WorkerEnd S G)). reported l) alone.parts ∙ ap (λ l. with_report (WorkerEnd.report alone.head) l)
+      (idle_reported old work)))
       (ap (λ (l : List (WorkerEnd S G)). seats_of l) alone.parts ∙ ap (λ l. WorkerEnd.seat alone.head ∷ l) (idle_seats old work)))
 
 -- ---- What the gates come to

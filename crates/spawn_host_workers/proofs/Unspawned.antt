@@ -199,7 +199,8 @@ module _
       (mem.seen seat')
   runs t stands_so here_so =
       let named = rw seat_name at ran t stands_so here_so in
-      subst (λ b. RunsOut (meaning first).program mem.loses mem.opening mem.limit 0 t report.outcome report.spent (meaning first).fuel b (mem.seen seat')) seat_new named
+      subst (λ b. RunsOut (meaning first).program mem.loses mem.opening mem.limit 0 t report.outcome report.spent (meaning first).fuel b (mem.seen seat'))
+      seat_new named
 
   spawns_none : SpawnsNone 0 history
   spawns_none =

@@ -37,7 +37,11 @@ starts_bare : (c : Context) (size : ℕ) (own : OpenBlock) (ts : List ValType) �
 starts_bare c size own ts s h = rw (s.flow, s.operands) at h
 
 pub comes_first : (c : Context) (code : List Instr) (size : ℕ) (own : OpenBlock) → Starts c size own → Comes c (take 0 code) (own ∷ [])
-comes_first c code size own s = (InBody Empty, refl, (refl, s.carries, s.arm, record { typed = λ ts k. sym (starts_bare c size own ts s k); live = rw s.flow refl }))
+comes_first c code size own s = (
+  InBody Empty,
+  refl,
+  (refl, s.carries, s.arm, record { typed = λ ts k. sym (starts_bare c size own ts s k); live = rw s.flow refl }),
+)
 
 take_next : (code : List Instr) (n : ℕ) (i : Instr) → slice_get code n ≡ Some i → take (suc n) code ≡ take n code ++ (i ∷ [])
 take_next [] n i e = absurd cc
@@ -47,7 +51,8 @@ take_next (x ∷ code) (suc n) i e = ap (λ (y : List Instr). x ∷ y) (take_nex
 pub comes_next : (c : Context) (code : List Instr) (place : ℕ) (i : Instr) (old new : List OpenBlock) → slice_get code place ≡ Some i →
     Forth c i old new → Comes c (take place code) (reverse old) → Comes c (take (place + 1) code) (reverse new)
 comes_next c code place i old new at f h =
-    subst (λ (front : List Instr). Comes c front (reverse new)) (sym (ap (λ n. take n code) (add-one place) ∙ take_next code place i at)) (f (take place code) h)
+    subst (λ (front : List Instr). Comes c front (reverse new)) (sym (ap (λ n. take n code) (add-one place) ∙ take_next code place i at))
+    (f (take place code) h)
 
 -- a block is open before the last end
 pub comes_done : (c : Context) (code : List Instr) (place : ℕ) (blocks : List OpenBlock) (later : List BlockEnd) → IsExpression code → place < length code →
@@ -57,7 +62,8 @@ comes_done c code place [] later x l k h =
     let n : Close [] (o.0 ∷ o.1) = rw o.2 at k.close in absurd n
 comes_done c code place (block ∷ blocks) later x l k h = h
 
-pub begins_none : (c : Context) (code : List Instr) (here place : ℕ) (i : Instr) (old : List OpenBlock) (later : List BlockEnd) (kind : Fault) → IsExpression code →
+pub begins_none : (c : Context) (code : List Instr) (here place : ℕ) (i : Instr) (old : List OpenBlock) (later : List BlockEnd) (kind : Fault) →
+    IsExpression code →
     CheckedOn c code (reverse old) later here → slice_get code here ≡ Some i → Stuck c i here (slice_get later 0) old (Wrong kind) → here < place →
     BeginsNone c code place
 begins_none c code here place i old later kind x k at s l other t y =
@@ -115,7 +121,8 @@ leaves_known : (c : Context) (taken : List ValType) (blocks : List OpenBlock) (d
     map Some ts ≡ operands_of (reverse blocks) → Leaves c d taken (reverse ts)
 leaves_known c taken [] d ts h e = absurd h
 leaves_known c taken (block ∷ blocks) (InBody code) ts h e =
-    let own : map Some ts ≡ block.operands.items = e ∙ operands_last block blocks ∙ ap (λ (bs : List OpenBlock). operands_of (reverse bs) ++ block.operands.items) h.0 in
+    let own : map Some ts ≡ block.operands.items = e ∙ operands_last block blocks ∙
+    ap (λ (bs : List OpenBlock). operands_of (reverse bs) ++ block.operands.items) h.0 in
     h.3.typed (reverse ts) (all_known block ts own)
 leaves_known c taken (block ∷ blocks) (InBlock around o code) ts h e =
     let s = map_some ts (operands_of (reverse blocks)) block.operands.items (e ∙ operands_last block blocks) in (
@@ -188,7 +195,8 @@ never_unknown c code place blocks h g u =
     (subst (λ (bs : List OpenBlock). Contains (operands_of bs) None) (sym (reverse-reverse blocks)) u)
 
 pub types_known : {V E : Type 0} (c : Context) (code : List Instr) (place : ℕ) (blocks : List OpenBlock) (operands : List (Option ValType))
-    (items : V → List ValType) (r : Result (Option V) E) → place < length code → AreDone c (take place code) (reverse blocks) → goes_on_in (reverse blocks) ≡ true →
+    (items : V → List ValType) (r : Result (Option V) E) → place < length code → AreDone c (take place code) (reverse blocks) →
+    goes_on_in (reverse blocks) ≡ true →
     operands ≡ operands_of blocks → IfOk r (λ o. MatchOption o (Contains operands None) (λ v. map Some (items v) ≡ operands)) →
     IfOk r (λ o. MatchOption o (Unreached c code place) (λ v. Reached c code place (items v)))
 types_known c code place blocks operands items (Ok (Some v)) l h g e k = known_reached c code place blocks (items v) l h g (k ∙ e)

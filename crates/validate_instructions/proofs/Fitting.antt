@@ -118,7 +118,8 @@ checked_stop c labels op takes old left new targets t s e o f g r = record {
 }
 
 pub checked_nothing : (op : PlainInstr) (old : OpenBlock) → ((c : Context) (labels : List (List ValType)) (ts : List ValType) → Fits c labels op ts ts) →
-    ((c : Context) (labels : List (List ValType)) (ts us : List ValType) → Fits c labels op ts us → ts ≡ us) → ((live : Bool) → goes_on op live ≡ live) → labels_of op ≡ [] → CheckedAnywhere op old old
+    ((c : Context) (labels : List (List ValType)) (ts us : List ValType) → Fits c labels op ts us → ts ≡ us) → ((live : Bool) → goes_on op live ≡ live) →
+    labels_of op ≡ [] → CheckedAnywhere op old old
 checked_nothing op old f h g e = λ c labels. record {
   shape = refl;
   live = sym (g (is_live old.flow));

@@ -174,7 +174,8 @@ pub lacks_at : (xs : List ValType) (i : ℕ) (d : ValType) (a b : OpenBlock) (e 
     → Takes (take i xs) a b → Lacks (get_or xs i d ∷ []) b e → Lacks xs a e
 lacks_at xs i d a b e h x y =
     let P : List ValType → Type 0 = λ ts. Lacks ts a e in
-    subst P (sym (split_at xs i d h)) (lacks_after (take i xs) ((get_or xs i d ∷ []) ++ drop (i + 1) xs) a b e x (lacks_more (get_or xs i d ∷ []) (drop (i + 1) xs) b e y))
+    subst P (sym (split_at xs i d h)) (lacks_after (take i xs) ((get_or xs i d ∷ []) ++ drop (i + 1) xs) a b e x
+    (lacks_more (get_or xs i d ∷ []) (drop (i + 1) xs) b e y))
 
 -- the same from the last on
 pub lacks_down : (xs : List ValType) (n i : ℕ) (d : ValType) (a b : OpenBlock) (e : Problem) → n ≡ i + 1 → n ≤ length xs

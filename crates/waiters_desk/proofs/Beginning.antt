@@ -122,7 +122,8 @@ there_first most (suc n) known = absurd (omega arith)
 spawned_alive : (n : ℕ) (history : List Entry) → entries_of n history ≡ [] → IsQueueLegal history
     → n < next_id (queue_after history) → is_alive (queue_after history) n ≡ true
 unfolding queue_after IsQueueLegal
-spawned_alive n history none legal known = there_from n (first_queue MOST_THREADS) (of_queue history) (none_of_queue n history none) legal IsSound-first (there_first MOST_THREADS n) known
+spawned_alive n history none legal known = there_from n (first_queue MOST_THREADS) (of_queue history) (none_of_queue n history none) legal IsSound-first
+    (there_first MOST_THREADS n) known
 
 has_number : (q : WaitQueue) (n arg : ℕ) → arg_of q n ≡ Some arg → n < next_id q
 has_number q zero arg is = absurd (cc is)

@@ -24,7 +24,8 @@ stored_again at width value m [] differs is = absurd (differs is)
 stored_again at width value m (e ∷ since) differs is =
     elim (cases_eq (loaded (state_after m e.event) at width) value) [
       | inl same ↦ record { front = []; changing = e; back = since; among = refl; before = differs; stored = same }
-      | inr apart ↦ (let later : IsStoredAgain (state_after m e.event) at width value since = stored_again at width value (state_after m e.event) since apart is in
+      | inr apart ↦ (let later : IsStoredAgain (state_after m e.event) at width value since = stored_again at width value (state_after m e.event)
+          since apart is in
           record {
             front = e ∷ later.front;
             changing = later.changing;

@@ -5,7 +5,7 @@ use report_command::Search;
 use report_program::keep_early;
 use search_finds::{Hears, Size};
 use search_reach::{Follows, Wish};
-use search_strategies::Watch;
+use search_strategies::EndWatch;
 use std::fs;
 use std::io::IsTerminal;
 use std::time::{Duration, Instant};
@@ -24,13 +24,12 @@ struct Until<'a> {
 
 /// Whether it is to end, to be asked from any thread.
 #[derive(Drop)]
-pub(crate) struct Bell<'a> {
+pub(crate) struct EndSignal<'a> {
     rt: &'a HostRuntime,
     until: Until<'a>,
 }
 
-impl Bell<'_> {
-    /// Whether so much time has passed.
+impl EndSignal<'_> {
     fn is_late(&self) -> bool {
         let Some((began, most)) = self.until.time else {
             return false;
@@ -42,7 +41,7 @@ impl Bell<'_> {
     }
 }
 
-impl Watch for Bell<'_> {
+impl EndWatch for EndSignal<'_> {
     fn is_over(&self) -> bool {
         self.is_late()
             || self
@@ -56,7 +55,7 @@ impl Watch for Bell<'_> {
 /// in a second, and how many endings it met. Where a path is given, it ends once there is a file with it, and where a
 /// time is given, once that has passed.
 #[derive(Drop)]
-pub(crate) struct Progress<'a> {
+pub(crate) struct SearchProgress<'a> {
     rt: &'a HostRuntime,
     /// When the search began and when it was last time for a line and a look; none where there is neither.
     times: Option<(Instant, Instant)>,
@@ -87,9 +86,9 @@ fn resident(rt: &HostRuntime) -> Option<u64> {
     Some(pages / 256)
 }
 
-impl<'a> Progress<'a> {
+impl<'a> SearchProgress<'a> {
     /// No line is written yet, and none ever where standard error is no terminal.
-    pub(crate) fn new(rt: &'a HostRuntime, search: Option<&Search<'a>>) -> Progress<'a> {
+    pub(crate) fn new(rt: &'a HostRuntime, search: Option<&Search<'a>>) -> SearchProgress<'a> {
         let is_shown = rt.stderr().is_terminal();
         let now = match search {
             Some(_) => Instant::now(rt).ok(),
@@ -101,7 +100,7 @@ impl<'a> Progress<'a> {
             _ => None,
         };
         let shrink = search.map_or(0, |search| search.shrink_time);
-        Progress {
+        SearchProgress {
             rt,
             times: now.map(|now| (now, now)),
             until: Until {
@@ -128,9 +127,8 @@ impl<'a> Progress<'a> {
         Some(now.duration_since(began))
     }
 
-    /// What says whether it is to end.
-    fn bell(&self) -> Bell<'a> {
-        Bell {
+    fn bell(&self) -> EndSignal<'a> {
+        EndSignal {
             rt: self.rt,
             until: self.until,
         }
@@ -156,7 +154,7 @@ impl<'a> Progress<'a> {
     }
 }
 
-impl Follows for Progress<'_> {
+impl Follows for SearchProgress<'_> {
     ghost wish = { λ p. p.wish };
 
     ghost told_at = { λ p. p.told_at };
@@ -199,10 +197,10 @@ impl Follows for Progress<'_> {
     }
 }
 
-impl<'a> Hears for Progress<'a> {
-    type Watch = Bell<'a>;
+impl<'a> Hears for SearchProgress<'a> {
+    type Watch = EndSignal<'a>;
 
-    fn watch(&self) -> Bell<'a> {
+    fn watch(&self) -> EndSignal<'a> {
         self.bell()
     }
 

@@ -5,14 +5,14 @@ use Rattle.types.specs.declared.outcome.Outcome.{Outcome}
 use Rattle.types.specs.declared.outcome.Outcome.TheVariants as outcomes
 use Rattle.types.specs.declared.outcome.ThreadReport.{ThreadReport}
 use Rattle.types.specs.declared.value.Value.TheVariants as values
-use Rattle.wathread_c.specs.declared.answer.Answer.{Answer}
+use Rattle.wathread_c.specs.declared.answer.CallAnswer.{CallAnswer}
 
 -- Bytes stand at the beginning of a buffer that has room for them; else it is as it was.
 pub record Puts (old bytes new : List ℕ) : Type 0 where
   pub fits : length bytes ≤ length old → new ≡ bytes ++ drop (length bytes) old
   pub too_long : length old < length bytes → new ≡ old
 
-abbrev pub no_answer : Answer
+abbrev pub no_answer : CallAnswer
 no_answer = record { text = 0; bytes = 0; units = 0; value = 0; kind = 0; number = 0 }
 
 -- How a thread ended: its kind, the number of a trap or stop, and what its function returned.
@@ -33,7 +33,7 @@ value_of (outcomes.Done (Some (values.I32 n))) = n
 value_of (outcomes.Done (Some (values.I64 n))) = n
 value_of outcome = 0
 
-abbrev pub answer_with : Answer → ThreadReport → Answer
+abbrev pub answer_with : CallAnswer → ThreadReport → CallAnswer
 answer_with a report = record a {
   units = report.spent;
   value = value_of report.outcome;

@@ -18,37 +18,37 @@ use Rattle.spawn_host.specs.declared.request.CallFault.TheVariants.{UnknownExpor
 use Rattle.wathread_c.specs.Answers.{Puts, no_answer, answer_with}
 use Rattle.wathread_c.specs.Given.{plan_by, values_by}
 use Rattle.wathread_c.specs.Lines.{IsAcceptedText, IsRefusalText, IsRunText, IsSearchText}
-use Rattle.wathread_c.specs.declared.answer.Answer.{Answer}
+use Rattle.wathread_c.specs.declared.answer.CallAnswer.{CallAnswer}
 use Rattle.wathread_c.specs.declared.objects.Line.{Line}
 use Rattle.wathread_c.specs.declared.given.Options.{Options}
 use Rattle.wathread_c.specs.declared.given.Word.{Word}
 
 -- A line is in the buffer, or its length tells how long it is; its status is answered. Where there is none, since memory
 -- was refused, that is 5, and nothing is told.
-abbrev pub TellsLine : Result Line Unwritten → Answer → List ℕ → List ℕ → Answer → ℕ → Type 0
+abbrev pub TellsLine : Result Line Unwritten → CallAnswer → List ℕ → List ℕ → CallAnswer → ℕ → Type 0
 TellsLine (Ok line) before old new answer status =
     Puts old line.text.items new × (answer ≡ record before { text = length line.text.items }) × (status ≡ line.status)
 TellsLine (Err e) before old new answer status = (new ≡ old) × (answer ≡ before) × (status ≡ 5)
 
 -- A line of which this holds, as of its status, is told so.
-pub record Tells (says : ℕ → List ℕ → Type 0) (old new : List ℕ) (answer : Answer) (status : ℕ) : Type 0 where
+pub record Tells (says : ℕ → List ℕ → Type 0) (old new : List ℕ) (answer : CallAnswer) (status : ℕ) : Type 0 where
   pub line : List ℕ
   pub said : says status line
   pub length_is : answer.text ≡ length line
   pub puts : Puts old line new
 
 -- Memory was refused, and nothing is told, nor of how many bytes.
-pub record Fails (old new : List ℕ) (answer : Answer) (status : ℕ) : Type 0 where
+pub record Fails (old new : List ℕ) (answer : CallAnswer) (status : ℕ) : Type 0 where
   pub five : status ≡ 5
   pub kept : new ≡ old
   pub none : answer.text ≡ 0
 
 -- It is told, unless memory was refused.
-abbrev pub MayTell : (ℕ → List ℕ → Type 0) → List ℕ → List ℕ → Answer → ℕ → Type 0
+abbrev pub MayTell : (ℕ → List ℕ → Type 0) → List ℕ → List ℕ → CallAnswer → ℕ → Type 0
 MayTell says old new answer status = Fails old new answer status ⊎ Tells says old new answer status
 
 -- A fault is told as what is refused.
-abbrev pub TellsFault : HostFault → List ℕ → List ℕ → Answer → ℕ → Type 0
+abbrev pub TellsFault : HostFault → List ℕ → List ℕ → CallAnswer → ℕ → Type 0
 TellsFault fault old new answer status = MayTell (IsRefusalText fault) old new answer status
 
 -- Of a check: the module is accepted, or refused by a fault of its.
@@ -56,33 +56,34 @@ pub data IsChecked (bytes : List ℕ) (status : ℕ) (line : List ℕ) : Type 0 
   accepted : (count : ℕ) → HasFunctions bytes count → IsAcceptedText count status line → IsChecked bytes status line
   refused : (fault : HostFault) → IsModuleFault bytes fault → IsRefusalText fault status line → IsChecked bytes status line
 
-abbrev pub Checks : List ℕ → List ℕ → List ℕ → Answer → ℕ → Type 0
+abbrev pub Checks : List ℕ → List ℕ → List ℕ → CallAnswer → ℕ → Type 0
 Checks bytes old new answer status = MayTell (IsChecked bytes) old new answer status
 
 -- The report of thread 0 is answered, if there is one.
-abbrev pub with_first : Answer → List ThreadReport → Answer
+abbrev pub with_first : CallAnswer → List ThreadReport → CallAnswer
 with_first a [] = a
 with_first a (report ∷ reports) = answer_with a report
 
 -- Memory was refused, and a buffer and the answer are as they were.
-pub record Keeps (before : Answer) (old new : List ℕ) (answer : Answer) (status : ℕ) : Type 0 where
+pub record Keeps (before : CallAnswer) (old new : List ℕ) (answer : CallAnswer) (status : ℕ) : Type 0 where
   pub five : status ≡ 5
   pub kept : new ≡ old
   pub answer_is : answer ≡ before
 
 -- The record of a run is put into the buffer, and how it ended is answered; unless memory was refused.
-pub record KeepsWhole (made : MadeRun) (before : Answer) (old new : List ℕ) (answer : Answer) (status : ℕ) : Type 0 where
+pub record KeepsWhole (made : MadeRun) (before : CallAnswer) (old new : List ℕ) (answer : CallAnswer)
+    (status : ℕ) : Type 0 where
   pub puts : Puts old (record_text made.record) new
   pub answer_is : answer ≡ with_first (record before { bytes = length (record_text made.record) }) made.end.threads.items
   pub status_is : status ≡ status_of made.end.threads.items
 
-abbrev pub KeepsRun : MadeRun → Answer → List ℕ → List ℕ → Answer → ℕ → Type 0
+abbrev pub KeepsRun : MadeRun → CallAnswer → List ℕ → List ℕ → CallAnswer → ℕ → Type 0
 KeepsRun made before old new answer status =
     Keeps before old new answer status ⊎ KeepsWhole made before old new answer status
 
 -- Of a run: it is the one that is wanted, or it was refused.
-pub data RunsNamed (bytes name : List ℕ) (words : List Word) (o : Options) (old new : List ℕ) (answer : Answer) (status : ℕ)
-    : Type 0 where
+pub data RunsNamed (bytes name : List ℕ) (words : List Word) (o : Options) (old new : List ℕ) (answer : CallAnswer)
+    (status : ℕ) : Type 0 where
   fails : Keeps no_answer old new answer status → RunsNamed bytes name words o old new answer status
   ran : (made : MadeRun) → IsRunBy bytes name (values_by words) (plan_by o) made
       → KeepsWhole made no_answer old new answer status → RunsNamed bytes name words o old new answer status
@@ -90,13 +91,13 @@ pub data RunsNamed (bytes name : List ℕ) (words : List Word) (o : Options) (ol
       → new ≡ old → answer ≡ no_answer → RunsNamed bytes name words o old new answer status
 
 -- A name that is no UTF-8 is no function's.
-pub record HasNoName (name old new : List ℕ) (answer : Answer) (status : ℕ) : Type 0 where
+pub record HasNoName (name old new : List ℕ) (answer : CallAnswer) (status : ℕ) : Type 0 where
   pub none : IsUtf8 name → ⊥
   pub three : status ≡ 3
   pub kept : new ≡ old
   pub answer_is : answer ≡ no_answer
 
-abbrev pub Runs : List ℕ → List ℕ → List Word → Options → List ℕ → List ℕ → Answer → ℕ → Type 0
+abbrev pub Runs : List ℕ → List ℕ → List Word → Options → List ℕ → List ℕ → CallAnswer → ℕ → Type 0
 Runs bytes name words o old new answer status =
     HasNoName name old new answer status ⊎ RunsNamed bytes name words o old new answer status
 
@@ -107,13 +108,13 @@ pub data IsReplayed (bytes saved : List ℕ) (status : ℕ) (line : List ℕ) : 
       → IsReplayed bytes saved status line
 
 -- The memory of a run is put into the buffer.
-pub record PutsMemory (bytes saved old new : List ℕ) (answer : Answer) : Type 0 where
+pub record PutsMemory (bytes saved old new : List ℕ) (answer : CallAnswer) : Type 0 where
   pub end : EndState
   pub run : IsReplayOf bytes saved end
   pub length_is : answer.bytes ≡ length end.bytes.items
   pub puts : Puts old end.bytes.items new
 
-pub record Replays (bytes saved memory memory' old new : List ℕ) (answer : Answer) (status : ℕ) : Type 0 where
+pub record Replays (bytes saved memory memory' old new : List ℕ) (answer : CallAnswer) (status : ℕ) : Type 0 where
   pub told : MayTell (IsReplayed bytes saved) old new answer status
   pub memory_is : ((memory' ≡ memory) × (answer.bytes ≡ 0)) ⊎ PutsMemory bytes saved memory memory' answer
 
@@ -124,14 +125,14 @@ pub data IsSearched (bytes name : List ℕ) (words : List Word) (o : Options) (s
   refused : (fault : HostFault) → IsCallFaultOf bytes name (values_by words) fault → IsRefusalText fault status line
       → IsSearched bytes name words o status line
 
-abbrev pub SearchesNamed : List ℕ → List ℕ → List Word → Options → List ℕ → List ℕ → Answer → ℕ → Type 0
+abbrev pub SearchesNamed : List ℕ → List ℕ → List Word → Options → List ℕ → List ℕ → CallAnswer → ℕ → Type 0
 SearchesNamed bytes name words o old new answer status = MayTell (IsSearched bytes name words o) old new answer status
 
 -- A name that is no UTF-8 is no function's, and told as such.
-pub record TellsNoName (name old new : List ℕ) (answer : Answer) (status : ℕ) : Type 0 where
+pub record TellsNoName (name old new : List ℕ) (answer : CallAnswer) (status : ℕ) : Type 0 where
   pub none : IsUtf8 name → ⊥
   pub told : TellsFault (faults.Call UnknownExport) old new answer status
 
-abbrev pub Searches : List ℕ → List ℕ → List Word → Options → List ℕ → List ℕ → Answer → ℕ → Type 0
+abbrev pub Searches : List ℕ → List ℕ → List Word → Options → List ℕ → List ℕ → CallAnswer → ℕ → Type 0
 Searches bytes name words o old new answer status =
     TellsNoName name old new answer status ⊎ SearchesNamed bytes name words o old new answer status

@@ -4,9 +4,9 @@ use Rattle.report_json.specs.Json.{json_line}
 use Rattle.report_json.specs.Complete.{complete_json}
 use Rattle.report_json.specs.Ends.{run_json}
 use Rattle.report_json.specs.Refusals.{accepted_json, refusal_json, status_of_refused}
-use Rattle.report_json.specs.declared.complete.Complete.{Complete}
-use Rattle.report_json.specs.declared.ends.RunEnd.{RunEnd}
-use Rattle.report_json.specs.declared.refusals.Refusal.{Refusal}
+use Rattle.report_json.specs.declared.complete.CompleteObject.{CompleteObject}
+use Rattle.report_json.specs.declared.ends.RunEndObject.{RunEndObject}
+use Rattle.report_json.specs.declared.refusals.RefusalObject.{RefusalObject}
 use Rattle.search_endings.specs.Ends.{status_of}
 use Rattle.search_endings.specs.Endings.{Ending}
 use Rattle.search_reach.specs.declared.ending.Ended.{Ended}
@@ -22,7 +22,7 @@ pub record IsAcceptedText (count status : ℕ) (line : List ℕ) : Type 0 where
 
 -- Of a fault: what is refused, without hints.
 pub record IsRefusalText (fault : HostFault) (status : ℕ) (line : List ℕ) : Type 0 where
-  pub refusal : Refusal
+  pub refusal : RefusalObject
   pub is : IsRefusedAs fault refusal.refused
   pub hints : refusal.hints.now ≡ []
   pub status_is : status ≡ status_of_refused refusal.refused
@@ -30,7 +30,7 @@ pub record IsRefusalText (fault : HostFault) (status : ℕ) (line : List ℕ) : 
 
 -- Of what a run left: without places, bytes and hints.
 pub record IsRunText (end : EndState) (status : ℕ) (line : List ℕ) : Type 0 where
-  pub run : RunEnd
+  pub run : RunEndObject
   pub threads : run.threads.now ≡ end.threads.items
   pub places : run.places.now ≡ []
   pub pages : run.pages ≡ end.pages
@@ -41,7 +41,7 @@ pub record IsRunText (end : EndState) (status : ℕ) (line : List ℕ) : Type 0 
 
 -- Of all endings, of at most so many states.
 pub record IsSearchText (all : Ended Ending) (most status : ℕ) (line : List ℕ) : Type 0 where
-  pub complete : Complete
+  pub complete : CompleteObject
   pub all_is : complete.all.now ≡ all
   pub most_is : complete.most ≡ most
   pub races : complete.races ≡ None

@@ -6,9 +6,9 @@ use Rattle.replay_text.specs.declared.fault.RecordFault.TheVariants as records
 use Rattle.replay.specs.declared.fault.ReplayFault.TheVariants as replays
 use Rattle.spawn_host.specs.declared.request.CallFault.{CallFault}
 use Rattle.spawn_host.specs.declared.request.CallFault.TheVariants.{UnknownExport, WrongArguments}
-use Rattle.report_jobs.specs.declared.loading.Refusal.TheVariants as refusals
-use Rattle.report_json.specs.declared.refusals.Refused.{Refused}
-use Rattle.report_json.specs.declared.refusals.Refused.TheVariants as refused
+use Rattle.report_jobs.specs.declared.loading.ModuleRefusal.TheVariants as refusals
+use Rattle.report_json.specs.declared.refusals.RefusedObject.{RefusedObject}
+use Rattle.report_json.specs.declared.refusals.RefusedObject.TheVariants as refused
 use Rattle.host_calls.specs.declared.fault.HostFault.{HostFault}
 use Rattle.host_calls.specs.declared.fault.HostFault.TheVariants as faults
 
@@ -18,12 +18,12 @@ call_words UnknownExport = codes "unknown export"
 call_words WrongArguments = codes "wrong arguments"
 
 -- A call is refused with these words.
-abbrev pub IsCallWith : List ℕ → Refused → Type 0
+abbrev pub IsCallWith : List ℕ → RefusedObject → Type 0
 IsCallWith words (refused.Call said) = said.now ≡ words
 IsCallWith words r = ⊥
 
 -- A fault is told as what is refused. Out of memory isn't.
-abbrev pub IsRefusedAs : HostFault → Refused → Type 0
+abbrev pub IsRefusedAs : HostFault → RefusedObject → Type 0
 IsRefusedAs (faults.Module (refusals.Read reads.OutOfMemory)) r = ⊥
 IsRefusedAs (faults.Module (refusals.Read (reads.Malformed kind offset))) r = r ≡ refused.Read kind offset
 IsRefusedAs (faults.Module (refusals.Validity validity.OutOfMemory)) r = ⊥

@@ -7,7 +7,7 @@ use types::{Outcome, ThreadReport, Value};
 /// What a call answers beside its status: how long the texts are, and of a run how thread 0 ended.
 #[repr(C)]
 #[derive(Clone, Copy, PartialEq, Eq)]
-pub struct Answer {
+pub struct CallAnswer {
     /// How many bytes the object of JSON has.
     pub text: usize,
     /// How many bytes the record has, or the memory.
@@ -22,12 +22,12 @@ pub struct Answer {
     pub number: u32,
 }
 
-impl Answer {
+impl CallAnswer {
     /// Nothing.
-    pub(crate) fn none() -> Answer
+    pub(crate) fn none() -> CallAnswer
         ensures { result ≡ Rattle.wathread_c.specs.Answers.no_answer }
     {
-        Answer {
+        CallAnswer {
             text: 0,
             bytes: 0,
             units: 0,
@@ -38,7 +38,7 @@ impl Answer {
     }
 
     /// With how a thread ended.
-    pub(crate) fn with(self, report: &ThreadReport) -> Answer
+    pub(crate) fn with(self, report: &ThreadReport) -> CallAnswer
         ensures { result ≡ Rattle.wathread_c.specs.Answers.answer_with self report.now }
     {
         let (kind, number, value) = match report.outcome {
@@ -48,7 +48,7 @@ impl Answer {
             Outcome::Trap(trap) => (4, trap.number() as u32, 0),
             Outcome::Stop(stop) => (5, stop.number() as u32, 0),
         };
-        Answer {
+        CallAnswer {
             units: report.spent,
             value,
             kind,

@@ -1,7 +1,7 @@
 //! The check of a module.
 ghost use Rattle.wathread_c.specs.Calls.{Checks};
 
-use crate::answer::Answer;
+use crate::answer::CallAnswer;
 use crate::objects::{accepted_line, refuse, tell};
 use host_calls::functions_of;
 use std::alloc::Global;
@@ -14,11 +14,11 @@ pub extern "C" fn wathread_check(
     alloc: Global,
     module: &[u8],
     text: &mut [u8],
-    answer: &mut Answer,
+    answer: &mut CallAnswer,
 ) -> u32
     ensures { Checks «module».now text.old text.new answer.new result }
 {
-    *answer = Answer::none();
+    *answer = CallAnswer::none();
     match functions_of(alloc, module) {
         Ok(count) => tell(accepted_line(alloc, count), text, answer),
         Err(fault) => refuse(alloc, fault, text, answer),

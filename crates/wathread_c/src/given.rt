@@ -37,7 +37,6 @@ pub struct Options {
 }
 
 impl Options {
-    /// The strategy.
     fn way(&self) -> Way
         ensures { result ≡ way_by self.now }
     {
@@ -63,7 +62,6 @@ impl Options {
     }
 }
 
-/// The value of a word.
 fn value_of(word: Word) -> Value
     ensures { result ≡ value_by word }
 {

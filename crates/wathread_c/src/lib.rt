@@ -18,5 +18,5 @@ mod searching;
 #[cfg(test)]
 mod tests;
 
-pub use answer::Answer;
+pub use answer::CallAnswer;
 pub use given::{Options, Word};

@@ -11,11 +11,12 @@ ghost use Rattle.wathread_c.specs.Calls.{TellsFault, TellsLine};
 ghost use Rattle.wathread_c.specs.Lines.{IsAcceptedText, IsRefusalText, IsRunText, IsSearchText};
 ghost use Rattle.wathread_c.specs.Refused.{IsRefusedAs};
 
-use crate::answer::{Answer, put};
+use crate::answer::{CallAnswer, put};
 use crate::refused::refused_of;
 use host_calls::{HostFault, is_well};
 use report_json::{
-    Complete, Refusal, Refused, RunEnd, write_accepted, write_complete, write_refusal, write_run,
+    CompleteObject, RefusalObject, RefusedObject, RunEndObject, write_accepted, write_complete,
+    write_refusal, write_run,
 };
 use search_endings::Ending;
 use search_modules::Ended;
@@ -39,8 +40,7 @@ pub(crate) fn accepted_line(alloc: Global, functions: usize) -> Result<Line, Unw
     Ok(Line { status: 0, text })
 }
 
-/// The text of a refusal.
-fn refusal_text(alloc: Global, refusal: &Refusal) -> Result<Vec<u8>, Unwritten>
+fn refusal_text(alloc: Global, refusal: &RefusalObject) -> Result<Vec<u8>, Unwritten>
     ensures { IfOk result (λ text. text.items ≡ json_line (refusal_json refusal.now)) }
 {
     let mut text = Vec::new(alloc);
@@ -52,12 +52,12 @@ fn refusal_text(alloc: Global, refusal: &Refusal) -> Result<Vec<u8>, Unwritten>
 pub(crate) fn refusal_line(
     alloc: Global,
     fault: HostFault,
-    refused: Refused,
+    refused: RefusedObject,
 ) -> Result<Line, Unwritten>
     requires { IsRefusedAs fault refused }
     ensures { IfOk result (λ line. IsRefusalText fault line.status line.text.items) }
 {
-    let refusal = Refusal {
+    let refusal = RefusalObject {
         refused,
         hints: &[],
     };
@@ -66,8 +66,7 @@ pub(crate) fn refusal_line(
     Ok(Line { status, text })
 }
 
-/// The line of how a run ended.
-fn line_of_run(alloc: Global, run: &RunEnd) -> Result<Line, Unwritten>
+fn line_of_run(alloc: Global, run: &RunEndObject) -> Result<Line, Unwritten>
     ensures status { IfOk result (λ line. line.status ≡ specified.status_of run.now.threads.now) }
     ensures text { IfOk result (λ line. line.text.items ≡ json_line (run_json run.now)) }
 {
@@ -80,7 +79,7 @@ fn line_of_run(alloc: Global, run: &RunEnd) -> Result<Line, Unwritten>
 pub(crate) fn run_line(alloc: Global, end: &EndState) -> Result<Line, Unwritten>
     ensures { IfOk result (λ line. IsRunText end.now line.status line.text.items) }
 {
-    let run = RunEnd {
+    let run = RunEndObject {
         threads: &end.threads,
         places: &[],
         pages: end.pages,
@@ -103,8 +102,7 @@ fn status_of(all: &Ended<Ending>) -> u8
     1
 }
 
-/// The text of a search through every order.
-fn complete_text(alloc: Global, complete: &Complete) -> Result<Vec<u8>, Unwritten>
+fn complete_text(alloc: Global, complete: &CompleteObject) -> Result<Vec<u8>, Unwritten>
     ensures { IfOk result (λ text. text.items ≡ json_line (complete_json complete.now)) }
 {
     let mut text = Vec::new(alloc);
@@ -117,7 +115,7 @@ pub(crate) fn search_line(alloc: Global, all: &Ended<Ending>, most: u32) -> Resu
     ensures { IfOk result (λ line. IsSearchText all.now most line.status line.text.items) }
 {
     let status = status_of(all);
-    let complete = Complete {
+    let complete = CompleteObject {
         status,
         most,
         all,
@@ -130,7 +128,7 @@ pub(crate) fn search_line(alloc: Global, all: &Ended<Ending>, most: u32) -> Resu
 }
 
 /// Puts a line into a buffer, and answers its status; 5 where there is no line, since memory was refused.
-pub(crate) fn tell(line: Result<Line, Unwritten>, text: &mut [u8], answer: &mut Answer) -> u32
+pub(crate) fn tell(line: Result<Line, Unwritten>, text: &mut [u8], answer: &mut CallAnswer) -> u32
     ensures { TellsLine line answer.old text.old text.new answer.new result }
 {
     let Ok(line) = line else {
@@ -142,7 +140,12 @@ pub(crate) fn tell(line: Result<Line, Unwritten>, text: &mut [u8], answer: &mut 
 }
 
 /// Tells of a fault, and answers its status.
-pub(crate) fn refuse(alloc: Global, fault: HostFault, text: &mut [u8], answer: &mut Answer) -> u32
+pub(crate) fn refuse(
+    alloc: Global,
+    fault: HostFault,
+    text: &mut [u8],
+    answer: &mut CallAnswer,
+) -> u32
     requires { answer.old ≡ no_answer }
     ensures told { TellsFault fault text.old text.new answer.new result }
     ensures bytes { answer.new.bytes ≡ 0 }

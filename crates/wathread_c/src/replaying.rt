@@ -1,7 +1,7 @@
 //! A replay of a record.
 ghost use Rattle.wathread_c.specs.Calls.{Replays};
 
-use crate::answer::{Answer, put};
+use crate::answer::{CallAnswer, put};
 use crate::objects::{refuse, run_line, tell};
 use host_calls::replay_of;
 use std::alloc::Global;
@@ -16,11 +16,11 @@ pub extern "C" fn wathread_replay(
     record: &[u8],
     bytes: &mut [u8],
     text: &mut [u8],
-    answer: &mut Answer,
+    answer: &mut CallAnswer,
 ) -> u32
     ensures { Replays «module».now «record».now bytes.old bytes.new text.old text.new answer.new result }
 {
-    *answer = Answer::none();
+    *answer = CallAnswer::none();
     match replay_of(alloc, module, record) {
         Ok(end) => {
             put(bytes, &end.bytes);

@@ -6,7 +6,7 @@ ghost use Rattle.search_endings.specs.Ends.{status_of};
 ghost use Rattle.wathread_c.specs.Answers.{no_answer};
 ghost use Rattle.wathread_c.specs.Calls.{KeepsRun, Runs, RunsNamed};
 
-use crate::answer::{Answer, put};
+use crate::answer::{CallAnswer, put};
 use crate::given::{Options, Word, values_of};
 use host_calls::run_of;
 use replay_text::write_record;
@@ -15,7 +15,6 @@ use search_scheduled::MadeRun;
 use std::alloc::Global;
 use types::ThreadReport;
 
-/// Whether all threads ended well.
 fn all_done(reports: &[ThreadReport]) -> bool
     ensures { result ≡ list_all (λ r. specified.is_done r.outcome) reports.now }
 {
@@ -30,7 +29,7 @@ fn status_of(reports: &[ThreadReport]) -> u32
 }
 
 /// Puts the record of a run into a buffer, and answers its status.
-fn keep(alloc: Global, made: &MadeRun, record: &mut [u8], answer: &mut Answer) -> u32
+fn keep(alloc: Global, made: &MadeRun, record: &mut [u8], answer: &mut CallAnswer) -> u32
     ensures { KeepsRun made.now answer.old record.old record.new answer.new result }
 {
     let mut text = Vec::new(alloc);
@@ -45,7 +44,6 @@ fn keep(alloc: Global, made: &MadeRun, record: &mut [u8], answer: &mut Answer) -
     status_of(&made.end.threads)
 }
 
-/// Runs a function of this name.
 fn run_named(
     alloc: Global,
     module: &[u8],
@@ -53,7 +51,7 @@ fn run_named(
     args: &[Word],
     options: &Options,
     record: &mut [u8],
-    answer: &mut Answer,
+    answer: &mut CallAnswer,
 ) -> u32
     requires { answer.old ≡ no_answer }
     ensures { RunsNamed «module».now name.now args.now options.now record.old record.new answer.new result }
@@ -78,11 +76,11 @@ pub extern "C" fn wathread_run(
     args: &[Word],
     options: &Options,
     record: &mut [u8],
-    answer: &mut Answer,
+    answer: &mut CallAnswer,
 ) -> u32
     ensures { Runs «module».now name.now args.now options.now record.old record.new answer.new result }
 {
-    *answer = Answer::none();
+    *answer = CallAnswer::none();
     match str::from_utf8(name) {
         Ok(name) => run_named(alloc, module, name, args, options, record, answer),
         Err(_) => 3,

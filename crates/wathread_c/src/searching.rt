@@ -3,7 +3,7 @@ ghost use Rattle.std.specs.Prelude.{◌≡◌};
 ghost use Rattle.wathread_c.specs.Answers.{no_answer};
 ghost use Rattle.wathread_c.specs.Calls.{Searches, SearchesNamed};
 
-use crate::answer::Answer;
+use crate::answer::CallAnswer;
 use crate::given::{Options, Word, values_of};
 use crate::objects::{refuse, search_line, tell};
 use host_calls::{HostFault, endings_of};
@@ -13,7 +13,6 @@ use std::alloc::Global;
 /// What a name comes to that is no UTF-8, as no exported one is.
 const NO_NAME: HostFault = HostFault::Call(CallFault::UnknownExport);
 
-/// Searches the runs of a function of this name.
 fn search_named(
     alloc: Global,
     module: &[u8],
@@ -21,7 +20,7 @@ fn search_named(
     args: &[Word],
     options: &Options,
     text: &mut [u8],
-    answer: &mut Answer,
+    answer: &mut CallAnswer,
 ) -> u32
     requires { answer.old ≡ no_answer }
     ensures { SearchesNamed «module».now name.now args.now options.now text.old text.new answer.new result }
@@ -47,11 +46,11 @@ pub extern "C" fn wathread_search(
     args: &[Word],
     options: &Options,
     text: &mut [u8],
-    answer: &mut Answer,
+    answer: &mut CallAnswer,
 ) -> u32
     ensures { Searches «module».now name.now args.now options.now text.old text.new answer.new result }
 {
-    *answer = Answer::none();
+    *answer = CallAnswer::none();
     match str::from_utf8(name) {
         Ok(name) => search_named(alloc, module, name, args, options, text, answer),
         Err(_) => refuse(alloc, NO_NAME, text, answer),

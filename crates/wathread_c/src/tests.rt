@@ -4,7 +4,7 @@ use crate::checking::wathread_check;
 use crate::replaying::wathread_replay;
 use crate::running::wathread_run;
 use crate::searching::wathread_search;
-use crate::{Answer, Options};
+use crate::{CallAnswer, Options};
 use std::test::Fail;
 
 /// `examples/atomic_add.wasm`: `f` adds 5 to the first word of its memory, and returns what stood there.
@@ -30,7 +30,7 @@ const OPTIONS: Options = Options {
 #[test]
 fn a_check(rt: HostRuntime) -> Result<(), Fail> {
     let mut text = [0; 64];
-    let mut answer = Answer::none();
+    let mut answer = CallAnswer::none();
     let status = wathread_check(rt.alloc(), ATOMIC_ADD, &mut text, &mut answer);
     let said = b"{\"status\":0,\"functions\":1}\n";
     assert!(rt; status == 0 && answer.text == said.len());
@@ -42,7 +42,7 @@ fn a_check(rt: HostRuntime) -> Result<(), Fail> {
 fn a_run_that_is_replayed(rt: HostRuntime) -> Result<(), Fail> {
     let alloc = rt.alloc();
     let mut record = [0; 512];
-    let mut answer = Answer::none();
+    let mut answer = CallAnswer::none();
     let status = wathread_run(
         alloc,
         ATOMIC_ADD,
@@ -65,7 +65,7 @@ fn a_run_that_is_replayed(rt: HostRuntime) -> Result<(), Fail> {
 #[test]
 fn a_search(rt: HostRuntime) -> Result<(), Fail> {
     let mut text = [0; 512];
-    let mut answer = Answer::none();
+    let mut answer = CallAnswer::none();
     let status = wathread_search(
         rt.alloc(),
         ATOMIC_ADD,

@@ -134,7 +134,8 @@ module _ (m : Memory) (loses : Bool) (slots id place : ℕ) (c : Caller) (event 
       (later_than m c r.log r.words.stored r.words.seen.entries goes.0) (subst (λ (n : ℕ). n < 2 ^ 64) (sym same) small) in
       steps_from s r at found refl (answer found) (subst (λ (n : ℕ). Settles (memory_after m r.log) event (answer n) place (makes n)) same settled)
 
-steps : (m : Memory) (loses : Bool) (slots id place : ℕ) (me : M) (event : Event) (answer : ℕ → Option Reply) (makes : ℕ → ℕ) → IsOne me → MayTry (caller_in me.0) event
+steps : (m : Memory) (loses : Bool) (slots id place : ℕ) (me : M) (event : Event) (answer : ℕ → Option Reply) (makes : ℕ → ℕ) → IsOne me →
+    MayTry (caller_in me.0) event
     → SettlesAll m (caller_in me.0) event answer place makes → Allows (KeptRow m) slots id me place makes (λ n x. StepsAs m loses event (answer n) place me n x)
 steps m loses slots id place me event answer makes one may settles =
     subst (λ (x : M). Allows (KeptRow m) slots id x place makes (λ n y. StepsAs m loses event (answer n) place x n y)) (sym one)
@@ -163,7 +164,8 @@ pub exchanges : (m : Memory) (slots id old new : ℕ) (me : M) (event : Event) �
     (λ n x. StepsAs m true event (exchange_answer event old n) (place_of event) me n x)
 exchanges m slots id old new me event one may within fits makes =
     steps m true slots id (place_of event) me event (λ n. exchange_answer event old n) (λ n. either (eqb n old) new n) one may
-    (λ later o more _. exchange_settles later event old new o.stored may.is (omega arith) fits (subst (λ (most : ℕ). Makes most event old new) (sym o.max) makes))
+    (λ later o more _. exchange_settles later event old new o.stored may.is (omega arith) fits
+    (subst (λ (most : ℕ). Makes most event old new) (sym o.max) makes))
 
 -- A single exchange of a word, by a caller that has seen that the access lies within the memory.
 pub fetches : (m : Memory) (slots id : ℕ) (me : M) (event : Event) (makes : ℕ → ℕ) → IsOne me → MayTry (caller_in me.0) event

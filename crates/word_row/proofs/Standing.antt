@@ -111,7 +111,8 @@ module _ (table own row : TableId) (opening key : Memory) (name : ℕ) (me : Me 
             (subst (λ (w : ℕ). Allows (KeptRow opening) row.slots id me w (λ n. either (eqb n old) new n)
             (λ n x. StepsAs opening true event (exchange_answer event old n) w me n x)) there
             (exchanges opening row.slots id old new me event stands.1
-            (subst (λ (e : Event). MayTry (caller_in me.0) e) (sym making) (may_try tried is_event (λ q. absurd (no_question opening.max tried old new makes q))))
+            (subst (λ (e : Event). MayTry (caller_in me.0) e) (sym making)
+            (may_try tried is_event (λ q. absurd (no_question opening.max tried old new makes q))))
             ends fits (subst (λ (e : Event). Makes opening.max e old new) (sym making) makes))),
       )
 

@@ -42,7 +42,7 @@ complete -c wathread -n '__fish_seen_subcommand_from show' -l raw -d 'With --at:
 complete -c wathread -n '__fish_seen_subcommand_from show' -l last-write -x -d 'In place of rows, who wrote these N bytes last, or this data by its name; with --at: before that'
 complete -c wathread -n '__fish_seen_subcommand_from show' -l html -r -d 'In place of rows, write the entries as a page of HTML to this file; - is standard output'
 complete -c wathread -n '__fish_seen_subcommand_from show' -l trace -r -d 'In place of rows, write the entries in the Trace Event Format to this file; - is standard output'
-complete -c wathread -n '__fish_seen_subcommand_from show' -l json -d 'Print one JSON object in place of rows, also of a refusal'
+complete -c wathread -n '__fish_seen_subcommand_from show' -l json -d 'Print one JSON object in place of rows or lines, also of a refusal'
 complete -c wathread -n '__fish_seen_subcommand_from show' -l explain -d 'Say on standard error, behind a refusal, a trap or a stop, where and why it is, and what to do; on a terminal without it too'
 complete -c wathread -n '__fish_seen_subcommand_from show' -l no-explain -d 'Say no more than one line of it, on a terminal neither'
 complete -c wathread -n '__fish_seen_subcommand_from show' -l help -s h -d 'Print help'

@@ -15,11 +15,11 @@ struct Example<'a> {
     times: u64,
 }
 
-/// Of what the bytes are that are changed.
+/// What is changed: the bytes of the module, or those of a record of its run.
 #[derive(Clone, Copy)]
-enum Changed {
-    Module,
-    Record,
+enum Changed<'a> {
+    Module(&'a [u8]),
+    Record(&'a [u8]),
 }
 
 /// How many came to which status.
@@ -72,23 +72,23 @@ fn try_fronts<R: Threads + Wait + Sync>(
     Ok(counts)
 }
 
-/// Tries changed bytes, of a module or of a record of its run.
+/// Tries changed bytes.
 fn try_changed<R: Threads + Wait + Sync>(
     rt: &HostRuntime,
     threads: &R,
     example: Example,
     changed: Changed,
-    whole: &[u8],
     numbers: &mut Numbers,
     tally: &mut Tally,
 ) -> Result<Counts, Stop> {
     let mut counts = Counts::new();
+    let (Changed::Module(whole) | Changed::Record(whole)) = changed;
     for _ in 0..example.times {
         let mut bytes = Vec::from_slice(rt.alloc(), whole)?;
         change(numbers, &mut bytes)?;
         let status = match changed {
-            Changed::Module => module_is_right(threads, rt.alloc(), &bytes, example.called)?,
-            Changed::Record => record_is_right(threads, rt.alloc(), example.module, &bytes),
+            Changed::Module(_) => module_is_right(threads, rt.alloc(), &bytes, example.called)?,
+            Changed::Record(_) => record_is_right(threads, rt.alloc(), example.module, &bytes),
         };
         counts.add(rt, example.title, status, &bytes, tally);
     }
@@ -118,8 +118,7 @@ fn try_example<R: Threads + Wait + Sync>(
         rt,
         threads,
         example,
-        Changed::Module,
-        whole,
+        Changed::Module(whole),
         &mut numbers,
         tally,
     )?
@@ -129,8 +128,7 @@ fn try_example<R: Threads + Wait + Sync>(
         rt,
         threads,
         example,
-        Changed::Record,
-        &ran.streams.save,
+        Changed::Record(&ran.streams.save),
         &mut numbers,
         tally,
     )?

@@ -5,7 +5,7 @@ ghost use Rattle.report_jobs.specs.Plain.{IsPlain};
 
 use crate::mutants::answers::is_answer;
 use report_command::{CallWords, EndLook, Form, Job, RunJob};
-use report_jobs::{Streams, perform_plain};
+use report_jobs::{Streams, perform_plain, status_of, tell_ended};
 use std::alloc::{AllocError, Global};
 use std::sync::Wait;
 use std::thread::Threads;
@@ -58,7 +58,9 @@ fn give<R: Threads + Wait + Sync>(
             memory: Vec::new(alloc),
         },
     };
-    gave.status = perform_plain(rt, alloc, job, module, saved, &mut gave.streams);
+    let ended = perform_plain(rt, alloc, job, module, saved, &mut gave.streams);
+    tell_ended(&mut gave.streams.err, &ended);
+    gave.status = status_of(&ended);
     gave
 }
 

@@ -1,7 +1,7 @@
 use Rattle.std.proofs.Common.{rules, arith}
 use Rattle.std.proofs.lemmas.Grind.{common_steps}
 use Rattle.std.proofs.lemmas.List.Elements.{All-push}
-use Rattle.dwarf_data.specs.declared.parts.Part.{Part}
+use Rattle.dwarf_data.specs.declared.parts.VariablePart.{VariablePart}
 use Rattle.dwarf_data.specs.Within.{IsWithin}
 use Rattle.dwarf_data.proofs.Lies.{within_again}
 use Rattle.dwarf_data.proofs.words.member_named.Goals as goal
@@ -16,5 +16,5 @@ loop-member-preserved c =
           let inner : IsWithin c.args.part.place c.in-Some-member.inner.place =
           within_again c.args.part.place c.in-Some.outer.place c.in-Some-member.inner.place outer c.in-Some-member.ensures in
           rw (w.parts-is, w.in_ok-push-in-None.ensures.items)
-          (All-push (λ (p : Part). IsWithin c.args.part.place p.place) c.loop-member.parts.items c.in-Some-member.inner c.loop-member.invariant inner)
+          (All-push (λ (p : VariablePart). IsWithin c.args.part.place p.place) c.loop-member.parts.items c.in-Some-member.inner c.loop-member.invariant inner)
     ]

@@ -13,7 +13,8 @@ loop-global-preserved c =
     (c.constant.ensures ∙ ap constant_of (c.as_slice.ensures ∙ ap (λ (g : Global). g.init) is)) c.loop-global.invariant c.in_ok-push.ensures.items
 
 pub returns : goal.returns
-returns c = c.loop-global.invariant ∙ ap (map (λ g. constant_of g.init)) (take_all _ c.args.parts.now.globals (rw c.as_slice-global-items.ensures at c.loop-global-test.false))
+returns c = c.loop-global.invariant ∙ ap (map (λ g. constant_of g.init))
+    (take_all _ c.args.parts.now.globals (rw c.as_slice-global-items.ensures at c.loop-global-test.false))
 
 pub loop-global-init : goal.loop-global-init
 loop-global-init c = c.new-globals.ensures.items

@@ -14,4 +14,5 @@ overflow_add-state c =
 
 pub returns : goal.returns
 unfolding wrap
-returns c = λ w k v st. size_replied w c.args.state.now _ k c.args.number _ st c.requires (c.from.ensures ∙ c.i32_wrap_i64.ensures) refl refl refl refl c.push.ensures.word
+returns c = λ w k v st. size_replied w c.args.state.now _ k c.args.number _ st c.requires (c.from.ensures ∙ c.i32_wrap_i64.ensures) refl refl refl refl
+    c.push.ensures.word

@@ -17,7 +17,8 @@ index_mut-global-requires c = let h = (global_set_ready c.args.state.now c.args.
 pub value_of-requires : goal.value_of-requires
 value_of-requires c =
     subst (λ t. IsWord t c.pop-word.result) (sym c.val_type.ensures)
-    (global_word c.args.state.now c.args.index c.pop-word.result _ c.index_mut-global.result.now c.requires c.pop-word.ensures.word c.index_mut-global.ensures.value)
+    (global_word c.args.state.now c.args.index c.pop-word.result _ c.index_mut-global.result.now c.requires c.pop-word.ensures.word
+    c.index_mut-global.ensures.value)
 
 pub returns : goal.returns
 returns c = λ w k v st. global_sets w c.args.state.now _ k c.args.index c.pop-word.result c.index_mut-global.result.now c.value_of.result st c.requires

@@ -3,7 +3,7 @@ use Rattle.std.specs.Global.{Vec}
 use Rattle.types.specs.declared.event.Entry.{Entry}
 use Rattle.types.specs.declared.event.Event.TheVariants.{Size}
 use Rattle.types.specs.declared.event.Reply.TheVariants.{Value}
-use Rattle.race_history.specs.declared.access.Kind.TheVariants.{Plain}
+use Rattle.race_history.specs.declared.access.AccessKind.TheVariants.{Plain}
 use Rattle.race_history.specs.declared.lasts.Last.{Last}
 use Rattle.race_history.specs.declared.race.Race.{Race}
 use Rattle.race_history.specs.Lasts.{AreLasts, table}
@@ -57,7 +57,8 @@ add_races-requires c =
     ap (λ (l : List ℕ). length l) (sym clock) ∙ (c.requires.clocks.each place within).wide in
     let below = threads_known c.args.log.now c.args.kinds.now c.args.threads place (table c.loop-place.lasts) c.requires.threads
     c.loop-place.invariant.lasts c.in-Some.access.addr in
-    λ k d lt. subst (λ (n : ℕ). (get_or c.near-near.result.now k d).access.thread < n) (sym wide) (rw c.near-near.ensures (below k d (subst (λ (l : List Last). k < length l) c.near-near.ensures lt)))
+    λ k d lt. subst (λ (n : ℕ). (get_or c.near-near.result.now k d).access.thread < n) (sym wide)
+    (rw c.near-near.ensures (below k d (subst (λ (l : List Last). k < length l) c.near-near.ensures lt)))
 
 -- the races where there are more than are asked for
 found_here : (c : goal.After-drop-lasts-then-len-most)

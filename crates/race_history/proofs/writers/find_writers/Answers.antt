@@ -2,7 +2,7 @@ use Rattle.std.proofs.Common.{◌≡◌, ◌∙◌, ◌<◌, ◌+◌, length, ge
 use Rattle.types.specs.declared.event.Entry.{Entry}
 use Rattle.types.specs.declared.event.Event.TheVariants.{Size}
 use Rattle.types.specs.declared.event.Reply.TheVariants.{Value}
-use Rattle.race_history.specs.declared.access.Kind.TheVariants.{Plain}
+use Rattle.race_history.specs.declared.access.AccessKind.TheVariants.{Plain}
 use Rattle.race_history.specs.Lasts.{AreLasts, list_for, table}
 use Rattle.race_history.specs.Writers.{AreWriters, read_from}
 use Rattle.race_history.proofs.Keeping.{lasts_more, lasts_none, lasts_skip}

@@ -58,17 +58,29 @@ pub line_at-requires-in-Some-first_wrong_end : goal.line_at-requires-in-Some-fir
 line_at-requires-in-Some-first_wrong_end g c =
     let run = c.requires.ready.0 in
     let ready = c.requires.ready.1 in
-    let w = c.along_watched.ensures.whole (none_left c.along_watched.result c.in_default.not-Some) run (c.new-walk.ensures run ready.ready ready.most) ready.limit in
+    let w = c.along_watched.ensures.whole (none_left c.along_watched.result c.in_default.not-Some) run (c.new-walk.ensures run ready.ready ready.most)
+    ready.limit in
     let below = within_ends run c.args.parts.now ready.limit ready.most ready.budget c.as_slice-log.ensures c.deref.ensures.value w
     c.pages-held.ensures c.first_wrong_end.result c.first_wrong_end.ensures
     c.in-Some-first_wrong_end.at c.in-Some-first_wrong_end.is in
     let same : length c.as_slice-log.result.now ≡ length c.args.parts.now.log = ap length c.as_slice-log.ensures in
     let numbers = c.requires.ranges.numbers in
-    omega (arith, below, same, numbers.log, numbers.limit, numbers.ends, few c.args.parts.now c.requires.ranges, c.header_lines-first.ensures, small c.args.parts.now.version)
+    omega (
+      arith,
+      below,
+      same,
+      numbers.log,
+      numbers.limit,
+      numbers.ends,
+      few c.args.parts.now c.requires.ranges,
+      c.header_lines-first.ensures,
+      small c.args.parts.now.version,
+    )
 
 pub returns-in-Some-first_wrong_end-clause-fault : goal.returns-in-Some-first_wrong_end-clause-fault
 returns-in-Some-first_wrong_end-clause-fault g c = λ run ready.
-    let w = c.along_watched.ensures.whole (none_left c.along_watched.result c.in_default.not-Some) run (c.new-walk.ensures run ready.ready ready.most) ready.limit in
+    let w = c.along_watched.ensures.whole (none_left c.along_watched.result c.in_default.not-Some) run (c.new-walk.ensures run ready.ready ready.most)
+    ready.limit in
     let wrong = is_wrong run c.args.parts.now ready.limit ready.most ready.budget c.as_slice-log.ensures c.deref.ensures.value w
     c.pages-held.ensures c.first_wrong_end.result c.first_wrong_end.ensures
     c.in-Some-first_wrong_end.at c.in-Some-first_wrong_end.is in
@@ -78,7 +90,8 @@ returns-in-Some-first_wrong_end-clause-fault g c = λ run ready.
 
 pub returns-in-None-clause-run : goal.returns-in-None-clause-run
 returns-in-None-clause-run g c = λ run ready.
-    let w = c.along_watched.ensures.whole (none_left c.along_watched.result c.in_default.not-Some) run (c.new-walk.ensures run ready.ready ready.most) ready.limit in
+    let w = c.along_watched.ensures.whole (none_left c.along_watched.result c.in_default.not-Some) run (c.new-walk.ensures run ready.ready ready.most)
+    ready.limit in
     is_recorded run c.args.parts.now ready.limit ready.most ready.budget c.as_slice-log.ensures c.deref.ensures.value w
     c.pages-held.ensures c.first_wrong_end.result c.first_wrong_end.ensures c.in-None.is
 

@@ -1,52 +1,29 @@
-use Rattle.std.proofs.Common.{arith, inl, inr}
-use Rattle.report_jobs.specs.Prints.{written}
-use Rattle.report.proofs.Plain.{is_plain, performs}
+use Rattle.std.proofs.Common.{ap}
+use Rattle.report_jobs.specs.Prints.{changed}
+use Rattle.report.proofs.Performing.{still_performs, tells_four, tells_two}
 use Rattle.report.proofs.job.perform.Goals as goal
 
-pub perform_plain-requires-clause-plain : goal.perform_plain-requires-clause-plain
-perform_plain-requires-clause-plain g c κs within =
-    is_plain c.args.job.now c.in_default.not-Show c.in_default.not-Races c.in_default.not-Search
+pub returns-clause-performs : goal.returns-clause-performs
+returns-clause-performs g c =
+    let old = c.args.streams.now in
+    let mid = c.perform_silent-ended.new.streams in
+    still_performs c.args.bytes.«module».now c.args.bytes.saved.now (changed g.W.Write.contents old.out mid.out)
+    (changed g.E.Write.contents old.err mid.err) (changed g.S.Write.contents old.save mid.save)
+    (changed g.S.Write.contents old.memory mid.memory) (g.E.Write.contents c.tell_ended.new.err) c.args.job.now
+    c.perform_silent-ended.result c.tell_ended.ensures c.perform_silent-ended.ensures.performs
 
-pub returns-in_default-clause-performs : goal.returns-in_default-clause-performs
-returns-in_default-clause-performs g c =
-    let job = c.args.job.now in
-    performs job c.args.module.now c.args.saved.now
-    (written g.W.Write.contents g.E.Write.contents g.S.Write.contents c.args.streams.now c.perform_plain.new.streams) c.perform_plain.result
-    (is_plain job c.in_default.not-Show c.in_default.not-Races c.in_default.not-Search) c.perform_plain.ensures.performs
+pub returns-clause-refusal : goal.returns-clause-refusal
+returns-clause-refusal g c =
+    let contents = g.E.Write.contents in
+    let old = c.args.streams.now in
+    let ended = c.perform_silent-ended in
+    tells_two c.args.bytes.«module».now c.args.bytes.saved.now (contents old.err) (contents ended.new.streams.err) (contents c.tell_ended.new.err)
+    ended.result ended.ensures.done ended.ensures.why (λ refusal. ap contents (ended.ensures.silent refusal).0.1) c.tell_ended.ensures
 
-pub returns-in-Show-clause-performs : goal.returns-in-Show-clause-performs
-returns-in-Show-clause-performs g c =
-    rw c.in-Show.is (record {
-      shown = c.show_saved.ensures.shown;
-      prints = c.show_saved.ensures.prints;
-      refused = c.show_saved.ensures.refused;
-      absent = c.show_saved.ensures.absent;
-      none = c.show_saved.ensures.none;
-      statuses = c.show_saved.ensures.status;
-    })
-
-pub returns-in-Races-clause-performs : goal.returns-in-Races-clause-performs
-returns-in-Races-clause-performs g c =
-    rw c.in-Races.is (record {
-      prints = c.races_saved.ensures.prints;
-      free = c.races_saved.ensures.free;
-      racy = c.races_saved.ensures.racy;
-      refused = c.races_saved.ensures.refused;
-      unfit = c.races_saved.ensures.none;
-      statuses = c.races_saved.ensures.status;
-    })
-
-pub returns-in-Search-clause-performs : goal.returns-in-Search-clause-performs
-returns-in-Search-clause-performs g c =
-    rw c.in-Search.is (record {
-      made = c.search.ensures.made;
-      refused = c.search.ensures.refused;
-      cannot = c.search.ensures.cannot;
-      statuses = c.search.ensures.status;
-    })
-
-pub returns-in-Search-clause-told : goal.returns-in-Search-clause-told
-returns-in-Search-clause-told g c = λ four. elim c.search.ensures.status [
-  | inl low ↦ absurd (omega (arith, four, low))
-  | inr five ↦ absurd (omega (arith, four, five))
-]
+pub returns-clause-told : goal.returns-clause-told
+returns-clause-told g c =
+    let contents = g.E.Write.contents in
+    let old = c.args.streams.now in
+    let ended = c.perform_silent-ended in
+    tells_four c.args.bytes.«module».now c.args.bytes.saved.now (contents old.err) (contents ended.new.streams.err) (contents c.tell_ended.new.err)
+    ended.result ended.ensures.done ended.ensures.wrong (λ refusal. ap contents (ended.ensures.silent refusal).0.1) c.tell_ended.ensures

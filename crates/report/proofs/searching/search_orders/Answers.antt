@@ -1,24 +1,40 @@
-use Rattle.std.proofs.Common.{sym, subst}
-use Rattle.std.specs.Prelude.{IfOk}
-use Rattle.report_command.specs.declared.form.Form.{Form}
-use Rattle.report_jobs.specs.Prints.{changed}
-use Rattle.report.specs.Searched.{AllIn}
+use Rattle.std.proofs.Common.{rules, refl, ap, ◌∙◌}
+use Rattle.std.proofs.lemmas.Result.{IfOk-weaker}
+use Rattle.report_jobs.specs.Prints.{change}
+use Rattle.report.specs.Rest.{TellsRest}
+use Rattle.report.specs.Searched.{IsSearched}
+use Rattle.report.proofs.Orders.{searched_by}
+use Rattle.report.specs.declared.searching.Met.{Met}
+use Rattle.report.proofs.Pairs.{can_tell}
 use Rattle.report.proofs.searching.search_orders.Goals as goal
 
-pub returns-in-Lines-clause-prints : goal.returns-in-Lines-clause-prints
-returns-in-Lines-clause-prints g c =
-    let q = c.args.request.now in
-    let s = c.args.asked.search.now in
-    let out = changed g.W.Write.contents c.args.out.now c.search_all_orders.new.out in
-    let save = changed g.S.Write.contents c.args.save.now c.search_all_orders.new.save in
-    subst (λ (form : Form). IfOk c.search_all_orders.result (AllIn form q.parts s c.args.most out save)) (sym c.in-Lines.is)
-    c.search_all_orders.ensures.prints
+pub tell_orders-requires : goal.tell_orders-requires
+tell_orders-requires g c =
+    (search rules, can_tell c.args.call.request.now c.args.call.search.now _ c.in_ok-raced.raced c.in_ok-raced.ensures.raced)
 
-pub returns-in-Json-clause-prints : goal.returns-in-Json-clause-prints
-returns-in-Json-clause-prints g c =
-    let q = c.args.request.now in
-    let s = c.args.asked.search.now in
-    let out = changed g.W.Write.contents c.args.out.now c.write_all_orders.new.out in
-    let save = changed g.S.Write.contents c.args.save.now c.write_all_orders.new.save in
-    subst (λ (form : Form). IfOk c.write_all_orders.result (AllIn form q.parts s c.args.most out save)) (sym c.in-Json.is)
-    c.write_all_orders.ensures.writes
+pub returns-clause-searched : goal.returns-clause-searched
+returns-clause-searched g c =
+    let q = c.args.call.request.now in
+    let s = c.args.call.search.now in
+    let saved = g.S.Write.contents in
+    let contents = g.W.Write.contents in
+    let a = saved c.args.streams.now.save in
+    let b = saved c.race_told.new.streams.save in
+    let last = saved c.tell_orders.new.streams.save in
+    let before = contents c.args.streams.now.out in
+    let between = contents c.race_told.new.streams.out in
+    let after = contents c.tell_orders.new.streams.out in
+    let met : Met = record { whole = c.in_ok-whole.whole; raced = c.in_ok-raced.raced; most = c.args.orders.now.most } in
+    IfOk-weaker c.tell_orders.result
+    (λ done. TellsRest g.T.Teller.form q s met (change between after) (change b last) done.status)
+    (λ done. IsSearched q.parts s (change before after) (change a last) done.status)
+    (λ done rest. searched_by q s c.requires.asked g.T.Teller.form c.requires.form met c.requires.every_order before between after a b last
+    (λ no. ap saved (c.race_told.ensures.unkept no)) done.status rest c.in_ok-whole.ensures.whole _ c.in_ok-whole.ensures.racing
+    c.in_ok-raced.ensures.raced c.in_ok-raced.ensures.kept c.in_ok-raced.ensures.tells) c.tell_orders.ensures.tells
+
+pub returns-clause-others : goal.returns-clause-others
+returns-clause-others g c = (
+  (λ none. c.tell_orders.ensures.others.0 none ∙ c.race_told.ensures.others.0 none),
+  c.tell_orders.ensures.others.1 ∙ c.race_told.ensures.others.1,
+  c.tell_orders.ensures.others.2 ∙ c.race_told.ensures.others.2,
+)

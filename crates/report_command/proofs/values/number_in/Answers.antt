@@ -1,4 +1,4 @@
-use Rattle.std.proofs.Common.{rules, ◌≡◌, ◌-◌, ◌/◌, ◌++◌, ℕ, List, Option, Some, None, codes, subst, sym}
+use Rattle.std.proofs.Common.{rules, ◌≡◌, ◌++◌, ℕ, List, Option, None, codes, subst, sym}
 use Rattle.report_command.proofs.Spelled.{GivesNumber, hexadecimal, in_range, negative, no_negative, plain, small}
 use Rattle.report_command.proofs.values.number_in.Goals as goal
 

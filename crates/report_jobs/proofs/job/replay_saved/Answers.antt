@@ -1,21 +1,22 @@
-use Rattle.std.proofs.Common.{sym, ◌∙◌}
+use Rattle.std.proofs.Common.{◌≡◌, sym, subst}
+use Rattle.report_jobs.specs.Jobs.{IsNoValidModule}
+use Rattle.report_jobs.specs.Undone.{undone_status}
+use Rattle.report_jobs.specs.Why.{RefusesRecord}
+use Rattle.report_jobs.specs.declared.undone.Undone.{Undone}
+use Rattle.report_jobs.proofs.Outcomes.{no_module, refuses_record}
 use Rattle.report_jobs.proofs.job.replay_saved.Goals as goal
 
-pub returns-clause-none : goal.returns-clause-none
-returns-clause-none g c = λ four. record {
-  parts = c.in-Ok.valid.parts;
-  text = c.in-Ok.ensures.ok.0;
-  valid = c.in-Ok.ensures.ok.1.valid;
-  none = c.reject.ensures.unfit c.in-Ok.valid.parts c.args.saved.now c.in-Err-replay_record.ensures.unfit four;
-}
-
 pub returns-in-Err-clause-refused : goal.returns-in-Err-clause-refused
-returns-in-Err-clause-refused g c = λ two. c.refuse.ensures.refused c.args.module.now c.in-Err.ensures.err two
+returns-in-Err-clause-refused g c =
+    subst (λ (why : Undone). undone_status why ≡ 2 → IsNoValidModule c.args.module.now) (sym c.of_refusal.ensures)
+    (no_module c.args.module.now c.in-Err.refusal c.in-Err.ensures.err)
 
-pub returns-in-Err-clause-refusal : goal.returns-in-Err-clause-refusal
-returns-in-Err-clause-refusal g c = λ two. record {
-  refusal = c.in-Err.refusal;
-  is = c.in-Err.ensures.err;
-  refuses = sym c.refuse.ensures.number ∙ two;
-  line = c.refuse.ensures.told;
-}
+pub returns-clause-wrong : goal.returns-clause-wrong
+returns-clause-wrong g c =
+    let bytes = c.args.module.now in
+    let saved = c.args.saved.now in
+    let e = c.in-Err-replay_record.field-0 in
+    subst (λ (why : Undone). undone_status why ≡ 4 → RefusesRecord bytes saved why) (sym c.of_unfit.ensures)
+    (refuses_record c.in-Ok.valid e.stood bytes saved c.in-Ok.valid.parts c.in-Ok.ensures.ok.0
+    c.in-Ok.ensures.ok.1.valid e.unfit
+    c.in-Err-replay_record.ensures.unfit)

@@ -1,4 +1,4 @@
-use Rattle.report_jobs.proofs.Refused.{of_fault}
+use Rattle.report_jobs.proofs.Refusing.{of_fault}
 use Rattle.report_jobs.proofs.loading.load_checked.Goals as goal
 
 pub returns-in-Err-clause-err : goal.returns-in-Err-clause-err

@@ -1,4 +1,4 @@
-use Rattle.std.proofs.Common.{◌≡◌, sym, subst}
+use Rattle.std.proofs.Common.{◌≡◌, ◌∙◌, sym, subst}
 use Rattle.report_jobs.specs.Jobs.{IsUnfit}
 use Rattle.report_jobs.specs.Silence.{LeavesOut}
 use Rattle.report_jobs.specs.declared.replaying.Unfit.{Unfit}
@@ -17,14 +17,14 @@ returns-in-Ok-print_end-clause-prints g c = λ saved text. record {
 
 pub returns-clause-unfit : goal.returns-clause-unfit
 returns-clause-unfit g c = λ saved text.
-    c.misfit.ensures.unfit c.args.module.now.parts c.args.recorded.now saved c.requires text c.in-Err.ensures.fault c.in-Err.ensures.none
+    c.misfit.ensures.unfit c.args.loaded.valid.now.parts c.args.recorded.now saved c.requires text c.in-Err.ensures.fault c.in-Err.ensures.none
 
 pub returns-in-Ok-clause-unfit : goal.returns-in-Ok-clause-unfit
 returns-in-Ok-clause-unfit g c = λ saved text.
-    let m = c.args.module.now.parts in
-    subst (IsUnfit m saved) (sym c.unprinted.ensures) (unwritten_unfit m saved c.in-Err-print_end.unwritten)
+    let m = c.args.loaded.valid.now.parts in
+    subst (IsUnfit m saved) (sym (c.alone.ensures ∙ c.unprinted.ensures)) (unwritten_unfit m saved c.in-Err-print_end.unwritten)
 
 pub returns-in-Ok-clause-silent : goal.returns-in-Ok-clause-silent
 returns-in-Ok-clause-silent g c =
-    subst (λ (e : Unfit). LeavesOut e (c.print_end.new.out ≡ c.args.out.now)) (sym c.unprinted.ensures)
+    subst (λ (e : Unfit). LeavesOut e (c.print_end.new.out ≡ c.args.out.now)) (sym (c.alone.ensures ∙ c.unprinted.ensures))
     (unwritten_out _ _ c.in-Err-print_end.unwritten c.in-Err-print_end.ensures.left)

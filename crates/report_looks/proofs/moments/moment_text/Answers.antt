@@ -1,7 +1,7 @@
 use Rattle.std.proofs.Common.{ℕ, List, Some, ap, refl, subst, sym}
 use Rattle.std.specs.Global.{Vec}
 use Rattle.std.specs.Prelude.{string_bytes}
-use Rattle.show_moments.specs.Scenes.{WritesMoment}
+use Rattle.show_moments.specs.Lines.{WritesMoment}
 use Rattle.report_looks.proofs.RunMoments.{moment_in}
 use Rattle.report_looks.proofs.moments.moment_text.Goals as goal
 

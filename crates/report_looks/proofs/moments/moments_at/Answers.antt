@@ -2,7 +2,7 @@ use Rattle.std.proofs.Common.{◌+◌, List, sym, subst, take}
 use Rattle.std.specs.List.{AllZip}
 use Rattle.show_events.specs.declared.run.MomentText.{MomentText}
 use Rattle.report_looks.specs.PageMoments.{IsMomentAt}
-use Rattle.report_looks.proofs.Zipped.{zipped_more}
+use Rattle.show_rows.proofs.Zipped.{zipped_more}
 use Rattle.report_looks.proofs.moments.moments_at.Goals as goal
 
 pub loop-k-preserved : goal.loop-k-preserved

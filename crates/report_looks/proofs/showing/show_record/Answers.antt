@@ -1,7 +1,10 @@
-use Rattle.std.proofs.Common.{subst}
+use Rattle.std.proofs.Common.{sym, subst}
 use Rattle.replay_text.specs.declared.parts.RecordParts.{RecordParts}
 use Rattle.report_looks.specs.Looked.{IsAsked}
 use Rattle.report_looks.proofs.showing.show_record.Goals as goal
+
+pub print_asked-requires-clause-of_record : goal.print_asked-requires-clause-of_record
+print_asked-requires-clause-of_record g c = sym c.parts-2.ensures.parts
 
 pub returns-in-Ok-print_asked-clause-prints : goal.returns-in-Ok-print_asked-clause-prints
 returns-in-Ok-print_asked-clause-prints g c =
@@ -16,5 +19,9 @@ returns-in-Ok-print_asked-clause-prints g c =
       asked = asked;
       asked_is = subst (λ (r : RecordParts). IsAsked r map c.args.how.now asked) c.parts.ensures.parts
           c.in-Ok-asked_of.ensures.asked;
-      prints = c.in-Ok-print_asked.ensures;
+      prints = (
+        _,
+        record { of_record = c.parts-2.ensures.parts; of_rows = c.as_slice.ensures.value; of_module = c.in-Ok-code_of.ensures },
+        c.in-Ok-print_asked.ensures,
+      );
     }

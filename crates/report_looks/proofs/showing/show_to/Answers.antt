@@ -1,28 +1,34 @@
-use Rattle.std.proofs.Common.{sym, ◌∙◌}
+use Rattle.std.proofs.Common.{◌≡◌, sym, subst}
+use Rattle.report_jobs.specs.Jobs.{IsNoRecordOf, IsNoValidModule}
+use Rattle.report_jobs.specs.Undone.{undone_status}
+use Rattle.report_jobs.specs.Why.{RefusesRecord}
+use Rattle.report_jobs.specs.declared.undone.Undone.{Undone}
+use Rattle.report_jobs.proofs.Outcomes.{no_module, no_record, refuses_record}
 use Rattle.report_looks.proofs.showing.show_to.Goals as goal
 
 pub returns-in-Err-clause-refused : goal.returns-in-Err-clause-refused
-returns-in-Err-clause-refused g c = λ two. c.refuse.ensures.refused c.args.code.module.now c.in-Err.ensures.err two
+returns-in-Err-clause-refused g c =
+    subst (λ (why : Undone). undone_status why ≡ 2 → IsNoValidModule c.args.code.module.now) (sym c.of_refusal.ensures)
+    (no_module c.args.code.module.now c.in-Err.refusal c.in-Err.ensures.err)
 
 pub returns-in-Err-Unfit-clause-none : goal.returns-in-Err-Unfit-clause-none
 returns-in-Err-Unfit-clause-none g c =
     let e = rw c.in-Err-Unfit.field-0-is at c.in-Err-Unfit.ensures.unshown in
-    λ four. record {
-      parts = c.in-Ok.valid.parts;
+    let bytes = c.args.code.module.now in
+    let saved = c.args.saved.now in
+    let v = c.in-Ok.valid in
+    subst (λ (why : Undone). undone_status why ≡ 4 → IsNoRecordOf bytes saved) (sym c.of_unfit.ensures) λ four. record {
+      parts = v.parts;
       text = c.in-Ok.ensures.ok.0;
       valid = c.in-Ok.ensures.ok.1.valid;
-      none = c.reject.ensures.unfit c.in-Ok.valid.parts c.args.saved.now e four;
+      none = no_record v c.in-Err-Unfit.stood v.parts saved c.in-Err-Unfit.unfit e four;
     }
 
-pub returns-in-Err-Unfit-clause-told : goal.returns-in-Err-Unfit-clause-told
-returns-in-Err-Unfit-clause-told g c =
+pub returns-in-Err-Unfit-clause-wrong : goal.returns-in-Err-Unfit-clause-wrong
+returns-in-Err-Unfit-clause-wrong g c =
     let e = rw c.in-Err-Unfit.field-0-is at c.in-Err-Unfit.ensures.unshown in
-    λ four. record {
-      parts = c.in-Ok.valid.parts;
-      text = c.in-Ok.ensures.ok.0;
-      valid = c.in-Ok.ensures.ok.1.valid;
-      unfit = c.in-Err-Unfit.unfit;
-      is = e;
-      refuses = sym c.reject.ensures.number ∙ four;
-      line = c.reject.ensures.told;
-    }
+    let bytes = c.args.code.module.now in
+    let saved = c.args.saved.now in
+    let v = c.in-Ok.valid in
+    subst (λ (why : Undone). undone_status why ≡ 4 → RefusesRecord bytes saved why) (sym c.of_unfit.ensures)
+    (refuses_record v c.in-Err-Unfit.stood bytes saved v.parts c.in-Ok.ensures.ok.0 c.in-Ok.ensures.ok.1.valid c.in-Err-Unfit.unfit e)

@@ -17,7 +17,7 @@ returns-clause-plain g c =
     record {
       made = made;
       plain = record {
-        find = record { run = c.in_ok-plain.ensures.run; of_call = c.in_ok-plain.ensures.header };
+        find = record { run = c.in_ok-plain.ensures.run; of_call = c.in_ok-plain.ensures.header; heard = c.in_ok-plain.ensures.heard };
         last = after.strategy;
         led = subst (λ (s : Following). IsLedRun (ChoosesBy along) (λ before entry then. then ≡ unheard before entry) q limit s after.strategy made.«record»)
             (c.new-along.ensures ∙ c.new.ensures)

@@ -11,7 +11,7 @@ returns-then-eq-clause-ending c = sym (equal_ones _ _ (sym c.eq.ensures ∙ c.if
 
 pub returns-then-eq-clause-along : goal.returns-then-eq-clause-along
 returns-then-eq-clause-along c = record {
-  find = record { run = c.in_ok-made.ensures.run; of_call = c.in_ok-made.ensures.header };
+  find = record { run = c.in_ok-made.ensures.run; of_call = c.in_ok-made.ensures.header; heard = c.in_ok-made.ensures.heard };
   last = c.run_along.new.strategy;
   led = subst (λ (l : List ℕ). IsLedRun (ChoosesBy chosen) (λ before entry after. after ≡ unheard before entry) c.args.request.now c.args.limit l
       c.run_along.new.strategy c.in_ok-made.made.«record») c.new.ensures c.in_ok-made.ensures.led;
@@ -21,7 +21,7 @@ pub returns-else-eq-clause-none : goal.returns-else-eq-clause-none
 returns-else-eq-clause-none c = record {
   made = c.in_ok-made.made;
   along = record {
-    find = record { run = c.in_ok-made.ensures.run; of_call = c.in_ok-made.ensures.header };
+    find = record { run = c.in_ok-made.ensures.run; of_call = c.in_ok-made.ensures.header; heard = c.in_ok-made.ensures.heard };
     last = c.run_along.new.strategy;
     led = subst (λ (l : List ℕ). IsLedRun (ChoosesBy chosen) (λ before entry after. after ≡ unheard before entry) c.args.request.now c.args.limit l
         c.run_along.new.strategy c.in_ok-made.made.«record») c.new.ensures c.in_ok-made.ensures.led;

@@ -10,7 +10,8 @@ use Rattle.search_graph.proofs.Around.{round-cycle}
 use Rattle.search_graph.proofs.Checked.{within-states}
 use Rattle.search_graph.proofs.cycles.is_fair_cycle.Goals as goal
 
-module _ (moves : List Move) (start : ℕ) (indices : List ℕ) (walk : List Move) (is : walk ≡ moves_at moves indices) (within : All (λ k. k < length moves) indices) (round : IsRound start walk) where
+module _ (moves : List Move) (start : ℕ) (indices : List ℕ) (walk : List Move) (is : walk ≡ moves_at moves indices)
+    (within : All (λ k. k < length moves) indices) (round : IsRound start walk) where
   fair-round : ((t : ℕ) → CanMove moves start t → GetsTurnIn moves walk t) → IsFairRound moves start indices
   fair-round turns = record {
     within = within;
@@ -43,11 +44,14 @@ returns-clause-exact c =
     let known : All (λ k. k < length c.as_slice.result.now) indices = MatchOption-at_some _ _ c.in-Some.made c.in-Some.is c.in_ok-made.ensures.within in
     let within : All (λ k. k < length moves) indices = subst (λ ms. All (λ k. k < length ms) indices) c.as_slice.ensures.value known in
     let round : IsRound start walk = c.if-not-is_round.ensures.0 refl in
-    IfOk-weaker c.all_get_turns.result (λ yes. IsTrue yes ↔ ((t : ℕ) → CanMove moves start t → GetsTurnIn moves walk t)) (λ yes. IsTrue yes ↔ IsFairRound moves start indices)
-    (λ yes e. (λ h. fair-round moves start indices walk is within round (e.0 h), λ r. e.1 (all-turns moves start indices walk is within round r))) c.all_get_turns.ensures
+    IfOk-weaker c.all_get_turns.result (λ yes. IsTrue yes ↔ ((t : ℕ) → CanMove moves start t → GetsTurnIn moves walk t))
+    (λ yes. IsTrue yes ↔ IsFairRound moves start indices)
+    (λ yes e. (λ h. fair-round moves start indices walk is within round (e.0 h), λ r. e.1 (all-turns moves start indices walk is within round r)))
+    c.all_get_turns.ensures
 
 pub returns-clause-cycle : goal.returns-clause-cycle
 returns-clause-cycle c =
     let moves = c.args.graph.now.moves.items in
     IfOk-weaker c.all_get_turns.result (λ yes. IsTrue yes ↔ IsFairRound moves c.args.start c.args.walk.now)
-    (λ yes. IsTrue yes → HasFairCycle moves c.args.start (moves_at moves c.args.walk.now)) (λ yes e h. round-cycle moves c.args.start c.args.walk.now (e.0 h)) (returns-clause-exact c)
+    (λ yes. IsTrue yes → HasFairCycle moves c.args.start (moves_at moves c.args.walk.now)) (λ yes e h. round-cycle moves c.args.start c.args.walk.now (e.0 h))
+    (returns-clause-exact c)

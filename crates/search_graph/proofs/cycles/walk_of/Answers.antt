@@ -8,7 +8,8 @@ use Rattle.search_graph.proofs.cycles.walk_of.Goals as goal
 longer : (f : ℕ → Move) (done : List Move) (xs : List ℕ) (i : ℕ) (m : Move) → i < length xs → done ≡ map f (take i xs) → m ≡ f (slice_index xs i)
     → done ++ m ∷ [] ≡ map f (take (i + 1) xs)
 longer f done xs i m within is this =
-    ap (λ l. l ++ m ∷ []) is ∙ (ap (λ v. map f (take i xs) ++ v ∷ []) this ∙ (sym (map-append f (take i xs) (slice_index xs i ∷ [])) ∙ ap (map f) (sym (take_more xs i 0 within))))
+    ap (λ l. l ++ m ∷ []) is ∙ (ap (λ v. map f (take i xs) ++ v ∷ []) this ∙
+    (sym (map-append f (take i xs) (slice_index xs i ∷ [])) ∙ ap (map f) (sym (take_more xs i 0 within))))
 
 pub loop-index-preserved : goal.loop-index-preserved
 loop-index-preserved c =

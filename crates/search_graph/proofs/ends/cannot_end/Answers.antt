@@ -11,7 +11,8 @@ returns-clause-exact c =
     let states = c.args.graph.now.states in
     let marks = c.mark_ends.new.marks in
     let len : length marks ≡ states = c.mark_ends.auto.marks ∙ (c.as_mut_slice-marks.ensures.len ∙ (c.in_ok-room.ensures.len ∙ c.requires.marks)) in
-    IfOk-weaker c.unmarked.result (λ v. AreUnmarked marks (length marks) v.items) (λ v. (s : ℕ) → Contains v.items s ↔ CannotEnd moves c.args.ended.now states s)
+    IfOk-weaker c.unmarked.result (λ v. AreUnmarked marks (length marks) v.items)
+    (λ v. (s : ℕ) → Contains v.items s ↔ CannotEnd moves c.args.ended.now states s)
     (λ v. exactly moves c.args.ended.now marks states v.items len c.in_ok-mark_ends.ensures) c.unmarked.ensures.found
 
 pub returns-clause-others : goal.returns-clause-others
@@ -20,5 +21,6 @@ returns-clause-others c =
     let states = c.args.graph.now.states in
     let marks = c.mark_ends.new.marks in
     let len : length marks ≡ states = c.mark_ends.auto.marks ∙ (c.as_mut_slice-marks.ensures.len ∙ (c.in_ok-room.ensures.len ∙ c.requires.marks)) in
-    IfOk-weaker c.unmarked.result (λ v. AreUnmarked marks (length marks) v.items) (λ v. (s : ℕ) → s < states → Contains v.items s ⊎ CanEnd moves c.args.ended.now s)
+    IfOk-weaker c.unmarked.result (λ v. AreUnmarked marks (length marks) v.items)
+    (λ v. (s : ℕ) → s < states → Contains v.items s ⊎ CanEnd moves c.args.ended.now s)
     (λ v. others moves c.args.ended.now marks states v.items len c.in_ok-mark_ends.ensures) c.unmarked.ensures.found

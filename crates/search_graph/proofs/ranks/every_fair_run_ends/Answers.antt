@@ -25,7 +25,10 @@ returns-clause-exact c =
         λ ok. w.result-is ∙ sure w.all_are_marked.result
             (λ e. none-unmarked moves ranks movers states marks ok (checked.all w.if-ranks_fall.true) (w.all_are_marked.ensures.some e)),
       )
-      | else-ranks_fall w ↦ (λ h. absurd (true≢false (sym h ∙ (w.result-is ∙ w.if-ranks_fall.false))), λ ok. absurd (true≢false (sym (checked.falls.1 ok.falls) ∙ w.if-ranks_fall.false)))
+      | else-ranks_fall w ↦ (
+        λ h. absurd (true≢false (sym h ∙ (w.result-is ∙ w.if-ranks_fall.false))),
+        λ ok. absurd (true≢false (sym (checked.falls.1 ok.falls) ∙ w.if-ranks_fall.false)),
+      )
     ])
 
 pub returns-clause-ends : goal.returns-clause-ends

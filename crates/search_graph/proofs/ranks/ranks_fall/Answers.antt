@@ -1,4 +1,5 @@
-use Rattle.std.proofs.Common.{sym, arith, ◌+◌, ◌<◌, ◌≤◌, ◌≡◌, ◌⊎◌, ℕ, Bool, List, All, length, take, slice_index, true, false, subst, inr, refl, get_or-set_same}
+use Rattle.std.proofs.Common.{sym, arith, ◌+◌, ◌<◌, ◌≤◌, ◌≡◌, ◌⊎◌, ℕ, Bool, List, All, length, take, slice_index, true}
+use Rattle.std.proofs.Common.{false, subst, inr, refl, get_or-set_same}
 use Rattle.std.proofs.lemmas.List.Elements.{All-contains, All-more, All-weaker}
 use lib.ListN.{set}
 use Rattle.search_graph.specs.declared.graph.Move.{Move}
@@ -33,7 +34,8 @@ loop-m-preserved c =
     elim c.if-movers-rank.branch [
       | then-movers-rank+else-next-rank-2 w ↦ record {
         falls = All-more (Falls ranks movers) moves i _ within old.falls (falls-less ranks movers m named down w.if-next-rank-2.false);
-        sound = mark-more (λ s. IsMarked c.args.marks.now s ⊎ CanMove moves s (mover_at ranks movers s)) marks c.if-movers-rank.marks m.from w.marks-is old.sound
+        sound = mark-more (λ s. IsMarked c.args.marks.now s ⊎ CanMove moves s (mover_at ranks movers s)) marks c.if-movers-rank.marks m.from
+            w.marks-is old.sound
             (inr (can-move moves i (mover_at ranks movers m.from) within (sym w.if-movers-rank.true)));
         all = subst (λ l. All (P l) (take (i + 1) moves)) (sym w.marks-is)
             (All-more (P (set marks m.from true)) moves i (record { from = 0; thread = 0; next = 0 }) within

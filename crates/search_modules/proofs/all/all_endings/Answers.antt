@@ -45,7 +45,7 @@ returns-clause-live g c =
 
 pub returns-clause-seeks : goal.returns-clause-seeks
 returns-clause-seeks g c =
-    IfOk-weaker c.search_all.result _ _ (λ ended seeks. sought_by (g.Q.Seeks.sought c.args.sought.now) ended.verdict ended.endings.keys seeks)
+    IfOk-weaker c.search_all.result _ _ (λ ended seeks. sought_by (g.Q.Seeks.sought c.args.plan.now.sought) ended.verdict ended.endings.keys seeks)
     c.search_all.ensures.seeks
 
 pub returns-clause-levels : goal.returns-clause-levels

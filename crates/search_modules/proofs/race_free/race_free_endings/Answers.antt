@@ -34,7 +34,8 @@ returns-clause-ways g c =
 
 pub returns-clause-count : goal.returns-clause-count
 returns-clause-count g c =
-    IfOk-weaker c.search_race_free.result _ _ (λ free count. counted_by is_same_owned (λ s. StandsBefore (threads s)) (λ s w. IsStuck s w ⊎ SomeRace (threads s))
+    IfOk-weaker c.search_race_free.result _ _ (λ free count. counted_by is_same_owned (λ s. StandsBefore (threads s))
+    (λ s w. IsStuck s w ⊎ SomeRace (threads s))
     c.in_ok-searched.searched c.args.request.now free.ended.states c.in_ok-searched.ensures.call count)
     c.search_race_free.ensures.count
 
@@ -60,5 +61,5 @@ returns-clause-race g c =
 pub returns-clause-seeks : goal.returns-clause-seeks
 returns-clause-seeks g c =
     IfOk-weaker c.search_race_free.result _ _
-    (λ free seeks. sought_by (g.Q.Seeks.sought c.args.sought.now) free.ended.verdict free.ended.endings.keys seeks)
+    (λ free seeks. sought_by (g.Q.Seeks.sought c.args.plan.now.sought) free.ended.verdict free.ended.endings.keys seeks)
     c.search_race_free.ensures.seeks

@@ -15,5 +15,6 @@ returns-in-Some-get c = λ x kept.
 
 pub returns-in-None : goal.returns-in-None
 returns-in-None c = λ x kept.
-    sym (ap (λ l. found (slice_get l c.args.kept.now.pc)) (sym c.as_slice.ensures) ∙ ap found (past c.as_slice.result.now c.args.kept.now.pc c.in-None.ensures.lookup.3))
+    sym (ap (λ l. found (slice_get l c.args.kept.now.pc)) (sym c.as_slice.ensures) ∙
+    ap found (past c.as_slice.result.now c.args.kept.now.pc c.in-None.ensures.lookup.3))
     ∙ body-of c.args.valid.now c.args.kept.now x kept c.in-Some.body.now c.in-Some.ensures

@@ -11,7 +11,7 @@ use Rattle.search_parts.proofs.resting.replied.Goals as goal
 pub returns-then-n-m-clause-rests : goal.returns-then-n-m-clause-rests
 returns-then-n-m-clause-rests c = λ b z e after.
     let w = c.args.valid.now in
-    let n = c.args.n in
+    let n = c.args.event.now.n in
     let taken = (system_of b).takes (z.threads n) (reply_by z.shared n e) in
     let rested = rw c.in-Some.is at c.in_ok-taken.ensures.rests in
     let stands = subst (λ k. StandsForThread w c.args.standing.now (z.threads k)) (sym c.if-n-m.true) after.rested.stands in
@@ -23,16 +23,19 @@ returns-then-n-m-clause-rests c = λ b z e after.
 pub returns-clause-rests : goal.returns-clause-rests
 returns-clause-rests c = λ b z e after.
     let w = c.args.valid.now in
-    let n = c.args.n in
+    let n = c.args.event.now.n in
     let taken = (system_of b).takes (z.threads n) (reply_by z.shared n e) in
-    let copy : IsRested w b c.in_ok-copy.field-0 (z.threads c.args.m) = record { stands = c.in_ok-copy.ensures w (z.threads c.args.m) after.rested.stands; rests = after.rested.rests } in
+    let copy : IsRested w b c.in_ok-copy.field-0 (z.threads c.args.m) = record {
+      stands = c.in_ok-copy.ensures w (z.threads c.args.m) after.rested.stands;
+      rests = after.rested.rests;
+    } in
     subst (λ v. RestsAt w b v c.in_ok-copy.field-0) (sym (put-other z.threads n taken c.args.m (λ same. c.if-n-m.false (sym same))))
     (at_rest w b c.in_ok-copy.field-0 (z.threads c.args.m) copy)
 
 pub returns-in_default-clause-gives_up : goal.returns-in_default-clause-gives_up
 returns-in_default-clause-gives_up c _ = λ b z e after.
     let w = c.args.valid.now in
-    let n = c.args.n in
+    let n = c.args.event.now.n in
     let taken = (system_of b).takes (z.threads n) (reply_by z.shared n e) in
     let stands = subst (λ k. StandsForThread w c.args.standing.now (z.threads k)) (sym c.if-n-m.true) after.rested.stands in
     let here = c.in_ok-taken.ensures.gives_up c.in_default.is b (z.threads n) e after.of stands after.calls in

@@ -24,7 +24,7 @@ told-requires c =
     let z = r.1 in
     let e = r.2 in
     let after = r.3 in
-    let n = c.args.n in
+    let n = c.args.event.now.n in
     let m = c.args.m in
     let v : Walker = put z.threads n ((system_of b).takes (z.threads n) (reply_by z.shared n e)) m in
     let own = rw c.in-Some-3.is at c.in_ok-own.ensures.rests in
@@ -39,9 +39,23 @@ told-requires c =
           subst (λ (u : Walker). (system_of b).wants u ≡ Awaits) (stays b v at.rested at.settles wants) wants,
     )
 
+pub returns-then-begun-m-clause-rests : goal.returns-then-begun-m-clause-rests
+returns-then-begun-m-clause-rests c = λ b z e after.
+    let n = c.args.event.now.n in
+    let m = c.args.m in
+    let w = c.args.valid.now in
+    let g = c.in-Some.begun in
+    let v : Walker = put z.threads n ((system_of b).takes (z.threads n) (reply_by z.shared n e)) m in
+    let by : begun_in z.shared.queue e ≡ Some g = sym after.makes.begun ∙ c.in-Some.is in
+    let begins : begun_at b z.shared e m ≡ Some (spawned_in b.worker g.id g.arg) =
+    subst (λ k. begun_at b z.shared e k ≡ Some (spawned_in b.worker g.id g.arg)) c.if-begun-m.true (is_started b z.shared e g by) in
+    let rested = rw c.in-Some-2.is at c.in_ok-first.ensures.rests in
+    subst (λ o. RestsAt w b (or_started (started_without o) (hears_any (system_of b) v (answer_by z.shared n e m))) c.in-Some-2.first) (sym begins)
+    (rested b after.of after.workers)
+
 pub returns-clause-rests : goal.returns-clause-rests
 returns-clause-rests c = λ b z e after.
-    let n = c.args.n in
+    let n = c.args.event.now.n in
     let m = c.args.m in
     let w = c.args.valid.now in
     let v : Walker = put z.threads n ((system_of b).takes (z.threads n) (reply_by z.shared n e)) m in
@@ -67,7 +81,7 @@ returns-clause-rests c = λ b z e after.
 
 pub returns-in_default-2-clause-gives_up : goal.returns-in_default-2-clause-gives_up
 returns-in_default-2-clause-gives_up c _ = λ b z e after.
-    let n = c.args.n in
+    let n = c.args.event.now.n in
     let m = c.args.m in
     let g = c.in-Some.begun in
     let v : Walker = put z.threads n ((system_of b).takes (z.threads n) (reply_by z.shared n e)) m in
@@ -75,7 +89,8 @@ returns-in_default-2-clause-gives_up c _ = λ b z e after.
     let begins : begun_at b z.shared e m ≡ Some (spawned_in b.worker g.id g.arg) =
     subst (λ k. begun_at b z.shared e k ≡ Some (spawned_in b.worker g.id g.arg)) c.if-begun-m.true (is_started b z.shared e g by) in
     elim (c.in_ok-first.ensures.gives_up c.in_default-2.is b after.of after.workers) [
-      | inl turns ↦ inl (subst (λ o. MakesTurns (system_of b) patience (or_started (started_without o) (hears_any (system_of b) v (answer_by z.shared n e m)))) (sym begins) turns)
+      | inl turns ↦ inl (subst (λ o. MakesTurns (system_of b) patience (or_started (started_without o) (hears_any (system_of b) v (answer_by z.shared n e m))))
+          (sym begins) turns)
       | inr unknown ↦ inr (
         unknown,
         g.arg,
@@ -86,7 +101,7 @@ returns-in_default-2-clause-gives_up c _ = λ b z e after.
 
 pub returns-in_default-3-clause-gives_up : goal.returns-in_default-3-clause-gives_up
 returns-in_default-3-clause-gives_up c _ = λ b z e after.
-    let n = c.args.n in
+    let n = c.args.event.now.n in
     let m = c.args.m in
     let v : Walker = put z.threads n ((system_of b).takes (z.threads n) (reply_by z.shared n e)) m in
     let turns : MakesTurns (system_of b) patience v = c.in_ok-own.ensures.gives_up c.in_default-3.is b z e after in
@@ -103,7 +118,7 @@ returns-in_default-3-clause-gives_up c _ = λ b z e after.
 
 pub returns-in_default-4-clause-gives_up : goal.returns-in_default-4-clause-gives_up
 returns-in_default-4-clause-gives_up c _ = λ b z e after.
-    let n = c.args.n in
+    let n = c.args.event.now.n in
     let m = c.args.m in
     let w = c.args.valid.now in
     let v : Walker = put z.threads n ((system_of b).takes (z.threads n) (reply_by z.shared n e)) m in
@@ -114,7 +129,8 @@ returns-in_default-4-clause-gives_up c _ = λ b z e after.
     λ a is. awaits b z after.reached n e after.calls m a (sym due_same ∙ is) in
     let turns = c.in_ok-after.ensures.gives_up c.in_default-4.is b at.rested after.of (rested_so w b c.in-Some-3.own v at)
     (λ a is. subst (λ (u : Walker). (system_of b).wants u ≡ Awaits) (stays b v at.rested at.settles (wants a is)) (wants a is)) in
-    let told = subst (λ o. MakesTurns (system_of b) patience (hears_any (system_of b) v o)) due_same (joined_turns w b v c.in-Some-3.own at c.due.result wants turns) in
+    let told = subst (λ o. MakesTurns (system_of b) patience (hears_any (system_of b) v o)) due_same
+    (joined_turns w b v c.in-Some-3.own at c.due.result wants turns) in
     let others : (g : Begun) → begun_in z.shared.queue e ≡ Some g → g.id ≢ m =
     λ g is. elim c.match-made.branch [
       | in-Some+else-begun-m k ↦ (let x = k.in-Some.is in let y = after.makes.begun in let f = k.if-begun-m.false in

@@ -36,7 +36,8 @@ returns-in-Races g c =
 pub returns-in-Unknown : goal.returns-in-Unknown
 returns-in-Unknown g c =
     let k = g.M.Moves.threads c.args.system.now in
-    lost-after k (g.met.M.Moves.tame c.args.system.now) (g.met.M.Accesses.plain c.args.system.now) (g.M.Moves.stuck c.args.system.now) c.args.m c.args.from c.loop.at
+    lost-after k (g.met.M.Moves.tame c.args.system.now) (g.met.M.Accesses.plain c.args.system.now) (g.M.Moves.stuck c.args.system.now) c.args.m
+    c.args.from c.loop.at
     c.loop.invariant.comes
     (subst (IsAlone k (g.M.Moves.stuck c.args.system.now) c.args.m c.loop.at) c.in-Unknown.is c.in_ok-next.ensures)
 

@@ -24,7 +24,8 @@ returns-in_default-2 g c = stays-alone (g.M.Moves.threads c.args.system.now) (g.
     c.args.m c.args.from c.requires
 
 pub returns-then-not-access : goal.returns-then-not-access
-returns-then-not-access g c = stays-alone (g.M.Moves.threads c.args.system.now) (g.met.M.Moves.tame c.args.system.now) (g.met.M.Accesses.plain c.args.system.now)
+returns-then-not-access g c = stays-alone (g.M.Moves.threads c.args.system.now) (g.met.M.Moves.tame c.args.system.now)
+    (g.met.M.Accesses.plain c.args.system.now)
     c.args.m c.args.from c.requires
 
 pub returns-in-Some-struck : goal.returns-in-Some-struck
@@ -32,7 +33,8 @@ returns-in-Some-struck g c =
     let k = g.M.Moves.threads c.args.system.now in
     let there = ap (λ l. slice_get l c.args.m) (sym c.deref.ensures.value)
     ∙ at-get c.deref.result.now c.args.m c.in-Some.thread.now c.in-Some.ensures.lookup.3.0 c.in-Some.ensures.lookup.1 in
-    inl (strikes-race k (g.met.M.Moves.tame c.args.system.now) (g.met.M.Accesses.plain c.args.system.now) c.args.from c.args.m c.in-Some-struck.one c.in-Some-2.access c.requires
+    inl (strikes-race k (g.met.M.Moves.tame c.args.system.now) (g.met.M.Accesses.plain c.args.system.now) c.args.from c.args.m c.in-Some-struck.one
+    c.in-Some-2.access c.requires
     (λ z at. sym (c.in_ok-access.ensures z (thread-at k c.args.from.flat z at c.args.m c.in-Some.thread.now there)) ∙ c.in-Some-2.is)
     (subst (λ l. Strikes l c.args.m c.in-Some-2.access c.in-Some-struck.one) c.as_slice.ensures.value c.in-Some-struck.ensures.some))
 

@@ -17,9 +17,11 @@ wanted-requires g c =
 pub returns-in-Some-first_race : goal.returns-in-Some-first_race
 returns-in-Some-first_race g c =
     let k = g.M.Moves.threads c.args.system.now in
-    begun-races k (g.met.M.Moves.tame c.args.system.now) (g.met.M.Accesses.plain c.args.system.now) (record { flat = c.in-Some.flat; owned = c.new.result }) c.in_ok-next.next.items
+    begun-races k (g.met.M.Moves.tame c.args.system.now) (g.met.M.Accesses.plain c.args.system.now) (record { flat = c.in-Some.flat; owned = c.new.result })
+    c.in_ok-next.next.items
     c.in-Some-first_race.race.one c.in-Some-first_race.race.other c.new.ensures.items
     (if-some-at (IsBeginning k) c.in_ok-flat.field-0 c.in-Some.flat c.in-Some.is c.in_ok-flat.ensures.first)
     c.in_ok-next.ensures
     (subst (λ l. AreInTheWay l c.new.result.items c.in-Some-first_race.race.one c.in-Some-first_race.race.other) c.as_slice.ensures.value
-    (subst (λ l. AreInTheWay c.as_slice.result.now l c.in-Some-first_race.race.one c.in-Some-first_race.race.other) c.as_slice-2.ensures.value c.in-Some-first_race.ensures.some))
+    (subst (λ l. AreInTheWay c.as_slice.result.now l c.in-Some-first_race.race.one c.in-Some-first_race.race.other) c.as_slice-2.ensures.value
+    c.in-Some-first_race.ensures.some))

@@ -12,7 +12,8 @@ returns-in_default g c = λ so.
 
 pub advance-requires-clause-owned : goal.advance-requires-clause-owned
 advance-requires-clause-owned g c =
-    known-owned (g.M.Moves.threads c.args.system.now) (g.met.M.Moves.tame c.args.system.now) (g.met.M.Accesses.plain c.args.system.now) c.args.from.now c.requires.known
+    known-owned (g.M.Moves.threads c.args.system.now) (g.met.M.Moves.tame c.args.system.now) (g.met.M.Accesses.plain c.args.system.now) c.args.from.now
+    c.requires.known
 
 pub advance-requires-clause-wants : goal.advance-requires-clause-wants
 advance-requires-clause-wants g c =

@@ -38,7 +38,8 @@ pub returns-in-None : goal.returns-in-None
 returns-in-None g c =
     let k = g.M.Moves.threads c.args.system.now in
     let stuck = g.M.Moves.stuck c.args.system.now in
-    onward-kept k (g.met.M.Moves.tame c.args.system.now) (g.met.M.Accesses.plain c.args.system.now) c.args.from.now c.in-To.at c.args.n c.in_ok-next-in-To.next.items
+    onward-kept k (g.met.M.Moves.tame c.args.system.now) (g.met.M.Accesses.plain c.args.system.now) c.args.from.now c.in-To.at c.args.n
+    c.in_ok-next-in-To.next.items
     (subst (IsCame k stuck c.args.from.now.flat (ComesOnward k c.args.n c.args.from.now)) c.in-To.is c.in_ok-at.ensures)
     c.in_ok-next-in-To.ensures
     (subst (λ l. AreClear l c.in-To.at.owned.items) c.as_slice.ensures.value

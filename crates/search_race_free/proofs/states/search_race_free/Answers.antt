@@ -1,19 +1,19 @@
 use Rattle.std.proofs.Common.{Option, Some, None, sym, subst}
 use Rattle.std.specs.Prelude.{IfSome, option_map}
 use Rattle.search_race_free.specs.Turns.{IsRaceOf}
-use Rattle.search_race_free.specs.declared.race.Race.{Race}
+use Rattle.search_race_free.specs.declared.race.ThreadRace.{ThreadRace}
 use Rattle.search_race_free.specs.declared.states.RaceBehind.{RaceBehind}
 use Rattle.search_race_free.proofs.Beginning.{free-where-all}
 use Rattle.search_race_free.proofs.states.search_race_free.Goals as goal
 
-race_of : (Is : Race → Type 0) (o : Option RaceBehind) → IfSome o (λ r. Is r.race) → IfSome (option_map (λ b. b.race) o) Is
+race_of : (Is : ThreadRace → Type 0) (o : Option RaceBehind) → IfSome o (λ r. Is r.race) → IfSome (option_map (λ b. b.race) o) Is
 race_of Is None h = tt
 race_of Is (Some r) h = h
 
 pub returns-clause-race : goal.returns-clause-race
 returns-clause-race g c =
     let is = IsRaceOf g.M.Moves c.args.system.now in
-    subst (λ (o : Option Race). IfSome o is) (sym c.racing.ensures) (race_of is c.in_ok-behind.behind c.in_ok-behind.ensures)
+    subst (λ (o : Option ThreadRace). IfSome o is) (sym c.racing.ensures) (race_of is c.in_ok-behind.behind c.in_ok-behind.ensures)
 
 pub returns-clause-none : goal.returns-clause-none
 returns-clause-none g c =

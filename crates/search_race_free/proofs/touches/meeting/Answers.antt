@@ -1,6 +1,6 @@
 use Rattle.std.proofs.Common.{ℕ, ◌≡◌, ◌≢◌, ◌∙◌, sym, Some, None, true≢false, arith}
 use Rattle.search_settled.specs.Accesses.{Race}
-use Rattle.search_settled.specs.declared.access.Access.{Access}
+use Rattle.search_settled.specs.declared.access.NextAccess.{NextAccess}
 use Rattle.search_race_free.specs.Touches.{access_at}
 use Rattle.search_race_free.proofs.Touching.{below_one_more, access-here, at_all}
 use Rattle.search_race_free.proofs.touches.meeting.Goals as goal
@@ -12,9 +12,11 @@ returns-then-meets-clause-some c =
 
 pub loop-other-preserved : goal.loop-other-preserved
 loop-other-preserved c = record {
-  missed = below_one_more (λ (u : ℕ). (b : Access) → access_at c.args.wanted.now u ≡ Some b → u ≢ c.args.thread → Race c.args.access b → ⊥) c.loop-other.other
+  missed = below_one_more (λ (u : ℕ). (b : NextAccess) → access_at c.args.wanted.now u ≡ Some b → u ≢ c.args.thread → Race c.args.access b → ⊥)
+      c.loop-other.other
       c.loop-other.invariant.missed
-      (λ b at d r. true≢false (sym (c.meets.ensures.1 (b, sym (access-here c.args.wanted.now c.loop-other.other None c.loop-other-test.true) ∙ at, d, r)) ∙ c.if-meets.false));
+      (λ b at d r. true≢false (sym (c.meets.ensures.1 (b, sym (access-here c.args.wanted.now c.loop-other.other None c.loop-other-test.true) ∙ at, d, r)) ∙
+      c.if-meets.false));
 }
 
 pub returns-clause-none : goal.returns-clause-none

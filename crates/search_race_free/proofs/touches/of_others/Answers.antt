@@ -16,9 +16,14 @@ loop-touch-preserved c =
           (c.is_of_other.ensures.0 w.if-is_of_other.true)
       | else-is_of_other w ↦
           subst (λ v. (x : Touch) → Contains v.items x ↔ (Contains c.loop-touch.others.items x ⊎ (next ≡ x) × (x.thread ≢ c.args.thread))) (sym w.others-is)
-          (gone-new c.args.thread c.loop-touch.others.items next (no_other next.thread c.args.thread (λ p. true≢false (sym (c.is_of_other.ensures.1 p) ∙ w.if-is_of_other.false))))
+          (gone-new c.args.thread c.loop-touch.others.items next
+          (no_other next.thread c.args.thread (λ p. true≢false (sym (c.is_of_other.ensures.1 p) ∙ w.if-is_of_other.false))))
     ] in
-    record { others = others-more c.args.thread c.args.owned.now c.loop-touch.others.items c.if-is_of_other.others.items c.loop-touch.touch-index _ c.loop-touch-test.true c.loop-touch.invariant.others new }
+    record {
+      others = others-more c.args.thread c.args.owned.now c.loop-touch.others.items c.if-is_of_other.others.items c.loop-touch.touch-index _
+          c.loop-touch-test.true c.loop-touch.invariant.others new;
+    }
 
 pub returns : goal.returns
-returns c = subst (λ l. AreOfOthers l c.args.thread c.loop-touch.others.items) (take_all c.loop-touch.touch-index c.args.owned.now c.loop-touch-test.false) c.loop-touch.invariant.others
+returns c = subst (λ l. AreOfOthers l c.args.thread c.loop-touch.others.items) (take_all c.loop-touch.touch-index c.args.owned.now c.loop-touch-test.false)
+    c.loop-touch.invariant.others

@@ -9,5 +9,6 @@ loop-choice-init g c =
     let k = g.M.Moves.threads m in
     record {
       owned = known-owned k (g.met.M.Moves.tame m) (g.met.M.Accesses.plain m) c.in-To.first
-          (begun-known k (g.met.M.Moves.tame m) (g.met.M.Accesses.plain m) c.in-To.first (subst (IsCameFirst k (g.M.Moves.stuck m)) c.in-To.is c.in_ok-first.ensures));
+          (begun-known k (g.met.M.Moves.tame m) (g.met.M.Accesses.plain m) c.in-To.first
+          (subst (IsCameFirst k (g.M.Moves.stuck m)) c.in-To.is c.in_ok-first.ensures));
     }

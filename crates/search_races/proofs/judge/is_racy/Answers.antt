@@ -1,16 +1,16 @@
 use Rattle.std.proofs.Common.{◌≤◌, ◌<◌, ◌∙◌, List, length, sym, ap, subst, arith}
 use Rattle.types.specs.declared.event.Entry.{Entry}
-use Rattle.race_history.specs.declared.access.Kind.{Kind}
+use Rattle.race_history.specs.declared.access.AccessKind.{AccessKind}
 use Rattle.race_history.specs.declared.race.Race.{Race}
 use Rattle.race_history.specs.Races.{AreRaces, HasEach, IsCut}
 use Rattle.show_races.specs.Kinds.{kinds_shown}
 use Rattle.show_races.proofs.Laws.{carried, kinds_length, no_race}
-use Rattle.search_races.proofs.Told.{says_by}
+use Rattle.show_races.proofs.Told.{says_by}
 use Rattle.search_races.proofs.judge.is_racy.Goals as goal
 
 pub races_of-requires-clause-kinds : goal.races_of-requires-clause-kinds
 races_of-requires-clause-kinds c =
-    ap (λ (l : List Kind). length l) (c.as_slice.ensures.value ∙ c.in_ok-kinds.ensures)
+    ap (λ (l : List AccessKind). length l) (c.as_slice.ensures.value ∙ c.in_ok-kinds.ensures)
     ∙ (kinds_length c.args.shown (length c.args.shown.record.now.log) ∙ ap (λ (l : List Entry). length l) (sym c.as_slice-log.ensures))
 
 pub returns : goal.returns

@@ -39,8 +39,8 @@ returns-clause-found g c =
     found-after _ _ _ _ _ _ _ c.in_ok-verdict.ensures.judged
     (record { complete = IsAll k; sound = IsSound k; lost = CanGetStuck k })
     (record { complete = HasAllEnds k g.T.Ending.PartialEq.eq; sound = AreEnds k; lost = CanGetStuck k })
-    c.args.most c.count-states.result r.states c.in_ok-endings.field-0.endings.keys
-    (subst (λ (n : ℕ). IsFound (record { complete = IsAll k; sound = IsSound k; lost = CanGetStuck k }) c.args.most (g.F.Follows.wish c.args.follower.now)
+    c.args.plan.now.most c.count-states.result r.states c.in_ok-endings.field-0.endings.keys
+    (subst (λ (n : ℕ). IsFound (record { complete = IsAll k; sound = IsSound k; lost = CanGetStuck k }) c.args.plan.now.most (g.F.Follows.wish c.args.follower.now)
     c.args.reached.verdict n r.states) (sym (c.count-states.ensures.len r.states r.held)) r.found)
     (λ all. endings-of_all k g.T.Ending.PartialEq.eq r.states r.states c.in_ok-endings.field-0.endings.keys refl all gathered.all)
     gathered.sound (λ lost. lost)
@@ -81,7 +81,7 @@ returns-clause-seeks g c =
     let k = g.T.Meets.system c.args.system.now in
     let r = c.requires in
     let gathered = c.in_ok-endings.ensures.gathered r.states r.held r.found.sound in
-    seeks-in k (g.Q.Seeks.sought c.args._sought.now) g.T.Ending.PartialEq.eq c.args.reached.verdict c.in_ok-verdict.verdict r.states
+    seeks-in k (g.Q.Seeks.sought c.args.plan.now.sought) g.T.Ending.PartialEq.eq c.args.reached.verdict c.in_ok-verdict.verdict r.states
     c.in_ok-endings.field-0.endings.keys r.found.sound r.seeks gathered.all gathered.of
     (sought-back _ _ _ _ _ _ _ c.in_ok-verdict.ensures.judged) (sought-forth _ _ _ _ _ _ _ c.in_ok-verdict.ensures.judged)
 

@@ -32,7 +32,8 @@ loop-at-preserved g c =
             let met = sound s.0 (here ks at s.0 s.1) in
             subst (λ l. Ended k g.T.Ending.PartialEq.eq ks (at + 1) c.match-ending-2.endings.keys l) (sym pushed)
             (ended-some g.T.Ending.PartialEq.eq g.met.T.Ending.Eq.laws.refl k ks at s.0 c.in_ok-ending.ending w.in-Some.ending c.loop-at.endings.keys
-            c.match-ending-2.endings.keys c.loop-at.ended.items low (sym (get_or_from_slice_get ks at s.0 s.0 s.1)) (c.loop-at.invariant.ended ks held sound) met
+            c.match-ending-2.endings.keys c.loop-at.ended.items low (sym (get_or_from_slice_get ks at s.0 s.0 s.1))
+            (c.loop-at.invariant.ended ks held sound) met
             (c.in_ok-ending.ensures ks s.0 held s.1 met) w.in-Some.is (ap (λ s. s.keys) w.endings-is ∙ w.in_ok-add_ending.ensures.added)));
         firsts = λ ks held sound. (
             let len = c.count-at-end.ensures.len ks held in

@@ -5,10 +5,10 @@ use Rattle.search_reach.proofs.search.explore.Given as goal
 
 abbrev pub invariant-loop-at : goal.invariant-loop-at
 invariant-loop-at g l = record {
-  going : Going (g.T.Meets.system l.system) (g.T.Meets.equal l.system) (g.T.Meets.holds l.system l.table) (g.Q.Seeks.sought l.sought) l.at l.moves.items
+  going : Going (g.T.Meets.system l.system) (g.T.Meets.equal l.system) (g.T.Meets.holds l.system l.table) (g.Q.Seeks.sought l.plan.sought) l.at l.moves.items
       l.levels;
   wished : (g.F.Follows.wish l.fn.follower ≡ wishes.End → ⊥) → g.F.Follows.wish l.follower ≡ wishes.End → ⊥;
 }
 
 abbrev pub decreases-loop-at : goal.decreases-loop-at
-decreases-loop-at g l = l.most - l.at
+decreases-loop-at g l = l.plan.most - l.at

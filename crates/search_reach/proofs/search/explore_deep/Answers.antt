@@ -9,7 +9,7 @@ pub loop-at-init : goal.loop-at-init
 loop-at-init g c =
     let m = c.args.system.now in
     record {
-      deep = deep-first (g.T.Meets.system m) (g.T.Meets.equal m) (g.T.Meets.holds m c.args.table.now) (g.Q.Seeks.sought c.args.sought.now)
+      deep = deep-first (g.T.Meets.system m) (g.T.Meets.equal m) (g.T.Meets.holds m c.args.table.now) (g.Q.Seeks.sought c.args.plan.now.sought)
           c.args.moves.now.items c.count-first.result c.count-first.ensures.len c.requires c.open_places.new.stack.items
           (subst (λ l. IsOpened l 0 c.count-first.result c.open_places.new.stack.items) c.new-stack.ensures.items c.in_ok-open_places.ensures);
       wished = λ b n. b n;
@@ -21,10 +21,11 @@ returns-in_default-clause-reached g c =
     let k = g.T.Meets.system m in
     let eq = g.T.Meets.equal m in
     let has = g.T.Meets.holds m c.loop-at.table in
-    let sought = g.Q.Seeks.sought c.args.sought.now in
+    let sought = g.Q.Seeks.sought c.args.plan.now.sought in
     let so = c.loop-at.invariant.deep in
-    let all = deep-all k eq has sought c.loop-at.stack.items c.loop-at.gone c.loop-at.moves.items so (omega (arith, (c.in_default.ensures.cases).0, c.loop-at.stack.ok)) (omega arith) in
-    reached-all k eq has sought (Off c.loop-at.stack.items) c.loop-at.moves.items so.standing c.args.most _ _ tt all.0 all.1 (g.met.T.Meets.alike m)
+    let all = deep-all k eq has sought c.loop-at.stack.items c.loop-at.gone c.loop-at.moves.items so
+    (omega (arith, (c.in_default.ensures.cases).0, c.loop-at.stack.ok)) (omega arith) in
+    reached-all k eq has sought (Off c.loop-at.stack.items) c.loop-at.moves.items so.standing c.args.plan.now.most _ _ tt all.0 all.1 (g.met.T.Meets.alike m)
 
 pub next-requires-clause-at : goal.next-requires-clause-at
 next-requires-clause-at g c =
@@ -32,7 +33,7 @@ next-requires-clause-at g c =
     let k = g.T.Meets.system m in
     let eq = g.T.Meets.equal m in
     let has = g.T.Meets.holds m c.loop-at.table in
-    let sought = g.Q.Seeks.sought c.args.sought.now in
+    let sought = g.Q.Seeks.sought c.args.plan.now.sought in
     let so = c.loop-at.invariant.deep in
     met-at k eq has sought (Off c.loop-at.stack.items) c.loop-at.moves.items so.standing c.count-met.result c.count-met.ensures.len c.in-Some.at
     (below-met k eq has sought c.loop-at.stack.items c.pop.new.self.items c.in-Some.at c.loop-at.gone c.loop-at.moves.items so c.in-Some.ensures.items
@@ -49,12 +50,12 @@ returns-then-not-branch-clause-reached g c =
     let k = g.T.Meets.system m in
     let eq = g.T.Meets.equal m in
     let has = g.T.Meets.holds m c.loop-at.table in
-    let sought = g.Q.Seeks.sought c.args.sought.now in
+    let sought = g.Q.Seeks.sought c.args.plan.now.sought in
     let so = c.loop-at.invariant.deep in
     let low = below-met k eq has sought c.loop-at.stack.items c.pop.new.self.items c.in-Some.at c.loop-at.gone c.loop-at.moves.items so
     c.in-Some.ensures.items c.count-met.result c.count-met.ensures.len (omega arith) in
     let is = c.count-met.ensures.len (so.standing).states (so.standing).held in
-    reached-stuck k eq has sought (Off c.loop-at.stack.items) c.loop-at.moves.items so.standing c.args.most _ _ tt c.in-Some.at
+    reached-stuck k eq has sought (Off c.loop-at.stack.items) c.loop-at.moves.items so.standing c.args.plan.now.most _ _ tt c.in-Some.at
     (g.T.Meets.holds m c.next.new.table) c.next.new.moves.items (omega (arith, is, low)) (c.in_ok-next.ensures.none c.if-not-branch.true)
     (c.in_ok-next.ensures.kept c.if-not-branch.true) (c.in_ok-next.ensures.gives_up c.if-not-branch.true)
 
@@ -64,7 +65,7 @@ has_sought-requires g c =
     let k = g.T.Meets.system m in
     let eq = g.T.Meets.equal m in
     let has = g.T.Meets.holds m c.loop-at.table in
-    let sought = g.Q.Seeks.sought c.args.sought.now in
+    let sought = g.Q.Seeks.sought c.args.plan.now.sought in
     let so = c.loop-at.invariant.deep in
     let low = below-met k eq has sought c.loop-at.stack.items c.pop.new.self.items c.in-Some.at c.loop-at.gone c.loop-at.moves.items so
     c.in-Some.ensures.items c.count-met.result c.count-met.ensures.len (omega arith) in
@@ -77,7 +78,7 @@ returns-then-branch-clause-reached g c =
     let k = g.T.Meets.system m in
     let eq = g.T.Meets.equal m in
     let has = g.T.Meets.holds m c.loop-at.table in
-    let sought = g.Q.Seeks.sought c.args.sought.now in
+    let sought = g.Q.Seeks.sought c.args.plan.now.sought in
     let so = c.loop-at.invariant.deep in
     let low = below-met k eq has sought c.loop-at.stack.items c.pop.new.self.items c.in-Some.at c.loop-at.gone c.loop-at.moves.items so
     c.in-Some.ensures.items c.count-met.result c.count-met.ensures.len (omega arith) in
@@ -85,7 +86,7 @@ returns-then-branch-clause-reached g c =
     (g.T.Meets.holds m c.next.new.table) c.next.new.moves.items low (c.in_ok-next.ensures.next c.if-not-branch.false)
     (λ ks held. unique eq (g.met.T.Meets.symmetric m) ks (c.count-known.ensures.distinct ks held))
     (not-before k eq has sought c.loop-at.stack.items c.pop.new.self.items c.in-Some.at c.loop-at.gone c.loop-at.moves.items so c.in-Some.ensures.items
-    c.count-met.result c.count-met.ensures.len) c.args.most _ _ tt _ c.if-branch.true
+    c.count-met.result c.count-met.ensures.len) c.args.plan.now.most _ _ tt _ c.if-branch.true
     c.in_ok-has_sought.ensures
 
 pub open_places-requires-in-loop-at : goal.open_places-requires-in-loop-at
@@ -94,7 +95,7 @@ open_places-requires-in-loop-at g c =
     let k = g.T.Meets.system m in
     let eq = g.T.Meets.equal m in
     let has = g.T.Meets.holds m c.loop-at.table in
-    let sought = g.Q.Seeks.sought c.args.sought.now in
+    let sought = g.Q.Seeks.sought c.args.plan.now.sought in
     let so = c.loop-at.invariant.deep in
     let low = below-met k eq has sought c.loop-at.stack.items c.pop.new.self.items c.in-Some.at c.loop-at.gone c.loop-at.moves.items so
     c.in-Some.ensures.items c.count-met.result c.count-met.ensures.len (omega arith) in
@@ -108,7 +109,7 @@ loop-at-preserved g c =
     let k = g.T.Meets.system m in
     let eq = g.T.Meets.equal m in
     let has = g.T.Meets.holds m c.loop-at.table in
-    let sought = g.Q.Seeks.sought c.args.sought.now in
+    let sought = g.Q.Seeks.sought c.args.plan.now.sought in
     let so = c.loop-at.invariant.deep in
     let low = below-met k eq has sought c.loop-at.stack.items c.pop.new.self.items c.in-Some.at c.loop-at.gone c.loop-at.moves.items so
     c.in-Some.ensures.items c.count-met.result c.count-met.ensures.len (omega arith) in
@@ -127,7 +128,7 @@ returns-in-End-clause-reached g c =
     let k = g.T.Meets.system m in
     let eq = g.T.Meets.equal m in
     let has = g.T.Meets.holds m c.loop-at.table in
-    let sought = g.Q.Seeks.sought c.args.sought.now in
+    let sought = g.Q.Seeks.sought c.args.plan.now.sought in
     let so = c.loop-at.invariant.deep in
     let low = below-met k eq has sought c.loop-at.stack.items c.pop.new.self.items c.in-Some.at c.loop-at.gone c.loop-at.moves.items so
     c.in-Some.ensures.items c.count-met.result c.count-met.ensures.len (omega arith) in
@@ -135,5 +136,5 @@ returns-in-End-clause-reached g c =
     (g.T.Meets.holds m c.next.new.table) c.next.new.moves.items low (c.in_ok-next.ensures.next c.if-not-branch.false)
     (λ ks held. unique eq (g.met.T.Meets.symmetric m) ks (c.count-known.ensures.distinct ks held))
     (not-before k eq has sought c.loop-at.stack.items c.pop.new.self.items c.in-Some.at c.loop-at.gone c.loop-at.moves.items so c.in-Some.ensures.items
-    c.count-met.result c.count-met.ensures.len) c.args.most _ _ tt _ c.if-branch.false
+    c.count-met.result c.count-met.ensures.len) c.args.plan.now.most _ _ tt _ c.if-branch.false
     c.in_ok-has_sought.ensures (sym c.in-End.ensures.wish)

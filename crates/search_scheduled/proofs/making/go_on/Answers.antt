@@ -4,6 +4,9 @@ use Rattle.shared_memory.specs.Memory.{Memory, reply_of, state_after}
 use Rattle.schedule_threads.specs.Shared.{act_of}
 use Rattle.replay_walk.specs.Walked.{HasTaken}
 use Rattle.replay_walk.proofs.Taken.{took_as}
+use Rattle.replay_walk.proofs.Ending.{goes_on}
+use Rattle.search_scheduled.specs.Heard.{IsMadeBy}
+use Rattle.search_scheduled.proofs.Listening.{made_plain}
 use Rattle.search_scheduled.proofs.Leaving.{ended_leaves, full_leaves, wants_on, can_event_on, event_act_on}
 use Rattle.search_scheduled.proofs.making.go_on.Goals as goal
 
@@ -76,3 +79,21 @@ returns-in-Wants-2-clause-taken g c = λ e is s d same.
     let here : entry ≡ e = cc is in
     subst (λ (x : Entry). HasTaken m s c.args.limit c.args.at x.thread (act_of x) new.threads.items new.memory
     new.stage.queue new.stage.started new.stage.ends) here taken
+
+pub returns-in-Ended-clause-made : goal.returns-in-Ended-clause-made
+returns-in-Ended-clause-made g c =
+    subst (λ (e : Entry). IsMadeBy e.event c.args.turn c.args.walk.now.threads.items c.leave.new.walk.threads.items)
+    (sym c.leave.ensures.entry) c.leave.ensures.threads
+
+pub returns-in-Wants-clause-made : goal.returns-in-Wants-clause-made
+returns-in-Wants-clause-made g c =
+    subst (λ (e : Entry). IsMadeBy e.event c.args.turn c.args.walk.now.threads.items c.leave-in-Wants.new.walk.threads.items)
+    (sym c.leave-in-Wants.ensures.entry) c.leave-in-Wants.ensures.threads
+
+pub returns-in-Wants-2-clause-made : goal.returns-in-Wants-2-clause-made
+returns-in-Wants-2-clause-made g c =
+    let r = c.requires in
+    let event = c.in-Wants-2.event in
+    let wants = wants_on g.T.TakesTurns.meaning r.0 c.args.n c.args.turn c.args.walk.now r.1 event c.in-Wants-2.is r.2 in
+    made_plain event c.args.turn c.args.walk.now.threads.items c.make-reply.new.walk.threads.items
+    (goes_on (r.0).program (r.1).thread event (wants.on).here wants.none wants.wants).plain c.in-Wants-2.is

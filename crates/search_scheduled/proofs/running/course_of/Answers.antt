@@ -22,7 +22,8 @@ returns-clause-begun c = λ r h.
       beginning = b.beginning;
       run = b.run;
       same = b.same;
-      came = c.new.ensures.begins b.run b.ready.ready (b.ready.most ∙ h.threads) (b.ready.budget ∙ (h.fuel ∙ c.call.ensures.call.fuel_is)) (b.ready.limit ∙ h.limit);
+      came = c.new.ensures.begins b.run b.ready.ready (b.ready.most ∙ h.threads) (b.ready.budget ∙ (h.fuel ∙ c.call.ensures.call.fuel_is))
+          (b.ready.limit ∙ h.limit);
       log = c.new.ensures.log;
       most = b.ready.most;
       budget = b.ready.budget;

@@ -14,6 +14,7 @@ use Rattle.replay_rules.specs.Recorded.{IsRecordedRun}
 use Rattle.replay.proofs.Same.{same_start}
 use Rattle.spawn_host.specs.Requests.{Requested}
 use Rattle.search_scheduled.specs.Headers.{IsOfRequest, HasHeaderOf}
+use Rattle.search_scheduled.specs.Heard.IsHeard.{here}
 use Rattle.search_scheduled.specs.Led.{IsOver}
 use Rattle.search_scheduled.specs.Courses.{StaysOnItsRuns}
 use Rattle.search_scheduled.specs.SpareThreads.{HasBegunFor}
@@ -164,3 +165,14 @@ returns-in-Err-clause-no_end g c = λ same.
         });
       });
     }
+
+pub returns-in-Ok-clause-heard : goal.returns-in-Ok-clause-heard
+returns-in-Ok-clause-heard g c = record {
+  first = c.in_ok-course.course;
+  begun = c.in_ok-course.ensures.begun;
+  none = c.new-heard.result;
+  empty = c.new-heard.ensures.none;
+  last = c.go.new.self;
+  is_heard = c.in_ok-go.ensures.ear c.in_ok-course.course c.new-heard.result here;
+  log = ap (λ (r : RecordParts). r.log) c.in-Ok.ensures.ok.0 ∙ c.in_ok-parts.ensures.log;
+}

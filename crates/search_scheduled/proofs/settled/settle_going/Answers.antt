@@ -1,5 +1,6 @@
-use Rattle.std.proofs.Common.{◌∙◌}
+use Rattle.std.proofs.Common.{List, ◌∙◌, sym, subst}
 use Rattle.std.proofs.lemmas.List.{take_at}
+use Rattle.replay_walk.specs.Standing.{SettlesThread}
 use Rattle.replay_walk.proofs.Settled.{within, ready, settled}
 use Rattle.search_scheduled.proofs.Settling.{settles_on}
 use Rattle.search_scheduled.proofs.settled.settle_going.Goals as goal
@@ -32,3 +33,12 @@ returns-in-Some-clause-settled g c = λ s st.
 
 pub returns-then-not-is_going-clause-gone : goal.returns-then-not-is_going-clause-gone
 returns-then-not-is_going-clause-gone g c = λ same. c.is_going.ensures.gone c.if-not-is_going.true
+
+pub returns-in-Some-clause-settles : goal.returns-in-Some-clause-settles
+returns-in-Some-clause-settles g c =
+    let m = g.T.TakesTurns.meaning in
+    let w = c.args.walk.now in
+    let whole = take_at c.settle_at.new.threads _ w.threads.len (c.settle_at.ensures.count ∙ c.deref_mut.ensures.len) in
+    subst (λ (l : List g.row.T.Denot). SettlesThread m w.threads.items c.args.n c.in-Some.turn l) (sym whole)
+    (subst (λ (l : List g.row.T.Denot). SettlesThread m l c.args.n c.in-Some.turn c.settle_at.new.threads) c.deref_mut.ensures.value
+    c.in-Some.ensures.settled)

@@ -20,7 +20,7 @@ put_next-requires-clause-at g c =
       of.0,
       thread-at (g.M.Moves.threads c.args.system.now) t c.args.shared c.args.threads.now of.0
           (row-grows c.args.met.now.parts t so.grows (c.args.shared ∷ c.args.threads.now) of.0.shared of.0.threads.items of.1) of.2 c.loop-n.n
-          c.number_at-thread.result c.number_at-thread.ensures,
+          c.part_at-thread.result c.part_at-thread.ensures,
     )
 
 pub loop-n-preserved : goal.loop-n-preserved
@@ -35,7 +35,7 @@ loop-n-preserved g c =
       next = λ flat of at. put.next c.if-not-branch.false flat
           (thread-at k t c.args.shared c.args.threads.now flat
           (row-grows c.args.met.now.parts t so.grows (c.args.shared ∷ c.args.threads.now) flat.shared flat.threads.items of) at c.loop-n.n
-          c.number_at-thread.result c.number_at-thread.ensures) (so.next flat of at);
+          c.part_at-thread.result c.part_at-thread.ensures) (so.next flat of at);
     }
 
 pub returns-then-not-branch-clause-gives_up : goal.returns-then-not-branch-clause-gives_up
@@ -45,7 +45,7 @@ returns-then-not-branch-clause-gives_up g c _ flat of at =
     c.in_ok-put_next.ensures.gives_up c.if-not-branch.true flat
     (thread-at (g.M.Moves.threads c.args.system.now) t c.args.shared c.args.threads.now flat
     (row-grows c.args.met.now.parts t so.grows (c.args.shared ∷ c.args.threads.now) flat.shared flat.threads.items of) at c.loop-n.n
-    c.number_at-thread.result c.number_at-thread.ensures)
+    c.part_at-thread.result c.part_at-thread.ensures)
 
 pub returns-clause-next : goal.returns-clause-next
 returns-clause-next g c flat of at =

@@ -41,4 +41,5 @@ returns-in-None-clause-rests g c =
 pub returns-in-None-clause-gives_up : goal.returns-in-None-clause-gives_up
 returns-in-None-clause-gives_up g c =
     begun-not (g.M.Moves.threads c.args.system.now)
-    (g.M.Moves.stuck c.args.system.now) c.args.made.now c.args.n c.args.threads.now c.args.m c.in-None.ensures.lookup.3 c.first_after.result c.first_after.ensures.gives_up
+    (g.M.Moves.stuck c.args.system.now) c.args.made.now c.args.n c.args.threads.now c.args.m c.in-None.ensures.lookup.3 c.first_after.result
+    c.first_after.ensures.gives_up

@@ -21,7 +21,8 @@ pub thread_after-requires-clause-few : goal.thread_after-requires-clause-few
 thread_after-requires-clause-few g c =
     let move = c.requires.2 in
     let count = c.started-count.ensures ((g.M.Moves.threads c.args.system.now).system.after c.requires.0.shared c.args.n c.requires.1) move.shared in
-    let few = after-few (g.M.Moves.threads c.args.system.now) (g.met.M.Moves.bounded c.args.system.now) c.requires.0 c.args.n c.requires.1 c.args.made.now move.made_by in
+    let few = after-few (g.M.Moves.threads c.args.system.now) (g.met.M.Moves.bounded c.args.system.now) c.requires.0 c.args.n c.requires.1 c.args.made.now
+    move.made_by in
     omega (arith, count, few)
 
 pub loop-m-preserved : goal.loop-m-preserved

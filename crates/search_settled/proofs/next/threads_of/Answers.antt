@@ -12,12 +12,12 @@ loop-n-preserved g c =
     let numbers = c.args.numbers.now in
     let pushed = c.in_ok-push.ensures.items ∙ ap (λ x. c.loop-n.all.items ++ x ∷ []) c.in_ok-share.ensures in
     subst (Read t numbers (c.loop-n.n + 1)) (sym pushed)
-    (read-more t numbers c.loop-n.n c.number_at-number.result c.loop-n.all.items c.in-Some.thread.now c.number_at-number.ensures
+    (read-more t numbers c.loop-n.n c.part_at-number.result c.loop-n.all.items c.in-Some.thread.now c.part_at-number.ensures
     (sym c.in-Some.ensures.key) c.loop-n.invariant)
 
 pub loop-n-preserved-in_default : goal.loop-n-preserved-in_default
 loop-n-preserved-in_default g c =
-    read-none c.args.parts.now c.args.numbers.now c.loop-n.n c.number_at-number.result c.loop-n.all.items c.number_at-number.ensures
+    read-none c.args.parts.now c.args.numbers.now c.loop-n.n c.part_at-number.result c.loop-n.all.items c.part_at-number.ensures
     (sym c.in_default.ensures.key) c.loop-n.invariant
 
 pub returns : goal.returns

@@ -1,6 +1,6 @@
 use Rattle.std.proofs.Common.{refl, sym, ◌∙◌}
 use Rattle.search_settled.specs.Known.{IsTurn}
-use Rattle.search_settled.specs.declared.met.Turn.TheVariants.{Still, Alone}
+use Rattle.search_settled.specs.declared.met.QuietTurn.TheVariants.{Still, Alone}
 use Rattle.search_settled.proofs.Threads.{if-some-at}
 use Rattle.search_settled.proofs.Rows.{grows-then}
 use Rattle.search_settled.proofs.Knowing.{of-read, of-numbers, count-low, event-none, event-some, own-before, own-lost, known-grows, alone}
@@ -8,7 +8,8 @@ use Rattle.search_settled.proofs.turns.made_anew.Goals as goal
 
 pub event-requires : goal.event-requires
 event-requires g c =
-    of-read (g.M.Moves.threads c.args.system.now) c.args.met.now.parts c.args.shared c.args.thread c.args.n c.requires.of c.in-Some.old.now c.in-Some-get_index.own.now
+    of-read (g.M.Moves.threads c.args.system.now) c.args.met.now.parts c.args.shared c.args.thread c.args.n c.requires.of c.in-Some.old.now
+    c.in-Some-get_index.own.now
     (sym c.in-Some.ensures.key) (sym c.in-Some-get_index.ensures.key)
 
 pub returns-in_default-2-clause-made : goal.returns-in_default-2-clause-made
@@ -23,7 +24,8 @@ is_quiet-requires g c =
     let k = g.M.Moves.threads c.args.system.now in
     let of = of-read k c.args.met.now.parts c.args.shared c.args.thread c.args.n c.requires.of c.in-Some.old.now c.in-Some-get_index.own.now
     (sym c.in-Some.ensures.key) (sym c.in-Some-get_index.ensures.key) in
-    count-low k (g.met.M.Moves.bounded c.args.system.now) c.in-Some.old.now c.in-Some-get_index.own.now c.args.n of.0 of.1 c.started-count.result c.started-count.ensures
+    count-low k (g.met.M.Moves.bounded c.args.system.now) c.in-Some.old.now c.in-Some-get_index.own.now c.args.n of.0 of.1 c.started-count.result
+    c.started-count.ensures
 
 pub returns-then-not-is_quiet-clause-made : goal.returns-then-not-is_quiet-clause-made
 returns-then-not-is_quiet-clause-made g c =

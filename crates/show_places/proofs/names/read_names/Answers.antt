@@ -28,5 +28,6 @@ returns-in-Err-Malformed c =
     inr (
       c.from_vec-none.ensures ∙ c.new.ensures.items,
       without_vector c.args.bytes.now c.in-Some.section.now (part_of c.in-Some-subsection_of.functions) _ c.in-Some.ensures.some
-          c.in-Some-subsection_of.ensures (rw (c.new-reader.ensures.bounds, c.new-reader.ensures.rest, c.in-Err-Malformed.field-0-is) at c.in-Err-Malformed.ensures.gives),
+          c.in-Some-subsection_of.ensures (rw (c.new-reader.ensures.bounds, c.new-reader.ensures.rest, c.in-Err-Malformed.field-0-is) at
+          c.in-Err-Malformed.ensures.gives),
     )

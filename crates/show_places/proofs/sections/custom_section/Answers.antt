@@ -6,7 +6,8 @@ use Rattle.show_places.proofs.Behind.{found, passed_on, none_left, nothing, shor
 use Rattle.show_places.proofs.sections.custom_section.Goals as goal
 
 pub returns-in_default-clause-none : goal.returns-in_default-clause-none
-returns-in_default-clause-none c contents h = (subst (λ (b : List ℕ). HasNone (IsCustom c.args.name.now) (input c.args.bytes.now) b) (sym c.in_default.ensures.none) (nothing _ _)) h.0 h.1
+returns-in_default-clause-none c contents h = (subst (λ (b : List ℕ). HasNone (IsCustom c.args.name.now) (input c.args.bytes.now) b)
+    (sym c.in_default.ensures.none) (nothing _ _)) h.0 h.1
 
 pub returns-then-eq-clause-some : goal.returns-then-eq-clause-some
 returns-then-eq-clause-some c =

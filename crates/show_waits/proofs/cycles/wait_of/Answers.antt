@@ -1,5 +1,5 @@
 use Rattle.std.proofs.Common.{ℕ, ◌≡◌, Option, None, refl, sym, subst, ◌∙◌, true≢false, rules}
-use Rattle.selection.specs.declared.choice.Span.{Span}
+use Rattle.selection.specs.declared.choice.NumberSpan.{NumberSpan}
 use Rattle.show_waits.specs.Cycles.{IsStopped, IsWait, StandsElsewhere}
 use Rattle.show_waits.proofs.Waiting.{entry_of, no_other, same_stand, same_writer}
 use Rattle.show_waits.proofs.cycles.wait_of.Goals as goal
@@ -43,6 +43,6 @@ returns-else-stands_elsewhere c = λ m w.
     let stand = c.in_ok-stand.stand in
     let last = c.in_ok-at.ensures.found in
     let writer = same_writer log c.args.ends.now c.args.n m w stand c.in_ok-stand.ensures.stands c.in_ok-at.at last in
-    let here = subst (λ (a : Span). StandsElsewhere m log a) (same_stand c.args.n log w.stand stand w.is c.in_ok-stand.ensures.stands) w.elsewhere in
+    let here = subst (λ (a : NumberSpan). StandsElsewhere m log a) (same_stand c.args.n log w.stand stand w.is c.in_ok-stand.ensures.stands) w.elsewhere in
     let there = subst (λ (k : ℕ). StandsElsewhere k log stand.addrs) (writer ∙ sym (entry_of _ _ _ _ last _)) here in
     true≢false (sym (c.stands_elsewhere.ensures.1 there) ∙ c.if-stands_elsewhere.false)

@@ -2,7 +2,8 @@ use Rattle.std.proofs.Common.{◌≡◌, ◌≤◌, length, sym, ◌∙◌, subs
 use Rattle.std.proofs.lemmas.Option.{IfSome_then}
 use Rattle.show_waits.specs.Stands.{IsStand}
 use Rattle.show_waits.specs.declared.stands.Stand.{Stand}
-use Rattle.show_waits.proofs.Standing.{IsSoFar, entry_before, is_before, skips, first, again, ends, over, seen_at_end, of_another, of_no_bytes, of_bytes, of_this}
+use Rattle.show_waits.proofs.Standing.{IsSoFar, entry_before, is_before, skips, first, again, ends, over, seen_at_end}
+use Rattle.show_waits.proofs.Standing.{of_another, of_no_bytes, of_bytes, of_this}
 use Rattle.show_waits.proofs.stands.stand_of.Goals as goal
 
 pub loop-place-init : goal.loop-place-init

@@ -7,7 +7,8 @@ pub returns : goal.returns
 returns g c = record {
   head = c.lead.result;
   parts = c.leave_idle.ensures
-      ∙ ap (λ w. w ++ idle_ends c.args.place.now.gate.now c.args.crew.seats.items) (first_there _ _ c.lead.result c.push_reserved.ensures.items c.requires.empty);
+      ∙ ap (λ w. w ++ idle_ends c.args.place.now.gate.now c.args.crew.seats.items)
+      (first_there _ _ c.lead.result c.push_reserved.ensures.items c.requires.empty);
   ended = c.lead.ensures;
 }
 

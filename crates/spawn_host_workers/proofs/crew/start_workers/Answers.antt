@@ -57,7 +57,8 @@ returns g c =
     let threads = c.loop-seat.threads.rest in
     let i = c.loop-seat.invariant in
     let none = c.in-None.ensures.steps.0 in (
-      so_far_all (IsDuty c.args.place.now.memory.now c.args.place.now.gate.now) (vec_items c.args.threads) (vec_items c.args.seats) (vec_items c.loop-seat.handles)
+      so_far_all (IsDuty c.args.place.now.memory.now c.args.place.now.gate.now) (vec_items c.args.threads) (vec_items c.args.seats)
+          (vec_items c.loop-seat.handles)
           threads.items seats.items i.duties
           (none_of threads.items (sym threads.ok.0 ∙ (i.same ∙ none))) (none_of seats.items (sym seats.ok.0 ∙ none)),
       omega (arith, i.len, none),

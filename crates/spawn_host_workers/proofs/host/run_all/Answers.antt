@@ -105,7 +105,8 @@ returns-in-Ok-run_crew-clause-gated g c =
     c.args.seats.items dealt.first dealt.desk dealt.workers.items c.in-Ok-run_crew.ends.items c.bring_home.result.threads.items
     (record { parts = c.deal-seat.ensures.parts; len = c.deal-seat.ensures.len }) c.requires.names c.requires.new
     c.bring_home.ensures.threads
-    (subst (λ (l : List (WorkerEnd _ _)). Gathers g.G.Gate (map passage_of l) c.args.gate.now c.gather.new.gate) c.as_slice-in-Ok-run_crew.ensures.value c.gather.ensures)
+    (subst (λ (l : List (WorkerEnd _ _)). Gathers g.G.Gate (map passage_of l) c.args.gate.now c.gather.new.gate) c.as_slice-in-Ok-run_crew.ensures.value
+    c.gather.ensures)
     c.in-Ok-run_crew.ensures.ends
 
 pub bring_home-requires-clause-right : goal.bring_home-requires-clause-right

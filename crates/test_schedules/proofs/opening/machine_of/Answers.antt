@@ -39,7 +39,8 @@ returns-then-not-starts_threads c =
       takes = f.takes;
       worker = worker;
       calls = λ starts. absurd (cc (c.if-not-starts_threads.ensures.1 starts));
-      at = at_start meaning_in m c.args.call.fuel c.new-then-not-starts_threads.result worker f.takes.func_type f.takes.body c.args.call.args.now c.in_ok-memory.memory
+      at = at_start meaning_in m c.args.call.fuel c.new-then-not-starts_threads.result worker f.takes.func_type f.takes.body c.args.call.args.now
+          c.in_ok-memory.memory
           (opened_is m c.in_ok-memory.memory _ _ c.in_ok-memory.ensures.opened (c.deref.ensures.value ∙ c.in_ok-image.ensures) c.pages_max.ensures)
           (c.new-then-not-starts_threads.ensures s main are (λ starts. absurd (cc (c.if-not-starts_threads.ensures.1 starts))));
     }

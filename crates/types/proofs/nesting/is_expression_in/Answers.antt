@@ -1,4 +1,5 @@
-use Rattle.std.proofs.Common.{◌≡◌, ℕ, ◌+◌, ◌<◌, List, ◌∷◌, length, drop, get_or, suc, Bool, Option, Some, None, if◌then◌else◌, nat_eq, sym, ap, ◌∙◌, add-one, drop-cons}
+use Rattle.std.proofs.Common.{◌≡◌, ℕ, ◌+◌, ◌<◌, List, ◌∷◌, length, drop, get_or, suc, Bool, Option, Some, None}
+use Rattle.std.proofs.Common.{if◌then◌else◌, nat_eq, sym, ap, ◌∙◌, add-one, drop-cons}
 use Rattle.std.proofs.Math.ListN.{drop_of_length-le}
 use Rattle.types.specs.declared.instr.Instr.{Instr}
 use Rattle.types.specs.Tests.{closes, opens_behind}

@@ -42,7 +42,8 @@ returns-in_err-take_result c =
 pub returns-in_err-put_result : goal.returns-in_err-put_result
 returns-in_err-put_result c =
     at_exit _ _ _ _ c.from_residual-in_err-put_result.ensures.1
-    (refused_memory (context_of c.args.scope.now) (labels_at c.args.block.now c.args.outer.now) (plain.BrIf c.args.index) c.args.block.now _ c.in_err-put_result.ensures)
+    (refused_memory (context_of c.args.scope.now) (labels_at c.args.block.now c.args.outer.now) (plain.BrIf c.args.index) c.args.block.now _
+    c.in_err-put_result.ensures)
 
 pub returns : goal.returns
 returns c =

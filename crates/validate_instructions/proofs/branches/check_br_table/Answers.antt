@@ -19,7 +19,8 @@ returns-in_err-default c =
     let labels = labels_at c.args.block.now c.args.outer.now in
     let none = types_none labels c.args.default_index c.in_err-default.ensures.1 in
     at_exit _ _ _ _ c.from_residual.ensures.1
-    (refused_missing (context_of c.args.scope.now) labels (plain.BrTable c.args.default_index c.args.indices.now) c.args.block.now _ UnknownLabel c.in_err-default.ensures.0
+    (refused_missing (context_of c.args.scope.now) labels (plain.BrTable c.args.default_index c.args.indices.now) c.args.block.now _ UnknownLabel
+    c.in_err-default.ensures.0
     (no_default_kind (types_of labels) c.args.indices.now c.args.default_index none)
     (λ ts us x. never_found _ x.0 none (all_end (Carry labels x.0) c.args.indices.now c.args.default_index x.1)))
 
@@ -32,7 +33,8 @@ returns-in_err-need_labels c =
     let found = types_at labels c.args.default_index (as_label l) c.in_ok-default.ensures in
     let lost : are_labels (types_of labels) ks ≡ false = rw c.as_slice-indices.ensures at c.in_err-need_labels.ensures.1 in
     at_exit _ _ _ _ c.from_residual-in_err-need_labels.ensures.1
-    (refused_missing (context_of c.args.scope.now) labels (plain.BrTable c.args.default_index c.args.indices.now) c.args.block.now _ UnknownLabel c.in_err-need_labels.ensures.0
+    (refused_missing (context_of c.args.scope.now) labels (plain.BrTable c.args.default_index c.args.indices.now) c.args.block.now _ UnknownLabel
+    c.in_err-need_labels.ensures.0
     (no_label_kind (types_of labels) ks c.args.default_index carried found lost)
     (λ ts us x.
     let never : true ≡ false = sym (all_there (types_of labels) x.0 ks (all_front (Carry labels x.0) ks c.args.default_index x.1)) ∙ lost in

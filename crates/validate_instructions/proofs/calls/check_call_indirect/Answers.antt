@@ -26,7 +26,8 @@ returns-in_err-take_one c =
     (λ labels. refused_cant (context_of c.args.scope.now) labels (plain.CallIndirect c.args.index)
     (I32 ∷ reverse c.in_ok-func_type.func_type.now.params) c.args.block.now _
     (rw (c.in_ok-need_table.ensures.1, c.in_ok-func_type.ensures) refl)
-    (λ ts us x. on_top (I32 ∷ reverse c.in_ok-func_type.func_type.now.params) _ ts us (called (context_of c.args.scope.now) (I32 ∷ []) c.args.index _ ts us c.in_ok-func_type.ensures x.2))
+    (λ ts us x. on_top (I32 ∷ reverse c.in_ok-func_type.func_type.now.params) _ ts us
+    (called (context_of c.args.scope.now) (I32 ∷ []) c.args.index _ ts us c.in_ok-func_type.ensures x.2))
     (cant_more (I32 ∷ []) (reverse c.in_ok-func_type.func_type.now.params) c.args.block.now _ c.in_err-take_one.ensures))
 
 pub returns : goal.returns

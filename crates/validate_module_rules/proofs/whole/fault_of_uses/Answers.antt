@@ -8,4 +8,5 @@ returns c =
     let to_elements = in_order c.or.result _ _ _ _ c.or-2.ensures to_data in
     let all = in_order c.fault_of_exports.result _ _ _ _ c.or.ensures to_elements in
     let start = start_is c.args.parts.now.start c.is_none.result _ c.is_none.ensures c.unless.ensures in
-    all ∙ both_are c.fault_of_exports.ensures (both_are start (both_are c.fault_of_elements.ensures (both_are c.fault_of_data.ensures c.fault_of_threads.ensures)))
+    all ∙ both_are c.fault_of_exports.ensures
+    (both_are start (both_are c.fault_of_elements.ensures (both_are c.fault_of_data.ensures c.fault_of_threads.ensures)))

@@ -24,13 +24,16 @@ returns-in-Done-clause-step g c =
 
 pub returns-in-Done-clause-asked : goal.returns-in-Done-clause-asked
 returns-in-Done-clause-asked g c =
-    asks_with _ _ _ _ _ c.args.question _ _ c.requires.turn.right c.requires.turn.beside c.requires.free _ 0 (λ m. done_reply m c.args.question) c.in-Done.ensures.outcome
+    asks_with _ _ _ _ _ c.args.question _ _ c.requires.turn.right c.requires.turn.beside c.requires.free _ 0 (λ m. done_reply m c.args.question)
+    c.in-Done.ensures.outcome
 
 pub returns-in-OutOfBounds-clause-asked : goal.returns-in-OutOfBounds-clause-asked
-returns-in-OutOfBounds-clause-asked g c = asks_outside _ _ _ _ _ _ _ _ c.requires.turn.right c.requires.turn.beside c.requires.free c.in-OutOfBounds.ensures.outcome
+returns-in-OutOfBounds-clause-asked g c = asks_outside _ _ _ _ _ _ _ _ c.requires.turn.right c.requires.turn.beside c.requires.free
+    c.in-OutOfBounds.ensures.outcome
 
 pub returns-in-Full-clause-full : goal.returns-in-Full-clause-full
-returns-in-Full-clause-full g c = asks_refused _ _ _ _ _ c.args.question _ _ c.requires.turn.right c.requires.turn.beside c.requires.free c.in-Full.ensures.outcome
+returns-in-Full-clause-full g c = asks_refused _ _ _ _ _ c.args.question _ _ c.requires.turn.right c.requires.turn.beside c.requires.free
+    c.in-Full.ensures.outcome
 
 pub access-requires-clause-event : goal.access-requires-clause-event
 access-requires-clause-event g c = c.requires.question

@@ -9,7 +9,8 @@ returns-then-entered-clause-asked g c =
     let step = rw c.in-Some.is at (c.in_ok-entered.ensures.step) in
     let asleep = rw c.in-Some.is at (c.in_ok-entered.ensures.asleep) in
     let asked = rw c.in-Some.is at (c.in_ok-entered.ensures.asked) in
-    puts_asleep _ _ c.args.queue.now c.ask.new.queue _ c.args.question c.in-Some.entered.loaded _ _ c.requires.free (sound_beside _ _ c.requires.turn.beside) step
+    puts_asleep _ _ c.args.queue.now c.ask.new.queue _ c.args.question c.in-Some.entered.loaded _ _ c.requires.free
+    (sound_beside _ _ c.requires.turn.beside) step
     (c.in_ok-entered.ensures.turn.beside) asked (sym asleep ∙ c.if-entered.true)
 
 pub hear-requires-clause-due : goal.hear-requires-clause-due

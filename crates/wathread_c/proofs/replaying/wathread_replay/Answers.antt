@@ -3,7 +3,7 @@ use Rattle.wathread_c.specs.Answers.{Puts}
 use Rattle.wathread_c.specs.Calls.{IsReplayed}
 use Rattle.wathread_c.specs.Calls.IsReplayed.{ran, refused}
 use Rattle.wathread_c.specs.Lines.{IsRefusalText, IsRunText}
-use Rattle.wathread_c.specs.declared.answer.Answer.{Answer}
+use Rattle.wathread_c.specs.declared.answer.CallAnswer.{CallAnswer}
 use Rattle.wathread_c.proofs.Told.{may_tell, weaker, keeps_bytes}
 use Rattle.wathread_c.proofs.replaying.wathread_replay.Goals as goal
 
@@ -14,7 +14,7 @@ returns-in-Ok c =
     let kept = keeps_bytes c.run_line.result _ _ _ _ _ c.tell.ensures in
     record {
       told = weaker says (IsReplayed c.args.module.now c.args.record.now) (λ s l text. ran end c.in-Ok.ensures.run text) _ _ _ _
-          (may_tell says c.run_line.result c.run_line.ensures _ _ _ _ _ (ap (λ (a : Answer). a.text) c.none.ensures) c.tell.ensures);
+          (may_tell says c.run_line.result c.run_line.ensures _ _ _ _ _ (ap (λ (a : CallAnswer). a.text) c.none.ensures) c.tell.ensures);
       memory_is = inr (record {
         end = end;
         run = c.in-Ok.ensures.run;

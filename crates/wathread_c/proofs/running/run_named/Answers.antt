@@ -5,7 +5,7 @@ use Rattle.host_calls.specs.declared.plan.Plan.{Plan}
 use Rattle.wathread_c.specs.Calls.{KeepsWhole}
 use Rattle.wathread_c.specs.Calls.RunsNamed.{fails, ran, refused}
 use Rattle.wathread_c.specs.Given.{values_by}
-use Rattle.wathread_c.specs.declared.answer.Answer.{Answer}
+use Rattle.wathread_c.specs.declared.answer.CallAnswer.{CallAnswer}
 use Rattle.wathread_c.proofs.running.run_named.Goals as goal
 
 pub returns-in-Ok-run_of : goal.returns-in-Ok-run_of
@@ -17,7 +17,7 @@ returns-in-Ok-run_of c =
     (c.deref.ensures.value ∙ c.in-Ok.ensures) c.in-Ok-run_of.ensures.run) in
     elim c.keep.ensures [
       | inl f ↦ fails (record { five = f.five; kept = f.kept; answer_is = f.answer_is ∙ c.requires })
-      | inr k ↦ ran made run (subst (λ (a : Answer). KeepsWhole made a c.args.record.now c.keep.new.record c.keep.new.answer c.keep.result) c.requires k)
+      | inr k ↦ ran made run (subst (λ (a : CallAnswer). KeepsWhole made a c.args.record.now c.keep.new.record c.keep.new.answer c.keep.result) c.requires k)
     ]
 
 pub returns : goal.returns

@@ -4,7 +4,7 @@ use Rattle.host_calls.specs.Hosts.{HasEndings, IsCallFaultOf}
 use Rattle.wathread_c.specs.Calls.{IsSearched}
 use Rattle.wathread_c.specs.Calls.IsSearched.{met, refused}
 use Rattle.wathread_c.specs.Lines.{IsRefusalText, IsSearchText}
-use Rattle.wathread_c.specs.declared.answer.Answer.{Answer}
+use Rattle.wathread_c.specs.declared.answer.CallAnswer.{CallAnswer}
 use Rattle.wathread_c.proofs.Told.{may_tell, weaker}
 use Rattle.wathread_c.proofs.searching.search_named.Goals as goal
 
@@ -18,7 +18,7 @@ returns-in-Ok-endings_of c =
     let says = IsSearchText all o.states in
     weaker says (IsSearched c.args.module.now c.args.name.now c.args.args.now o) (λ s l text. met all found text) _ _ _ _
     (may_tell says c.search_line.result c.search_line.ensures _ _ _ _ _
-    (ap (λ (a : Answer). a.text) c.requires) c.tell.ensures)
+    (ap (λ (a : CallAnswer). a.text) c.requires) c.tell.ensures)
 
 pub returns : goal.returns
 returns c =

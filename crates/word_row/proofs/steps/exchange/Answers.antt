@@ -22,6 +22,7 @@ returns g c =
           (stepped g.B.Naming.table c.caller.inside.place.table_id c.args.row.now.table_id g.B.Naming.opening c.args.row.now.key
           c.caller.inside.name c.caller.inside.place.me c.args.caller.now c.caller.view_is c.caller.invariant c.requires.row
           c.caller.inside.place.id g.M.Making.event c.args.event c.requires.making c.requires.event
-          true (λ e. exchange_answer e c.args.old found) place_of c.word_place-place.result found after c.word_place-place.ensures c.compare_exchange-found.ensures.2)
+          true (λ e. exchange_answer e c.args.old found) place_of c.word_place-place.result found after c.word_place-place.ensures
+          c.compare_exchange-found.ensures.2)
           c.if-found-old.false;
     }

@@ -19,4 +19,5 @@ loop-file-preserved c =
     } in
     map_more names_of c.args.files.now c.loop-file.file-index _ c.loop-file-test.true
     ∙ (ap (λ n. map names_of front ++ (n ∷ [])) (ap names_of (sym c.file-item.is) ∙ (λ j. (sym first j, sym second j)))
-    ∙ (ap (λ z. z ++ (called pushed ∷ [])) c.loop-file.invariant ∙ (sym (map-append called all (pushed ∷ [])) ∙ ap (map called) (sym c.in_ok-push.ensures.items))))
+    ∙ (ap (λ z. z ++ (called pushed ∷ [])) c.loop-file.invariant ∙
+    (sym (map-append called all (pushed ∷ [])) ∙ ap (map called) (sym c.in_ok-push.ensures.items))))

@@ -21,5 +21,6 @@ loop-range-preserved c =
       get_or-map source_of ranges at _ _ inside ∙ sym is,
     ) in (
       c.in_ok-add_source.ensures.few c.loop-range.invariant.0,
-      λ k d within. one (IsSourceIn ranges) c.loop-range.sources.items c.source.result _ c.loop-range.invariant.1 here (c.in_ok-add_source.ensures.known k d within),
+      λ k d within. one (IsSourceIn ranges) c.loop-range.sources.items c.source.result _ c.loop-range.invariant.1 here
+          (c.in_ok-add_source.ensures.known k d within),
     )

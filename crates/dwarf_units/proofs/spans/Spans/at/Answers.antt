@@ -7,7 +7,8 @@ use Rattle.dwarf_units.proofs.spans.Spans.at.Goals.{else-low-items-via-then-low-
 
 pub loop-low-preserved-then-items-middle : goal.loop-low-preserved-then-items-middle
 loop-low-preserved-then-items-middle c =
-    let order : AreInOrder c.as_slice-items.result.now = subst (λ (v : List Spanned). AreInOrder v) (sym c.as_slice-items.ensures.value) c.args.self.now.in_order in
+    let order : AreInOrder c.as_slice-items.result.now = subst (λ (v : List Spanned). AreInOrder v) (sym c.as_slice-items.ensures.value)
+    c.args.self.now.in_order in
     record {
       low_high = omega arith;
       high_end = omega arith;
@@ -17,7 +18,8 @@ loop-low-preserved-then-items-middle c =
 
 pub loop-low-preserved : goal.loop-low-preserved
 loop-low-preserved c =
-    let order : AreInOrder c.as_slice-items.result.now = subst (λ (v : List Spanned). AreInOrder v) (sym c.as_slice-items.ensures.value) c.args.self.now.in_order in
+    let order : AreInOrder c.as_slice-items.result.now = subst (λ (v : List Spanned). AreInOrder v) (sym c.as_slice-items.ensures.value)
+    c.args.self.now.in_order in
     record {
       low_high = omega arith;
       high_end = omega arith;
@@ -33,7 +35,8 @@ returns-then-items-low c =
 
 pub returns : goal.returns
 returns c =
-    let order : AreInOrder c.as_slice-items.result.now = subst (λ (v : List Spanned). AreInOrder v) (sym c.as_slice-items.ensures.value) c.args.self.now.in_order in
+    let order : AreInOrder c.as_slice-items.result.now = subst (λ (v : List Spanned). AreInOrder v) (sym c.as_slice-items.ensures.value)
+    c.args.self.now.in_order in
     let none : Spanned = record { start = 0; end = 0; entry = 0 } in
     rw (← c.as_slice-items.ensures.value)
     (elim c.else-low-items.branch [

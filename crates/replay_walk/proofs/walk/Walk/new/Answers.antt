@@ -13,6 +13,8 @@ returns g c = λ r ready same.
     subst (λ (q : WaitQueue). HasWalked g.T.TakesTurns.meaning r [] c.args.threads.items c.args.memory q
     c.new.result.started c.new.result.ends) (sym c.new.ensures.queue)
     (subst (λ (t : ℕ). HasWalked g.T.TakesTurns.meaning r [] c.args.threads.items c.args.memory (first_queue t) c.new.result.started c.new.result.ends) same
-    (subst (λ (k : ℕ). HasWalked g.T.TakesTurns.meaning r [] c.args.threads.items c.args.memory (first_queue r.threads) k c.new.result.ends) (sym c.new.ensures.started)
-    (subst (λ (l : List (Option Outcome)). HasWalked g.T.TakesTurns.meaning r [] c.args.threads.items c.args.memory (first_queue r.threads) 1 l) (sym c.new.ensures.ends)
+    (subst (λ (k : ℕ). HasWalked g.T.TakesTurns.meaning r [] c.args.threads.items c.args.memory (first_queue r.threads) k c.new.result.ends)
+    (sym c.new.ensures.started)
+    (subst (λ (l : List (Option Outcome)). HasWalked g.T.TakesTurns.meaning r [] c.args.threads.items c.args.memory (first_queue r.threads) 1 l)
+    (sym c.new.ensures.ends)
     (begun g.T.TakesTurns.meaning r c.args.threads.items c.args.memory ready some few))))

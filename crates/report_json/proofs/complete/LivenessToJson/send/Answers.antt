@@ -11,5 +11,8 @@ returns g c =
     let fields = liveness_fields c.args.self.now in
     let len : c.len.result ≡ length c.args.self.now.endless.items = search rules in
     let all : 2 + c.cycles.result ≡ count fields = omega (arith) in
-    on_ok_weaker c.end_map.result (object_sent fields _ _ _ _ _ all c.in_ok-begin_map.ensures
-    (_, same_field (codes "endless") _ _ _ _ (ap number len) c.in_ok-put.ensures, (_, same_field (codes "fair_runs") _ _ _ _ (ap text c.fair_of.ensures) c.in_ok-put-2.ensures, (_, c.in_ok-put_cycle.ensures, refl)))) c.end_map.ensures
+    on_ok_weaker c.end_map.result (object_sent fields _ _ _ _ _ all c.in_ok-begin_map.ensures (
+      _,
+      same_field (codes "endless") _ _ _ _ (ap number len) c.in_ok-put.ensures,
+      (_, same_field (codes "fair_runs") _ _ _ _ (ap text c.fair_of.ensures) c.in_ok-put-2.ensures, (_, c.in_ok-put_cycle.ensures, refl)),
+    )) c.end_map.ensures

@@ -12,5 +12,13 @@ returns g c =
     let n_at = count_given (codes "at") place_json entry_of.row.place [] in
     let fields = entry_fields entry_of in
     let all : 6 + c.given.result ≡ count fields = omega (arith, n_at) in
-    on_ok_weaker c.end_map.result (object_sent fields _ _ _ _ _ all c.in_ok-begin_map.ensures
-    (_, c.in_ok-put.ensures, (_, c.in_ok-put-2.ensures, (_, c.in_ok-put-3.ensures, (_, c.in_ok-put-4.ensures, (_, c.in_ok-put-5.ensures, (_, c.in_ok-put-6.ensures, (_, c.in_ok-put_if.ensures, refl)))))))) c.end_map.ensures
+    on_ok_weaker c.end_map.result (object_sent fields _ _ _ _ _ all c.in_ok-begin_map.ensures (
+      _,
+      c.in_ok-put.ensures,
+      (
+        _,
+        c.in_ok-put-2.ensures,
+        (_, c.in_ok-put-3.ensures, (_, c.in_ok-put-4.ensures, (_, c.in_ok-put-5.ensures, (_, c.in_ok-put-6.ensures, (_, c.in_ok-put_if.ensures, refl))))),
+      ),
+    ))
+    c.end_map.ensures

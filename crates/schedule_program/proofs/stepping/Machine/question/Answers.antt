@@ -61,7 +61,8 @@ ask-requires-clause-threads g c =
     (thread_in m.meaning s old.threads.items w.threads n c.index_mut.result.now c.requires.there at.threads) in
     let same = c.step-reply.ensures.reply ∙ ap (λ x. reply_of x.memory event) (sym at.shared) in
     let value = ap opening_value (sym same) ∙ (sym c.loaded_by.ensures ∙ c.in-Some.is) in
-    let took = subst (λ k. IsThread m.meaning s y (thread_takes (machine_of s.program) (w.threads n) k)) same (c.take.ensures s (w.threads n) is (event, r.3)) in (
+    let took = subst (λ k. IsThread m.meaning s y (thread_takes (machine_of s.program) (w.threads n) k)) same
+    (c.take.ensures s (w.threads n) is (event, r.3)) in (
       s,
       asking.asking m.meaning s w n c.args.question v old y at r.3 c.requires.there value,
       asking.are_asking m.meaning s w n c.args.question v old y at r.3 c.requires.there value took,
@@ -81,7 +82,8 @@ returns-in-Some-clause-state g c s w at calls =
     (thread_in m.meaning s old.threads.items w.threads n c.index_mut.result.now c.requires.there at.threads) in
     let same = c.step-reply.ensures.reply ∙ ap (λ x. reply_of x.memory event) (sym at.shared) in
     let value = ap opening_value (sym same) ∙ (sym c.loaded_by.ensures ∙ c.in-Some.is) in
-    let took = subst (λ k. IsThread m.meaning s y (thread_takes (machine_of s.program) (w.threads n) k)) same (c.take.ensures s (w.threads n) is (event, calls)) in
+    let took = subst (λ k. IsThread m.meaning s y (thread_takes (machine_of s.program) (w.threads n) k)) same
+    (c.take.ensures s (w.threads n) is (event, calls)) in
     let f = asking.asking m.meaning s w n c.args.question v old y at calls c.requires.there value in
     let are = asking.are_asking m.meaning s w n c.args.question v old y at calls c.requires.there value took in
     let may = asking.may m.meaning s w n c.args.question v old y at calls c.requires.there value in
@@ -104,7 +106,8 @@ returns-in_default-clause-state g c s w at calls =
     let is = subst (λ z. IsThread m.meaning s z (w.threads n)) (sym c.index_mut.ensures.value)
     (thread_in m.meaning s old.threads.items w.threads n c.index_mut.result.now c.requires.there at.threads) in
     let same = c.step-reply.ensures.reply ∙ ap (λ x. reply_of x.memory event) (sym at.shared) in
-    let took = subst (λ k. IsThread m.meaning s y (thread_takes (machine_of s.program) (w.threads n) k)) same (c.take.ensures s (w.threads n) is (event, calls)) in
+    let took = subst (λ k. IsThread m.meaning s y (thread_takes (machine_of s.program) (w.threads n) k)) same
+    (c.take.ensures s (w.threads n) is (event, calls)) in
     let none : opening_value (reply_of w.shared.memory event) ≡ None = ap opening_value (sym same)
     ∙ (sym c.loaded_by.ensures ∙ none_of c.loaded_by.result c.in_default.not-Some) in
     let out : reply_of w.shared.memory event ≡ OutOfBounds = refused (reply_of w.shared.memory event) (memory_made w.shared.memory event) none in

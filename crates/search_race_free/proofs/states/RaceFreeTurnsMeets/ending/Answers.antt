@@ -12,7 +12,8 @@ pub returns-in_default : goal.returns-in_default
 returns-in_default g c ks s has there is =
     let m = c.args.self.now.system.now in
     let t = c.args.tables.now in
-    absurd (met-row (g.M.Moves.threads m) (g.M.Moves.ends m) (g.M.Moves.stuck m) t.met c.args.at (owning-at (g.M.Moves.threads m) (g.M.Moves.ends m) (g.M.Moves.stuck m) t c.args.at c.requires) (sym c.in_default.ensures))
+    absurd (met-row (g.M.Moves.threads m) (g.M.Moves.ends m) (g.M.Moves.stuck m) t.met c.args.at
+    (owning-at (g.M.Moves.threads m) (g.M.Moves.ends m) (g.M.Moves.stuck m) t c.args.at c.requires) (sym c.in_default.ensures))
 
 pub row-requires : goal.row-requires
 row-requires g c = let met = c.requires in (met.2.owning).table
@@ -21,7 +22,8 @@ pub returns-in_default-split_first : goal.returns-in_default-split_first
 returns-in_default-split_first g c ks s has there is =
     let m = c.args.self.now.system.now in
     let t = c.args.tables.now in
-    let some = row-met (g.M.Moves.threads m) (g.M.Moves.ends m) (g.M.Moves.stuck m) t.met c.args.at (owning-at (g.M.Moves.threads m) (g.M.Moves.ends m) (g.M.Moves.stuck m) t c.args.at c.requires) c.in-Some.row.now
+    let some = row-met (g.M.Moves.threads m) (g.M.Moves.ends m) (g.M.Moves.stuck m) t.met c.args.at
+    (owning-at (g.M.Moves.threads m) (g.M.Moves.ends m) (g.M.Moves.stuck m) t c.args.at c.requires) c.in-Some.row.now
     (sym c.in-Some.ensures) in
     absurd (some-number t.met.parts c.in-Some.row.now (held some.0) some.1 c.in_default-split_first.ensures.cases)
 
@@ -29,7 +31,8 @@ pub returns-in_default-get_index : goal.returns-in_default-get_index
 returns-in_default-get_index g c ks s has there is =
     let m = c.args.self.now.system.now in
     let t = c.args.tables.now in
-    let some = row-met (g.M.Moves.threads m) (g.M.Moves.ends m) (g.M.Moves.stuck m) t.met c.args.at (owning-at (g.M.Moves.threads m) (g.M.Moves.ends m) (g.M.Moves.stuck m) t c.args.at c.requires)
+    let some = row-met (g.M.Moves.threads m) (g.M.Moves.ends m) (g.M.Moves.stuck m) t.met c.args.at
+    (owning-at (g.M.Moves.threads m) (g.M.Moves.ends m) (g.M.Moves.stuck m) t c.args.at c.requires)
     (c.in-Some-split_first.number.now ∷ c.in-Some-split_first.numbers.now)
     (sym c.in-Some.ensures ∙ ap (λ l. Some l) c.in-Some-split_first.ensures.cases.0) in
     let of = some.1 in
@@ -39,7 +42,8 @@ pub ending-requires : goal.ending-requires
 ending-requires g c =
     let m = c.args.self.now.system.now in
     let t = c.args.tables.now in
-    let some = row-met (g.M.Moves.threads m) (g.M.Moves.ends m) (g.M.Moves.stuck m) t.met c.args.at (owning-at (g.M.Moves.threads m) (g.M.Moves.ends m) (g.M.Moves.stuck m) t c.args.at c.requires)
+    let some = row-met (g.M.Moves.threads m) (g.M.Moves.ends m) (g.M.Moves.stuck m) t.met c.args.at
+    (owning-at (g.M.Moves.threads m) (g.M.Moves.ends m) (g.M.Moves.stuck m) t c.args.at c.requires)
     (c.in-Some-split_first.number.now ∷ c.in-Some-split_first.numbers.now)
     (sym c.in-Some.ensures ∙ ap (λ l. Some l) c.in-Some-split_first.ensures.cases.0) in
     let s = some.0 in
@@ -56,7 +60,8 @@ returns g c =
     let m = c.args.self.now.system.now in
     let t = c.args.tables.now in
     IfOk-weaker c.ending.result _ _
-    (λ o ended ks s has. ended-at (g.M.Moves.threads m) (g.M.Moves.ends m) (g.M.Moves.stuck m) (g.met.M.Moves.tame m) (g.met.M.Accesses.plain m) (g.met.M.Accesses.beyond m)
+    (λ o ended ks s has. ended-at (g.M.Moves.threads m) (g.M.Moves.ends m) (g.M.Moves.stuck m) (g.met.M.Moves.tame m) (g.met.M.Accesses.plain m)
+    (g.met.M.Accesses.beyond m)
     (g.met.M.Accesses.finished m) t.met c.args.at c.in-Some-split_first.number.now c.in-Some-split_first.numbers.now
     (sym c.in-Some.ensures ∙ ap (λ l. Some l) c.in-Some-split_first.ensures.cases.0)
     c.in-Some-get_index.held.now (sym c.in-Some-get_index.ensures.key) c.as_slice.result.now

@@ -1,6 +1,6 @@
 use Rattle.std.proofs.Common.{subst, ap, ◌∙◌}
 use Rattle.search_table.specs.Tables.{states_of, with_row}
-use Rattle.search_race_free.specs.declared.met.Table.{Table}
+use Rattle.search_race_free.specs.declared.met.StateTable.{StateTable}
 use Rattle.search_race_free.specs.Same.{owning_alike}
 use Rattle.search_race_free.specs.Search.{IsCameFirst}
 use Rattle.search_race_free.proofs.Beginning.{begun-first, race-first, stuck-first}
@@ -18,11 +18,12 @@ returns-in_ok-put-in-To-clause-first g c _ =
     let row = c.in_ok-row-in-To.ensures in
     let put = c.in_ok-put-in-To.ensures in
     let t = c.args.tables.now in
-    let met : Table g.row.M-Shared.Denot g.row.M-Thread.Denot = record { parts = c.held_row.new.parts; states = c.put.new.self } in
+    let met : StateTable g.row.M-Shared.Denot g.row.M-Thread.Denot = record { parts = c.held_row.new.parts; states = c.put.new.self } in
     first-ahead k (g.M.Moves.ends m) (g.M.Moves.stuck m) (record { met = met; ahead = t.ahead })
     (none-yet k (g.M.Moves.ends m) (g.M.Moves.stuck m) t c.requires)
     (first-put k (g.M.Moves.ends m) (g.M.Moves.stuck m) g.M.Shared.PartialEq.eq g.M.Thread.PartialEq.eq
-    (owning_alike g.M.Shared.PartialEq.eq g.M.Thread.PartialEq.eq g.met.M.Shared.Eq.laws g.met.M.Thread.Eq.laws k (g.met.M.Moves.same_shared m) (g.met.M.Moves.same_thread m))
+    (owning_alike g.M.Shared.PartialEq.eq g.M.Thread.PartialEq.eq g.met.M.Shared.Eq.laws g.met.M.Thread.Eq.laws k (g.met.M.Moves.same_shared m)
+    (g.met.M.Moves.same_thread m))
     t.met met c.requires.owning put.are c.in_ok-row-in-To.row.items
     (put.states ∙ ap (with_row (states_of t.met.states)) c.as_slice.ensures.value) c.in-To.state
     (begun-first k (g.met.M.Moves.tame m) (g.met.M.Accesses.plain m) (g.M.Moves.ends m) (g.M.Moves.stuck m) c.in-To.state

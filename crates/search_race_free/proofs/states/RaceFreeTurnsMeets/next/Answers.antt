@@ -3,7 +3,7 @@ use Rattle.std.specs.Prelude.{Some}
 use Rattle.search_table.specs.Tables.{AreStates, Grows}
 use Rattle.search_settled.specs.Known.{PutsRows}
 use Rattle.search_race_free.specs.Reduced.{HasReduced}
-use Rattle.search_race_free.specs.declared.met.Table.{Table}
+use Rattle.search_race_free.specs.declared.met.StateTable.{StateTable}
 use Rattle.search_race_free.specs.Same.{owning_alike}
 use Rattle.search_race_free.specs.Search.{IsCame}
 use Rattle.search_race_free.specs.Met.{held_eq, HasOwning}
@@ -45,17 +45,19 @@ returns-in_ok-put_rows-in-To-clause-next g c _ =
     let put = c.in_ok-put_rows-in-To.ensures in
     let parts = c.held_rows.new.parts in
     let states = c.put_rows.new.states in
-    let met : Table g.row.M-Shared.Denot g.row.M-Thread.Denot = record { parts = parts; states = states } in
+    let met : StateTable g.row.M-Shared.Denot g.row.M-Thread.Denot = record { parts = parts; states = states } in
     let grows = subst (λ w. Grows w.parts parts) made.met rows.grows in
     goes-ahead k (g.M.Moves.ends m) (g.M.Moves.stuck m) eq_shared eq_thread t (record { met = met; ahead = c.came.new.tables.ahead }) c.args.at
     c.args.moves.now.items c.put_rows.new.moves.items grows made.ahead
     (next-put k (g.M.Moves.ends m) (g.M.Moves.stuck m) eq_shared eq_thread
     (owning_alike eq_shared eq_thread g.met.M.Shared.Eq.laws g.met.M.Thread.Eq.laws k (g.met.M.Moves.same_shared m) (g.met.M.Moves.same_thread m))
     t.met met c.args.at (Some came.copy) came.of came.copy refl c.in-To.next.items
-    (next-are k (g.M.Moves.ends m) (g.M.Moves.stuck m) (g.met.M.Moves.tame m) (g.met.M.Accesses.plain m) (g.met.M.Accesses.beyond m) came.copy c.in-To.next.items
+    (next-are k (g.M.Moves.ends m) (g.M.Moves.stuck m) (g.met.M.Moves.tame m) (g.met.M.Accesses.plain m) (g.met.M.Accesses.beyond m) came.copy
+    c.in-To.next.items
     (subst (IsCame k (g.M.Moves.stuck m) came.copy.flat (λ v. HasReduced k came.copy v.items)) c.in-To.is came.is))
     grows put.are c.in_ok-rows-in-To.rows.items rows.rows c.args.moves.now.items c.put_rows.new.moves.items
-    (subst (λ w. PutsRows (held_eq eq_shared) eq_thread parts w.states states c.args.at c.in_ok-rows-in-To.rows.items c.args.moves.now.items c.put_rows.new.moves.items)
+    (subst (λ w. PutsRows (held_eq eq_shared) eq_thread parts w.states states c.args.at c.in_ok-rows-in-To.rows.items c.args.moves.now.items
+    c.put_rows.new.moves.items)
     made.met put.puts))
 
 pub returns-in-Races-clause-none : goal.returns-in-Races-clause-none

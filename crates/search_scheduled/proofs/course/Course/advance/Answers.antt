@@ -14,3 +14,6 @@ pub returns-in_err-entry-clause-none : goal.returns-in_err-entry-clause-none
 returns-in_err-entry-clause-none g c =
     let p = err_from_is_err_and c.from_residual.result c.from_residual.ensures.1 in
     rw (p.1, p.2) (λ same may. c.in_err-entry.ensures.none same may)
+
+pub returns-in_ok-hear_all-clause-ear : goal.returns-in_ok-hear_all-clause-ear
+returns-in_ok-hear_all-clause-ear g c = λ first v h. c.in_ok-hear_all.ensures.ear first v (c.in_ok-entry.ensures.ear first v h)

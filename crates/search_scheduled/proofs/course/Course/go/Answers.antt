@@ -9,7 +9,7 @@ use Rattle.search_scheduled.proofs.Ready.{none_ready}
 use Rattle.search_scheduled.proofs.course.Course.go.Goals as goal
 
 pub loop-init : goal.loop-init
-loop-init g c = (λ r came. came, here, omega arith)
+loop-init g c = (λ r came. came, here, omega arith, λ first v h. h)
 
 pub advance-requires : goal.advance-requires
 advance-requires g c = (c.requires.0, c.loop.invariant.0 c.requires.0 c.requires.1)
@@ -36,6 +36,7 @@ loop-preserved g c =
       λ r came. goes.runs r (inv.0 r came),
       on c.loop.self c.loop.strategy c.advance.new.self c.hear.new.self inv.1 named,
       omega (arith, inv.2, longer m _ e c.loop.self c.advance.new.self goes),
+      λ first v h. c.in_ok-entry.ensures.ear first v (inv.3 first v h),
     )
 
 pub returns-in_default-clause-given_up : goal.returns-in_default-clause-given_up

@@ -1,7 +1,8 @@
 use Rattle.show_moments.specs.Scenes.{seen}
-use Rattle.show_moments.proofs.Told.{next_says}
+use Rattle.show_moments.proofs.Telling.{next_says}
 use Rattle.show_moments.proofs.scene.Scene.next_text.Goals as goal
 
 pub returns : goal.returns
-returns c = next_says (seen c.args.self.now) c.args.at c.as_slice.result.now _ c.words_at-words.result c.line_of-line.result _ _
-    c.as_slice.ensures c.requires c.in_ok-front.ensures c.line_of-line.ensures c.words_at-words.ensures c.in_ok-text.ensures.ok
+returns c = next_says (seen c.args.self.now) c.args.next.now c.as_slice.result.now c.in-Some.entry.now c.words_at-words.result
+    c.line_of-line.result _ _ c.as_slice.ensures c.in-Some.ensures.lookup.3.0 c.in-Some.ensures.lookup.1 c.in_ok-front.ensures
+    c.line_of-line.ensures c.words_at-words.ensures c.in_ok-text.ensures.ok

@@ -1,10 +1,17 @@
+use Rattle.show_rows.proofs.Texts.{none_yet, text_next}
+use Rattle.show_moments.specs.Lines.{SaysThread}
 use Rattle.show_moments.specs.Scenes.{seen}
-use Rattle.show_moments.proofs.Scenes.{no_threads, threads_next}
+use Rattle.show_moments.proofs.Telling.{all_told}
 use Rattle.show_moments.proofs.scene.Scene.write_threads.Goals as goal
 
-pub loop-thread-init : goal.loop-thread-init
-loop-thread-init g c = no_threads (seen c.args.self.now) _
+pub loop-k-init : goal.loop-k-init
+loop-k-init g c = none_yet (SaysThread (seen c.args.self.now)) c.args.threads.now _
 
-pub loop-thread-preserved : goal.loop-thread-preserved
-loop-thread-preserved g c = threads_next (seen c.args.self.now) c.loop-thread.thread _ _ _ c.loop-thread.invariant
-    c.in_ok-write_thread.ensures
+pub loop-k-preserved : goal.loop-k-preserved
+loop-k-preserved g c = text_next (SaysThread (seen c.args.self.now)) c.args.threads.now c.loop-k.k c.index-threads-k.result
+    c.index-threads-k.result _ _ _ _ c.loop-k-test.true c.index-threads-k.is c.loop-k.invariant c.in_ok-text.ensures
+    c.in_ok-write.ensures.bytes
+
+pub returns : goal.returns
+returns g c = all_told (SaysThread (seen c.args.self.now)) c.args.threads.now c.loop-k.k _ _ c.loop-k-test.false
+    c.loop-k.invariant

@@ -18,4 +18,5 @@ loop-c-preserved g c =
     )
 
 pub returns-clause-writes : goal.returns-clause-writes
-returns-clause-writes g c = λ p ok. has_written_of_eq _ _ _ _ _ (nothing_left _ _ _ c.in-None.ensures.steps.0.0 c.loop-c.invariant.1.2) (c.loop-c.invariant.1.1 p)
+returns-clause-writes g c = λ p ok. has_written_of_eq _ _ _ _ _ (nothing_left _ _ _ c.in-None.ensures.steps.0.0 c.loop-c.invariant.1.2)
+    (c.loop-c.invariant.1.1 p)

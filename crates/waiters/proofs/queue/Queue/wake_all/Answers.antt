@@ -10,7 +10,8 @@ use Rattle.waiters.proofs.Woken.{numbered_from, none_left, refill_same}
 use Rattle.waiters.proofs.queue.Queue.wake_all.Goals as goal
 
 pub tell_each-requires : goal.tell_each-requires
-tell_each-requires c = rw (c.as_slice.ensures.value, c.as_mut_slice.ensures.value) (numbered_from _ c.self.invariant c.self.inside.sleepers.items (λ n among. among))
+tell_each-requires c = rw (c.as_slice.ensures.value, c.as_mut_slice.ensures.value) (numbered_from _ c.self.invariant c.self.inside.sleepers.items
+    (λ n among. among))
 
 pub invariant_of-self : goal.invariant_of-self
 invariant_of-self c =

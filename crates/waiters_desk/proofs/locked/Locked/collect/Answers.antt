@@ -59,7 +59,8 @@ returns-clause-collected g c =
     let after = rw (c.meet.ensures.names.0) at (c.hear-answer.ensures.after) in
     let last = rw (c.hear-answer.ensures.stays.same.name_is, c.meet.ensures.names.0, c.meet.ensures.one) at c.meet-2.ensures.longer in
     let beside = beside_from _ _ self.tied self.legal in
-    collect_did _ _ _ _ _ _ _ _ _ _ _ _ _ _ _ c.meet.ensures.longer self.right beside (c.hear-answer.ensures.turn.beside) last _ c.requires.waiting due after heard
+    collect_did _ _ _ _ _ _ _ _ _ _ _ _ _ _ _ c.meet.ensures.longer self.right beside (c.hear-answer.ensures.turn.beside) last _ c.requires.waiting
+    due after heard
 
 pub invariant_of-self-clause-right : goal.invariant_of-self-clause-right
 invariant_of-self-clause-right g c = c.meet-2.ensures.rights.1 ∙ c.hear-answer.ensures.turn.right

@@ -1,0 +1,67 @@
+-- What a first look at all runs says of races.
+use Rattle.std.proofs.Common.{◌≡◌, ◌∙◌, Bool, true, false, List, refl, sym, ap, subst, true≢false}
+use Rattle.spawn_host.specs.Requests.{Requested}
+use Rattle.search_endings.specs.Endings.{Ending}
+use Rattle.search_finds.specs.Finds.{IsLookedFor}
+use Rattle.search_modules.specs.Endings.{HasSought}
+use Rattle.search_modules.specs.Races.{NeverRaces}
+use Rattle.search_race_free.specs.declared.race.ThreadRace.{ThreadRace}
+use Rattle.search_reach.specs.declared.ending.Ended.{Ended}
+use Rattle.search_reach.specs.declared.search.Verdict.{Verdict}
+use Rattle.search_reach.specs.declared.search.Verdict.TheVariants as verdicts
+use Rattle.selection.specs.declared.sought.Sought.{Sought}
+use Rattle.report_command.specs.declared.search.Search.{Search}
+use Rattle.report.specs.Early.{SaysSought, ends_early}
+use Rattle.report.specs.Racing.{IsAsked, IsFreelyComplete, IsKnownOf, IsWhole, racing_by}
+use Rattle.report.specs.declared.whole.Racing.TheVariants.{Never, Found, Unknown}
+
+-- where every order isn't wanted, races are asked for
+pub asked_found : (s : Search) (r : ThreadRace) → s.every_order ≡ false → IsAsked s (Found r)
+asked_found s r every = ((λ yes. absurd (true≢false (sym yes ∙ every))), (λ is. absurd cc))
+
+pub asked_unknown : (s : Search) → s.every_order ≡ false → IsAsked s Unknown
+asked_unknown s every = ((λ yes. absurd (true≢false (sym yes ∙ every))), (λ is. absurd cc))
+
+asked_never : (s : Search) → s.every_order ≡ false → IsAsked s Never
+asked_never s every = ((λ yes. absurd (true≢false (sym yes ∙ every))), (λ is. absurd cc))
+
+asked_by : (s : Search) (v : Verdict) → s.every_order ≡ false → IsAsked s (racing_by v)
+asked_by s verdicts.All every = asked_never s every
+asked_by s verdicts.TooMany every = asked_unknown s every
+asked_by s verdicts.CannotTell every = asked_unknown s every
+asked_by s verdicts.Told every = asked_unknown s every
+asked_by s verdicts.Sought every = asked_unknown s every
+
+-- what is known by a verdict
+pub known_by : (q : Requested) (v : Verdict) → (v ≡ verdicts.All → NeverRaces q.parts q.name q.args) → IsKnownOf q (racing_by v)
+known_by q verdicts.All none = none refl
+known_by q verdicts.TooMany none = tt
+known_by q verdicts.CannotTell none = tt
+known_by q verdicts.Told none = tt
+known_by q verdicts.Sought none = tt
+
+pub whole_by : (q : Requested) (s : Search) (all : Ended Ending) → IsFreelyComplete q s.sought.dump all
+    → IsKnownOf q (racing_by all.verdict) → s.every_order ≡ false → SaysSought s all.verdict all.endings.keys
+    → IsWhole q s (record { all = all; racing = racing_by all.verdict; is_free = true })
+whole_by q s all complete known every sought = record {
+  complete = complete;
+  known = known;
+  asked = asked_by s all.verdict every;
+  never = λ _ is_all. ap racing_by is_all;
+  sought = sought;
+}
+
+-- no race is found by a verdict
+pub unfound_by : (v : Verdict) (r : ThreadRace) → racing_by v ≡ Found r → ⊥
+unfound_by verdicts.All r is = absurd cc
+unfound_by verdicts.TooMany r is = absurd cc
+unfound_by verdicts.CannotTell r is = absurd cc
+unfound_by verdicts.Told r is = absurd cc
+unfound_by verdicts.Sought r is = absurd cc
+
+-- at which endings a search ends
+pub sought_as : (s : Search) (sought : Sought) (wanted : Bool) (verdict : Verdict) (endings : List Ending) → sought ≡ s.sought → wanted ≡ ends_early s
+    → HasSought (λ (e : Ending). (wanted ≡ true) × IsLookedFor sought e) verdict endings → SaysSought s verdict endings
+sought_as s sought wanted verdict endings sought_is wanted_is has =
+    subst (λ (w : Bool). HasSought (λ (e : Ending). (w ≡ true) × IsLookedFor s.sought e) verdict endings) wanted_is
+    (subst (λ (x : Sought). HasSought (λ (e : Ending). (wanted ≡ true) × IsLookedFor x e) verdict endings) sought_is has)

@@ -1,0 +1,81 @@
+-- What comes of all orders, put together of the race that is told first and of what is told behind it.
+use Rattle.std.proofs.Common.{ℕ, ◌≡◌, ◌∙◌, false, List, Option, Some, refl, sym, subst, ap}
+use Rattle.std.specs.Prelude.{is_some}
+use Rattle.spawn_host.specs.Requests.{Requested}
+use Rattle.report_command.specs.declared.form.Form.{Form}
+use Rattle.report_command.specs.declared.search.Search.{Search}
+use Rattle.report_jobs.specs.Asked.{IsAskedBy}
+use Rattle.report_jobs.specs.Prints.{change}
+use Rattle.report.specs.Racing.{IsRacedOf, IsWhole, KeepsRaced, SaysRaced, keeps_race}
+use Rattle.report.specs.Rest.{TellsRest}
+use Rattle.report.specs.Searched.{IsSearched}
+use Rattle.report.specs.Searches.{Finds}
+use Rattle.report.specs.Telling.{InLines}
+use Rattle.report.specs.Told.{AllIn, TellsAll}
+use Rattle.report.specs.declared.raced.Raced.{Raced}
+use Rattle.report.specs.declared.searching.Met.{Met}
+use Rattle.report.specs.declared.telling.ToldSearch.{ToldSearch}
+use Rattle.report.specs.declared.whole.Racing.{Racing}
+use Rattle.report.specs.declared.whole.WholeSearch.{WholeSearch}
+use Rattle.report.proofs.AllTold.{all_told, orders_searched}
+use Rattle.report.proofs.Keeping.{found_kept, quiet_by}
+use Rattle.report.proofs.Pairs.{raced_in, raced_kept}
+use Rattle.report.proofs.Wholly.{finds_all, well_by}
+
+module _ (q : Requested) (s : Search) (asked : IsAskedBy s.call q) (form : Form) (is_form : form ≡ s.form) (met : Met)
+    (every_order : s.all ≡ Some met.most) (before between after a b c : Option (List ℕ))
+    (unkept : keeps_race s ≡ false → b ≡ a) (status : ℕ) (rest : TellsRest form q s met (change between after) (change b c) status) where
+  abbrev t : ToldSearch
+  t = rest.told
+
+  abbrev w : WholeSearch
+  w = t.whole.now
+
+  abbrev raced : Raced
+  raced = t.raced.now
+
+  module _ (whole : IsWhole q s w) (is_raced : IsRacedOf q s w.racing raced) (keeps : KeepsRaced s raced (change a b))
+      (told : InLines form (change before between) (SaysRaced q.parts raced)) where
+    finds : Finds q.parts s (change a c) status
+    finds = finds_all q.parts s a b c status s.races refl unkept
+        (quiet_by q s w rest.found t.kept.now (change b c) rest.has rest.is_kept rest.keeps_found)
+        (raced_kept q s asked w.racing raced is_raced (change a b) keeps unkept)
+        (found_kept q s asked (change b c) w status rest.status_is.statuses rest.found t.kept.now (ap is_some every_order) rest.one rest.has
+        rest.is_kept rest.keeps_found) rest.status_is.statuses
+
+    tells : TellsAll q.parts s met.most (change before after) (change a c) status
+    tells = record {
+      request = q;
+      parts_are = refl;
+      asked = asked;
+      told = t;
+      most_is = rest.most_is;
+      status_told = rest.status_told;
+      dump_is = rest.dump_is;
+      is_whole = whole;
+      is_raced = is_raced;
+      found = rest.found;
+      has = rest.has;
+      is_kept = rest.is_kept;
+      between = b;
+      keeps_race = keeps;
+      keeps_found = rest.keeps_found;
+      tells = subst (λ (f : Form). AllIn f q.parts t rest.found (change before after)) is_form
+          (all_told form q.parts t rest.found before between after told (rest.tells q.parts (raced_in q s w.racing raced is_raced)));
+      status_is = rest.status_is;
+    }
+
+    searched_so : IsSearched q.parts s (change before after) (change a c) status
+    searched_so = orders_searched q.parts s (change before after) (change a c) status met.most every_order finds tells
+        (well_by q s asked w whole status rest.status_is)
+
+  pub searched_by : IsWhole q s met.whole → (racing : Racing) → met.whole.racing ≡ racing → IsRacedOf q s racing met.raced
+      → KeepsRaced s met.raced (change a b) → InLines form (change before between) (SaysRaced q.parts met.raced)
+      → IsSearched q.parts s (change before after) (change a c) status
+  searched_by whole racing racing_is is_raced keeps told =
+      let same : met.raced ≡ raced = sym rest.raced_is in
+      let racing_same : racing ≡ w.racing = sym racing_is ∙ ap (λ (x : WholeSearch). x.racing) (sym rest.whole_is) in
+      searched_so (subst (IsWhole q s) (sym rest.whole_is) whole)
+      (subst (λ (r : Raced). IsRacedOf q s w.racing r) same (subst (λ (x : Racing). IsRacedOf q s x met.raced) racing_same is_raced))
+      (subst (λ (r : Raced). KeepsRaced s r (change a b)) same keeps)
+      (subst (λ (r : Raced). InLines form (change before between) (SaysRaced q.parts r)) same told)

@@ -1,0 +1,145 @@
+-- What is known of the races of all runs of a call, and what is told of one.
+use Rattle.std.specs.Prelude.{ℕ, ◌≡◌, ◌↔◌, ◌&&◌, Bool, true, false, Option, None, List, [], ◌++◌, codes, is_some}
+use Rattle.std.specs.Fmt.{decimal}
+use Rattle.std.specs.Io.KnownBytes.{Appends}
+use Rattle.types.specs.declared.parts.Parts.{Parts}
+use Rattle.spawn_host.specs.Requests.{Requested}
+use Rattle.search_reach.specs.declared.ending.Ended.{Ended}
+use Rattle.search_reach.specs.declared.search.SearchOrder.{SearchOrder}
+use Rattle.search_reach.specs.declared.search.SearchOrder.TheVariants as orders
+use Rattle.search_reach.specs.declared.search.Verdict.{Verdict}
+use Rattle.search_reach.specs.declared.search.Verdict.TheVariants as verdicts
+use Rattle.search_endings.specs.Endings.{Ending}
+use Rattle.search_modules.specs.Races.{CanRaceSo, NeverRaces}
+use Rattle.search_modules.specs.Liveness.{CountsOwned, SaysWhereAllFree}
+use Rattle.search_scheduled.specs.declared.running.MadeRun.{MadeRun}
+use Rattle.search_finds.specs.Finds.{IsFind}
+use Rattle.report_command.specs.declared.search.Search.{Search}
+use Rattle.report_jobs.specs.Prints.{WriterChange, KeepsRecord}
+use Rattle.report_looks.specs.Raced.{SaysPair}
+use Rattle.report_looks.specs.Sighted.{CanBeTold, IsFirstRace}
+use Rattle.search_race_free.specs.declared.race.ThreadRace.{ThreadRace}
+use Rattle.report.specs.declared.raced.Raced.{Raced}
+use Rattle.report.specs.declared.raced.Raced.TheVariants as raced
+use Rattle.report.specs.declared.raced.RacyRun.{RacyRun}
+use Rattle.report.specs.Early.{SaysSought}
+use Rattle.report.specs.Searches.{FindsEvery, FindsNoOther, IsCompleteOf}
+use Rattle.report.specs.declared.whole.Racing.{Racing}
+use Rattle.report.specs.declared.whole.Racing.TheVariants.{Unasked, Never, Found, Unknown}
+use Rattle.report.specs.declared.whole.WholeSearch.{WholeSearch}
+use Rattle.report.specs.declared.whole.FirstLook.{FirstLook}
+use Rattle.report.specs.declared.whole.FirstLook.TheVariants as looks
+
+-- That is so of all runs of the call.
+abbrev pub IsKnownOf : Requested → Racing → Type 0
+IsKnownOf q Unasked = Unit {0}
+IsKnownOf q Never = NeverRaces q.parts q.name q.args
+IsKnownOf q (Found r) = CanRaceSo q.parts q.name q.args r
+IsKnownOf q Unknown = Unit {0}
+
+-- Races aren't asked for where every order is gone through at once, and there alone.
+abbrev pub IsAsked : Search → Racing → Type 0
+IsAsked s racing = (s.every_order ≡ true) ↔ (racing ≡ Unasked)
+
+-- In which order the states are gone on from.
+abbrev pub order_by : Bool → SearchOrder
+order_by true = orders.Depth
+order_by false = orders.Breadth
+
+-- Whether all may be well: races are allowed, or no run has one, or they aren't asked for.
+abbrev pub allows : Bool → Racing → Bool
+allows true racing = true
+allows false Unasked = true
+allows false Never = true
+allows false (Found r) = false
+allows false Unknown = false
+
+-- What is found of all runs of a call by a search that makes plain accesses at once. It doesn't say how far it came.
+pub record IsFreelyComplete (q : Requested) (dump : ℕ) (all : Ended Ending) : Type 0 where
+  pub every : FindsEvery q dump all
+  pub can : FindsNoOther q dump all
+  pub count : CountsOwned q all.states
+  pub live : SaysWhereAllFree q dump all.states all.verdict all.liveness
+  pub unsaid : all.levels ≡ None
+
+-- By that search, or by the one through every order.
+abbrev pub IsCompleteBy : Requested → ℕ → Bool → Ended Ending → Type 0
+IsCompleteBy q dump true all = IsFreelyComplete q dump all
+IsCompleteBy q dump false all = IsCompleteOf q dump all
+
+-- What is found of all runs, and of their races: where the first search met all, that there are none. Where a search ends
+-- at what is looked for, its verdict says whether it did.
+pub record IsWhole (q : Requested) (s : Search) (w : WholeSearch) : Type 0 where
+  pub complete : IsCompleteBy q s.sought.dump w.is_free w.all
+  pub known : IsKnownOf q w.racing
+  pub asked : IsAsked s w.racing
+  pub never : w.is_free ≡ true → w.all.verdict ≡ verdicts.All → w.racing ≡ Never
+  pub sought : SaysSought s w.all.verdict w.all.endings.keys
+
+-- Where no race was found none is in any run, if all states were met.
+abbrev pub racing_by : Verdict → Racing
+racing_by verdicts.All = Never
+racing_by verdicts.TooMany = Unknown
+racing_by verdicts.CannotTell = Unknown
+racing_by verdicts.Told = Unknown
+racing_by verdicts.Sought = Unknown
+
+-- What a first look found, and what it left open.
+abbrev pub IsLooked : Requested → Search → FirstLook → Type 0
+IsLooked q s (looks.Done all) =
+    IsFreelyComplete q s.sought.dump all × IsKnownOf q (racing_by all.verdict) × (s.every_order ≡ false)
+    × SaysSought s all.verdict all.endings.keys
+IsLooked q s (looks.Open racing way) = IsKnownOf q racing × IsAsked s racing
+
+abbrev pub racing_in : FirstLook → Racing
+racing_in (looks.Done all) = racing_by all.verdict
+racing_in (looks.Open racing way) = racing
+
+-- The run with the race is kept where that is asked for, and a place for its record is given.
+abbrev pub keeps_race : Search → Bool
+keeps_race s = s.races && is_some s.save
+
+abbrev pub threads_line : ℕ → ℕ → List ℕ
+threads_line one other =
+    codes "race: t" ++ decimal one ++ codes " and t" ++ decimal other ++ codes "; no run was made for it\n"
+
+-- What is told of a race: of a run that was made, or of the threads alone.
+abbrev pub IsRacyRun : Parts → RacyRun → Type 0
+IsRacyRun m run = IsFirstRace m run.made.record run.race
+
+abbrev pub IsRacedIn : Parts → Raced → Type 0
+IsRacedIn m (raced.Run run) = IsRacyRun m run
+IsRacedIn m (raced.Threads r) = Unit {0}
+IsRacedIn m raced.Untold = Unit {0}
+
+-- It can be told.
+abbrev pub CanTell : Raced → Type 0
+CanTell (raced.Run run) = CanBeTold run.made.record run.race
+CanTell (raced.Threads r) = Unit {0}
+CanTell raced.Untold = Unit {0}
+
+abbrev pub found : ThreadRace → Racing
+found r = Found r
+
+-- Of a race that is known a run by the call that has one is told, or the threads, and else nothing.
+abbrev pub IsRacedOf : Requested → Search → Racing → Raced → Type 0
+IsRacedOf q s racing (raced.Run run) = ((r : ThreadRace) × (racing ≡ Found r)) × IsFind q s.sought.limit run.made
+    × IsRacyRun q.parts run
+IsRacedOf q s racing (raced.Threads r) = racing ≡ Found r
+IsRacedOf q s racing raced.Untold = (r : ThreadRace) → racing ≡ Found r → ⊥
+
+-- Its lines: the race of the run in the words of `races`, or the threads alone.
+abbrev pub SaysRaced : Parts → Raced → List ℕ → Type 0
+SaysRaced m (raced.Run run) text = SaysPair m run.made.record text
+SaysRaced m (raced.Threads r) text = text ≡ threads_line r.one r.other
+SaysRaced m raced.Untold text = text ≡ []
+
+-- The record of the run was written, where it is looked for and a place is given.
+abbrev pub KeepsRaced : Search → Raced → WriterChange → Type 0
+KeepsRaced s (raced.Run run) save = KeepsRecord (keeps_race s) save run.made.record
+KeepsRaced s (raced.Threads r) save = save.new ≡ save.old
+KeepsRaced s raced.Untold save = save.new ≡ save.old
+
+-- A text that says so was written behind what stood there.
+abbrev pub Tells : WriterChange → (List ℕ → Type 0) → Type 0
+Tells out Says = (text : List ℕ) × Appends out.old out.new text × Says text

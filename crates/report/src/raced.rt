@@ -1,0 +1,155 @@
+//! A race that a search found: the run that comes to it.
+ghost use Rattle.std.specs.Prelude.{◌≡◌, false, IfOk, IfErr};
+ghost use Rattle.search_finds.specs.Judged.{IsFindBy};
+ghost use Rattle.report.specs.DrawnRaces.{HasRacy, SaysRaceOf};
+ghost use Rattle.report.specs.Racing as specified;
+ghost use Rattle.report.specs.Racing.{IsRacedOf};
+ghost use Rattle.report.specs.Searches.{IsOfSystem};
+
+use crate::asked::SearchedCall;
+use crate::found::shrunk_if;
+use crate::whole::{FirstLook, Racing};
+use report_command::Sought;
+use report_jobs::Trouble;
+use report_json::Shrunk;
+use report_looks::{FirstRace, first_race};
+use search_finds::{Hears, NumberedRun, run_round, shrunk_by, size_of};
+use search_modules::{ThreadRace, race_choices};
+use search_races::RaceJudge;
+use search_scheduled::MadeRun;
+use show_text::Unwritten;
+use std::alloc::Global;
+
+/// A run that was made, and its first race.
+#[derive(Drop)]
+pub(crate) struct RacyRun<'m, 'n> {
+    pub made: MadeRun,
+    pub race: FirstRace<'m, 'n>,
+}
+
+/// What is told of a race of all runs.
+#[derive(Drop)]
+pub(crate) enum Raced<'m, 'n> {
+    /// None is known.
+    Untold,
+    /// These threads race in some run; none was made in which they do.
+    Threads(ThreadRace),
+    /// A run that has one.
+    Run(RacyRun<'m, 'n>),
+}
+
+/// A run with a race that was found: its number, the sizes of one that was shrunk, and the run.
+#[derive(Drop)]
+pub(crate) struct KeptRace<'m, 'n> {
+    pub run: u64,
+    pub shrunk: Option<Shrunk>,
+    pub racy: RacyRun<'m, 'n>,
+}
+
+/// What comes of what wasn't written.
+pub(crate) fn trouble_of(unwritten: Unwritten) -> Trouble
+    ensures { IsOfSystem result }
+{
+    match unwritten {
+        Unwritten::NoMemory => Trouble::NoMemory,
+        Unwritten::Output => Trouble::Output,
+    }
+}
+
+/// The run that comes to a race of these threads; or the threads, where it has none.
+fn run_of_race<'a>(
+    alloc: Global,
+    call: SearchedCall<'a>,
+    race: ThreadRace,
+    way: &[usize],
+) -> Result<Raced<'a, 'a>, Trouble>
+    ensures raced { IfOk result
+        (IsRacedOf call.entry.request.now call.entry.search.now (specified.found race)) }
+    ensures trouble { IfErr result IsOfSystem }
+{
+    let SearchedCall {
+        request,
+        code,
+        search,
+    } = call;
+    let Sought { limit, dump, .. } = search.sought;
+    let choices = race_choices(alloc, request, dump as usize, way)?;
+    let made = match run_round(alloc, request, limit, choices.as_slice(), &[]) {
+        Ok(made) => made,
+        Err(_) => return Err(Trouble::NoMemory),
+    };
+    match first_race(alloc, request.module(), &made.record, code) {
+        Ok(Some(race)) => Ok(Raced::Run(RacyRun { made, race })),
+        Ok(None) => Ok(Raced::Threads(race)),
+        Err(unwritten) => Err(trouble_of(unwritten)),
+    }
+}
+
+/// What is told of the race that a first look at all runs found, if it found one.
+pub(crate) fn raced_of<'a>(
+    alloc: Global,
+    call: SearchedCall<'a>,
+    look: &FirstLook,
+) -> Result<Raced<'a, 'a>, Trouble>
+    ensures raced { IfOk result
+        (IsRacedOf call.entry.request.now call.entry.search.now (specified.racing_in look.now)) }
+    ensures trouble { IfErr result IsOfSystem }
+{
+    match look {
+        FirstLook::Done(_) => Ok(Raced::Untold),
+        FirstLook::Open { racing, way } => match racing {
+            Racing::Found(race) => run_of_race(alloc, call, *race, way.as_slice()),
+            Racing::Unasked | Racing::Never | Racing::Unknown => Ok(Raced::Untold),
+        },
+    }
+}
+
+/// The run with a race that was found, or where that is asked for a smaller one that has a race too.
+fn smaller_racy<F: Hears>(
+    alloc: Global,
+    call: SearchedCall,
+    found: MadeRun,
+    follower: &mut F,
+) -> Result<MadeRun, Trouble>
+    requires { IsFindBy (SaysRaceOf call.request.now) call.request.now call.search.now.sought.limit found }
+    ensures run { IfOk result
+        (IsFindBy (SaysRaceOf call.entry.request.now) call.entry.request.now call.entry.search.now.sought.limit) }
+    ensures same { IfOk result (λ made. call.entry.search.now.shrink ≡ false → made ≡ found) }
+    ensures trouble { IfErr result IsOfSystem }
+{
+    if !call.search.shrink {
+        return Ok(found);
+    }
+    let limit = call.search.sought.limit;
+    let Ok(made) = shrunk_by(alloc, call.request, limit, &RaceJudge, found, follower) else {
+        return Err(Trouble::NoMemory);
+    };
+    follower.end();
+    Ok(made)
+}
+
+/// The run with a race that was found, or that smaller one, and its first race.
+pub(crate) fn kept_race<'a, F: Hears>(
+    alloc: Global,
+    call: SearchedCall<'a>,
+    found: NumberedRun,
+    follower: &mut F,
+) -> Result<KeptRace<'a, 'a>, Trouble>
+    requires { IsFindBy (SaysRaceOf call.request.now) call.request.now call.search.now.sought.limit found.made }
+    ensures has { IfOk result (HasRacy call.entry.request.now call.entry.search.now found.run found.made) }
+    ensures trouble { IfErr result IsOfSystem }
+{
+    let NumberedRun { run, made } = found;
+    let was = size_of(&made.record);
+    let made = smaller_racy(alloc, call, made, follower)?;
+    let is = size_of(&made.record);
+    match first_race(alloc, call.request.module(), &made.record, call.code) {
+        Ok(Some(race)) => Ok(KeptRace {
+            run,
+            shrunk: shrunk_if(call.search.shrink, was, is),
+            racy: RacyRun { made, race },
+        }),
+        Ok(None) => Err(Trouble::NoMemory),
+        Err(unwritten) => Err(trouble_of(unwritten)),
+    }
+}

@@ -1,0 +1,255 @@
+//! What is found of all runs of a call: first whether any has a race, by fewer orders, and where that leaves something
+//! open by every order of their entries. Both end at an ending that is looked for, where one is to.
+ghost use Rattle.std.specs.Prelude.{◌≡◌, false, IfOk, IfErr, IfSome};
+ghost use Rattle.spawn_host.specs.Requests.{Requested};
+ghost use Rattle.search_reach.specs.Levels.{IsLeveled};
+ghost use Rattle.search_reach.specs.declared.search.Verdict.TheVariants as verdicts;
+ghost use Rattle.search_modules.specs.Races.{CanRaceSo, NeverRaces};
+ghost use Rattle.report_command.specs.declared.search.Search.{Search as SearchWords};
+ghost use Rattle.report.specs.Complete.{race_words};
+ghost use Rattle.report.specs.Early.{SaysSought, ends_early};
+ghost use Rattle.report.specs.Searches.{IsCompleteOf, IsOfSystem};
+ghost use Rattle.report.specs.Racing as specified;
+ghost use Rattle.report.specs.Racing.{IsFreelyComplete, IsLooked, IsWhole};
+
+use crate::asked::SearchedCall;
+use crate::complete::Complete;
+use report_command::Search;
+use report_jobs::Trouble;
+use search_endings::Ending;
+use search_finds::is_looked_for;
+use search_modules::{Hands, RaceFree, ThreadRace, all_endings, race_free_endings};
+use search_reach::{Follows, SearchOrder, SearchPlan, Seeks, Verdict};
+use selection::{Find, Sought};
+use std::alloc::{AllocError, Global};
+use std::thread::Threads;
+
+/// What is known of the races of all runs.
+#[derive(Clone, Copy)]
+pub(crate) enum Racing {
+    /// It isn't asked.
+    Unasked,
+    /// None has one.
+    Never,
+    /// These threads race in some run.
+    Found(ThreadRace),
+    /// Whether they race isn't known.
+    Unknown,
+}
+
+impl Racing {
+    /// What is said of it behind how many endings and states there are.
+    pub(crate) fn words(self) -> &'static str
+        ensures { result.now ≡ race_words self }
+    {
+        match self {
+            Racing::Never => ", no race",
+            Racing::Found(_) => ", with races",
+            Racing::Unasked | Racing::Unknown => "",
+        }
+    }
+
+    /// Whether all may be well with it, where races are allowed or not.
+    pub(crate) fn is_allowed(self, allow_races: bool) -> bool
+        ensures { result ≡ specified.allows allow_races self }
+    {
+        if allow_races {
+            return true;
+        }
+        match self {
+            Racing::Unasked | Racing::Never => true,
+            Racing::Found(_) | Racing::Unknown => false,
+        }
+    }
+}
+
+/// What was found of all runs.
+#[derive(Drop)]
+pub(crate) struct WholeSearch {
+    pub all: Complete,
+    pub racing: Racing,
+    /// Whether threads made plain accesses at once: then those aren't among the choices of its paths.
+    pub is_free: bool,
+}
+
+/// What a first look at all runs came to.
+#[derive(Drop)]
+pub(crate) enum FirstLook {
+    /// Nothing more is to be looked for: this was found, by the orders that matter where no threads race.
+    Done(Complete),
+    /// Every order is to be gone through; what is known of races, and where one is, the way to it.
+    Open { racing: Racing, way: Vec<usize> },
+}
+
+/// What a search that looks for races knows of them where it found none.
+fn racing_by(verdict: Verdict) -> Racing
+    ensures { result ≡ specified.racing_by verdict }
+{
+    match verdict {
+        Verdict::All => Racing::Never,
+        Verdict::TooMany | Verdict::CannotTell | Verdict::Told | Verdict::Sought => {
+            Racing::Unknown
+        }
+    }
+}
+
+/// In which order the states are gone on from.
+fn order_of(search: &Search) -> SearchOrder
+    ensures { result ≡ specified.order_by search.now.deep }
+{
+    if search.deep {
+        SearchOrder::Depth
+    } else {
+        SearchOrder::Breadth
+    }
+}
+
+/// Looks for the endings that are looked for, where a search is to end at one.
+#[derive(Clone, Copy)]
+struct Early<'a> {
+    sought: &'a Sought<'a>,
+    is_wanted: bool,
+}
+
+impl Seeks<Ending> for Early<'_> {
+    ghost use Rattle.report.specs.Early.{IsSoughtBy};
+
+    ghost sought = { IsSoughtBy };
+
+    fn seeks_any(&self) -> bool {
+        self.is_wanted
+    }
+
+    fn is_sought(&self, alloc: Global, ending: &Ending) -> Result<bool, AllocError> {
+        if !self.is_wanted {
+            return Ok(false);
+        }
+        is_looked_for(alloc, self.sought, ending)
+    }
+}
+
+/// Which endings a search through all runs ends at: the first that is looked for, where it is said by words or by a result
+/// which that is. Where races are looked for, at none.
+fn early_of<'a>(search: &'a Search) -> Early<'a>
+    ensures sought { result.sought.now ≡ search.now.sought }
+    ensures wanted { result.is_wanted ≡ ends_early search.now }
+{
+    let target = search.sought.target;
+    let says = target.expect.is_some() || matches!(target.find, Find::Words(_));
+    Early {
+        sought: &search.sought,
+        is_wanted: !search.races && says,
+    }
+}
+
+/// Looks at all runs of a call by the orders that matter where no threads race, unless every order is asked for. It ends at
+/// an ending that is looked for, where it says so. Where more states were met than may be, or the search was told to end,
+/// nothing is left open: every order has as many; nor where it ended at what is looked for.
+pub(crate) fn first_look<R: Threads + Sync, F: Follows>(
+    alloc: Global,
+    call: SearchedCall,
+    hands: &Hands<'_, R>,
+    most: u32,
+    follower: &mut F,
+) -> Result<FirstLook, Trouble>
+    ensures looked { IfOk result (IsLooked call.entry.request.now call.entry.search.now) }
+    ensures trouble { IfErr result IsOfSystem }
+{
+    let SearchedCall {
+        request,
+        search,
+        ..
+    } = call;
+    if search.every_order {
+        return Ok(FirstLook::Open {
+            racing: Racing::Unasked,
+            way: Vec::new(alloc),
+        });
+    }
+    let plan = SearchPlan {
+        order: order_of(search),
+        most,
+        sought: early_of(search),
+    };
+    let dump = search.sought.dump as usize;
+    let free = race_free_endings(alloc, request, hands, &plan, dump, follower)?;
+    let RaceFree {
+        mut ended,
+        race,
+        way,
+    } = free;
+    if let Some(race) = race {
+        return Ok(FirstLook::Open {
+            racing: Racing::Found(race),
+            way,
+        });
+    }
+    if let Verdict::CannotTell = ended.verdict {
+        return Ok(FirstLook::Open {
+            racing: Racing::Unknown,
+            way,
+        });
+    }
+    ended.levels = None;
+    Ok(FirstLook::Done(ended))
+}
+
+/// Goes through every order of the entries of a call, and ends at an ending that is looked for, where it says so.
+fn all_of<F: Follows>(
+    alloc: Global,
+    call: SearchedCall,
+    most: u32,
+    follower: &mut F,
+) -> Result<Complete, Trouble>
+    ensures complete { IfOk result (IsCompleteOf call.entry.request.now call.entry.search.now.sought.dump) }
+    ensures sought { IfOk result (λ r. SaysSought call.entry.search.now r.verdict r.endings.keys) }
+    ensures leveled { IfOk result
+        (λ r. IsLeveled (specified.order_by call.entry.search.now.deep) r.levels (r.states ≡ 0)) }
+    ensures trouble { IfErr result IsOfSystem }
+{
+    let SearchedCall {
+        request,
+        search,
+        ..
+    } = call;
+    let plan = SearchPlan {
+        order: order_of(search),
+        most,
+        sought: early_of(search),
+    };
+    let dump = search.sought.dump as usize;
+    Ok(all_endings(alloc, request, &plan, dump, follower)?)
+}
+
+/// What is found of all runs of a call behind that first look.
+pub(crate) fn whole_of<F: Follows>(
+    alloc: Global,
+    call: SearchedCall,
+    most: u32,
+    look: FirstLook,
+    follower: &mut F,
+) -> Result<WholeSearch, Trouble>
+    requires { IsLooked call.request.now call.search.now look }
+    ensures whole { IfOk result (IsWhole call.entry.request.now call.entry.search.now) }
+    ensures racing { IfOk result (λ w. w.racing ≡ specified.racing_in look) }
+    ensures trouble { IfErr result IsOfSystem }
+{
+    match look {
+        FirstLook::Done(all) => {
+            let racing = racing_by(all.verdict);
+            Ok(WholeSearch {
+                all,
+                racing,
+                is_free: true,
+            })
+        }
+        FirstLook::Open { racing, .. } => {
+            let all = all_of(alloc, call, most, follower)?;
+            Ok(WholeSearch {
+                all,
+                racing,
+                is_free: false,
+            })
+        }
+    }
+}

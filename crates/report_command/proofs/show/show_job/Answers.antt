@@ -1,0 +1,13 @@
+use Rattle.std.proofs.Common.{refl}
+use Rattle.report_command.proofs.show.show_job.Goals as goal
+
+pub returns-clause-asks : goal.returns-clause-asks
+returns-clause-asks c = (
+  refl,
+  record {
+    file_is = c.in_ok-file.ensures;
+    saved_is = c.in_ok-saved.ensures;
+    names_is = c.text_if_any.ensures;
+    look_is = c.in_ok-how.ensures.asks;
+  },
+)

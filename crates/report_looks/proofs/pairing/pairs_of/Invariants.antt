@@ -1,7 +1,0 @@
-use Rattle.std.proofs.Common.{take}
-use Rattle.std.specs.List.{AllZip}
-use Rattle.report_looks.specs.RaceObjects.{IsPairOf}
-use Rattle.report_looks.proofs.pairing.pairs_of.Given as goal
-
-abbrev pub invariant-loop-at : goal.invariant-loop-at
-invariant-loop-at l = AllZip (IsPairOf l.shown l.story l.kinds) (take l.at l.races) l.pairs.items

@@ -1,0 +1,47 @@
+-- The races that a run has, and the first one, with what it is told by.
+use Rattle.std.specs.Prelude.{ℕ, ◌≡◌, ◌≤◌, ◌<◌, ◌⊎◌, All, List, [], true, false, length, Option}
+use Rattle.types.specs.declared.parts.Parts.{Parts}
+use Rattle.replay_text.specs.declared.parts.RecordParts.{RecordParts}
+use Rattle.spawn_host.specs.declared.end.EndState.{EndState}
+use Rattle.replay.specs.Runs.{IsRunOf}
+use Rattle.race_history.specs.Races.{AreRaces}
+use Rattle.show_rows.specs.Listing.{IsStoryOf}
+use Rattle.show_rows.specs.declared.listing.Shown.{Shown}
+use Rattle.show_races.specs.Kinds.{kinds_shown}
+use Rattle.show_races.specs.Told.{AreApart, AreMany, HasNoRace, IsMore, IsWithin, TellsEach}
+use Rattle.show_races.specs.Rows.{AreRowsOf, kinds_of}
+use Rattle.report_looks.specs.declared.sighting.FirstRace.{FirstRace}
+use Rattle.report_looks.specs.declared.sighting.ToldRaces.{ToldRaces}
+
+-- These are races of a run as it is shown, so many at most, no two of the same two places of the code: each one, where it
+-- isn't said that they are cut, and else there are more.
+pub record AreTold (shown : Shown) (most : ℕ) (told : ToldRaces) : Type 0 where
+  pub is_story : IsStoryOf shown.record.now.log told.story
+  pub kinds : told.races.kinds.items ≡ kinds_shown shown
+  pub races : AreRaces shown.record.now.log (kinds_shown shown) told.races.pairs.items
+  pub each : told.races.is_cut ≡ false → TellsEach shown told.story told.races.pairs.items
+  pub once : AreApart shown told.story told.races.pairs.items
+  pub cut : told.races.is_cut ≡ true → IsMore shown told.story told.races.pairs.items most ⊎ AreMany shown
+  pub none : told.races.pairs.items ≡ [] → HasNoRace shown.record.now.log (kinds_shown shown)
+  pub few : length told.races.pairs.items ≤ most
+  pub within : All (IsWithin shown.record.now.log) told.races.pairs.items
+
+-- There is a race to tell, of two entries of the record.
+pub record CanBeTold (r : RecordParts) (f : FirstRace) : Type 0 where
+  pub some : 0 < length f.told.races.pairs.items
+  pub within : All (IsWithin r.log) f.told.races.pairs.items
+
+-- The record is of a run of the module, and these are its rows, its code, and a race of it.
+pub record IsFirstRace (m : Parts) (r : RecordParts) (f : FirstRace) : Type 0 where
+  pub seen : (end : EndState) × IsRunOf m r end × AreRowsOf m r end f.rows.items
+  pub of_module : f.code.parts.now ≡ m
+  pub is_story : IsStoryOf r.log f.told.story
+  pub kinds : f.told.races.kinds.items ≡ kinds_of m r f.rows.items
+  pub races : AreRaces r.log (kinds_of m r f.rows.items) f.told.races.pairs.items
+  pub told : CanBeTold r f
+
+-- The record is shown by these rows and this code.
+pub record IsShownBy (r : RecordParts) (f : FirstRace) (shown : Shown) : Type 0 where
+  pub of_record : shown.record.now ≡ r
+  pub of_rows : shown.rows.now ≡ f.rows.items
+  pub of_code : shown.code.now ≡ f.code

@@ -1,0 +1,130 @@
+//! The races that a run has, and the first one, with what it is told by.
+ghost use Rattle.std.specs.Prelude.{◌≤◌, false, IfOk, IfNone, IfSome};
+ghost use Rattle.types.specs.declared.parts.Parts.{Parts};
+ghost use Rattle.replay_text.specs.declared.parts.RecordParts.{RecordParts};
+ghost use Rattle.show_races.specs.Races.{SaysOfRun};
+ghost use Rattle.report_looks.specs.Raced.{SaysObject, WritesPair};
+ghost use Rattle.report_looks.specs.Sighted.{AreTold, CanBeTold, IsFirstRace, IsShownBy};
+ghost use Rattle.report_jobs.specs.Prints.{changed};
+
+use crate::showing::CodeBytes;
+use race_history::is_history;
+use replay_text::Record;
+use report_json::RacePair;
+use report_objects::pair_of;
+use show_races::{RecordRaces, races_shown, watched, write_first};
+use show_rows::{CodeMap, Row, Shown, Story};
+use show_text::Unwritten;
+use std::alloc::Global;
+use std::io::Write;
+use validate_module::ValidModule;
+
+/// Races of a run, and what its log says.
+#[derive(Drop)]
+pub(crate) struct ToldRaces {
+    pub story: Story,
+    pub races: RecordRaces,
+}
+
+/// The races of a run as it is shown, `most` at most. A log of more threads than 64 is none of `races_of`'s.
+pub(crate) fn races_in(alloc: Global, shown: Shown, most: usize) -> Result<ToldRaces, Unwritten>
+    requires { 1 ≤ most }
+    ensures { IfOk result (AreTold shown.entry most) }
+{
+    let log = shown.record.log.as_slice();
+    if !is_history(log) {
+        return Err(Unwritten::NoMemory);
+    }
+    let story = Story::new(alloc, log)?;
+    let races = races_shown(alloc, shown, &story, most)?;
+    Ok(ToldRaces { story, races })
+}
+
+/// The first race of a recorded run, with the rows of its entries and the code of its module.
+#[derive(Drop)]
+pub struct FirstRace<'m, 'n> {
+    rows: Vec<Option<Row>>,
+    code: CodeMap<'m, 'n>,
+    told: ToldRaces,
+}
+
+/// The first race of a recorded run, if it has one.
+///
+/// # Errors
+/// Where memory is refused; and where the record is none of a run of the module, or has more threads than 64.
+pub fn first_race<'m, 'n>(
+    alloc: Global,
+    module: &'m ValidModule,
+    record: &Record,
+    code: CodeBytes<'n>,
+) -> Result<Option<FirstRace<'m, 'n>>, Unwritten>
+    ensures race { IfOk result (λ o. IfSome o (IsFirstRace «module».now.parts «record».now)) }
+    ensures none { IfOk result (λ o. IfNone o (SaysOfRun «module».now.parts «record».now false)) }
+{
+    let Ok(rows) = watched(alloc, module, record) else {
+        return Err(Unwritten::NoMemory);
+    };
+    let code = CodeMap::read(alloc, module.parts(), code.module, code.names)?;
+    let shown = Shown {
+        record: record.parts(),
+        rows: rows.as_slice(),
+        code: &code,
+    };
+    let told = races_in(alloc, shown, 1)?;
+    if told.races.pairs.as_slice().is_empty() {
+        return Ok(None);
+    }
+    Ok(Some(FirstRace { rows, code, told }))
+}
+
+impl<'m, 'n> FirstRace<'m, 'n> {
+    /// The record of the run as it is shown.
+    pub fn shown<'a>(&'a self, record: &'a Record) -> Shown<'a, 'a, 'a, 'm, 'n>
+        ensures { IsShownBy «record».now self.now result }
+    {
+        Shown {
+            record: record.parts(),
+            rows: self.rows.as_slice(),
+            code: &self.code,
+        }
+    }
+
+    /// Writes the race of the run in words.
+    ///
+    /// # Errors
+    /// Where memory is refused, or the stream fails.
+    pub fn write<W: Write>(
+        &self,
+        alloc: Global,
+        record: &Record,
+        out: &mut W,
+    ) -> Result<(), Unwritten>
+        requires { CanBeTold «record».now self.now }
+        ensures { (m : Parts) → IsFirstRace m «record».now self.now
+            → IfOk result (λ _. WritesPair m «record».now (changed W.contents out.old out.new)) }
+    {
+        write_first(
+            alloc,
+            self.shown(record),
+            &self.told.story,
+            &self.told.races,
+            out,
+        )?;
+        Ok(())
+    }
+
+    /// The race of the run in an object.
+    pub fn pair<'a>(&'a self, shown: &'a Shown) -> RacePair<'a>
+        requires { CanBeTold shown.now.record.now self.now }
+        ensures { (m : Parts) (r : RecordParts) → IsFirstRace m r self.now → IsShownBy r self.now shown.now
+            → SaysObject m r result }
+    {
+        let races = &self.told.races;
+        pair_of(
+            shown,
+            &self.told.story,
+            races.kinds.as_slice(),
+            races.pairs.as_slice()[0],
+        )
+    }
+}

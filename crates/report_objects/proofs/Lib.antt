@@ -1,0 +1,3 @@
+mod ObjectRows
+mod ObjectParts
+pub mod RacePairs

@@ -1,0 +1,7 @@
+use Rattle.std.proofs.Common.{take}
+use Rattle.std.specs.List.{AllZip}
+use Rattle.report_objects.specs.RaceObjects.{IsPairOf}
+use Rattle.report_objects.proofs.pairing.pairs_of.Given as goal
+
+abbrev pub invariant-loop-at : goal.invariant-loop-at
+invariant-loop-at l = AllZip (IsPairOf l.shown l.story l.kinds) (take l.at l.races) l.pairs.items

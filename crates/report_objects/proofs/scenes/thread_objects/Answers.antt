@@ -1,0 +1,14 @@
+use Rattle.std.proofs.Common.{◌+◌, List, sym, subst, take}
+use Rattle.std.specs.List.{AllZip}
+use Rattle.report_json.specs.declared.moments.MomentThread.{MomentThread}
+use Rattle.show_moments.specs.Scenes.{seen}
+use Rattle.show_rows.proofs.Zipped.{zip_next}
+use Rattle.report_objects.specs.Scenes.{IsThreadObject}
+use Rattle.report_objects.proofs.scenes.thread_objects.Goals as goal
+
+pub loop-k-preserved : goal.loop-k-preserved
+loop-k-preserved c =
+    let is = IsThreadObject (seen c.args.scene.now) in
+    subst (λ (ts : List MomentThread). AllZip is (take (c.loop-k.k + 1) c.args.told.now) ts) (sym c.in_ok-push.ensures.items)
+    (zip_next is c.args.told.now c.loop-k.threads.items c.loop-k.k _ c.index-told-k.result c.in_ok-thread.thread c.loop-k-test.true
+    c.index-told-k.is c.loop-k.invariant c.in_ok-thread.ensures)

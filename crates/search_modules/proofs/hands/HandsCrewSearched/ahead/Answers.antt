@@ -1,4 +1,0 @@
-use Rattle.search_modules.proofs.hands.HandsCrewSearched.ahead.Goals as goal
-
-pub made_ahead-requires-sync-R : goal.made_ahead-requires-sync-R
-made_ahead-requires-sync-R g c κs within = c.requires.ready

@@ -1,0 +1,36 @@
+-- Rows at the same places have the same kinds.
+use Rattle.std.proofs.Common.{◌≡◌, ℕ, zero, suc, ◌<◌, ◌≤◌, List, ◌∷◌, [], ◌++◌, length, map, Option, Some}
+use Rattle.std.proofs.Common.{option_and_then, option_map, slice_get, get_or, refl, sym, ap, ◌∙◌, arith, if◌then◌else◌}
+use Rattle.std.proofs.Common.{Bool}
+use Rattle.std.proofs.lemmas.Option.{slice_get-get_or, slice_get-map}
+use Rattle.types.specs.declared.parts.Parts.{Parts}
+use Rattle.interp.specs.declared.place.CodePlace.{CodePlace}
+use Rattle.race_history.specs.declared.access.AccessKind.{AccessKind}
+use Rattle.race_history.specs.declared.access.AccessKind.TheVariants.{Plain, Atomic}
+use Rattle.show_rows.specs.declared.rows.Row.{Row}
+use Rattle.show_rows.specs.Listing.{is_atomic_in, row_in}
+use Rattle.show_rows.specs.Spots.{is_atomic}
+use Rattle.show_races.specs.Kinds.{kind_in, kinds_in}
+use Rattle.search_races.specs.Heard.{row_heard}
+use Rattle.search_races.proofs.Stood.{Filled, RowHas}
+
+module _ (m : Parts) (rows : Filled) (places : List CodePlace) (has : (j : ℕ) (z : CodePlace) → slice_get places j ≡ Some z → RowHas rows j z) where
+  row_is : (j : ℕ) (z : CodePlace) → slice_get places j ≡ Some z → row_in (map row_heard places) j ≡ row_heard z
+  row_is j z at = ap (λ (o : Option (Option Row)). option_and_then (λ x. x) o)
+      (slice_get-map row_heard places j ∙ ap (λ (o : Option CodePlace). option_map row_heard o) at)
+
+  kind_same : (j : ℕ) → j < length places → kind_in m rows j ≡ kind_in m (map row_heard places) j
+  kind_same j lt =
+      let z : CodePlace = get_or places j (record { function = 0; instr = 0 }) in
+      let at = slice_get-get_or places j (record { function = 0; instr = 0 }) lt in
+      let h = has j z at in
+      let atomic : is_atomic_in m (row_in rows j) ≡ is_atomic_in m (row_in (map row_heard places) j) =
+      ap (λ (o : Option Row). is_atomic_in m o) h.1
+      ∙ (ap (λ (x : CodePlace). is_atomic m x) h.2 ∙ sym (ap (λ (o : Option Row). is_atomic_in m o) (row_is j z at))) in
+      ap (λ (b : Bool). if b then Atomic else Plain) atomic
+
+  pub kinds_same : (n : ℕ) → n ≤ length places → kinds_in m rows n ≡ kinds_in m (map row_heard places) n
+  kinds_same zero few = refl
+  kinds_same (suc n) few =
+      ap (λ (l : List AccessKind). l ++ kind_in m rows n ∷ []) (kinds_same n (omega (arith, few)))
+      ∙ ap (λ (x : AccessKind). kinds_in m (map row_heard places) n ++ x ∷ []) (kind_same n (omega (arith, few)))

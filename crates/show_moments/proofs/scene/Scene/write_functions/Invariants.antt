@@ -1,7 +1,0 @@
-use Rattle.show_moments.specs.Scenes.{seen, depth}
-use Rattle.show_moments.proofs.Scenes.{Ends}
-use Rattle.show_moments.proofs.scene.Scene.write_functions.Given as goal
-
-abbrev pub invariant-loop-number : goal.invariant-loop-number
-invariant-loop-number g l = Ends (seen l.self) l.standing (depth l.standing) l.number (g.W.Write.contents l.initial.out)
-    (g.W.Write.contents l.out)
