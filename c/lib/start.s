@@ -27,6 +27,12 @@ thread_limit:
 	.globaltype	thread_number, i32
 	.globl	thread_number
 thread_number:
+	.globaltype	thread_data_size, i32
+	.globl	thread_data_size
+thread_data_size:
+	.globaltype	program_fences, i32
+	.globl	program_fences
+program_fences:
 	.functype	__wathread_begin (i32, i32) -> ()
 
 	.section	.text.wasi_thread_start,"",@
@@ -85,4 +91,31 @@ __cyg_profile_func_enter_bare:
 	if
 	unreachable
 	end_if
+	end_function
+
+# For --orders c11 (orders.c): a thread's own block of thread-local data, its size, and whether the program has fences.
+	.section	.text.__wathread_data,"",@
+	.globl	__wathread_data
+	.type	__wathread_data,@function
+__wathread_data:
+	.functype	__wathread_data () -> (i32)
+	global.get	__tls_base
+	global.get	thread_image
+	i32.add
+	end_function
+
+	.section	.text.__wathread_data_size,"",@
+	.globl	__wathread_data_size
+	.type	__wathread_data_size,@function
+__wathread_data_size:
+	.functype	__wathread_data_size () -> (i32)
+	global.get	thread_data_size
+	end_function
+
+	.section	.text.__wathread_fences,"",@
+	.globl	__wathread_fences
+	.type	__wathread_fences,@function
+__wathread_fences:
+	.functype	__wathread_fences () -> (i32)
+	global.get	program_fences
 	end_function
