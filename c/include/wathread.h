@@ -23,15 +23,26 @@ int thread_self(void);
    goes by where all threads are asleep, and then the one with the fewest left wakes. */
 #define wait_while_for(word, value, nanoseconds)                                                                   \
     (sizeof *(word) == 8                                                                                           \
-         ? __builtin_wasm_memory_atomic_wait64((long long *)WATHREAD_WORD(word), (long long)(value), nanoseconds)  \
-         : __builtin_wasm_memory_atomic_wait32((int *)WATHREAD_WORD(word), (int)(value), nanoseconds))
+         ? WATHREAD_WAIT(64)((long long *)WATHREAD_WORD(word), (long long)(value), nanoseconds)                    \
+         : WATHREAD_WAIT(32)((int *)WATHREAD_WORD(word), (int)(value), nanoseconds))
 
 /* Wakes one thread that sleeps on the word, or all, or at most so many. Answers how many. */
 #define notify_one(word) notify_some(word, 1)
 #define notify_all(word) notify_some(word, -1)
-#define notify_some(word, most) __builtin_wasm_memory_atomic_notify((int *)WATHREAD_WORD(word), most)
+#define notify_some(word, most) WATHREAD_NOTIFY((int *)WATHREAD_WORD(word), most)
 
 #define WATHREAD_WORD(word) _Generic((char (*)[sizeof *(word)])0, char (*)[4]: (void *)(word), char (*)[8]: (void *)(word))
+
+#if defined __has_feature && __has_feature(thread_sanitizer) /* wathread-cc --orders c11: these are simulated too */
+int orders_wait32(void *word, int value, long long nanoseconds);
+int orders_wait64(void *word, long long value, long long nanoseconds);
+unsigned orders_notify(void *word, unsigned most);
+#define WATHREAD_WAIT(bits) orders_wait##bits
+#define WATHREAD_NOTIFY orders_notify
+#else
+#define WATHREAD_WAIT(bits) __builtin_wasm_memory_atomic_wait##bits
+#define WATHREAD_NOTIFY __builtin_wasm_memory_atomic_notify
+#endif
 
 /* In front of a function: it can be called by this name, as `--invoke NAME`, beside `main` or in its place. */
 #define EXPORT(name) __attribute__((export_name(name)))
