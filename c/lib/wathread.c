@@ -10,6 +10,23 @@
 #include <string.h>
 #include <threads.h>
 #include <wathread.h>
+#ifdef ORDERS /* --orders c11: all of this is simulated too, but for what is marked so */
+#include "orders.h"
+#define AS_IT_IS __attribute__((disable_sanitizer_instrumentation, noinline))
+#define __builtin_trap() orders_trap()
+#else
+#define AS_IT_IS
+#define orders_main() ((void)0)
+#define orders_start_begins() ((void)0)
+#define orders_spawn(place) __wathread_spawn(place)
+#define orders_start_ends(thread) ((void)0)
+#define orders_begins(thread, place) (place)
+#define orders_ends(thread, result) ((void)0)
+#define orders_detached(thread) ((void)(thread))
+#define orders_reads(from, size) ((void)0)
+#define orders_writes(to, size) ((void)0)
+#define orders_freed(block, size) ((void)0)
+#endif
 
 /* ---- main ---- */
 
@@ -19,10 +36,13 @@ __attribute__((weak)) int __main_argc_argv(int argc, char **argv);
 
 /* The program's `main`, behind its constructors: where nothing calls these, wasm-ld makes each export do so, that of the
    threads too. */
-EXPORT("main") int __wathread_main(void) {
+AS_IT_IS EXPORT("main") int __wathread_main(void) {
     static char *none;
+    orders_main();
     __wasm_call_ctors();
-    return __main_void ? __main_void() : __main_argc_argv(0, &none);
+    int result = __main_void ? __main_void() : __main_argc_argv(0, &none);
+    orders_ends(0, result);
+    return result;
 }
 
 /* ---- Threads ---- */
@@ -43,17 +63,23 @@ static _Atomic int last_start;
 static _Atomic uint64_t ends[MOST_THREADS];
 enum { RUNS, ENDED };
 
-static int start(enum type type, void *function, void *arg) {
-    int place = ++last_start;
-    if (place > __wathread_most())
-        return -1;
-    starts[place] = (uint64_t)((uint32_t)type << TYPE_SHIFT | (uint32_t)function) << 32 | (uint32_t)arg;
-    return __wathread_spawn(place);
+AS_IT_IS static int start(enum type type, void *function, void *arg) {
+    orders_start_begins();
+    int place = ++last_start, made = -1;
+    if (place <= __wathread_most()) {
+        starts[place] = (uint64_t)((uint32_t)type << TYPE_SHIFT | (uint32_t)function) << 32 | (uint32_t)arg;
+        made = orders_spawn(place);
+    }
+    orders_start_ends(made);
+    return made;
 }
 
 /* Where a thread begins (start.s). To call a function by another type than its own is a trap. */
-void __wathread_begin(int thread, int place) {
-    uint64_t word = starts[place];
+AS_IT_IS void __wathread_begin(int thread, int place) {
+    int at = orders_begins(thread, place);
+    if (at < 0) /* what --orders started for itself has ended */
+        return;
+    uint64_t word = starts[at];
     uint32_t function = word >> 32 & ((1u << TYPE_SHIFT) - 1), arg = word, result = 0;
     switch ((enum type)(word >> 32 >> TYPE_SHIFT)) {
     case POSIX:
@@ -65,6 +91,12 @@ void __wathread_begin(int thread, int place) {
     default:
         ((void (*)(int))function)(arg);
     }
+#ifdef ORDERS
+    orders_ends(thread, result);
+}
+
+static uint32_t result_of(int thread) { return orders_joins(thread); }
+#else
     ends[thread] = (uint64_t)ENDED << 32 | result;
     notify_all(&ends[thread]);
 }
@@ -75,6 +107,7 @@ static uint32_t result_of(int thread) {
         wait_while(&ends[thread], RUNS);
     return end;
 }
+#endif
 
 int thread_spawn(void (*body)(int), int arg) { return start(OWN, (void *)body, (void *)arg); }
 void thread_join(int thread) { result_of(thread); }
@@ -95,7 +128,7 @@ int pthread_join(pthread_t thread, void **result) {
     return 0;
 }
 
-int pthread_detach(pthread_t thread) { (void)thread; return 0; }
+int pthread_detach(pthread_t thread) { orders_detached(thread); return 0; }
 pthread_t pthread_self(void) { return thread_self(); }
 int pthread_equal(pthread_t a, pthread_t b) { return a == b; }
 
@@ -285,7 +318,9 @@ int sem_getvalue(sem_t *s, int *value) { *value = s->value; return 0; }
 
 /* ---- Bytes: whole words where they can be, since each access is an entry ---- */
 
-void *memmove(void *to, const void *from, size_t n) {
+AS_IT_IS void *memmove(void *to, const void *from, size_t n) {
+    orders_reads(from, n);
+    orders_writes(to, n);
     char *p = to;
     const char *q = from;
     if (p > q && p < q + n) {
@@ -305,7 +340,8 @@ void *memmove(void *to, const void *from, size_t n) {
     return to;
 }
 
-void *memset(void *to, int byte, size_t n) {
+AS_IT_IS void *memset(void *to, int byte, size_t n) {
+    orders_writes(to, n);
     char *p = to;
     uint64_t word = 0x0101010101010101u * (unsigned char)byte;
     if (!((size_t)p & 7))
@@ -368,9 +404,9 @@ enum { FRONT = 16, MARK = 0x5A000000, MARK_BITS = 0x7F000000 };
 static _Alignas(FRONT) char pool[POOL];
 static _Atomic size_t used;
 
-static _Atomic int *front_of(void *block) { return (_Atomic int *)((char *)block - FRONT); }
+AS_IT_IS static _Atomic int *front_of(void *block) { return (_Atomic int *)((char *)block - FRONT); }
 
-void *malloc(size_t n) {
+AS_IT_IS void *malloc(size_t n) {
     if (n > POOL)
         return 0;
     size_t size = (n + 2 * FRONT - 1) & -FRONT, at = atomic_fetch_add(&used, size);
@@ -384,7 +420,7 @@ void *calloc(size_t count, size_t n) { /* the pool is zero at first */
     return n && count > POOL / n ? 0 : malloc(count * n);
 }
 
-void *realloc(void *block, size_t n) {
+AS_IT_IS void *realloc(void *block, size_t n) {
     void *made = malloc(n);
     if (block && made) {
         size_t had = (*front_of(block) & ~MARK_BITS) - FRONT;
@@ -394,7 +430,9 @@ void *realloc(void *block, size_t n) {
     return made;
 }
 
-void free(void *block) {
+AS_IT_IS void free(void *block) {
+    if (block)
+        orders_freed(block, (*front_of(block) & ~MARK_BITS) - FRONT);
     if (block && (atomic_exchange(front_of(block), 0) & MARK_BITS) != MARK)
         __builtin_trap();
 }
