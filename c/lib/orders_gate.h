@@ -64,21 +64,18 @@ static u32 inside; /* what the gate was as the thread that is inside came in, or
 static _Thread_local int stays;
 
 static void enter(int t, int again) {
-    u32 mine = again ? HELD | OPEN : HELD, want = FREE, was;
+    u32 mine = again ? HELD | OPEN : HELD, ask = ASKS << t;
     if (stays) {
         stays = 0;
         return;
     }
-    for (;;) {
-        was = want;
-        u32 to = want == FREE ? mine : want | ASKS << t;
-        if (atomic_compare_exchange_strong(&gate, &was, to) && want == FREE)
-            break;
-        if ((was & TURN_MASK) == TURN * (t + 1u)) {
-            mine = was;
+    for (u32 was = FREE; !atomic_compare_exchange_strong(&gate, &was, mine); was = FREE) {
+        if (was & OPEN && !(was & ask) && (was & TURN_MASK) != TURN * (t + 1u))
+            was = atomic_fetch_or(&gate, ask); /* it may be free by now: then this is what it's held by */
+        if (was == FREE || (was & TURN_MASK) == TURN * (t + 1u)) {
+            mine = was | ask;
             break;
         }
-        want = want == FREE && was & OPEN && !(was & ASKS << t) ? was : FREE; /* ask, or try again */
     }
     if (mine != HELD)
         inside = mine;
@@ -86,7 +83,7 @@ static void enter(int t, int again) {
 
 /* What the gate is once T has left: the turn of the next one who asked. */
 static u32 turn_behind(int t, u32 was) {
-    u32 asked = was / ASKS;
+    u32 asked = was / ASKS & ~(1u << t);
     if (!asked)
         return FREE;
     do
