@@ -1,6 +1,6 @@
 //! Entries and races.
 
-use report_json::{
+use show_json::{
     NamedRow, NextWrite, PlaceObject, RaceEntry, RacePair, RacePairs, RowObject, SourceObject,
     write_races, write_rows,
 };

@@ -1,6 +1,7 @@
 //! Runs.
 
-use report_json::{Offset, PlaceObject, RunEndObject, SourceObject, write_run};
+use report_json::{RunEndObject, write_run};
+use show_json::{Offset, PlaceObject, SourceObject};
 use show_places::FunctionName;
 use std::alloc::{AllocError, Global};
 use std::test::Fail;
