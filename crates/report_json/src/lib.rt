@@ -1,7 +1,8 @@
 //! What comes of jobs, as JSON objects, one on a line, of the parts that `show_json` has.
 //!
-//! Proved: each function writes exactly the line of the value that is defined for its object: `Ends`, `Refusals`, `Found`,
-//! `Drawn`, `Complete` and `Raced` in `specs/`.
+//! Proved: each function writes exactly the line of the value that is defined for its object.
+//!
+//! `Ends`, `Refusals`, `Found`, `Drawn`, `Complete` and `Raced` in `specs/` say which value each object is.
 #![tactic(auto)]
 
 mod complete;

@@ -1,6 +1,7 @@
 //! What is shown of a run, as JSON objects, one on a line, by serde_json; and the parts that other objects are made of.
 //!
-//! Proved: each function writes exactly the line of the value that is defined for its object.
+//! Proved: each function writes exactly the line of the value that is defined for its object; entries that are written
+//! row by row are one object.
 //!
 //! - `specs/Json.antt` has the values and their text (serde_json's, with numbers from 2 ^ 53 on as texts); `Outcomes`,
 //!   `Places`, `Functions`, `Rows` and `Moments` there say which value each object is.
