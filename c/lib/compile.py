@@ -1,0 +1,197 @@
+#!/usr/bin/env python3
+"""compile.py WORK EDITS CLANG.. -- WORDS..: does what clang would do for WORDS, for wathread-cc, and edits what it makes
+in between. WORK is a folder for what is made on the way; EDITS are of `atomic` and `weak` (ir.py), with commas between.
+
+clang says by -### what it would run. Of a source the front alone is run, its LLVM text edited (ir.py), assembly made
+of that and edited (masks.py), and an object of that. What is linked is linked as it says; wasm-opt behind that, which
+takes the names away, isn't run. What is made comes to its place at the end, where nothing failed.
+"""
+import os
+import re
+import subprocess
+import sys
+
+sys.dont_write_bytecode = True
+from files import Refused, write  # noqa: E402
+from ir import edit  # noqa: E402
+from masks import declared, mask  # noqa: E402
+
+SAID = re.compile(r'.*?: (?:fatal )?(?:error|warning|note): ')
+EXCHANGES = re.compile(r' cmpxchg | atomicrmw | asm ')
+SIDE = {'-dependency-file': 1, '-MT': 1, '-sys-header-deps': 0, '-header-include-file': 1, '-serialize-diagnostic-file': 1,
+        '-dependency-dot': 1}
+
+
+def run(words):
+    status = subprocess.run(words, check=False).returncode
+    if status < 0:
+        raise Refused(f'{os.path.basename(words[0])} ended by signal {-status}')
+    return status == 0
+
+
+def value(words, option):
+    """What stands behind an option, the last time that it comes."""
+    return next((words[i + 1] for i in reversed(range(len(words) - 1)) if words[i] == option), None)
+
+
+def jobs(clang, words):
+    """The commands that clang would run. Its own messages are printed."""
+    if sys.stderr.isatty():
+        words = ['-fcolor-diagnostics', *words]
+    asked = subprocess.run([*clang, '-###', *words], stdin=subprocess.DEVNULL, stderr=subprocess.PIPE, check=False)
+    said = os.fsdecode(asked.stderr)
+    commands = re.findall(r'^ ("(?:[^"\\]|\\.)*"(?: "(?:[^"\\]|\\.)*")*)$', said, re.M | re.S)
+    found = [[re.sub(r'\\(.)', r'\1', word, flags=re.S) for word in re.findall(r'"((?:[^"\\]|\\.)*)"', command, re.S)]
+             for command in commands]
+    messages = [line for line in said.split('\n') if not line.startswith(' "') and SAID.match(line)]
+    for line in messages:
+        print(line, file=sys.stderr)
+    if asked.returncode or any(': error: ' in line for line in messages):
+        sys.exit(1)
+    return found
+
+
+class Compiler:
+    def __init__(self, work, edits):
+        self.work, self.edits, self.made, self.ways, self.said = work, edits, {}, 0, b''
+
+    def way(self, end):
+        self.ways += 1
+        return os.path.join(self.work, f'{self.ways}.{end}')
+
+    def job(self, words):
+        """Runs a command, or what stands for it, and says whether that went well."""
+        words = [self.made.get(word, word) for word in words]
+        out = value(words, '-o')
+        if out is None or '-o' not in words:
+            return run(words)
+        place = words.index(out, len(words) - 1 - words[::-1].index('-o'))
+        made = out if out.startswith(self.work + '/') else self.way('out')
+        words[place] = made
+        if '-cc1' in words[:2] and ('-emit-obj' in words or '-S' in words):
+            done = self.source(words, made)
+        elif '-cc1as' in words[:2]:
+            done = self.assembly(words, made)
+        else:
+            done = run(words)
+        if made != out:
+            self.made[out] = made
+        return done
+
+    def source(self, words, out):
+        """From a source to an object, or to assembly where that is asked for."""
+        text, assembly = self.way('ll'), self.way('s')
+        mode = '-emit-obj' if '-emit-obj' in words else '-S'
+        at = words.index(out)
+        front = ['-emit-llvm' if word == mode else word for word in words]
+        front[at] = text
+        if not run([*front[:2], '-disable-llvm-passes', *front[2:]]):
+            return False
+        with open(text, encoding='utf-8', errors='surrogateescape') as file:
+            edited, left = edit(file.read(), 'atomic' in self.edits, 'weak' in self.edits)
+        with open(text, 'w', encoding='utf-8', errors='surrogateescape') as file:
+            file.write(edited)
+        for name in left:
+            print(f'wathread-cc: in {name}: volatile accesses that stay plain: of no whole word, or not aligned',
+                  file=sys.stderr)
+        back = without(words[:-3]) + ['-x', 'ir', text]
+        if mode == '-emit-obj' and not EXCHANGES.search(edited):
+            return run(back)
+        text_of = ['-S' if word == mode else assembly if word == out else word for word in back]
+        if not run(text_of):
+            return False
+        with open(assembly, encoding='utf-8', errors='surrogateescape') as file:
+            made = file.read()
+        masked = mask(made)
+        if mode == '-emit-obj' and masked == made:
+            return run(back)
+        names = {} if mode == '-S' else odd_names(masked)
+        for name, other in names.items():
+            masked = masked.replace(f', {name}\n', f', {other}\n')
+        with open(assembly if mode == '-emit-obj' else out, 'w', encoding='utf-8', errors='surrogateescape') as file:
+            file.write(declared(masked))
+        return mode == '-S' or self.assemble(words, assembly, out, names) or self.explain(back)
+
+    def assemble(self, words, assembly, out, names):
+        features = [word for i, option in enumerate(words) if option == '-target-feature' for word in words[i:i + 2]]
+        done = subprocess.run([words[0], '-cc1as', '-triple', value(words, '-triple'), '-filetype', 'obj', '-target-cpu',
+                               value(words, '-target-cpu'), *features, '-mrelocation-model', 'static', '-o', out, assembly],
+                              stderr=subprocess.PIPE, check=False)
+        self.said = done.stderr
+        if done.returncode == 0 and names:
+            with open(out, 'r+b') as file:
+                data = file.read()
+                for name, other in names.items():
+                    name, other = os.fsencode(name), os.fsencode(other)
+                    data = data.replace(bytes([len(other)]) + other, bytes([len(name)]) + name)
+                file.seek(0)
+                file.write(data)
+        return done.returncode == 0
+
+    def explain(self, back):
+        """A fault in assembly statements: clang says it by lines of the source, where it makes an object at once."""
+        if run(back):
+            sys.stderr.buffer.write(self.said)
+        return False
+
+    def assembly(self, words, out):
+        """From assembly to an object."""
+        if os.path.isfile(words[-1]):
+            with open(words[-1], encoding='utf-8', errors='surrogateescape') as file:
+                text = file.read()
+            masked = mask(text)
+            if masked != text:
+                source, words = words[-1], [*words[:-1], self.way('s')]
+                with open(words[-1], 'w', encoding='utf-8', errors='surrogateescape') as file:
+                    file.write(f'# 1 "{source}"\n{masked}')
+        return run(words)
+
+    def place(self):
+        """Puts what was made to its place."""
+        for out, made in self.made.items():
+            try:
+                with open(made, 'rb') as file:
+                    data = file.read()
+                if out == '-':
+                    sys.stdout.buffer.write(data)
+                else:
+                    write(out, data)
+            except OSError as error:
+                raise Refused(f'{out}: {error.strerror}')
+
+
+def odd_names(text):
+    """Names of exports and imports that no assembly text can have, as `thread-spawn`, with one as long for each."""
+    names = set(re.findall(r'^\t\.(?:export_name|import_name|import_module)\t[^,]*, (.*[^\w.$@\n].*)$', text, re.M))
+    return {name: f'{i:x}'.join(('w$', '$' * (len(os.fsencode(name)) - 2 - len(f'{i:x}')))) for i, name in enumerate(names)}
+
+
+def without(words):
+    """The words of a front without what it writes beside."""
+    out, at = [], 0
+    while at < len(words):
+        if words[at] in SIDE:
+            at += SIDE[words[at]]
+        else:
+            out.append(words[at])
+        at += 1
+    return out
+
+
+def main(work, edits, *words):
+    at = words.index('--')
+    compiler = Compiler(work, edits.split(','))
+    commands = [command for command in jobs(words[:at], list(words[at + 1:])) if 'wasm-opt' not in command[0]]
+    well = True
+    for i, command in enumerate(commands):
+        links = i == len(commands) - 1 and '-cc1' not in command[:2] and '-cc1as' not in command[:2]
+        well = (well or not links) and compiler.job(command) and well
+    if not well:
+        sys.exit(1)
+    compiler.place()
+
+
+try:
+    main(*sys.argv[1:])
+except Refused as refused:
+    sys.exit(f'wathread-cc: {refused}')
