@@ -113,9 +113,10 @@ class Compiler:
         return mode == '-S' or self.assemble(words, assembly, out, names) or self.explain(back)
 
     def assemble(self, words, assembly, out, names):
-        features = [word for i, option in enumerate(words) if option == '-target-feature' for word in words[i:i + 2]]
+        like = [word for i, option in enumerate(words) if option == '-target-feature' for word in words[i:i + 2]]
+        like += [word for word in words if word.startswith('-dwarf-version=')]
         done = subprocess.run([words[0], '-cc1as', '-triple', value(words, '-triple'), '-filetype', 'obj', '-target-cpu',
-                               value(words, '-target-cpu'), *features, '-mrelocation-model', 'static', '-o', out, assembly],
+                               value(words, '-target-cpu'), *like, '-mrelocation-model', 'static', '-o', out, assembly],
                               stderr=subprocess.PIPE, check=False)
         self.said = done.stderr
         if done.returncode == 0 and names:

@@ -46,8 +46,10 @@ def masked(lines):
 
 
 def declared(text):
-    """The text with the types of all its functions in front: the assembler of version 14 wants them before a call."""
-    types_ = (line.split(';')[0] for line in text.split('\n') if FUNCTION.match(line))
+    """The text with the types of all its functions in front, which the assembler of version 14 wants before a call, and
+    that of the stack pointer, which debug information alone may name."""
+    types_ = [line.split(';')[0] for line in text.split('\n') if FUNCTION.match(line)]
+    types_ += ['\t.globaltype\t__stack_pointer, i32'] * ('__stack_pointer' in text)
     return '\n'.join([*dict.fromkeys(types_), text])
 
 
