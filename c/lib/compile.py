@@ -53,7 +53,7 @@ def jobs(clang, words):
 
 class Compiler:
     def __init__(self, work, edits):
-        self.work, self.edits, self.made, self.ways, self.said = work, edits, {}, 0, b''
+        self.work, self.edits, self.made, self.ways = work, edits, {}, 0
 
     def way(self, end):
         self.ways += 1
@@ -68,6 +68,8 @@ class Compiler:
         place = words.index(out, len(words) - 1 - words[::-1].index('-o'))
         made = out if out.startswith(self.work + '/') else self.way('out')
         words[place] = made
+        if made == out and '-emit-llvm-bc' in words:    # -flto: what is linked in this call is edited like all else
+            words = ['-emit-obj' if word == '-emit-llvm-bc' else word for word in words if not word.startswith('-flto')]
         if '-cc1' in words[:2] and ('-emit-obj' in words or '-S' in words):
             done = self.source(words, made)
         elif '-cc1as' in words[:2]:
@@ -96,30 +98,41 @@ class Compiler:
                   file=sys.stderr)
         back = without(words[:-3]) + ['-x', 'ir', text]
         if mode == '-emit-obj' and not EXCHANGES.search(edited):
-            return run(back)
-        text_of = ['-S' if word == mode else assembly if word == out else word for word in back]
-        if not run(text_of):
+            return self.finish(words, back)
+        if not self.finish(words, ['-S' if word == mode else assembly if word == out else word for word in back]):
             return False
         with open(assembly, encoding='utf-8', errors='surrogateescape') as file:
             made = file.read()
         masked = mask(made)
         if mode == '-emit-obj' and masked == made:
-            return run(back)
+            return self.finish(words, back)
         names = {} if mode == '-S' else odd_names(masked)
         for name, other in names.items():
             masked = masked.replace(f', {name}\n', f', {other}\n')
         with open(assembly if mode == '-emit-obj' else out, 'w', encoding='utf-8', errors='surrogateescape') as file:
             file.write(declared(masked))
-        return mode == '-S' or self.assemble(words, assembly, out, names) or self.explain(back)
+        return mode == '-S' or self.assemble(words, assembly, out, names)
+
+    def finish(self, words, last):
+        """Runs a step behind the front. A fault there, as in an assembly statement, clang says by lines of the source
+        where it does all at once, and so it is asked once more."""
+        done = subprocess.run(last, stderr=subprocess.PIPE, check=False)
+        if done.returncode:
+            again = without(words[:-3]) + ['-w', *words[-3:]]
+            again[again.index('-o') + 1] = self.way('o')
+            if words[-1] != '-' and not run(again):
+                return False
+        sys.stderr.buffer.write(done.stderr)
+        return done.returncode == 0
 
     def assemble(self, words, assembly, out, names):
         like = [word for i, option in enumerate(words) if option == '-target-feature' for word in words[i:i + 2]]
         like += [word for word in words if word.startswith('-dwarf-version=')]
-        done = subprocess.run([words[0], '-cc1as', '-triple', value(words, '-triple'), '-filetype', 'obj', '-target-cpu',
-                               value(words, '-target-cpu'), *like, '-mrelocation-model', 'static', '-o', out, assembly],
-                              stderr=subprocess.PIPE, check=False)
-        self.said = done.stderr
-        if done.returncode == 0 and names:
+        last = [words[0], '-cc1as', '-triple', value(words, '-triple'), '-filetype', 'obj', '-target-cpu',
+                value(words, '-target-cpu'), *like, '-mrelocation-model', 'static', '-o', out, assembly]
+        if not self.finish(words, last):
+            return False
+        if names:
             with open(out, 'r+b') as file:
                 data = file.read()
                 for name, other in names.items():
@@ -127,13 +140,7 @@ class Compiler:
                     data = data.replace(bytes([len(other)]) + other, bytes([len(name)]) + name)
                 file.seek(0)
                 file.write(data)
-        return done.returncode == 0
-
-    def explain(self, back):
-        """A fault in assembly statements: clang says it by lines of the source, where it makes an object at once."""
-        if run(back):
-            sys.stderr.buffer.write(self.said)
-        return False
+        return True
 
     def assembly(self, words, out):
         """From assembly to an object."""
@@ -164,7 +171,13 @@ class Compiler:
 def odd_names(text):
     """Names of exports and imports that no assembly text can have, as `thread-spawn`, with one as long for each."""
     names = set(re.findall(r'^\t\.(?:export_name|import_name|import_module)\t[^,]*, (.*[^\w.$@\n].*)$', text, re.M))
-    return {name: f'{i:x}'.join(('w$', '$' * (len(os.fsencode(name)) - 2 - len(f'{i:x}')))) for i, name in enumerate(names)}
+    out = {}
+    for i, name in enumerate(sorted(names)):
+        length, number = len(os.fsencode(name)), f'w${i:x}'
+        if not len(number) <= length < 128:
+            raise Refused(f'an export or import called {name}, in a source that has a narrow compare-exchange')
+        out[name] = number + '$' * (length - len(number))
+    return out
 
 
 def without(words):
@@ -182,7 +195,8 @@ def without(words):
 def main(work, edits, *words):
     at = words.index('--')
     compiler = Compiler(work, edits.split(','))
-    commands = [command for command in jobs(words[:at], list(words[at + 1:])) if 'wasm-opt' not in command[0]]
+    commands = [command for command in jobs(words[:at], list(words[at + 1:]))
+                if not os.path.basename(command[0]).startswith('wasm-opt')]
     well = True
     for i, command in enumerate(commands):
         links = i == len(commands) - 1 and '-cc1' not in command[:2] and '-cc1as' not in command[:2]
