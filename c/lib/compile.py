@@ -1,6 +1,7 @@
 #!/usr/bin/env python3
 """compile.py WORK EDITS CLANG.. -- WORDS..: does what clang would do for WORDS, for wathread-cc, and edits what it makes
-in between. WORK is a folder for what is made on the way; EDITS are of `atomic` and `weak` (ir.py), with commas between.
+in between. WORK is a folder for what is made on the way; EDITS are of `atomic`, `weak` and `typed` (ir.py), with commas
+between.
 
 clang says by -### what it would run. Of a source the front alone is run, its LLVM text edited (ir.py), assembly made
 of that and edited (masks.py), and an object of that. What is linked is linked as it says; wasm-opt behind that, which
@@ -90,7 +91,7 @@ class Compiler:
         if not run([*front[:2], '-disable-llvm-passes', *front[2:]]):
             return False
         with open(text, encoding='utf-8', errors='surrogateescape') as file:
-            edited, left = edit(file.read(), 'atomic' in self.edits, 'weak' in self.edits)
+            edited, left = edit(file.read(), self.edits)
         with open(text, 'w', encoding='utf-8', errors='surrogateescape') as file:
             file.write(edited)
         for name in left:

@@ -53,9 +53,8 @@ class Globals:
             if kind == 'global' and ELSEWHERE.isdisjoint(words.split()):
                 self.types[name] = line[found.end():end_of_type(line, found.end())]
 
-    def kept(self, lines):
-        """The lines, with all that can change as used from outside."""
-        typed = not any(' ptr ' in line for line in lines if line.startswith(('  %', 'define', '  store')))
+    def kept(self, lines, typed):
+        """The lines, with all that can change as used from outside; `typed` where pointers have types, as in version 14."""
         pointer = 'i8*' if typed else 'ptr'
         items = [f'i8* bitcast ({kind}* {name} to i8*)' if typed else f'ptr {name}' for name, kind in self.types.items()]
         out = []
@@ -137,11 +136,12 @@ class Function:
         return f'{front} volatile {words}{rest}'
 
 
-def edit(text, atomic=False, weak=False):
-    """The text with all edits, and the names of functions that have volatile accesses which can't be atomic."""
+def edit(text, edits):
+    """The text with all edits, `atomic` and `weak` where they are asked for, and the names of functions that have volatile
+    accesses which can't be atomic."""
     lines, out, groups, left = text.split('\n'), [], set(), []
     globals_ = Globals(lines)
-    lines = globals_.kept(lines)
+    lines = globals_.kept(lines, 'typed' in edits)
     at = 0
     while at < len(lines):
         if not DEFINE.match(lines[at]):
@@ -151,8 +151,8 @@ def edit(text, atomic=False, weak=False):
         end = lines.index('}', at)
         function = Function(lines[at:end], globals_)
         groups.update(GROUP.findall(lines[at]))
-        out.append(STRONG.sub('define weak ', lines[at]) if weak else lines[at])
-        out += [function.access(line, atomic) for line in lines[at + 1:end]]
+        out.append(STRONG.sub('define weak ', lines[at]) if 'weak' in edits else lines[at])
+        out += [function.access(line, 'atomic' in edits) for line in lines[at + 1:end]]
         left += [function.name] * (function.plain > 0)
         at = end
     marked = re.compile(r'attributes #(\d+) = \{')
