@@ -1,0 +1,57 @@
+/* Printing, without output: what a thread prints stays with it, in a ring of its last bytes that nobody else touches. So
+   it makes no order. All of it goes to the same place. There are no floats, no files and no input. */
+#ifndef STDIO_H
+#define STDIO_H
+#include <stdarg.h>
+#include <stddef.h>
+#include <sys/types.h>
+
+#define WATHREAD_TEXT 256
+extern _Thread_local char wathread_text[WATHREAD_TEXT];
+extern _Thread_local unsigned wathread_text_at; /* where the next byte goes */
+
+typedef struct wathread_file FILE;
+#define stdout ((FILE *)1)
+#define stderr ((FILE *)2)
+#define EOF (-1)
+#define BUFSIZ 256
+#define _IOFBF 0
+#define _IOLBF 1
+#define _IONBF 2
+
+/* d i u o x X c s p and %, with flags, width, precision and hh h l ll j z t; all others trap. */
+#define WATHREAD_PRINTS(text, first) __attribute__((format(printf, text, first)))
+int printf(const char *restrict text, ...) WATHREAD_PRINTS(1, 2);
+int fprintf(FILE *restrict file, const char *restrict text, ...) WATHREAD_PRINTS(2, 3);
+int dprintf(int file, const char *restrict text, ...) WATHREAD_PRINTS(2, 3);
+int sprintf(char *restrict to, const char *restrict text, ...) WATHREAD_PRINTS(2, 3);
+int snprintf(char *restrict to, size_t n, const char *restrict text, ...) WATHREAD_PRINTS(3, 4);
+int vprintf(const char *restrict text, va_list list) WATHREAD_PRINTS(1, 0);
+int vfprintf(FILE *restrict file, const char *restrict text, va_list list) WATHREAD_PRINTS(2, 0);
+int vsprintf(char *restrict to, const char *restrict text, va_list list) WATHREAD_PRINTS(2, 0);
+int vsnprintf(char *restrict to, size_t n, const char *restrict text, va_list list) WATHREAD_PRINTS(3, 0);
+#undef WATHREAD_PRINTS
+int puts(const char *text);
+int fputs(const char *restrict text, FILE *restrict file);
+int putchar(int c);
+int putc(int c, FILE *file);
+int fputc(int c, FILE *file);
+size_t fwrite(const void *restrict from, size_t size, size_t count, FILE *restrict file);
+void perror(const char *text);
+int fflush(FILE *file);
+int setvbuf(FILE *restrict file, char *restrict to, int kind, size_t n);
+void setbuf(FILE *restrict file, char *restrict to);
+
+#define WATHREAD_NO __attribute__((unavailable("wathread has no files and no input: give what a program reads as constants")))
+WATHREAD_NO FILE *fopen(const char *restrict path, const char *restrict how);
+WATHREAD_NO int fclose(FILE *file);
+WATHREAD_NO size_t fread(void *restrict to, size_t size, size_t count, FILE *restrict file);
+WATHREAD_NO char *fgets(char *restrict to, int n, FILE *restrict file);
+WATHREAD_NO int fgetc(FILE *file);
+WATHREAD_NO int getc(FILE *file);
+WATHREAD_NO int getchar(void);
+WATHREAD_NO int scanf(const char *restrict text, ...);
+WATHREAD_NO int fscanf(FILE *restrict file, const char *restrict text, ...);
+#undef WATHREAD_NO
+
+#endif
