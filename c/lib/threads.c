@@ -224,7 +224,13 @@ static void call_at_exit(struct at_exit *list) {
 
 static void call_normal(void) { call_at_exit(&normal); }
 
-int atexit(void (*function)(void)) { at_its_end = thread_self() ? at_its_end : call_normal; return add_at_exit(&normal, function); }
+int atexit(void (*function)(void)) {
+    if (add_at_exit(&normal, function))
+        return -1;
+    at_its_end = call_normal;
+    return 0;
+}
+
 int at_quick_exit(void (*function)(void)) { return add_at_exit(&quick, function); }
 
 _Noreturn void _Exit(int status) {
