@@ -43,8 +43,11 @@ finds() {
 # The answers of 16 calls of a module's `test` by node.
 by_node() {
     node -e 'const code = require("fs").readFileSync(process.argv[1]);
-        const { test } = new WebAssembly.Instance(new WebAssembly.Module(code), {}).exports;
-        for (let i = 0; i < 16; i++) console.log(`thread 0: ok i32:${test(i * 77) >>> 0}`);' "$m"
+        const module = new WebAssembly.Module(code);
+        for (let i = 0; i < 16; i++) {
+            const { test } = new WebAssembly.Instance(module, {}).exports;
+            console.log(`thread 0: ok i32:${test(i * 77) >>> 0}`);
+        }' "$m"
 }
 
 by_wathread() {
@@ -57,7 +60,7 @@ exchanges() {
     [ "$(by_node)" = "$(by_wathread)" ] || say "clang_exchange.c: node answers otherwise"
     ends "$here/tests/clang_byte.c"
     "$wathread" search "$m" --invoke main --record "$work/r" --find ok --runs 1 >/dev/null 2>&1
-    "$wathread" show "$m" "$work/r" | grep 'cmpxchg' | grep -qv 'clang_byte.c:13$' && say "show: another line"
+    "$wathread" show "$m" "$work/r" | grep 'cmpxchg' | grep -qvE 'clang_byte\.c:13( |$)' && say "show: another line"
     CC=clang-$version "$here/wathread-cc" "-O$level" -S "$here/tests/clang_byte.c" -o "$work/m.s" &&
         CC=clang-$version "$here/wathread-cc" "-O$level" -c "$here/tests/clang_byte.c" -o "$work/m.o" || say "-S, -c"
     ends "$work/m.o"

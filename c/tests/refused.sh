@@ -85,8 +85,8 @@ EXPORT("f") int f(void) { return g(); }
 END
 echo 'int g(void) { return 2; }' >third.c
 echo 'static int x = 3 int main(void) { return x; }' >wrong.c
-echo 'int puts(const char *); int main(void) { return puts("a"); }' >missing.c
-echo '#include <stdio.h>
+echo 'int ftok(const char *, int); int main(void) { return ftok("a", 1); }' >missing.c
+echo '#include <poll.h>
 int main(void) { return 0; }' >header.c
 echo 'static volatile float f = 1; __attribute__((noinline)) static int average(void) { return f * 2; } int main(void) { return average(); }' >float.c
 echo '_Atomic signed char lock = -1; int take(void) { signed char free = -1; return __c11_atomic_compare_exchange_strong(&lock, &free, 0, 5, 5); }' >byte.c
@@ -181,9 +181,9 @@ grep -q 'No space left' err.text || say "/dev/full: $(cat err.text)"
 
 # sources
 passes 'error: expected' "$cc_" wrong.c -o m.wasm
-passes 'undefined symbol: puts' "$cc_" missing.c -o m.wasm
+passes 'undefined symbol: ftok' "$cc_" missing.c -o m.wasm
 passes 'statement.c:1:' "$cc_" statement.c -o m.wasm
-passes "'stdio.h' file not found" "$cc_" header.c -o m.wasm
+passes "'poll.h' file not found" "$cc_" header.c -o m.wasm
 for level in 0 1 2 3; do
     refuses 'in average: a float' "$cc_" -O$level float.c -o m.wasm
     refuses 'in main: a float' "$cc_" -O$level float_pointer.c -o m.wasm
