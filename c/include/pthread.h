@@ -47,8 +47,24 @@ int pthread_timedjoin_np(pthread_t thread, void **result, const struct timespec 
 int pthread_detach(pthread_t thread); /* does nothing */
 pthread_t pthread_self(void);
 int pthread_equal(pthread_t a, pthread_t b);
-_Noreturn WATHREAD_NO("way out of a thread but a return: return from its function, as from main, where the others go on")
-void pthread_exit(void *result);
+WATHREAD_LEAVES void pthread_exit(void *result); /* in main the others go on, and its answer is 0 */
+
+/* They stand in one block, and pthread_exit calls what is pushed there. */
+struct wathread_cleanup {
+    void (*function)(void *);
+    void *arg;
+    struct wathread_cleanup *before;
+};
+extern _Thread_local struct wathread_cleanup *wathread_cleanups;
+#define pthread_cleanup_push(function, arg)                                                  \
+    do {                                                                                     \
+        struct wathread_cleanup wathread_one = {function, arg, wathread_cleanups};           \
+        wathread_cleanups = &wathread_one;
+#define pthread_cleanup_pop(calls)                                                           \
+        wathread_cleanups = wathread_one.before;                                             \
+        if (calls)                                                                           \
+            wathread_one.function(wathread_one.arg);                                         \
+    } while (0)
 
 /* They are kept, and change nothing: each stack has what --stack of wathread-cc says. */
 int pthread_attr_init(pthread_attr_t *a);
@@ -124,8 +140,6 @@ WATHREAD_CANCEL int pthread_cancel(pthread_t thread);
 WATHREAD_CANCEL int pthread_setcancelstate(int state, int *before);
 WATHREAD_CANCEL int pthread_setcanceltype(int type, int *before);
 WATHREAD_CANCEL void pthread_testcancel(void);
-WATHREAD_CANCEL void pthread_cleanup_push(void (*function)(void *), void *arg);
-WATHREAD_CANCEL void pthread_cleanup_pop(int calls);
 #define WATHREAD_RANK WATHREAD_NO("priorities: any thread may come next at any time")
 WATHREAD_RANK int pthread_setschedparam(pthread_t thread, int policy, const struct sched_param *param);
 WATHREAD_RANK int pthread_getschedparam(pthread_t thread, int *policy, struct sched_param *param);

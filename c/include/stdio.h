@@ -1,14 +1,14 @@
-/* Printing, without output: what a thread prints stays with it, in a ring of its last bytes that nobody else touches. So
-   it makes no order. All of it goes to the same place. There are no floats, no files and no input. */
+/* Printing, without output: what a thread prints stays with it, as stores to a word that nobody else touches, and is gone
+   at the end of the call. So it makes neither order nor states. All of it goes to the same place. There are no floats, no
+   files and no input. */
 #ifndef STDIO_H
 #define STDIO_H
 #include <stdarg.h>
 #include <stddef.h>
 #include <sys/types.h>
 
-#define WATHREAD_TEXT 256
-extern _Thread_local char wathread_text[WATHREAD_TEXT];
-extern _Thread_local unsigned wathread_text_at; /* where the next byte goes */
+/* What is printed: each store is up to eight letters, the first one in the lowest byte, with zeros behind the last. */
+extern volatile _Thread_local uint64_t wathread_text;
 
 typedef struct wathread_file FILE;
 #define stdout ((FILE *)1)

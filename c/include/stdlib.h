@@ -2,25 +2,26 @@
 #ifndef STDLIB_H
 #define STDLIB_H
 #include <stddef.h>
+#include <sys/types.h>
 
 #define EXIT_SUCCESS 0
 #define EXIT_FAILURE 1
 #define RAND_MAX 32767
 
-/* Null where the pool is used up: what was freed isn't used again, but with -DREUSE=1. */
+/* Null where the pool is used up: what was freed isn't used again, but with --reuse. */
 void *malloc(size_t n);
 void *calloc(size_t count, size_t n);
 void *realloc(void *block, size_t n);
 void *aligned_alloc(size_t alignment, size_t n); /* to 16 bytes at most */
 void free(void *block); /* traps where the block was freed, or is none of malloc's; writes over it */
 
-/* A return from main calls what atexit was given. No thread can end the others, or leave the functions that it is in: so
-   exit calls what atexit was given, and then traps, in exit_with_success or exit_with_failure. */
+/* exit(0) by main's thread is a return from main, in which the others go on. No thread can end another one: so exit(0) by
+   a started thread is a trap, in exit_with_success, and each exit with another status is one in exit_with_failure. */
 int atexit(void (*function)(void)); /* not 0 where it isn't main's thread */
 int at_quick_exit(void (*function)(void));
-_Noreturn void exit(int status);
-_Noreturn void quick_exit(int status);
-_Noreturn void _Exit(int status);
+WATHREAD_LEAVES void exit(int status);
+WATHREAD_LEAVES void quick_exit(int status);
+WATHREAD_LEAVES void _Exit(int status);
 _Noreturn void abort(void); /* a trap */
 
 int atoi(const char *s);

@@ -28,8 +28,7 @@ static inline thrd_t thrd_current(void) { return pthread_self(); }
 static inline int thrd_equal(thrd_t a, thrd_t b) { return pthread_equal(a, b); }
 static inline void thrd_yield(void) {}
 int thrd_sleep(const struct timespec *time, struct timespec *left); /* returns at once (time.h) */
-_Noreturn __attribute__((unavailable("wathread has no way out of a thread but a return: return from its function")))
-void thrd_exit(int result);
+WATHREAD_LEAVES void thrd_exit(int result);
 int mtx_init(mtx_t *m, int kind);
 static inline void mtx_destroy(mtx_t *m) { pthread_mutex_destroy(m); }
 static inline int mtx_lock(mtx_t *m) { return wathread_as_c11(pthread_mutex_lock(m)); }

@@ -1,5 +1,6 @@
 /* The clock stands still while some thread is awake. A wait that ends by its time moves it on to its deadline, which comes
-   only where all threads are asleep. So a loop until some time goes round for ever. All clocks are one. */
+   only where all threads are asleep. For a thread that has looked at it, it also goes on by what that thread sleeps. So a
+   loop until some time ends where it sleeps, and else goes round for ever. All clocks are one. */
 #ifndef TIME_H
 #define TIME_H
 #include <sys/types.h>

@@ -12,9 +12,14 @@
 
 unsigned sleep(unsigned seconds);
 int usleep(unsigned microseconds);
-_Noreturn void _exit(int status);                      /* a trap (stdlib.h) */
+WATHREAD_LEAVES void _exit(int status);                /* stdlib.h */
 ssize_t write(int file, const void *from, size_t n);   /* stays in the memory (stdio.h) */
 long sysconf(int name);                                /* processors: as many as --threads says */
+
+/* By single letters. main has no words, so that it is -1 there. */
+extern char *optarg;
+extern int optind, opterr, optopt;
+int getopt(int count, char *const words[], const char *letters);
 
 #define WATHREAD_NO __attribute__((unavailable("wathread has no processes, files or input: a module is one program, alone")))
 WATHREAD_NO pid_t fork(void);

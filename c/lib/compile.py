@@ -1,7 +1,7 @@
 #!/usr/bin/env python3
 """compile.py WORK EDITS CLANG.. -- WORDS..: does what clang would do for WORDS, for wathread-cc, and edits what it makes
-in between. WORK is a folder for what is made on the way; EDITS are of `atomic`, `weak` and `typed` (ir.py), with commas
-between.
+in between. WORK is a folder for what is made on the way; EDITS are of `atomic`, `library`, `spurious` and `typed` (ir.py),
+with commas between.
 
 clang says by -### what it would run. Of a source the front alone is run, its LLVM text edited (ir.py), assembly made
 of that and edited (masks.py), and an object of that. What is linked is linked as it says; wasm-opt behind that, which
@@ -193,11 +193,19 @@ def without(words):
     return out
 
 
+def is_whole(commands, work):
+    """Whether one source is compiled and linked, with nothing but what wathread-cc adds."""
+    sources = [command for command in commands if command[1:2] in (['-cc1'], ['-cc1as'])]
+    rest = [word for command in commands if command not in sources for word in command[1:]
+            if word.endswith(('.o', '.a')) or word.startswith('-l')]
+    return len(sources) == 1 and len(commands) == 2 and all(word.startswith(work + '/') for word in rest)
+
+
 def main(work, edits, *words):
     at = words.index('--')
-    compiler = Compiler(work, edits.split(','))
     commands = [command for command in jobs(words[:at], list(words[at + 1:]))
                 if not os.path.basename(command[0]).startswith('wasm-opt')]
+    compiler = Compiler(work, edits.split(',') + ['whole'] * is_whole(commands, work))
     well = True
     for i, command in enumerate(commands):
         links = i == len(commands) - 1 and '-cc1' not in command[:2] and '-cc1as' not in command[:2]

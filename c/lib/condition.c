@@ -50,7 +50,7 @@ static inline __attribute__((always_inline)) int wait_for_signal(pthread_cond_t 
 int pthread_cond_wait(pthread_cond_t *c, pthread_mutex_t *m) { return wait_for_signal(c, m, FOR_EVER); }
 
 int pthread_cond_timedwait(pthread_cond_t *c, pthread_mutex_t *m, const struct timespec *until) {
-    return is_wrong(until) ? EINVAL : wait_for_signal(c, m, in_nanoseconds(until));
+    return is_wrong(until) ? EINVAL : wait_for_signal(c, m, deadline_of(until));
 }
 
 int pthread_cond_signal(pthread_cond_t *c) {

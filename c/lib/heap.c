@@ -1,6 +1,6 @@
 /* The pool: each block has its size in front of it, with a mark. Freeing takes the mark away and writes over the block, by
    plain stores: who uses it then races with that, or finds other values. No block is used again, so that a second free is
-   seen; with -DREUSE=1 a thread gets what it freed itself again, the last one first, where the size is the same. */
+   seen; with --reuse a thread gets what it freed itself again, the last one first, where the size is the same. */
 
 #ifndef POOL
 #define POOL 16384

@@ -9,11 +9,13 @@ source has.
   above don't keep it from reading both of what `c ? &a : &b` may be. Not those of constants, of thread-local variables by
   their name, and of local variables whose address goes nowhere.
 - Where it is asked for, accesses that are volatile in the source become atomic ones, relaxed.
-- Functions of the library are weak, so that the program's come before them.
+- Functions of the library are weak, so that the program's come before them. Its plain accesses stay as they are.
+- Two edits more need further blocks (blocks.py).
 """
 import re
 
-NAME = r'(?:"[^"]*"|[-\w$.]+)'
+from blocks import NAME, Blocks, Leaving, declared, end_of_type, split
+
 GLOBAL = re.compile(rf'(@{NAME}) = ((?:[^"\s]+ |"[^"]*" )*?)(global|constant) ')
 ELSEWHERE = {'external', 'extern_weak', 'available_externally', 'appending'}
 DEFINE = re.compile(rf'define .*?@({NAME})\(')
@@ -25,17 +27,6 @@ LOCAL = re.compile(rf'%{NAME}')
 PRIVATE_CALL = re.compile(r'  (?:tail )?call void @llvm\.(?:lifetime|dbg|memcpy|memmove|memset)\b|    #dbg_')
 STRONG = re.compile(r'define (?!internal |private |weak|linkonce|available)')
 KEPT = '@llvm.compiler.used'
-
-
-def end_of_type(line, at):
-    """Where the type ends that begins there."""
-    depth = 0
-    while depth or line[at] not in ' ,' or line[at:at + 2] == ' (':
-        if line[at] == '"':
-            at = line.index('"', at + 1)
-        depth += (line[at] in '([{<') - (line[at] in ')]}>')
-        at += 1
-    return at
 
 
 class Globals:
@@ -68,17 +59,6 @@ class Globals:
             out.append(f'{KEPT} = appending global [{len(items)} x {pointer}] [{", ".join(items)}], '
                        'section "llvm.metadata"')
         return out
-
-
-def split(text):
-    """What stands between the outer commas."""
-    items, depth, start = [], 0, 0
-    for at, char in enumerate(text):
-        depth += (char in '([{<') - (char in ')]}>')
-        if char == ',' and not depth:
-            items.append(text[start:at].strip())
-            start = at + 1
-    return items + [text[start:].strip()]
 
 
 def own_pointers(body):
@@ -136,25 +116,39 @@ class Function:
         return f'{front} volatile {words}{rest}'
 
 
-def edit(text, edits):
-    """The text with all edits, `atomic` and `weak` where they are asked for, and the names of functions that have volatile
-    accesses which can't be atomic."""
-    lines, out, groups, left = text.split('\n'), [], set(), []
-    globals_ = Globals(lines)
-    lines = globals_.kept(lines, 'typed' in edits)
+def functions_of(lines):
+    """The functions of a text: where each begins and ends."""
     at = 0
     while at < len(lines):
-        if not DEFINE.match(lines[at]):
-            out.append(lines[at])
-            at += 1
-            continue
-        end = lines.index('}', at)
+        if DEFINE.match(lines[at]):
+            end = lines.index('}', at)
+            yield at, end
+            at = end
+        at += 1
+
+
+def edit(text, edits):
+    """The text with all edits, those that are named where they are asked for, and the names of functions that have volatile
+    accesses which can't be atomic."""
+    lines, out, groups, left, done = text.split('\n'), [], set(), [], 0
+    globals_ = Globals(lines)
+    lines = globals_.kept(lines, 'typed' in edits)
+    places = list(functions_of(lines))
+    leaving = Leaving({DEFINE.match(lines[at]).group(1).strip('"'): lines[at + 1:end] for at, end in places},
+                      'whole' in edits)
+    for at, end in places:
+        out += lines[done:at]
         function = Function(lines[at:end], globals_)
         groups.update(GROUP.findall(lines[at]))
-        out.append(STRONG.sub('define weak ', lines[at]) if 'weak' in edits else lines[at])
-        out += [function.access(line, 'atomic' in edits) for line in lines[at + 1:end]]
+        blocks = Blocks(STRONG.sub('define weak ', lines[at]) if 'library' in edits else lines[at], leaving)
+        for line, after in zip(lines[at + 1:end], lines[at + 2:end + 1]):
+            blocks.add(line if 'library' in edits else function.access(line, 'atomic' in edits), 'spurious' in edits)
+            if not after.startswith(('  unreachable', '  ret ')):
+                blocks.look(line)
+        out += blocks.lines()
         left += [function.name] * (function.plain > 0)
-        at = end
+        done = end
+    out = declared(out + lines[done:], leaving, 'spurious' in edits)
     marked = re.compile(r'attributes #(\d+) = \{')
     return '\n'.join(f'{line[:-1]}sanitize_thread }}' if (found := marked.match(line)) and found.group(1) in groups else line
                      for line in out), left

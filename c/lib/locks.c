@@ -44,11 +44,11 @@ int pthread_rwlock_rdlock(pthread_rwlock_t *l) { return read_until(l, FOR_EVER);
 int pthread_rwlock_wrlock(pthread_rwlock_t *l) { return write_until(l, FOR_EVER); }
 
 int pthread_rwlock_timedrdlock(pthread_rwlock_t *l, const struct timespec *until) {
-    return is_wrong(until) ? EINVAL : read_until(l, in_nanoseconds(until));
+    return is_wrong(until) ? EINVAL : read_until(l, deadline_of(until));
 }
 
 int pthread_rwlock_timedwrlock(pthread_rwlock_t *l, const struct timespec *until) {
-    return is_wrong(until) ? EINVAL : write_until(l, in_nanoseconds(until));
+    return is_wrong(until) ? EINVAL : write_until(l, deadline_of(until));
 }
 
 int pthread_rwlock_trywrlock(pthread_rwlock_t *l) {
@@ -136,7 +136,7 @@ int sem_trywait(sem_t *s) { return fails_for_nothing() || take(s) ? errno = EAGA
 int sem_wait(sem_t *s) { return take_until(s, FOR_EVER); }
 
 int sem_timedwait(sem_t *s, const struct timespec *until) {
-    return is_wrong(until) ? errno = EINVAL, -1 : take_until(s, in_nanoseconds(until));
+    return is_wrong(until) ? errno = EINVAL, -1 : take_until(s, deadline_of(until));
 }
 
 /* Who finds that there were as many as may be takes its own back: for that time there are more than may be, which are

@@ -102,7 +102,7 @@ int pthread_mutex_lock(pthread_mutex_t *m) {
 int pthread_mutex_timedlock(pthread_mutex_t *m, const struct timespec *until) {
     if (is_wrong(until))
         return EINVAL;
-    return m->kind ? lock_owned(m, in_nanoseconds(until), 0) : lock_normal(m, in_nanoseconds(until));
+    return m->kind ? lock_owned(m, deadline_of(until), 0) : lock_normal(m, deadline_of(until));
 }
 
 int pthread_mutex_unlock(pthread_mutex_t *m) {

@@ -136,3 +136,26 @@ __int128 __multi3(__int128 a, __int128 b) {
     uint64_t high = a1 * b1 + (mid >> 32) + (mid2 >> 32) + (uint64_t)(a >> 64) * bl + al * (uint64_t)(b >> 64);
     return (__int128)((unsigned __int128)high << 64 | (mid2 << 32 | (uint32_t)low));
 }
+
+/* ---- Words of a command line ---- */
+
+char *optarg;
+int optind = 1, opterr = 1, optopt;
+
+/* A letter that is no option, or has no value, is `?`, or `:` where the letters begin with that. */
+int getopt(int count, char *const words[], const char *letters) {
+    static int at; /* in a word of several letters */
+    const char *word = optind < count ? words[optind] : 0, *found;
+    if (!word || word[0] != '-' || !word[1])
+        return -1;
+    if (!strcmp(word, "--"))
+        return optind++, -1;
+    at = at ? at : 1;
+    int letter = optopt = (unsigned char)word[at++];
+    found = letter == ':' ? 0 : strchr(letters, letter);
+    int wants = found && found[1] == ':', more = word[at] != 0;
+    optarg = wants && more ? (char *)word + at : wants && optind + 1 < count ? words[++optind] : 0;
+    if (wants || !more)
+        at = 0, optind++;
+    return !found ? '?' : wants && !optarg ? (*letters == ':' ? ':' : '?') : letter;
+}

@@ -1,22 +1,44 @@
-/* Text: what is printed stays with its thread, in memory that nobody else touches, so that it makes no order. It is a ring
-   of the last bytes, and the place of the next one. */
+/* Text: what a thread prints stays with it, in a word that nobody else touches, so that it makes no order. Eight letters are
+   one store to it, and at the end of each call it is 0 again: a trace has all that was printed, and no state has it. */
 
-_Thread_local char wathread_text[WATHREAD_TEXT];
-_Thread_local unsigned wathread_text_at;
+volatile _Thread_local uint64_t wathread_text;
 
-/* Where text goes: to a string with room, or where that is null, to what the thread has printed. */
+/* Where text goes: to a string with room, or where that is null, to what the thread prints. */
 struct out {
     char *to;
     size_t room, count;
+    uint64_t word;
 };
 
-static void put(struct out *out, char c) {
-    if (!out->to) {
-        wathread_text[wathread_text_at] = c;
-        wathread_text_at = (wathread_text_at + 1) % WATHREAD_TEXT;
-    } else if (out->count < out->room)
-        out->to[out->count] = c;
-    out->count++;
+static void print_text(struct out *out, const char *from, size_t n) {
+    uint64_t word = out->word;
+    for (size_t count = out->count; n; n--) {
+        word |= (uint64_t)(unsigned char)*from++ << count % 8 * 8;
+        if (++count % 8 == 0) {
+            wathread_text = word;
+            word = 0;
+        }
+    }
+    out->word = word;
+}
+
+static void put_text(struct out *out, const char *from, size_t n) {
+    if (!out->to)
+        print_text(out, from, n);
+    else
+        for (size_t i = 0; i < n && out->count + i < out->room; i++)
+            out->to[out->count + i] = from[i];
+    out->count += n;
+}
+
+static void put(struct out *out, char c) { put_text(out, &c, 1); }
+
+/* Behind what is printed. Answers how many letters there were. */
+static int printed(struct out *out) {
+    if (out->count % 8)
+        wathread_text = out->word;
+    wathread_text = 0;
+    return out->count;
 }
 
 static void put_many(struct out *out, char c, int n) {
@@ -36,11 +58,9 @@ static void put_piece(struct out *out, const struct piece *p, const char *before
     int fills = p->zero && !p->left;
     if (!fills && !p->left)
         put_many(out, ' ', room);
-    for (; *before; before++)
-        put(out, *before);
+    put_text(out, before, strlen(before));
     put_many(out, '0', zeros + (fills && room > 0 ? room : 0));
-    for (int i = 0; i < n; i++)
-        put(out, text[i]);
+    put_text(out, text, n);
     if (p->left)
         put_many(out, ' ', room);
 }
@@ -179,8 +199,11 @@ static int format(struct out *out, const char *format, va_list given) {
             format++;
             struct piece p = read_piece(&format, &list);
             put_argument(out, &p, &list);
-        } else
-            put(out, *format++);
+        } else {
+            size_t n = strcspn(format, "%");
+            put_text(out, format, n);
+            format += n;
+        }
     va_end(list);
     return out->count;
 }
@@ -195,7 +218,13 @@ int vsnprintf(char *restrict to, size_t n, const char *restrict text, va_list li
 }
 
 int vsprintf(char *restrict to, const char *restrict text, va_list list) { return vsnprintf(to, INT32_MAX, text, list); }
-int vprintf(const char *restrict text, va_list list) { return format(&(struct out){0}, text, list); }
+
+int vprintf(const char *restrict text, va_list list) {
+    struct out out = {0};
+    format(&out, text, list);
+    return printed(&out);
+}
+
 int vfprintf(FILE *restrict file, const char *restrict text, va_list list) { (void)file; return vprintf(text, list); }
 
 #define WITH_LIST(call)      \
@@ -211,20 +240,27 @@ int printf(const char *restrict text, ...) { WITH_LIST(vprintf(text, list)) }
 int fprintf(FILE *restrict file, const char *restrict text, ...) { (void)file; WITH_LIST(vprintf(text, list)) }
 int dprintf(int file, const char *restrict text, ...) { (void)file; WITH_LIST(vprintf(text, list)) }
 
-size_t fwrite(const void *restrict from, size_t size, size_t count, FILE *restrict file) {
+static void print(const char *from, size_t n, int line) {
     struct out out = {0};
+    put_text(&out, from, n);
+    if (line)
+        put(&out, '\n');
+    printed(&out);
+}
+
+size_t fwrite(const void *restrict from, size_t size, size_t count, FILE *restrict file) {
     (void)file;
-    for (size_t i = 0; i < size * count; i++)
-        put(&out, ((const char *)from)[i]);
+    print(from, size * count, 0);
     return count;
 }
 
 ssize_t write(int file, const void *from, size_t n) { (void)file; return fwrite(from, 1, n, stdout); }
-int fputs(const char *restrict text, FILE *restrict file) { fwrite(text, 1, strlen(text), file); return 0; }
-int fputc(int c, FILE *file) { (void)file; put(&(struct out){0}, c); return (unsigned char)c; }
+int fputs(const char *restrict text, FILE *restrict file) { (void)file; print(text, strlen(text), 0); return 0; }
+int fputc(int c, FILE *file) { char one = c; (void)file; print(&one, 1, 0); return (unsigned char)c; }
 int putc(int c, FILE *file) { return fputc(c, file); }
 int putchar(int c) { return fputc(c, stdout); }
-int puts(const char *text) { fputs(text, stdout); return putchar('\n'); }
+int puts(const char *text) { print(text, strlen(text), 1); return 0; }
+void __wathread_says(const char *text) { print(text, strlen(text), 1); } /* a failed assert */
 int fflush(FILE *file) { (void)file; return 0; }
 int setvbuf(FILE *restrict file, char *restrict to, int kind, size_t n) { (void)file, (void)to, (void)kind, (void)n; return 0; }
 void setbuf(FILE *restrict file, char *restrict to) { (void)file, (void)to; }

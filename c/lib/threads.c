@@ -4,7 +4,11 @@ void __wasm_call_ctors(void);
 __attribute__((weak)) int __main_void(void);
 __attribute__((weak)) int __main_argc_argv(int argc, char **argv);
 __attribute__((import_module("wasi"), import_name("thread-spawn"))) int __wathread_spawn(int arg);
-int __wathread_most(void); /* in start.s */
+/* In start.s. */
+int __wathread_most(void);
+int __wathread_leaving(void);
+int __wathread_result(void);
+void __wathread_leave(int result);
 
 enum { MOST_THREADS = 64 };
 
@@ -37,6 +41,14 @@ static void test_null(void) {
             null_pointer_was_written();
 }
 
+/* What is called last may leave too. */
+static void call_at_end(void) {
+    if (at_its_end)
+        at_its_end();
+    __wathread_result();
+    test_null();
+}
+
 /* ---- main ---- */
 
 #ifdef SPURIOUS
@@ -65,9 +77,8 @@ EXPORT("main") int __wathread_main(void) {
     thread_spawn(change_luck, 0);
 #endif
     int result = __main_void ? __main_void() : __main_argc_argv(0, &none);
-    if (at_its_end)
-        at_its_end();
-    test_null();
+    result = __wathread_leaving() ? __wathread_result() : result;
+    call_at_end();
     return result;
 }
 
@@ -95,9 +106,8 @@ void __wathread_begin(int thread, int place) {
     default:
         ((void (*)(int))function)(arg);
     }
-    if (at_its_end)
-        at_its_end();
-    test_null();
+    result = __wathread_leaving() ? (uint32_t)__wathread_result() : result;
+    call_at_end();
     ends[thread] = (uint64_t)ENDED << 32 | result;
     notify_all(&ends[thread]);
 }
@@ -195,8 +205,30 @@ int pthread_setspecific(pthread_key_t key, const void *value) {
 
 void *pthread_getspecific(pthread_key_t key) { return (unsigned)key < PTHREAD_KEYS_MAX ? values[key] : 0; }
 
-/* ---- The end of the program: no thread can end another one, or leave the functions that it is in, but by a trap. Its
-   name says what was wanted ---- */
+/* ---- The end of a thread, from within ---- */
+
+_Thread_local struct wathread_cleanup *wathread_cleanups;
+
+static void leave(uint32_t result) {
+    while (wathread_cleanups) {
+        struct wathread_cleanup *last = wathread_cleanups;
+        wathread_cleanups = last->before;
+        last->function(last->arg);
+    }
+    __wathread_leave(result);
+}
+
+/* main's answer is 0 then, and what atexit was given isn't called: that is for the end of the program. */
+void pthread_exit(void *result) {
+    if (!thread_self())
+        at_its_end = 0;
+    leave(thread_self() ? (uint32_t)result : 0);
+}
+
+void thrd_exit(int result) { pthread_exit((void *)result); }
+
+/* ---- The end of the program: main's is a return from main. No thread can end another one: elsewhere, and where something
+   is wrong, it is a trap, whose name says what was wanted ---- */
 
 enum { MOST_AT_EXIT = 32 };
 
@@ -233,15 +265,23 @@ int atexit(void (*function)(void)) {
 
 int at_quick_exit(void (*function)(void)) { return add_at_exit(&quick, function); }
 
-_Noreturn void _Exit(int status) {
+static void end(int status) {
     if (status)
         exit_with_failure();
-    exit_with_success();
+    if (thread_self())
+        exit_with_success();
+    __wathread_leave(0);
 }
 
-_Noreturn void _exit(int status) { _Exit(status); }
-_Noreturn void exit(int status) { call_at_exit(&normal); _Exit(status); }
-_Noreturn void quick_exit(int status) { call_at_exit(&quick); _Exit(status); }
+void _Exit(int status) { at_its_end = 0; end(status); }
+void _exit(int status) { _Exit(status); }
+void quick_exit(int status) { call_at_exit(&quick); _Exit(status); }
 _Noreturn void abort(void) { __builtin_trap(); }
+
+void exit(int status) {
+    if (!thread_self())
+        call_normal();
+    end(status);
+}
 
 _Thread_local int __wathread_errno;

@@ -7,15 +7,36 @@ enum { NANOSECONDS = 1000000000 };
 static const int64_t FOR_EVER = -1, BEGIN = (int64_t)NANOSECONDS * NANOSECONDS;
 static _Atomic int64_t now = BEGIN;
 
-static int64_t in_nanoseconds(const struct timespec *t) {
+/* How long a thread slept since it looked at a clock, which goes on for it alone. Before that it isn't counted: a loop that
+   sleeps until something happens has no more states than one that doesn't. */
+static _Thread_local int64_t slept;
+static _Thread_local int has_looked;
+
+static int64_t time_now(void) {
+    has_looked = 1;
+    return now + slept;
+}
+
+static int64_t as_nanoseconds(const struct timespec *t) {
     if (t->tv_sec < 0)
         return 0;
-    return t->tv_sec > INT64_MAX / NANOSECONDS - 1 ? INT64_MAX : t->tv_sec * NANOSECONDS + t->tv_nsec;
+    return t->tv_sec > INT64_MAX / NANOSECONDS / 4 ? INT64_MAX / 4 : t->tv_sec * NANOSECONDS + t->tv_nsec;
+}
+
+/* A deadline by the clock of all. */
+static int64_t deadline_of(const struct timespec *t) {
+    int64_t deadline = as_nanoseconds(t) - slept;
+    return deadline > 0 ? deadline : 0;
+}
+
+static void sleep_for(int64_t nanoseconds) {
+    if (has_looked && nanoseconds > 0)
+        slept += nanoseconds;
 }
 
 static int is_wrong(const struct timespec *t) { return t->tv_nsec < 0 || t->tv_nsec >= NANOSECONDS; }
 
-/* ---- With -DSPURIOUS=1 a thread of the library's own sets this word for a while, once, at any time: as long as it is
+/* ---- With --spurious a thread of the library's own sets this word for a while, once, at any time: as long as it is
    set, waits and trials fail for nothing, wherever POSIX permits it ---- */
 
 #ifdef SPURIOUS
@@ -31,6 +52,7 @@ static int fails_for_nothing(void) { return luck_is_out; }
 #else
 static int fails_for_nothing(void) { return 0; }
 #endif
+int __wathread_fails(void) { return fails_for_nothing(); } /* what a weak compare-exchange asks (blocks.py) */
 
 /* Sleeps while *word is value. Answers 1 where the deadline has come: then no more is asked. */
 static inline __attribute__((always_inline)) int sleep_while(_Atomic int *word, int value, int64_t deadline) {
@@ -92,7 +114,7 @@ int pthread_timedjoin_np(pthread_t thread, void **result, const struct timespec 
     if (wrong || is_wrong(until))
         return wrong ? wrong : EINVAL;
     while (!ends[thread])
-        if (wait_while_for(&ends[thread], RUNS, in_nanoseconds(until)) == 2)
+        if (wait_while_for(&ends[thread], RUNS, deadline_of(until)) == 2)
             return ETIMEDOUT;
     return pthread_join(thread, result);
 }
@@ -101,7 +123,7 @@ int pthread_timedjoin_np(pthread_t thread, void **result, const struct timespec 
 
 int clock_gettime(clockid_t clock, struct timespec *t) {
     (void)clock;
-    int64_t time = now;
+    int64_t time = time_now();
     t->tv_sec = time / NANOSECONDS;
     t->tv_nsec = time % NANOSECONDS;
     return 0;
@@ -117,36 +139,38 @@ int clock_getres(clockid_t clock, struct timespec *t) {
 int timespec_get(struct timespec *t, int base) { clock_gettime(CLOCK_REALTIME, t); return base; }
 
 time_t time(time_t *t) {
-    time_t seconds = now / NANOSECONDS;
+    time_t seconds = time_now() / NANOSECONDS;
     if (t)
         *t = seconds;
     return seconds;
 }
 
-clock_t clock(void) { return now / 1000; }
+clock_t clock(void) { return (time_now() - BEGIN) / (NANOSECONDS / CLOCKS_PER_SEC); }
 
 int gettimeofday(struct timeval *t, void *zone) {
     (void)zone;
-    int64_t time = now;
+    int64_t time = time_now();
     t->tv_sec = time / NANOSECONDS;
     t->tv_usec = time % NANOSECONDS / 1000;
     return 0;
 }
 
-unsigned sleep(unsigned seconds) { (void)seconds; return 0; }
-int usleep(unsigned microseconds) { (void)microseconds; return 0; }
+unsigned sleep(unsigned seconds) { sleep_for((int64_t)seconds * NANOSECONDS); return 0; }
+int usleep(unsigned microseconds) { sleep_for((int64_t)microseconds * 1000); return 0; }
 
-int nanosleep(const struct timespec *time, struct timespec *left) {
+int clock_nanosleep(clockid_t clock, int flags, const struct timespec *time, struct timespec *left) {
+    (void)clock;
     if (is_wrong(time))
-        return errno = EINVAL, -1;
-    if (left)
+        return EINVAL;
+    sleep_for(as_nanoseconds(time) - (flags & TIMER_ABSTIME ? time_now() : 0));
+    if (left && !(flags & TIMER_ABSTIME))
         *left = (struct timespec){0, 0};
     return 0;
 }
 
-int clock_nanosleep(clockid_t clock, int flags, const struct timespec *time, struct timespec *left) {
-    (void)clock, (void)flags, (void)left;
-    return is_wrong(time) ? EINVAL : 0;
+int nanosleep(const struct timespec *time, struct timespec *left) {
+    int wrong = clock_nanosleep(CLOCK_REALTIME, 0, time, left);
+    return wrong ? errno = wrong, -1 : 0;
 }
 
 int thrd_sleep(const struct timespec *time, struct timespec *left) { return nanosleep(time, left); }

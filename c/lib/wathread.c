@@ -1,6 +1,7 @@
 /* The library that wathread-cc links to each module: threads, what they wait by, and some of the C library. What isn't
    used of it is left out. Each word that threads share is changed by as few accesses as will do, since a search goes
    through their orders; a wait or a notify comes only where somebody may need it. All of it is compiled as one file. */
+#define WATHREAD_LIBRARY
 #include <ctype.h>
 #include <errno.h>
 #include <pthread.h>

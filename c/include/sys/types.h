@@ -8,4 +8,13 @@ typedef int ssize_t, pid_t, clockid_t, mode_t;
 typedef unsigned uid_t, gid_t, useconds_t;
 typedef long suseconds_t;
 
+/* Behind a call of such a function nothing more is done. The library, which has them return, knows better. */
+#ifdef WATHREAD_LIBRARY
+#define WATHREAD_LEAVES
+#elif defined(__cplusplus)
+#define WATHREAD_LEAVES [[noreturn]]
+#else
+#define WATHREAD_LEAVES _Noreturn
+#endif
+
 #endif
