@@ -178,7 +178,7 @@ class Blocks:
 
 def declared(lines, leaving, spurious):
     """The lines of a text, with what the edits call. Nothing is said to never return."""
-    out = [NORETURN.sub(r'\1', line) for line in lines] if leaving.any else lines
+    out = [NORETURN.sub(r'\1', line) if line[:5] == 'attri' else line for line in lines] if leaving.any else lines
     wanted = ['__wathread_leaving'] * leaving.any + ['__wathread_fails'] * spurious
     return out + [f'declare i32 @{name}()' for name in wanted if not any(f' @{name}(' in line for line in lines
                                                                          if line[:3] in ('def', 'dec'))]

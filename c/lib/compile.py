@@ -98,7 +98,7 @@ class Compiler:
             print(f'wathread-cc: in {name}: volatile accesses that stay plain: of no whole word, or not aligned',
                   file=sys.stderr)
         back = without(words[:-3]) + ['-x', 'ir', text]
-        if mode == '-emit-obj' and not EXCHANGES.search(edited):
+        if mode == '-emit-obj' and ('library' in self.edits or not EXCHANGES.search(edited)):
             return self.finish(words, back)
         if not self.finish(words, ['-S' if word == mode else assembly if word == out else word for word in back]):
             return False

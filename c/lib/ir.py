@@ -138,15 +138,15 @@ def edit(text, edits):
                       'whole' in edits)
     for at, end in places:
         out += lines[done:at]
-        function = Function(lines[at:end], globals_)
+        function = None if 'library' in edits else Function(lines[at:end], globals_)
         groups.update(GROUP.findall(lines[at]))
-        blocks = Blocks(STRONG.sub('define weak ', lines[at]) if 'library' in edits else lines[at], leaving)
+        blocks = Blocks(lines[at] if function else STRONG.sub('define weak ', lines[at]), leaving)
         for line, after in zip(lines[at + 1:end], lines[at + 2:end + 1]):
-            blocks.add(line if 'library' in edits else function.access(line, 'atomic' in edits), 'spurious' in edits)
+            blocks.add(function.access(line, 'atomic' in edits) if function else line, 'spurious' in edits)
             if not after.startswith(('  unreachable', '  ret ')):
                 blocks.look(line)
         out += blocks.lines()
-        left += [function.name] * (function.plain > 0)
+        left += [function.name] if function and function.plain else []
         done = end
     out = declared(out + lines[done:], leaving, 'spurious' in edits)
     marked = re.compile(r'attributes #(\d+) = \{')
