@@ -1,6 +1,8 @@
 /* ASCII. */
 #ifndef CTYPE_H
 #define CTYPE_H
+#include <sys/types.h>
+WATHREAD_BEGIN
 
 static inline int isdigit(int c) { return c >= '0' && c <= '9'; }
 static inline int islower(int c) { return c >= 'a' && c <= 'z'; }
@@ -16,5 +18,6 @@ static inline int isgraph(int c) { return c > ' ' && c < 127; }
 static inline int ispunct(int c) { return isgraph(c) && !isalnum(c); }
 static inline int tolower(int c) { return isupper(c) ? c + 32 : c; }
 static inline int toupper(int c) { return islower(c) ? c - 32 : c; }
+WATHREAD_END
 
 #endif

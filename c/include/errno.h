@@ -1,6 +1,8 @@
 /* What functions of pthread.h answer, and the others leave in `errno`, which each thread has of its own. Linux's numbers. */
 #ifndef ERRNO_H
 #define ERRNO_H
+#include <sys/types.h>
+WATHREAD_BEGIN
 
 extern _Thread_local int __wathread_errno;
 #define errno __wathread_errno
@@ -47,5 +49,6 @@ extern _Thread_local int __wathread_errno;
 #define ECANCELED 125
 #define EOWNERDEAD 130
 #define ENOTRECOVERABLE 131
+WATHREAD_END
 
 #endif

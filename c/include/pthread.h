@@ -5,6 +5,7 @@
 #include <errno.h>
 #include <sched.h>
 #include <time.h>
+WATHREAD_BEGIN
 
 typedef int pthread_t; /* the number that traces have: t1, t2 .. */
 typedef struct { int detached; size_t stack; } pthread_attr_t;
@@ -158,5 +159,6 @@ WATHREAD_PROCESS int pthread_barrierattr_setpshared(pthread_barrierattr_t *a, in
 #undef WATHREAD_CANCEL
 #undef WATHREAD_RANK
 #undef WATHREAD_PROCESS
+WATHREAD_END
 
 #endif

@@ -1,6 +1,7 @@
 #ifndef SCHED_H
 #define SCHED_H
 #include <time.h>
+WATHREAD_BEGIN
 
 /* Does nothing: any thread may come next at any time. */
 static inline int sched_yield(void) { return 0; }
@@ -13,5 +14,6 @@ WATHREAD_NO int sched_setscheduler(pid_t process, int policy, const struct sched
 WATHREAD_NO int sched_get_priority_max(int policy);
 WATHREAD_NO int sched_get_priority_min(int policy);
 #undef WATHREAD_NO
+WATHREAD_END
 
 #endif

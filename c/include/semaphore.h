@@ -2,6 +2,7 @@
 #ifndef SEMAPHORE_H
 #define SEMAPHORE_H
 #include <time.h>
+WATHREAD_BEGIN
 
 #define SEM_VALUE_MAX 2147483647
 #define SEM_FAILED ((sem_t *)0)
@@ -18,5 +19,6 @@ int sem_getvalue(sem_t *s, int *value);
 
 __attribute__((unavailable("wathread has no semaphores with a name, since there is one process: use sem_init")))
 sem_t *sem_open(const char *name, int flags, ...);
+WATHREAD_END
 
 #endif

@@ -2,6 +2,7 @@
 #ifndef SIGNAL_H
 #define SIGNAL_H
 #include <sys/types.h>
+WATHREAD_BEGIN
 
 typedef int sig_atomic_t;
 typedef unsigned long long sigset_t;
@@ -29,5 +30,6 @@ WATHREAD_NO int sigwait(const sigset_t *set, int *number);
 WATHREAD_NO int sigemptyset(sigset_t *set);
 WATHREAD_NO int sigaddset(sigset_t *set, int number);
 #undef WATHREAD_NO
+WATHREAD_END
 
 #endif

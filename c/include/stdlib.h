@@ -3,6 +3,7 @@
 #define STDLIB_H
 #include <stddef.h>
 #include <sys/types.h>
+WATHREAD_BEGIN
 
 #define EXIT_SUCCESS 0
 #define EXIT_FAILURE 1
@@ -27,10 +28,10 @@ _Noreturn void abort(void); /* a trap */
 int atoi(const char *s);
 long atol(const char *s);
 long long atoll(const char *s);
-long strtol(const char *restrict s, char **restrict end, int base);
-long long strtoll(const char *restrict s, char **restrict end, int base);
-unsigned long strtoul(const char *restrict s, char **restrict end, int base);
-unsigned long long strtoull(const char *restrict s, char **restrict end, int base);
+long strtol(const char *__restrict s, char **__restrict end, int base);
+long long strtoll(const char *__restrict s, char **__restrict end, int base);
+unsigned long strtoul(const char *__restrict s, char **__restrict end, int base);
+unsigned long long strtoull(const char *__restrict s, char **__restrict end, int base);
 
 typedef struct { int quot, rem; } div_t;
 typedef struct { long quot, rem; } ldiv_t;
@@ -52,5 +53,6 @@ void *bsearch(const void *key, const void *items, size_t count, size_t size, int
 char *getenv(const char *name); /* null */
 
 __attribute__((unavailable("wathread has no processes: a module is one program, alone"))) int system(const char *words);
+WATHREAD_END
 
 #endif

@@ -2,8 +2,11 @@
 #ifndef THREADS_H
 #define THREADS_H
 #include <pthread.h>
+WATHREAD_BEGIN
 
+#ifndef __cplusplus
 #define thread_local _Thread_local
+#endif
 #define ONCE_FLAG_INIT PTHREAD_ONCE_INIT
 #define TSS_DTOR_ITERATIONS PTHREAD_DESTRUCTOR_ITERATIONS
 enum { thrd_success, thrd_busy, thrd_error, thrd_nomem, thrd_timedout };
@@ -50,5 +53,6 @@ static inline int tss_create(tss_t *key, tss_dtor_t destructor) { return wathrea
 static inline void tss_delete(tss_t key) { pthread_key_delete(key); }
 static inline int tss_set(tss_t key, void *value) { return wathread_as_c11(pthread_setspecific(key, value)); }
 static inline void *tss_get(tss_t key) { return pthread_getspecific(key); }
+WATHREAD_END
 
 #endif

@@ -4,6 +4,7 @@
 #ifndef TIME_H
 #define TIME_H
 #include <sys/types.h>
+WATHREAD_BEGIN
 
 struct timespec {
     time_t tv_sec;
@@ -28,5 +29,6 @@ clock_t clock(void);
 /* They return at once: any thread may come next behind a sleep, as at any time, and no sleep is long enough. */
 int nanosleep(const struct timespec *time, struct timespec *left);
 int clock_nanosleep(clockid_t clock, int flags, const struct timespec *time, struct timespec *left);
+WATHREAD_END
 
 #endif

@@ -2,6 +2,7 @@
 #ifndef UNISTD_H
 #define UNISTD_H
 #include <sys/types.h>
+WATHREAD_BEGIN
 
 #define STDIN_FILENO 0
 #define STDOUT_FILENO 1
@@ -32,5 +33,6 @@ WATHREAD_NO ssize_t read(int file, void *to, size_t n);
 WATHREAD_NO unsigned alarm(unsigned seconds);
 WATHREAD_NO int pause(void);
 #undef WATHREAD_NO
+WATHREAD_END
 
 #endif

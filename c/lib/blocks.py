@@ -1,4 +1,8 @@
-"""Edits of the LLVM text of a function that need further blocks.
+"""Edits of the LLVM text of a function that need further lines or blocks.
+
+- The instruction of a narrow compare-exchange compares whole words: where the expected value has bits above its width, it
+  never matches, and clang leaves them as they come, a signed byte of -1 as 0xFFFFFFFF. So it is masked in front of it, by
+  an assembly statement, since LLVM would leave the mask out.
 
 - `leave`: pthread_exit, exit and the like end a thread from within. WebAssembly has no way out of several functions at
   once. So they note that the thread leaves, and behind each call that may come to one of them the caller looks whether it
@@ -14,6 +18,8 @@ FROM = re.compile(rf', %({NAME}) \]')
 CALL = re.compile(rf'  (?:%{NAME} = )?(?:(?:tail|notail) )?call (.*)')
 CALLEE = re.compile(rf' (?:([@%]{NAME})\(|bitcast \(.*?(@{NAME}) to |(?:\w+ )*?(asm) )')
 DEBUG = re.compile(r', !dbg !\d+')
+EXCHANGE = re.compile(rf'(  %{NAME} = cmpxchg (?:weak )?(?:volatile )?)(.*)')
+MASKS = {'i8': 255, 'i16': 65535}
 WEAK = re.compile(rf'  (%{NAME}) = cmpxchg weak (.*)')
 NORETURN = re.compile(r'(attributes #\d+ = \{.*?) noreturn\b')
 LEAVERS = {'exit', '_exit', '_Exit', 'quick_exit', 'pthread_exit', 'thrd_exit'}
@@ -111,9 +117,28 @@ class Blocks:
         self.out += ['', label + ':']
         self.pieces[self.label] = label
 
+    def masked(self, line):
+        """A compare-exchange that compares with what is masked. One of 32 bits may become one of 64 that isn't whole."""
+        front, words = EXCHANGE.match(line).groups()
+        place, expected, *rest = split(words)
+        kind, value = expected.split(' ', 1)
+        mark, debug = self.mark(), ''.join(DEBUG.findall(line)[-1:])
+        if kind in MASKS:
+            text = fr'local.get $1\0Ai32.const {MASKS[kind]}\0Ai32.and\0Alocal.set $0'
+            self.out += [f'  %{mark}.wide = zext {kind} {value} to i32{debug}',
+                         f'  %{mark}.mask = call i32 asm sideeffect "{text}", "=r,r"(i32 %{mark}.wide){debug}',
+                         f'  %{mark} = trunc i32 %{mark}.mask to {kind}{debug}']
+        elif kind == 'i32':
+            self.out.append(f'  %{mark} = call i32 asm sideeffect "", "=r,0"(i32 {value}){debug}')
+        else:
+            return line
+        return front + ', '.join([place, f'{kind} %{mark}', *rest])
+
     def add(self, line, spurious):
         """Takes a line, and what it asks for."""
         found = LABEL.match(line)
+        if EXCHANGE.match(line):
+            line = self.masked(line)
         weak = spurious and WEAK.match(line)
         if found:
             self.label = found.group(1)

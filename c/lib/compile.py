@@ -18,7 +18,7 @@ from ir import edit  # noqa: E402
 from masks import declared, mask  # noqa: E402
 
 SAID = re.compile(r'.*?: (?:fatal )?(?:error|warning|note): ')
-EXCHANGES = re.compile(r' cmpxchg | atomicrmw | asm ')
+EXCHANGES = re.compile(r' atomicrmw (?:volatile )?(?:nand|u?min|u?max) |cmpxchg_u')     # see masks.py
 SIDE = {'-dependency-file': 1, '-MT': 1, '-sys-header-deps': 0, '-header-include-file': 1, '-serialize-diagnostic-file': 1,
         '-dependency-dot': 1}
 
@@ -98,7 +98,7 @@ class Compiler:
             print(f'wathread-cc: in {name}: volatile accesses that stay plain: of no whole word, or not aligned',
                   file=sys.stderr)
         back = without(words[:-3]) + ['-x', 'ir', text]
-        if mode == '-emit-obj' and ('library' in self.edits or not EXCHANGES.search(edited)):
+        if mode == '-emit-obj' and not EXCHANGES.search(edited):
             return self.finish(words, back)
         if not self.finish(words, ['-S' if word == mode else assembly if word == out else word for word in back]):
             return False
@@ -129,6 +129,7 @@ class Compiler:
     def assemble(self, words, assembly, out, names):
         like = [word for i, option in enumerate(words) if option == '-target-feature' for word in words[i:i + 2]]
         like += [word for word in words if word.startswith('-dwarf-version=')]
+        like += ['-mno-type-check'] * ('typed' not in self.edits)
         last = [words[0], '-cc1as', '-triple', value(words, '-triple'), '-filetype', 'obj', '-target-cpu',
                 value(words, '-target-cpu'), *like, '-mrelocation-model', 'static', '-o', out, assembly]
         if not self.finish(words, last):

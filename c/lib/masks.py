@@ -1,4 +1,5 @@
-"""Masks what narrow compare-exchanges compare with, in an assembly text.
+"""Masks what narrow compare-exchanges compare with, in an assembly text: of those alone that clang's last steps make of
+`atomicrmw nand` and the like, or that an assembly file has. The others are masked before (blocks.py).
 
 The instruction compares whole words: where the expected value has bits above its width, it never matches. clang leaves
 them as they come, a signed byte of -1 as 0xFFFFFFFF. The expected value lies below the new one on the stack, so that one

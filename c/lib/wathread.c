@@ -28,3 +28,4 @@
 #include "bytes.c"
 #include "numbers.c"
 #include "text.c"
+#include "cxx.c"

@@ -58,6 +58,7 @@ by_wathread() {
 exchanges() {
     build "$here/tests/clang_exchange.c"
     [ "$(by_node)" = "$(by_wathread)" ] || say "clang_exchange.c: node answers otherwise"
+    ends "$here/tests/clang_unreachable.c"
     ends "$here/tests/clang_byte.c"
     "$wathread" search "$m" --invoke main --record "$work/r" --find ok --runs 1 >/dev/null 2>&1
     "$wathread" show "$m" "$work/r" | grep 'cmpxchg' | grep -qvE 'clang_byte\.c:13( |$)' && say "show: another line"

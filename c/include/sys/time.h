@@ -1,6 +1,7 @@
 #ifndef SYS_TIME_H
 #define SYS_TIME_H
 #include <time.h>
+WATHREAD_BEGIN
 
 struct timeval {
     time_t tv_sec;
@@ -8,5 +9,6 @@ struct timeval {
 };
 
 int gettimeofday(struct timeval *t, void *zone);
+WATHREAD_END
 
 #endif
