@@ -29,3 +29,4 @@
 #include "numbers.c"
 #include "text.c"
 #include "cxx.c"
+#include "rust.c"
