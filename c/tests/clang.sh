@@ -6,7 +6,7 @@ here=$(cd "$(dirname "$0")/.." && pwd)
 wathread=${1:-$here/../wathread}
 work=$(mktemp -d)
 trap 'rm -rf "$work"' EXIT
-m=$work/m.wasm wrong=0 tried=0 version=14 level=1
+m=$work/m.wasm wrong=0 version=14 level=1
 
 say() {
     echo "WRONG: clang $version -O$level: $*"
@@ -14,7 +14,7 @@ say() {
 }
 
 build() { # words of wathread-cc
-    tried=$((tried + 1))
+    echo "$*" >>"$work/tried"
     CC=clang-$version "$here/wathread-cc" --threads 2 --stack 1024 --pool 1024 "-O$level" "$@" -o "$m" || say "build $*"
 }
 
@@ -124,5 +124,5 @@ for version in ${CLANGS-14 16 19 22}; do
         echo "clang $version -O$level: $((wrong - before)) wrong"
     done
 done
-echo "$tried modules, $wrong wrong"
+echo "$(wc -l <"$work/tried") modules, $wrong wrong"
 [ $wrong = 0 ]
