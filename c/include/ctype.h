@@ -1,7 +1,7 @@
 /* ASCII. */
 #ifndef CTYPE_H
 #define CTYPE_H
-#include <sys/types.h>
+#include <wathread_c.h>
 WATHREAD_BEGIN
 
 static inline int isdigit(int c) { return c >= '0' && c <= '9'; }

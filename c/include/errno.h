@@ -1,7 +1,7 @@
 /* What functions of pthread.h answer, and the others leave in `errno`, which each thread has of its own. Linux's numbers. */
 #ifndef ERRNO_H
 #define ERRNO_H
-#include <sys/types.h>
+#include <wathread_c.h>
 WATHREAD_BEGIN
 
 extern _Thread_local int __wathread_errno;

@@ -1,7 +1,7 @@
 /* The names alone: a function of WebAssembly is left by a return, and none is come back to. */
 #ifndef SETJMP_H
 #define SETJMP_H
-#include <sys/types.h>
+#include <wathread_c.h>
 WATHREAD_BEGIN
 
 typedef int jmp_buf[1], sigjmp_buf[1];

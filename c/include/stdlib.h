@@ -2,7 +2,7 @@
 #ifndef STDLIB_H
 #define STDLIB_H
 #include <stddef.h>
-#include <sys/types.h>
+#include <wathread_c.h>
 WATHREAD_BEGIN
 
 #define EXIT_SUCCESS 0

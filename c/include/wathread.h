@@ -4,7 +4,7 @@
    error of the compiler. Who sleeps is asked by the address alone, in order of falling asleep. */
 #ifndef WATHREAD_H
 #define WATHREAD_H
-#include <sys/types.h>
+#include <wathread_c.h>
 WATHREAD_BEGIN
 
 /* Starts a thread that calls body(arg), and answers its number, from 1 on, or -1 where --threads of wathread-cc, or 63,
