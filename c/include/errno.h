@@ -1,9 +1,54 @@
-/* What functions of pthread.h answer. There is no `errno`. */
+/* What functions of pthread.h answer, and the others leave in `errno`, which each thread has of its own. Linux's numbers. */
 #ifndef ERRNO_H
 #define ERRNO_H
+#include <wathread_c.h>
+WATHREAD_BEGIN
 
+extern _Thread_local int __wathread_errno;
+#define errno __wathread_errno
+
+#define EPERM 1
+#define ENOENT 2
+#define ESRCH 3
+#define EINTR 4
+#define EIO 5
+#define ENXIO 6
+#define E2BIG 7
+#define EBADF 9
+#define ECHILD 10
 #define EAGAIN 11
+#define EWOULDBLOCK EAGAIN
+#define ENOMEM 12
+#define EACCES 13
+#define EFAULT 14
 #define EBUSY 16
+#define EEXIST 17
+#define ENODEV 19
+#define ENOTDIR 20
+#define EISDIR 21
 #define EINVAL 22
+#define ENFILE 23
+#define EMFILE 24
+#define EFBIG 27
+#define ENOSPC 28
+#define EROFS 30
+#define EPIPE 32
+#define EDOM 33
+#define ERANGE 34
+#define EDEADLK 35
+#define ENAMETOOLONG 36
+#define ENOSYS 38
+#define EPROTO 71
+#define EOVERFLOW 75
+#define EILSEQ 84
+#define EOPNOTSUPP 95
+#define ENOTSUP EOPNOTSUPP
+#define ETIMEDOUT 110
+#define EALREADY 114
+#define EINPROGRESS 115
+#define ECANCELED 125
+#define EOWNERDEAD 130
+#define ENOTRECOVERABLE 131
+WATHREAD_END
 
 #endif

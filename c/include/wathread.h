@@ -4,6 +4,8 @@
    error of the compiler. Who sleeps is asked by the address alone, in order of falling asleep. */
 #ifndef WATHREAD_H
 #define WATHREAD_H
+#include <wathread_c.h>
+WATHREAD_BEGIN
 
 /* Starts a thread that calls body(arg), and answers its number, from 1 on, or -1 where --threads of wathread-cc, or 63,
    are there already. Threads have the same numbers in traces: t1, t2 .. */
@@ -35,5 +37,6 @@ int thread_self(void);
 
 /* In front of a function: it can be called by this name, as `--invoke NAME`, beside `main` or in its place. */
 #define EXPORT(name) __attribute__((export_name(name)))
+WATHREAD_END
 
 #endif

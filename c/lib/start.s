@@ -27,6 +27,10 @@ thread_limit:
 	.globaltype	thread_number, i32
 	.globl	thread_number
 thread_number:
+	.globaltype	thread_leaves, i32
+thread_leaves:
+	.globaltype	thread_result, i32
+thread_result:
 	.functype	__wathread_begin (i32, i32) -> ()
 
 	.section	.text.wasi_thread_start,"",@
@@ -70,6 +74,37 @@ thread_self:
 __wathread_most:
 	.functype	__wathread_most () -> (i32)
 	global.get	thread_count
+	end_function
+
+# A thread that leaves returns from all its functions, each of which looks whether it does (blocks.py): these make no event.
+# What it leaves with is its result, and it leaves no more once that was asked for.
+	.section	.text.__wathread_leave,"",@
+	.globl	__wathread_leave
+	.type	__wathread_leave,@function
+__wathread_leave:
+	.functype	__wathread_leave (i32) -> ()
+	local.get	0
+	global.set	thread_result
+	i32.const	1
+	global.set	thread_leaves
+	end_function
+
+	.section	.text.__wathread_leaving,"",@
+	.globl	__wathread_leaving
+	.type	__wathread_leaving,@function
+__wathread_leaving:
+	.functype	__wathread_leaving () -> (i32)
+	global.get	thread_leaves
+	end_function
+
+	.section	.text.__wathread_result,"",@
+	.globl	__wathread_result
+	.type	__wathread_result,@function
+__wathread_result:
+	.functype	__wathread_result () -> (i32)
+	i32.const	0
+	global.set	thread_leaves
+	global.get	thread_result
 	end_function
 
 # What -finstrument-function-entry-bare calls in each function once that has its frame: a trap where the stack is too

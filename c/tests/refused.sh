@@ -85,10 +85,13 @@ EXPORT("f") int f(void) { return g(); }
 END
 echo 'int g(void) { return 2; }' >third.c
 echo 'static int x = 3 int main(void) { return x; }' >wrong.c
-echo 'int puts(const char *); int main(void) { return puts("a"); }' >missing.c
-echo '#include <stdio.h>
+echo 'int ftok(const char *, int); int main(void) { return ftok("a", 1); }' >missing.c
+echo '#include <poll.h>
 int main(void) { return 0; }' >header.c
 echo 'static volatile float f = 1; __attribute__((noinline)) static int average(void) { return f * 2; } int main(void) { return average(); }' >float.c
+echo '_Atomic signed char lock = -1; int take(void) { signed char free = -1; return __c11_atomic_compare_exchange_strong(&lock, &free, 0, 5, 5); }' >byte.c
+echo 'int take(void); int main(void) { return take(); }' >taker.c
+echo 'int main(void) { __asm__("no_such_instruction"); static _Atomic char c; char e = 1; return __c11_atomic_compare_exchange_strong(&c, &e, 0, 5, 5); }' >statement.c
 echo '#include <wathread.h>
 EXPORT("half") double half(double x) { return x; }' >float_type.c
 echo 'typedef float (*F)(float); F volatile f; int main(void) { return f(1) > 2; }' >float_pointer.c
@@ -128,6 +131,8 @@ done
 refuses 'is a module and no source' "$cc_" good.c m.wasm
 refuses 'good.c is what is compiled' "$cc_" good.c -o good.c
 refuses 'good.c is what is compiled' "$cc_" good.c -o ./good.c
+refuses 'good.c is what is compiled' "$cc_" -c good.c -o ./good.c
+refuses 'good.c is what is compiled' "$cc_" -S good.c -o good.c
 passes "'--thread'" "$cc_" good.c -o m.wasm --thread 4
 passes 'unknown argument' "$cc_" good.c -o m.wasm -fno-such-thing
 
@@ -139,16 +144,20 @@ refuses 'is of version 13' env CC=./old-clang "$cc_" good.c -o m.wasm
 mkdir bare
 for tool in sh env dirname readlink cat mktemp rm "${clang%% *}"; do ln -s "$(command -v "$tool")" bare; done
 refuses "python3 isn't there" env PATH="$work/bare" "$cc_" good.c -o m.wasm
+refuses "python3 isn't there" env PATH="$work/bare" "$cc_" -c good.c -o m.wasm
 rm -r bare
 
 # paths
 refuses 'm: ' "$cc_" good.c -o nowhere/m
+refuses 'm: ' "$cc_" -c good.c -o nowhere/m
 mkdir folder read-only && cp good.c read-only && chmod 755 folder && chmod 555 read-only
 refuses 'folder is a folder' "$cc_" good.c -o folder
 refuses 'Permission denied' "${other[@]}" "$cc_" read-only/good.c -o read-only/m
 passes "no such file or directory: 'nothing.c'" "$cc_" nothing.c -o m.wasm
 passes "no such file or directory: 'nothing.c'" "$cc_" good.c nothing.c -o m.wasm
 passes 'Is a directory' "$cc_" folder -o m.wasm
+passes 'error: expected' "$cc_" -c good.c wrong.c
+[ ! -e good.o ] || say "good.o is there, and wrong.c failed"
 rm -rf folder
 mkdir 'a folder of ours'
 makes 'a folder of ours/the module' "$cc_" 'two words & a "quote".c' -o 'a folder of ours/the module'
@@ -172,8 +181,9 @@ grep -q 'No space left' err.text || say "/dev/full: $(cat err.text)"
 
 # sources
 passes 'error: expected' "$cc_" wrong.c -o m.wasm
-passes 'undefined symbol: puts' "$cc_" missing.c -o m.wasm
-passes "'stdio.h' file not found" "$cc_" header.c -o m.wasm
+passes 'undefined symbol: ftok' "$cc_" missing.c -o m.wasm
+passes 'statement.c:1:' "$cc_" statement.c -o m.wasm
+passes "'poll.h' file not found" "$cc_" header.c -o m.wasm
 for level in 0 1 2 3; do
     refuses 'in average: a float' "$cc_" -O$level float.c -o m.wasm
     refuses 'in main: a float' "$cc_" -O$level float_pointer.c -o m.wasm
@@ -200,6 +210,12 @@ for without in '-matomics' '-mbulk-memory' ''; do
 done
 "$cc_" -c object.c -o object.o && "$cc_" -c good.c -o good.o || say "-c"
 makes m.wasm "$cc_" good.o object.o -o m.wasm
+$clang --target=wasm32 -mcpu=mvp -matomics -mbulk-memory -msign-ext -O1 -c byte.c -o byte.o || say "byte.o"
+refuses 'in take: a compare-exchange of 8 bits by an expected value that may be wider (compile its source' \
+    "$cc_" taker.c byte.o -o m.wasm
+"$cc_" -c byte.c -o byte.o || say "-c byte.c"
+makes m.wasm "$cc_" taker.c byte.o -o m.wasm
+for option in --spurious --reuse --volatile-atomic; do makes m.wasm "$cc_" $option good.c -o m.wasm; done
 "$cc_" -flto -c object.c -o object.o || say "-flto -c"
 refuses 'object.o is made with -flto' "$cc_" good.c object.o -o m.wasm
 echo "$tried calls, $wrong wrong"

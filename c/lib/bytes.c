@@ -1,0 +1,196 @@
+/* Bytes and strings: whole words where they can be, since each access is an entry. */
+
+void *memmove(void *to, const void *from, size_t n) {
+    char *p = to;
+    const char *q = from;
+    if (p > q && p < q + n) {
+        while (n--)
+            p[n] = q[n];
+        return to;
+    }
+    size_t both = (size_t)p | (size_t)q;
+    if (!(both & 7))
+        for (; n >= 8; n -= 8, p += 8, q += 8)
+            *(uint64_t *)p = *(const uint64_t *)q;
+    if (!(both & 3))
+        for (; n >= 4; n -= 4, p += 4, q += 4)
+            *(uint32_t *)p = *(const uint32_t *)q;
+    for (; n; n--)
+        *p++ = *q++;
+    return to;
+}
+
+void *memset(void *to, int byte, size_t n) {
+    char *p = to;
+    uint64_t word = 0x0101010101010101u * (unsigned char)byte;
+    if (!((size_t)p & 7))
+        for (; n >= 8; n -= 8, p += 8)
+            *(uint64_t *)p = word;
+    if (!((size_t)p & 3))
+        for (; n >= 4; n -= 4, p += 4)
+            *(uint32_t *)p = word;
+    for (; n; n--)
+        *p++ = byte;
+    return to;
+}
+
+void *memcpy(void *restrict to, const void *restrict from, size_t n) { return memmove(to, from, n); }
+
+/* What wathread-link puts in place of memory.copy and memory.fill. */
+void __wathread_copy(void *to, const void *from, size_t n) { memmove(to, from, n); }
+void __wathread_fill(void *to, int byte, size_t n) { memset(to, byte, n); }
+
+int memcmp(const void *a, const void *b, size_t n) {
+    const unsigned char *p = a, *q = b;
+    for (; n; n--, p++, q++)
+        if (*p != *q)
+            return *p - *q;
+    return 0;
+}
+
+size_t strlen(const char *s) {
+    size_t n = 0;
+    while (s[n])
+        n++;
+    return n;
+}
+
+int strncmp(const char *a, const char *b, size_t n) {
+    for (; n; n--, a++, b++)
+        if (*a != *b || !*a)
+            return (unsigned char)*a - (unsigned char)*b;
+    return 0;
+}
+
+int strcmp(const char *a, const char *b) { return strncmp(a, b, SIZE_MAX); }
+int strcoll(const char *a, const char *b) { return strcmp(a, b); }
+
+void *memchr(const void *from, int byte, size_t n) {
+    for (const unsigned char *p = from; n; n--, p++)
+        if (*p == (unsigned char)byte)
+            return (void *)p;
+    return 0;
+}
+
+size_t strnlen(const char *s, size_t n) {
+    const char *end = memchr(s, 0, n);
+    return end ? (size_t)(end - s) : n;
+}
+
+char *stpcpy(char *restrict to, const char *restrict from) {
+    size_t n = strlen(from);
+    memmove(to, from, n + 1);
+    return to + n;
+}
+
+char *strcpy(char *restrict to, const char *restrict from) { stpcpy(to, from); return to; }
+
+/* The rest is filled with zeros. */
+char *strncpy(char *restrict to, const char *restrict from, size_t n) {
+    size_t length = strnlen(from, n);
+    memmove(to, from, length);
+    memset(to + length, 0, n - length);
+    return to;
+}
+
+char *strcat(char *restrict to, const char *restrict from) { strcpy(to + strlen(to), from); return to; }
+
+char *strncat(char *restrict to, const char *restrict from, size_t n) {
+    size_t length = strnlen(from, n);
+    char *end = to + strlen(to);
+    memmove(end, from, length);
+    end[length] = 0;
+    return to;
+}
+
+char *strchr(const char *s, int c) {
+    for (;; s++)
+        if (*s == (char)c)
+            return (char *)s;
+        else if (!*s)
+            return 0;
+}
+
+char *strrchr(const char *s, int c) {
+    for (const char *p = s + strlen(s);; p--)
+        if (*p == (char)c)
+            return (char *)p;
+        else if (p == s)
+            return 0;
+}
+
+char *strstr(const char *s, const char *part) {
+    size_t n = strlen(part);
+    for (; strncmp(s, part, n); s++)
+        if (!*s)
+            return 0;
+    return (char *)s;
+}
+
+/* How many bytes at the front are among those of `set`, or aren't. */
+static size_t span(const char *s, const char *set, int among) {
+    size_t n = 0;
+    while (s[n] && !strchr(set, s[n]) == !among)
+        n++;
+    return n;
+}
+
+size_t strspn(const char *s, const char *set) { return span(s, set, 1); }
+size_t strcspn(const char *s, const char *set) { return span(s, set, 0); }
+
+char *strpbrk(const char *s, const char *set) {
+    s += span(s, set, 0);
+    return *s ? (char *)s : 0;
+}
+
+char *strtok_r(char *restrict s, const char *restrict set, char **restrict rest) {
+    s = s ? s : *rest;
+    s += strspn(s, set);
+    char *end = s + strcspn(s, set);
+    *rest = *end ? end + 1 : end;
+    *end = 0;
+    return end == s ? 0 : s;
+}
+
+char *strdup(const char *s) {
+    size_t n = strlen(s) + 1;
+    char *made = malloc(n);
+    return made ? memmove(made, s, n) : 0;
+}
+
+char *strndup(const char *s, size_t n) {
+    size_t length = strnlen(s, n);
+    char *made = malloc(length + 1);
+    if (made)
+        ((char *)memmove(made, s, length))[length] = 0;
+    return made;
+}
+
+static const struct { int number; const char *text; } errors[] = {
+    {0, "Success"}, {EPERM, "Operation not permitted"}, {ENOENT, "No such file or directory"},
+    {ESRCH, "No such process"}, {EINTR, "Interrupted system call"}, {EIO, "Input/output error"},
+    {EBADF, "Bad file descriptor"}, {EAGAIN, "Resource temporarily unavailable"}, {ENOMEM, "Cannot allocate memory"},
+    {EACCES, "Permission denied"}, {EFAULT, "Bad address"}, {EBUSY, "Device or resource busy"},
+    {EEXIST, "File exists"}, {EINVAL, "Invalid argument"}, {ENOSPC, "No space left on device"},
+    {EPIPE, "Broken pipe"}, {EDOM, "Numerical argument out of domain"}, {ERANGE, "Numerical result out of range"},
+    {EDEADLK, "Resource deadlock avoided"}, {ENOSYS, "Function not implemented"},
+    {EOVERFLOW, "Value too large for defined data type"}, {ENOTSUP, "Operation not supported"},
+    {ETIMEDOUT, "Connection timed out"}, {ECANCELED, "Operation canceled"}, {EOWNERDEAD, "Owner died"},
+    {ENOTRECOVERABLE, "State not recoverable"},
+};
+
+/* As Linux has it; what isn't among these is unknown. */
+char *strerror(int number) {
+    for (size_t i = 0; i < sizeof errors / sizeof *errors; i++)
+        if (errors[i].number == number)
+            return (char *)errors[i].text;
+    return "Unknown error";
+}
+
+int strerror_r(int number, char *to, size_t n) {
+    const char *text = strerror(number);
+    if (strlen(text) >= n)
+        return ERANGE;
+    strcpy(to, text);
+    return 0;
+}

@@ -1,0 +1,287 @@
+/* main, threads, and how they end. */
+
+void __wasm_call_ctors(void);
+__attribute__((weak)) int __main_void(void);
+__attribute__((weak)) int __main_argc_argv(int argc, char **argv);
+__attribute__((import_module("wasi"), import_name("thread-spawn"))) int __wathread_spawn(int arg);
+/* In start.s. */
+int __wathread_most(void);
+int __wathread_leaving(void);
+int __wathread_result(void);
+void __wathread_leave(int result);
+
+enum { MOST_THREADS = 64 };
+
+/* What a thread calls: the place in the table of functions, and in the two bits above what type is there. */
+enum type { POSIX, C11, OWN, TYPE_SHIFT = 30 };
+
+/* What the thread of the Nth start calls, in the upper half, and with which argument. */
+static uint64_t starts[MOST_THREADS];
+static _Atomic int last_start;
+
+/* By the numbers of threads: 0 as long as a thread runs, and then 1 in the upper half and its result in the lower. */
+static _Atomic uint64_t ends[MOST_THREADS];
+enum { RUNS, ENDED };
+
+/* What keys and atexit have called at the end: nothing is linked of them where nobody asks for it. */
+static _Thread_local void (*at_its_end)(void);
+
+/* ---- Null pointers: nothing lies in the first bytes of the memory, so that they are zero in a right program. They are
+   read by plain loads, which cost a search nothing ---- */
+
+enum { NULL_BYTES = 64 };
+
+static __attribute__((noinline)) _Noreturn void null_pointer_was_written(void) { __builtin_trap(); }
+
+static void test_null(void) {
+    const volatile uint64_t *word;
+    __asm__("" : "=r"(word) : "0"(0)); /* to clang a load from 0 would be a mistake */
+    for (int i = 0; i < NULL_BYTES / 8; i++)
+        if (word[i])
+            null_pointer_was_written();
+}
+
+/* What is called last may leave too. */
+static void call_at_end(void) {
+    if (at_its_end)
+        at_its_end();
+    __wathread_result();
+    test_null();
+}
+
+/* ---- main ---- */
+
+#ifdef SPURIOUS
+static void change_luck(int unused);
+#endif
+
+/* A host may call main again over the same memory: what is noted of the threads before is forgotten. Nobody else is
+   there, so these are plain accesses. */
+static void forget_threads(void) {
+    int *last = (int *)&last_start;
+    uint64_t *ended = (uint64_t *)ends;
+    if (!*last)
+        return;
+    *last = 0;
+    for (int i = 0; i < MOST_THREADS; i++)
+        ended[i] = RUNS;
+}
+
+/* The program's `main`, behind its constructors: where nothing calls these, wasm-ld makes each export do so, that of the
+   threads too. */
+EXPORT("main") int __wathread_main(void) {
+    static char *none;
+    forget_threads();
+    __wasm_call_ctors();
+#ifdef SPURIOUS
+    thread_spawn(change_luck, 0);
+#endif
+    int result = __main_void ? __main_void() : __main_argc_argv(0, &none);
+    result = __wathread_leaving() ? __wathread_result() : result;
+    call_at_end();
+    return result;
+}
+
+/* ---- Threads ---- */
+
+static int start(enum type type, void *function, void *arg) {
+    int place = ++last_start;
+    if (place > __wathread_most())
+        return -1;
+    starts[place] = (uint64_t)((uint32_t)type << TYPE_SHIFT | (uint32_t)function) << 32 | (uint32_t)arg;
+    return __wathread_spawn(place);
+}
+
+/* Where a thread begins (start.s). To call a function by another type than its own is a trap. */
+void __wathread_begin(int thread, int place) {
+    uint64_t word = starts[place];
+    uint32_t function = word >> 32 & ((1u << TYPE_SHIFT) - 1), arg = word, result = 0;
+    switch ((enum type)(word >> 32 >> TYPE_SHIFT)) {
+    case POSIX:
+        result = (uint32_t)((void *(*)(void *))function)((void *)arg);
+        break;
+    case C11:
+        result = ((int (*)(void *))function)((void *)arg);
+        break;
+    default:
+        ((void (*)(int))function)(arg);
+    }
+    result = __wathread_leaving() ? (uint32_t)__wathread_result() : result;
+    call_at_end();
+    ends[thread] = (uint64_t)ENDED << 32 | result;
+    notify_all(&ends[thread]);
+}
+
+int thread_spawn(void (*body)(int), int arg) { return start(OWN, (void *)body, (void *)arg); }
+
+int pthread_create(pthread_t *thread, const pthread_attr_t *attr, void *(*function)(void *), void *arg) {
+    (void)attr;
+    int made = start(POSIX, (void *)function, arg);
+    if (made < 0)
+        return EAGAIN;
+    *thread = made;
+    return 0;
+}
+
+int pthread_detach(pthread_t thread) { (void)thread; return 0; }
+pthread_t pthread_self(void) { return thread_self(); }
+int pthread_equal(pthread_t a, pthread_t b) { return a == b; }
+
+int thrd_create(thrd_t *thread, thrd_start_t function, void *arg) {
+    int made = start(C11, (void *)function, arg);
+    if (made < 0)
+        return thrd_error;
+    *thread = made;
+    return thrd_success;
+}
+
+/* ---- Attributes of a thread: they are kept, and change nothing ---- */
+
+int pthread_attr_init(pthread_attr_t *a) {
+    a->detached = PTHREAD_CREATE_JOINABLE;
+    a->stack = 4096;
+    return 0;
+}
+
+int pthread_attr_destroy(pthread_attr_t *a) { a->stack = 0; return 0; }
+int pthread_attr_getdetachstate(const pthread_attr_t *a, int *state) { *state = a->detached; return 0; }
+int pthread_attr_getstacksize(const pthread_attr_t *a, size_t *size) { *size = a->stack; return 0; }
+
+int pthread_attr_setdetachstate(pthread_attr_t *a, int state) {
+    if (state != PTHREAD_CREATE_JOINABLE && state != PTHREAD_CREATE_DETACHED)
+        return EINVAL;
+    a->detached = state;
+    return 0;
+}
+
+int pthread_attr_setstacksize(pthread_attr_t *a, size_t size) {
+    if (size < PTHREAD_STACK_MIN)
+        return EINVAL;
+    a->stack = size;
+    return 0;
+}
+
+/* ---- Keys: thread-local data. A number comes once, so that a new key is null in all threads ---- */
+
+static _Thread_local void *values[PTHREAD_KEYS_MAX];
+static void (*_Atomic destructors[PTHREAD_KEYS_MAX])(void *);
+static _Atomic int keys;
+
+int pthread_key_create(pthread_key_t *key, void (*destructor)(void *)) {
+    int made = keys++;
+    if (made >= PTHREAD_KEYS_MAX)
+        return EAGAIN;
+    if (destructor)
+        destructors[made] = destructor;
+    *key = made;
+    return 0;
+}
+
+int pthread_key_delete(pthread_key_t key) { destructors[key] = (void (*)(void *))0; return 0; }
+
+/* A destructor may put values there again. */
+static void call_destructors(void) {
+    for (int round = 0, any = 1; any && round < PTHREAD_DESTRUCTOR_ITERATIONS; round++) {
+        any = 0;
+        for (int key = 0; key < PTHREAD_KEYS_MAX; key++) {
+            void *value = values[key], (*destructor)(void *) = value ? destructors[key] : 0;
+            values[key] = 0;
+            if (destructor) {
+                any = 1;
+                destructor(value);
+            }
+        }
+    }
+}
+
+int pthread_setspecific(pthread_key_t key, const void *value) {
+    if ((unsigned)key >= PTHREAD_KEYS_MAX)
+        return EINVAL;
+    values[key] = (void *)value;
+    if (thread_self())
+        at_its_end = call_destructors; /* main's end is that of the program, which calls none */
+    return 0;
+}
+
+void *pthread_getspecific(pthread_key_t key) { return (unsigned)key < PTHREAD_KEYS_MAX ? values[key] : 0; }
+
+/* ---- The end of a thread, from within ---- */
+
+_Thread_local struct wathread_cleanup *wathread_cleanups;
+
+static void leave(uint32_t result) {
+    while (wathread_cleanups) {
+        struct wathread_cleanup *last = wathread_cleanups;
+        wathread_cleanups = last->before;
+        last->function(last->arg);
+    }
+    __wathread_leave(result);
+}
+
+/* main's answer is 0 then, and what atexit was given isn't called: that is for the end of the program. */
+void pthread_exit(void *result) {
+    if (!thread_self())
+        at_its_end = 0;
+    leave(thread_self() ? (uint32_t)result : 0);
+}
+
+void thrd_exit(int result) { pthread_exit((void *)result); }
+
+/* ---- The end of the program: main's is a return from main. No thread can end another one: elsewhere, and where something
+   is wrong, it is a trap, whose name says what was wanted ---- */
+
+enum { MOST_AT_EXIT = 32 };
+
+struct at_exit {
+    void (*functions[MOST_AT_EXIT])(void);
+    int count;
+};
+static struct at_exit normal, quick;
+
+static __attribute__((noinline)) _Noreturn void exit_with_success(void) { __builtin_trap(); }
+static __attribute__((noinline)) _Noreturn void exit_with_failure(void) { __builtin_trap(); }
+
+/* Only main's: so these words are one thread's, and no order is in them. */
+static int add_at_exit(struct at_exit *list, void (*function)(void)) {
+    if (thread_self() || list->count == MOST_AT_EXIT)
+        return -1;
+    list->functions[list->count++] = function;
+    return 0;
+}
+
+static void call_at_exit(struct at_exit *list) {
+    while (list->count)
+        list->functions[--list->count]();
+}
+
+static void call_normal(void) { call_at_exit(&normal); }
+
+int atexit(void (*function)(void)) {
+    if (add_at_exit(&normal, function))
+        return -1;
+    at_its_end = call_normal;
+    return 0;
+}
+
+int at_quick_exit(void (*function)(void)) { return add_at_exit(&quick, function); }
+
+static void end(int status) {
+    if (status)
+        exit_with_failure();
+    if (thread_self())
+        exit_with_success();
+    __wathread_leave(0);
+}
+
+void _Exit(int status) { at_its_end = 0; end(status); }
+void _exit(int status) { _Exit(status); }
+void quick_exit(int status) { call_at_exit(&quick); _Exit(status); }
+_Noreturn void abort(void) { __builtin_trap(); }
+
+void exit(int status) {
+    if (!thread_self())
+        call_normal();
+    end(status);
+}
+
+_Thread_local int __wathread_errno;
