@@ -146,7 +146,7 @@ for words in '--prove x' '--prove --anew x' '--install' '--install a b'; do
 done
 ends 3 '' "$USAGE" "${bare[@]}" ./wathread --install ''
 mkdir -p share/man/man1 && echo 'a page' >share/man/man1/wathread.1
-INSTALLED="$work/a place/bin/wathread"$'\n'"$work/a place/bin/wathread-cc"
+INSTALLED="$work/a place/bin/wathread"$'\n'"$work/a place/bin/wathread-cc"$'\n'"$work/a place/bin/wathread-rustc"
 ends 0 "$INSTALLED" '' "${bare[@]}" ./wathread --install "$work/a place"
 ends 0 "$ADDED" '' "${bare[@]}" bash -c '"$0" "${@:2}"' "$work/a place/bin/wathread" "${run[@]}"
 cmp -s "$work/a place/libexec/wathread/wathread" crates/wathread/out/wathread.by-rattle || say "another program is installed"
