@@ -1,5 +1,5 @@
 -- Who was woken and hasn't taken the answer, and whom an answer taken was due to.
-use Rattle.std.proofs.Common.{◌≡◌, ◌∙◌, ◌<◌, ◌≤◌, ◌+◌, ◌++◌, ◌==◌, ℕ, List, [], ◌∷◌, Bool, true, false, not, length}
+use Rattle.std.proofs.Common.{◌≡◌, ◌∙◌, ◌<◌, ◌+◌, ◌++◌, ◌==◌, ℕ, List, [], ◌∷◌, Bool, true, false, not, length}
 use Rattle.std.proofs.Common.{map, filter, take, inl, inr, refl, sym, ap, subst, arith}
 use Rattle.std.specs.List.{Contains, list_any}
 use Rattle.std.proofs.lemmas.Bool.{both_ways, cases_lt, cond-true, cond_both, eq-eqb, eqb-true, ne_eqb, not-true, not_from_false, or_cases}

@@ -9,8 +9,8 @@ use Rattle.std.specs.Prelude.{ℕ, ◌≡◌, ◌==◌, ◌+◌, ◌<◌, ◌≤
 use Rattle.std.specs.Option.{option_to_list}
 use Rattle.types.specs.declared.event.Entry.{Entry}
 use Rattle.types.specs.declared.event.Event.{Event}
-use Rattle.types.specs.declared.event.Event.TheVariants.{Size, Grow, Load, Store, Rmw, Cmpxchg, Ask, Told}
-use Rattle.types.specs.declared.event.Question.TheVariants.{Wait, Notify, Spawn, Leave}
+use Rattle.types.specs.declared.event.Event.TheVariants.{Size, Grow, Load, Store, Rmw, Cmpxchg, Ask}
+use Rattle.types.specs.declared.event.Question.TheVariants.{Wait, Notify, Spawn}
 use Rattle.types.specs.declared.event.Reply.{Reply}
 use Rattle.types.specs.declared.event.Reply.TheVariants.{Value, OutOfBounds}
 use Rattle.race_history.specs.declared.access.ThreadAccess.{ThreadAccess}

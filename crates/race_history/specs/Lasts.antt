@@ -1,7 +1,6 @@
 -- The last accesses, in lists by words.
 use Rattle.std.specs.Prelude.{ℕ, ◌≡◌, ◌<◌, ◌≤◌, ◌+◌, ◌++◌, ◌/◌, ◌%◌, List, [], ◌∷◌, length, map, filter, not}
 use Rattle.std.specs.Prelude.{Contains, AllPairs, slice_index_or, slice_set}
-use Rattle.std.specs.List.{fold}
 use Rattle.std.specs.Global.{Vec}
 use Rattle.types.specs.declared.event.Entry.{Entry}
 use Rattle.race_history.specs.declared.access.ThreadAccess.{ThreadAccess}

@@ -1,4 +1,4 @@
-use Rattle.std.proofs.Common.{◌≡◌, ◌∙◌, ◌<◌, ◌+◌, ℕ, false, length, take, sym, subst, arith}
+use Rattle.std.proofs.Common.{◌∙◌, ◌<◌, ◌+◌, ℕ, false, length, take, sym, subst, arith}
 use Rattle.std.specs.Global.{Vec}
 use Rattle.race_history.specs.declared.access.Location.TheVariants.{Bytes}
 use Rattle.race_history.specs.declared.access.ThreadAccess.{ThreadAccess}

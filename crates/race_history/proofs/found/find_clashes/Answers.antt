@@ -1,4 +1,4 @@
-use Rattle.std.proofs.Common.{◌<◌, ℕ, List, [], false, length, get_or, subst, arith}
+use Rattle.std.proofs.Common.{◌<◌, List, [], false, length, get_or, subst, arith}
 use Rattle.race_history.specs.declared.access.Location.TheVariants.{Bytes}
 use Rattle.race_history.specs.declared.access.ThreadAccess.{ThreadAccess}
 use Rattle.race_history.specs.declared.lasts.Last.{Last}

@@ -2,9 +2,9 @@ use Rattle.std.proofs.Common.{◌≡◌, ◌<◌, ◌≤◌, ℕ, List, length, 
 use Rattle.std.specs.List.Sorted.{IsBinarySearchResult}
 use Rattle.std.specs.Ordering.{nat_cmp}
 use Rattle.std.proofs.lemmas.List.Sorted.{searched}
-use Rattle.std.proofs.lemmas.Result.{MatchResult-at_err, MatchResult-at_ok}
+use Rattle.std.proofs.lemmas.Result.{MatchResult-at_err}
 use Rattle.race_history.specs.Found.{HaveMore}
-use Rattle.race_history.proofs.Clashing.{found_there, inserted, rising}
+use Rattle.race_history.proofs.Clashing.{inserted, rising}
 use Rattle.race_history.proofs.found.insert.Goals as goal
 
 abbrev IsThere : List ℕ → ℕ → ℕ → Type 0
