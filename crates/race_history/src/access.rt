@@ -223,7 +223,11 @@ fn call_within(thread: u32, event: Event) -> Option<ThreadAccess>
                 timeout: _,
             },
         ) => Some(entering(thread, Location::Waiters, addr)),
-        Event::Ask(Question::Notify { addr, count: _ }) => Some(entering(thread, Location::Waiters, addr)),
+        Event::Ask(Question::Notify { addr, count: _ }) => Some(entering(
+            thread,
+            Location::Waiters,
+            addr,
+        )),
         Event::Ask(Question::Spawn { arg: _ }) => Some(entering(thread, Location::Threads, 0)),
         _ => None,
     }
@@ -368,7 +372,11 @@ pub(crate) fn touches(a: &ThreadAccess, b: &ThreadAccess) -> bool
 pub(crate) fn are_matched(a: &ThreadAccess, b: &ThreadAccess) -> bool
     ensures { result ≡ are_matched a.now b.now }
 {
-    a.atomic && b.atomic && are_alike(a.location, b.location) && a.addr == b.addr && a.width == b.width
+    a.atomic
+        && b.atomic
+        && are_alike(a.location, b.location)
+        && a.addr == b.addr
+        && a.width == b.width
 }
 
 /// Whether two accesses of two threads touch a byte in common, one writes, and they aren't matched.
@@ -382,6 +390,12 @@ pub(crate) fn conflicts(a: &ThreadAccess, b: &ThreadAccess) -> bool
 pub(crate) fn is_same(a: &ThreadAccess, b: &ThreadAccess) -> bool
     ensures { result ≡ is_same a.now b.now }
 {
-    a.code == b.code && a.thread == b.thread && are_alike(a.location, b.location) && a.addr == b.addr
-        && a.width == b.width && a.reads == b.reads && a.writes == b.writes && a.atomic == b.atomic
+    a.code == b.code
+        && a.thread == b.thread
+        && are_alike(a.location, b.location)
+        && a.addr == b.addr
+        && a.width == b.width
+        && a.reads == b.reads
+        && a.writes == b.writes
+        && a.atomic == b.atomic
 }

@@ -69,7 +69,11 @@ impl Lasts {
     }
 
     /// Keeps the accesses of the entry at a place, which is behind all those before.
-    pub(crate) fn keep_all(&mut self, place: usize, accesses: &[ThreadAccess]) -> Result<(), AllocError>
+    pub(crate) fn keep_all(
+        &mut self,
+        place: usize,
+        accesses: &[ThreadAccess],
+    ) -> Result<(), AllocError>
         requires { 0 < length (table self.old) }
         ensures { OnOk result (table self.new ≡ fold (keeping place) (table self.old) accesses.now) }
     {

@@ -55,6 +55,14 @@ pub fn races_of(
     let threads = count_threads(log);
     let writers = find_writers(alloc, log, sites, opening)?;
     let calls = find_calls(alloc, log)?;
-    let clocks = make_clocks(alloc, log, sites, opening, writers.as_slice(), &calls, threads)?;
+    let clocks = make_clocks(
+        alloc,
+        log,
+        sites,
+        opening,
+        writers.as_slice(),
+        &calls,
+        threads,
+    )?;
     find_races(alloc, log, sites, opening, clocks.as_slice(), threads, most)
 }

@@ -47,7 +47,11 @@ fn read_from(list: &[Last], access: &ThreadAccess) -> Option<usize>
 }
 
 /// Puts the place of the write that an access reads from behind the others, if it reads from one.
-fn add_writer(found: &mut Vec<usize>, lasts: &Lasts, access: &ThreadAccess) -> Result<(), AllocError>
+fn add_writer(
+    found: &mut Vec<usize>,
+    lasts: &Lasts,
+    access: &ThreadAccess,
+) -> Result<(), AllocError>
     requires { 0 < length (table lasts.now) }
     ensures { OnOk result (found.new.items ≡ with_writer (table lasts.now) found.old.items access.now) }
 {
@@ -58,7 +62,11 @@ fn add_writer(found: &mut Vec<usize>, lasts: &Lasts, access: &ThreadAccess) -> R
 }
 
 /// The places of the writes that the accesses of an entry read from.
-fn writers_in(alloc: Global, lasts: &Lasts, accesses: &[ThreadAccess]) -> Result<Vec<usize>, AllocError>
+fn writers_in(
+    alloc: Global,
+    lasts: &Lasts,
+    accesses: &[ThreadAccess],
+) -> Result<Vec<usize>, AllocError>
     requires { 0 < length (table lasts.now) }
     ensures { IfOk result (λ v. v.items ≡ writers_in (table lasts.now) accesses.now) }
 {

@@ -100,7 +100,11 @@ fn event(letter: u8, addr: u64, width: u8) -> (Event, Reply) {
 
 /// The instruction of a word: a capital letter is an atomic one.
 fn site(letter: u8, code: u8) -> Site {
-    let kind = if letter < b'a' { AccessKind::Atomic } else { AccessKind::Plain };
+    let kind = if letter < b'a' {
+        AccessKind::Atomic
+    } else {
+        AccessKind::Plain
+    };
     Site {
         kind,
         code: u64::from(code),
