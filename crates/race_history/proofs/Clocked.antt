@@ -43,7 +43,7 @@ module _ (f : ℕ → ℕ) (n : ℕ) where
     | inr r ↦ below_to xs (max most (f z)) s r lt
   ]
 
-module _ (log : List Entry) (sites : List Site) (opening : ℕ) (threads place : ℕ) (clocks : List (List ℕ)) (h : AreClocks log sites opening threads place clocks)
+module _ (log : List Entry) (sites : List Site) (opening threads place : ℕ) (clocks : List (List ℕ)) (h : AreClocks log sites opening threads place clocks)
     (sources row : List ℕ) (from : AreSources log sites opening place sources) (joined : IsJoined clocks sources row) (wide : length row ≡ threads)
     (within : place < length log) (known : thread_at log place < threads) where
   -- an entry up to a source is below the joined row
@@ -114,7 +114,8 @@ module _ (log : List Entry) (sites : List Site) (opening : ℕ) (threads place :
   }
 
 pub clocks_more : (log : List Entry) (sites : List Site) (opening : ℕ) (threads end : ℕ) (clocks : List (List ℕ)) (row : List ℕ)
-    → AreClocks log sites opening threads end clocks → IsClock log sites opening threads end row → AreClocks log sites opening threads (end + 1) (clocks ++ row ∷ [])
+    → AreClocks log sites opening threads end clocks → IsClock log sites opening threads end row
+    → AreClocks log sites opening threads (end + 1) (clocks ++ row ∷ [])
 clocks_more log sites opening threads end clocks row h is =
     let count : length clocks ≡ end = h.count in
     record {
@@ -122,7 +123,8 @@ clocks_more log sites opening threads end clocks row h is =
       each = λ place lt. elim (cases_lt place end) [
         | inl before ↦
             let within : place < length clocks = omega arith in
-            subst (λ (l : List ℕ). IsClock log sites opening threads place l) (sym (get_or_append_left clocks (row ∷ []) [] place within)) (h.each place before)
+            subst (λ (l : List ℕ). IsClock log sites opening threads place l) (sym (get_or_append_left clocks (row ∷ []) [] place within))
+            (h.each place before)
         | inr le ↦
             let e : place ≡ end = omega arith in
             subst (λ (l : List ℕ). IsClock log sites opening threads place l) (sym (get_or_push clocks row [] place (count ∙ sym e)))

@@ -18,7 +18,8 @@ use Rattle.race_history.specs.Accesses.{accesses_of}
 use Rattle.race_history.specs.Places.{IsAccess, IsAt}
 use Rattle.race_history.specs.Lasts.{AreLasts, AreLastsOf, AreOther, IsMadeBefore, keeping, kept, list_for, with_last}
 use Rattle.race_history.specs.Tests.{is_same}
-use Rattle.race_history.proofs.Lists.{Contains-at, Contains-cons_cases, Contains-filter, Contains-here, Contains-none, Contains-there, IsAt-get, filter-Contains}
+use Rattle.race_history.proofs.Lists.{Contains-at, Contains-cons_cases, Contains-filter, Contains-here, Contains-none, Contains-there}
+use Rattle.race_history.proofs.Lists.{IsAt-get, filter-Contains}
 use Rattle.race_history.proofs.Places.{access_made, made_here}
 use Rattle.race_history.proofs.Words.{same_from, same_to}
 

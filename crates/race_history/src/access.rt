@@ -1,9 +1,11 @@
 //! What an entry does: the accesses that it makes, each to a location.
 ghost use Rattle.std.specs.Prelude.{◌≡◌, ◌++◌, ◌+◌, IfOk, OnOk, nat_lt, true, false};
 ghost use Rattle.std.specs.Option.{option_to_list};
-ghost use Rattle.race_history.specs.Accesses.{accesses_of, bytes_of, bytes_within, call_of, call_within, changing, counting};
-ghost use Rattle.race_history.specs.Accesses.{end_of, entering, has_value, is_atomic, is_out_of_bounds, pages_of, reading};
-ghost use Rattle.race_history.specs.Tests.{are_alike, are_matched, conflicts, is_same, location_number, overlap, touches};
+ghost use Rattle.race_history.specs.Accesses.{accesses_of, bytes_of, bytes_within, call_of, call_within, changing};
+ghost use Rattle.race_history.specs.Accesses.{counting, end_of, entering, has_value, is_atomic, is_out_of_bounds};
+ghost use Rattle.race_history.specs.Accesses.{pages_of, reading};
+ghost use Rattle.race_history.specs.Tests.{are_alike, are_matched, conflicts, is_same, location_number, overlap};
+ghost use Rattle.race_history.specs.Tests.{touches};
 ghost use Rattle.race_history.specs.declared.access.Location.TheVariants.{Waiters, Threads};
 
 use std::alloc::{AllocError, Global};
@@ -50,8 +52,8 @@ pub struct ThreadAccess {
     pub reads: bool,
     pub writes: bool,
     pub atomic: bool,
-    /// Of an access to bytes the number of the instruction's place. Elsewhere 0, so that such accesses of one thread are
-    /// the same wherever they are made.
+    /// Of an access to bytes the number of the instruction's place. Elsewhere 0: such accesses of one thread are the
+    /// same wherever they are made.
     pub code: u64,
 }
 

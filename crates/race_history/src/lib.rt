@@ -5,8 +5,8 @@
 //! makes the access of its first; as many as are asked for, in order. Where it says that there are no more and names
 //! none, no two entries race. `is_history` tells exactly which lists of entries it takes.
 //!
-//! - `specs/Accesses.antt`: what an entry does, at which locations; `specs/Order.antt`: which entries happen before which;
-//!   `specs/Races.antt`: what a race is.
+//! - `specs/Accesses.antt`: what an entry does, at which locations; `specs/Order.antt`: which entries happen before
+//!   which; `specs/Races.antt`: what a race is.
 //! - `writers` finds of each atomic read the atomic write that it reads from, `calls` which spawn starts which thread
 //!   and which notifies wake whom; `sources` gathers of each entry those just before it in the order.
 //! - `clocks` gives each entry a clock: for each thread, before which place that thread's entries happen before it.

@@ -27,12 +27,12 @@ pub struct Races {
     pub is_cut: bool,
 }
 
-/// The races of a history whose entries were made by these instructions, over a memory that opens with pages of `opening`
-/// bytes in all, `most` at most.
+/// The races of a history whose entries were made by these instructions, over a memory that opens with pages of
+/// `opening` bytes in all, `most` at most.
 ///
 /// Not each pair is named: of the earlier entries that race with one and make the same access (one thread, the same
-/// bytes, reads or writes, of one kind, at one place in the code) the last. The history is one of a run (`is_history`): its calls are those that
-/// the wait queue allows.
+/// bytes, reads or writes, of one kind, at one place in the code) the last. The history is one of a run (`is_history`):
+/// its calls are those that the wait queue allows.
 ///
 /// # Errors
 /// Where memory is refused.

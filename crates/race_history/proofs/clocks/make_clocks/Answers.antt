@@ -39,8 +39,8 @@ joined-requires-clause-within c =
     ∙ sym (rows_at writers place c.index-writers-place.result wrote)) in
     let last : get_or previous e.thread None ≡ last_of log (thread_at log place) place =
     old.previous e.thread below ∙ ap (λ n. last_of log n place) (sym thread) in
-    let next = sources_next log sites opening place within (rows writers) c.requires.writers starts c.requires.calls.starts (rows wakers) c.requires.calls.wakers
-    (get_or previous e.thread None) last in
+    let next = sources_next log sites opening place within (rows writers) c.requires.writers starts c.requires.calls.starts (rows wakers)
+    c.requires.calls.wakers (get_or previous e.thread None) last in
     let count : length wakers ≡ length log = sym (rows_length wakers) ∙ c.requires.calls.wakers.count in
     let there : place < length wakers = omega arith in
     let woken : c.as_slice-wakers.result.now ≡ get_or (rows wakers) place [] =
@@ -81,8 +81,8 @@ loop-place-preserved c =
     ∙ sym (rows_at writers place c.index-writers-place.result wrote)) in
     let last : get_or previous e.thread None ≡ last_of log (thread_at log place) place =
     old.previous e.thread below ∙ ap (λ n. last_of log n place) (sym thread) in
-    let next = sources_next log sites opening place within (rows writers) c.requires.writers starts c.requires.calls.starts (rows wakers) c.requires.calls.wakers
-    (get_or previous e.thread None) last in
+    let next = sources_next log sites opening place within (rows writers) c.requires.writers starts c.requires.calls.starts (rows wakers)
+    c.requires.calls.wakers (get_or previous e.thread None) last in
     let count : length wakers ≡ length log = sym (rows_length wakers) ∙ c.requires.calls.wakers.count in
     let there : place < length wakers = omega arith in
     let woken : c.as_slice-wakers.result.now ≡ get_or (rows wakers) place [] =
