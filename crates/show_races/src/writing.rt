@@ -2,22 +2,30 @@
 
 ghost use Rattle.std.specs.Prelude.{◌≡◌, ◌<◌, All, IfOk, OnOk, length, string_bytes};
 ghost use Rattle.show_races.specs.Told.{IsWithin};
-ghost use Rattle.show_races.specs.Written.{IsOrderText, SaysRace, TellsRaces, WritesFirst, name_text};
+ghost use Rattle.show_races.specs.Written.{IsOrderText, SaysRace, TellsRaces, WritesFirst, kind_of, name_text};
 
 use crate::found::RecordRaces;
 use crate::release::next_atomic_write;
-use race_history::{AccessKind, Race};
+use race_history::{AccessKind, Race, Site};
 use show_rows::{Shown, Story, entry_text};
 use show_text::Unwritten;
 use std::alloc::{AllocError, Global};
 use std::fmt::{self, Formatter};
 use std::io::Write;
 
-/// What a race is called: two atomic accesses race where they are of other bytes.
-fn name_of(kinds: &[AccessKind], race: Race) -> &'static str
-    ensures { result.now ≡ name_text kinds.now race }
+/// By which kind of instruction the entry at a place was made.
+fn kind_of(sites: &[Site], at: usize) -> Option<AccessKind>
+    ensures { result ≡ kind_of sites.now at }
 {
-    match (kinds.get(race.first), kinds.get(race.second)) {
+    let site = sites.get(at)?;
+    Some(site.kind)
+}
+
+/// What a race is called: two atomic accesses race where they are of other bytes.
+fn name_of(sites: &[Site], race: Race) -> &'static str
+    ensures { result.now ≡ name_text sites.now race }
+{
+    match (kind_of(sites, race.first), kind_of(sites, race.second)) {
         (Some(AccessKind::Atomic), Some(AccessKind::Atomic)) => "mixed",
         _ => "race",
     }
@@ -47,19 +55,14 @@ impl fmt::Display for Leads {
 }
 
 /// What would have ordered the first entry before the second.
-fn order_text(
-    alloc: Global,
-    shown: Shown,
-    kinds: &[AccessKind],
-    race: Race,
-) -> Result<String, AllocError>
+fn order_text(alloc: Global, shown: Shown, sites: &[Site], race: Race) -> Result<String, AllocError>
     requires first { race.first < length shown.record.now.log }
     requires second { race.second < length shown.record.now.log }
-    ensures { IfOk result (λ text. IsOrderText shown.entry kinds.now race (string_bytes text)) }
+    ensures { IfOk result (λ text. IsOrderText shown.entry sites.now race (string_bytes text)) }
 {
     let log = shown.record.log.as_slice();
     let (first, second) = (log[race.first].thread, log[race.second].thread);
-    let Some(write) = next_atomic_write(log, kinds, first, race.first) else {
+    let Some(write) = next_atomic_write(log, sites, first, race.first) else {
         let none = format!(in alloc;
             "  nothing told t{second} that t{first} was done: t{first} makes no atomic write behind it"
         )?;
@@ -81,16 +84,16 @@ fn race_text(
     alloc: Global,
     shown: Shown,
     story: &Story,
-    kinds: &[AccessKind],
+    sites: &[Site],
     race: Race,
 ) -> Result<String, AllocError>
     requires { IsWithin shown.record.now.log race }
-    ensures { IfOk result (λ text. SaysRace shown.entry story.now kinds.now race (string_bytes text)) }
+    ensures { IfOk result (λ text. SaysRace shown.entry story.now sites.now race (string_bytes text)) }
 {
-    let name = name_of(kinds, race);
+    let name = name_of(sites, race);
     let one = entry_text(alloc, shown, story, race.first)?;
     let other = entry_text(alloc, shown, story, race.second)?;
-    let order = order_text(alloc, shown, kinds, race)?;
+    let order = order_text(alloc, shown, sites, race)?;
     let text = format!(in alloc; "{name}: {one}; {other}\n{order}\n")?;
     Ok(text)
 }
@@ -114,7 +117,7 @@ pub fn write_first<W: Write>(
     if pairs.is_empty() {
         return Ok(false);
     }
-    let text = race_text(alloc, shown, story, races.kinds.as_slice(), pairs[0])?;
+    let text = race_text(alloc, shown, story, races.sites.as_slice(), pairs[0])?;
     write!(out, "{text}")?;
     out.flush()?;
     Ok(true)
@@ -161,9 +164,9 @@ pub fn write_races<W: Write>(
     ensures { OnOk result (TellsRaces shown.entry story.now races.now (W.contents out.old) (W.contents out.new)) }
 {
     let pairs = races.pairs.as_slice();
-    let kinds = races.kinds.as_slice();
+    let sites = races.sites.as_slice();
     for at in 0..pairs.len() {
-        let text = race_text(alloc, shown, story, kinds, pairs[at])?;
+        let text = race_text(alloc, shown, story, sites, pairs[at])?;
         write!(out, "{text}")?;
     }
     let end = End {
