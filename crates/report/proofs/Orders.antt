@@ -13,7 +13,7 @@ use Rattle.report.specs.Searches.{Finds}
 use Rattle.report.specs.Telling.{InLines}
 use Rattle.report.specs.Told.{AllIn, TellsAll}
 use Rattle.report.specs.declared.raced.Raced.{Raced}
-use Rattle.report.specs.declared.searching.Met.{Met}
+use Rattle.report.specs.declared.searching.OrdersMet.{OrdersMet}
 use Rattle.report.specs.declared.telling.ToldSearch.{ToldSearch}
 use Rattle.report.specs.declared.whole.Racing.{Racing}
 use Rattle.report.specs.declared.whole.WholeSearch.{WholeSearch}
@@ -22,7 +22,7 @@ use Rattle.report.proofs.Keeping.{found_kept, quiet_by}
 use Rattle.report.proofs.Pairs.{raced_in, raced_kept}
 use Rattle.report.proofs.Wholly.{finds_all, well_by}
 
-module _ (q : Requested) (s : Search) (asked : IsAskedBy s.call q) (form : Form) (is_form : form ≡ s.form) (met : Met)
+module _ (q : Requested) (s : Search) (asked : IsAskedBy s.call q) (form : Form) (is_form : form ≡ s.form) (met : OrdersMet)
     (every_order : s.all ≡ Some met.most) (before between after a b c : Option (List ℕ))
     (unkept : keeps_race s ≡ false → b ≡ a) (status : ℕ) (rest : TellsRest form q s met (change between after) (change b c) status) where
   abbrev t : ToldSearch

@@ -15,7 +15,7 @@ use Rattle.report.specs.Prints.{IsStatusOf}
 use Rattle.report.specs.Racing.{IsRacedIn}
 use Rattle.report.specs.SearchObjects.{WritesAll}
 use Rattle.report.specs.declared.found.FoundRun.{FoundRun}
-use Rattle.report.specs.declared.searching.Met.{Met}
+use Rattle.report.specs.declared.searching.OrdersMet.{OrdersMet}
 use Rattle.report.specs.declared.telling.ToldSearch.{ToldSearch}
 
 -- The lines of what was found of all runs, and those of what is looked for; or the object of all that is told.
@@ -26,7 +26,7 @@ RestIn Json m t found out = WritesAll m t out
 
 -- What is told is what was met, the first ending that is looked for or a run that never ends, and the status; and the
 -- record that was written, where one is wanted, is that of what was found.
-pub record TellsRest (form : Form) (q : Requested) (s : Search) (met : Met) (out save : WriterChange)
+pub record TellsRest (form : Form) (q : Requested) (s : Search) (met : OrdersMet) (out save : WriterChange)
     (status : ℕ) : Type 0 where
   pub told : ToldSearch
   pub whole_is : told.whole.now ≡ met.whole
@@ -43,7 +43,7 @@ pub record TellsRest (form : Form) (q : Requested) (s : Search) (met : Met) (out
   pub status_is : IsStatusOf s told.whole.now status
 
 -- The same of what streams have before and after.
-abbrev pub TellsRestOn : {W E S : Type 0} → Form → (W → Option (List ℕ)) → (S → Option (List ℕ)) → Requested → Search → Met → Streams W E S
+abbrev pub TellsRestOn : {W E S : Type 0} → Form → (W → Option (List ℕ)) → (S → Option (List ℕ)) → Requested → Search → OrdersMet → Streams W E S
     → Streams W E S → ℕ → Type 0
 TellsRestOn form out save q s met old new status =
     TellsRest form q s met (changed out old.out new.out) (changed save old.save new.save) status

@@ -10,7 +10,7 @@ use Rattle.search_finds.specs.declared.met.EndingTable.{EndingTable}
 use Rattle.selection.specs.Ways.{way_of}
 use Rattle.selection.specs.declared.sought.Sought.{Sought}
 use Rattle.report_jobs.specs.Prints.{WriterChange, IsObjectOf}
-use Rattle.report_json.specs.Json.{json_line}
+use Rattle.show_json.specs.Json.{json_line}
 use Rattle.report_json.specs.Drawn.{drawn_json}
 use Rattle.report_json.specs.Complete.{complete_json}
 use Rattle.report_json.specs.declared.complete.CompleteObject.{CompleteObject}
@@ -23,7 +23,7 @@ use Rattle.report_json.specs.declared.drawn.MetEnding.{MetEnding}
 use Rattle.report_json.specs.declared.ends.RunEndObject.{RunEndObject}
 use Rattle.report_json.specs.declared.found.FoundObject.{FoundObject}
 use Rattle.report_json.specs.declared.found.FoundAs.TheVariants as founds
-use Rattle.report_json.specs.declared.races.RacePair.{RacePair}
+use Rattle.show_json.specs.declared.races.RacePair.{RacePair}
 use Rattle.report_json.specs.declared.raced.RacingThreads.{RacingThreads}
 use Rattle.report_json.specs.declared.raced.RunRaces.{RunRaces}
 use Rattle.report_json.specs.declared.raced.RunRaces.TheVariants as said

@@ -121,7 +121,7 @@ fn end_orders<T: Teller, W: Write, S: Write>(
 
 /// What all orders came to: what was found of all runs, with so many states at most, and what is told of a race of one.
 #[derive(Drop)]
-pub(crate) struct Met<'m> {
+pub(crate) struct OrdersMet<'m> {
     whole: WholeSearch,
     raced: Raced<'m, 'm>,
     most: u32,
@@ -133,7 +133,7 @@ fn tell_orders<T: Teller, W: Write, E, S: Write, F: Hears>(
     alloc: Global,
     teller: &T,
     call: SearchedCall,
-    met: &Met,
+    met: &OrdersMet,
     streams: &mut Streams<W, E, S>,
     follower: &mut F,
 ) -> Result<Done, Trouble>
@@ -144,7 +144,7 @@ fn tell_orders<T: Teller, W: Write, E, S: Write, F: Hears>(
     ensures trouble { IfErr result IsOfSystem }
 {
     let Streams { out, save, .. } = streams;
-    let Met { whole, raced, most } = met;
+    let OrdersMet { whole, raced, most } = met;
     let most = *most;
     let search = call.search;
     teller.tell(alloc, News::Orders(whole, most), out)?;
@@ -194,7 +194,7 @@ fn search_orders<T: Teller, R: Threads + Sync, W: Write, E, S: Write, F: Hears>(
     let raced = race_told(alloc, teller, call, &look, streams)?;
     let whole = whole_of(alloc, call, most, look, follower)?;
     follower.end();
-    let met = Met { whole, raced, most };
+    let met = OrdersMet { whole, raced, most };
     tell_orders(alloc, teller, call, &met, streams, follower)
 }
 

@@ -9,7 +9,7 @@ use Rattle.report_jobs.specs.declared.undone.Done.{Done}
 use Rattle.types.specs.declared.parts.Parts.{Parts}
 use Rattle.show_text.specs.declared.sheet.Unwritten.{Unwritten}
 use Rattle.show_text.specs.declared.sheet.Unwritten.TheVariants as unwritten
-use Rattle.report_json.specs.Unwritten.{LeavesAs}
+use Rattle.show_json.specs.Unwritten.{LeavesAs}
 use Rattle.replay_text.specs.declared.parts.RecordParts.{RecordParts}
 use Rattle.replay_text.specs.Text.{record_text}
 use Rattle.report_jobs.specs.Jobs.{IsUnfit, IsUnfitTextOf, unfit_of_unwritten}

@@ -14,7 +14,7 @@ use Rattle.spawn_host.specs.declared.end.EndState.{EndState}
 use Rattle.replay.specs.Runs.{IsRunOf}
 use Rattle.report_lines.specs.Lines.{numbered, thread_lines, pages_line, bytes_line, functions_line, end_lines}
 use Rattle.search_endings.specs.Ends.{status_of}
-use Rattle.report_json.specs.Json.{json_line}
+use Rattle.show_json.specs.Json.{json_line}
 use Rattle.report_json.specs.Refusals.{accepted_json}
 use Rattle.report_json.specs.Ends.{run_json}
 use Rattle.report_json.specs.declared.ends.RunEndObject.{RunEndObject}

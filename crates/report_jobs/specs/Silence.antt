@@ -48,6 +48,7 @@ unfit_status unfits.Output = 5
 abbrev pub Stays : {X : Type 0} → X → X → Type 0
 Stays old new = new ≡ old
 
+-- So are both streams, the record's file and the memory's.
 abbrev pub AllStay : {W E S : Type 0} → Streams W E S → Streams W E S → Type 0
 AllStay old new = (Stays old.out new.out × Stays old.err new.err) × Stays old.save new.save × Stays old.memory new.memory
 

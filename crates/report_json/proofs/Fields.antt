@@ -5,8 +5,8 @@ use Rattle.report_json.specs.declared.found.FoundAs.{FoundAs}
 use Rattle.report_json.specs.declared.found.FoundAs.TheVariants as found
 use Rattle.report_json.specs.declared.drawn.DrawnEnd.{DrawnEnd}
 use Rattle.report_json.specs.declared.drawn.DrawnEnd.TheVariants as ends
-use Rattle.report_json.specs.Json.{Field}
-use Rattle.report_json.specs.Sent.{SendsFields, count}
+use Rattle.show_json.specs.Json.{Field}
+use Rattle.show_json.specs.Sent.{SendsFields, count}
 use Rattle.report_json.specs.Found.{found_as}
 use Rattle.report_json.specs.Drawn.{end_field}
 

@@ -1,3 +1,2 @@
-pub mod Sent
+pub mod Bytes
 pub mod Fields
-pub mod RowTexts

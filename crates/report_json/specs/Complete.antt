@@ -7,7 +7,7 @@ use Rattle.search_reach.specs.declared.liveness.FairRuns.{FairRuns}
 use Rattle.search_reach.specs.declared.liveness.FairRuns.TheVariants.{AllEnd, GoOn, Unknown}
 use Rattle.search_reach.specs.declared.liveness.Liveness.{Liveness}
 use Rattle.report_json.specs.declared.complete.CompleteObject.{CompleteObject}
-use Rattle.report_json.specs.Json.{Json, Field, number, text, is, is_given, list_of, object_of}
+use Rattle.show_json.specs.Json.{Json, Field, number, text, is, is_given, list_of, object_of}
 use Rattle.report_json.specs.Drawn.{ending_json}
 use Rattle.report_json.specs.Found.{found_json}
 use Rattle.report_json.specs.Raced.{words_field, race_field}

@@ -8,7 +8,7 @@ use Rattle.report_json.specs.declared.drawn.DrawnEnd.{DrawnEnd}
 use Rattle.report_json.specs.declared.drawn.DrawnEnd.TheVariants as ends
 use Rattle.report_json.specs.declared.drawn.DrawnRuns.{DrawnRuns}
 use Rattle.report_json.specs.declared.drawn.DrawnObject.{DrawnObject}
-use Rattle.report_json.specs.Json.{Json, Field, number, text, is, list_of, object_of}
+use Rattle.show_json.specs.Json.{Json, Field, number, text, is, list_of, object_of}
 use Rattle.report_json.specs.Ends.{outcomes_json, bytes_field}
 use Rattle.report_json.specs.Found.{found_json}
 use Rattle.report_json.specs.Raced.{words_field, race_field}

@@ -1,42 +1,15 @@
 -- How threads and runs end.
-use Rattle.std.specs.Prelude.{ℕ, Bool, true, false, nat_lt, List, [], ◌∷◌, codes, take, Option, Some, None, option_and_then}
+use Rattle.std.specs.Prelude.{ℕ, Bool, true, false, nat_lt, List, [], ◌∷◌, codes, take, Option, None, option_and_then}
 use Rattle.std.specs.List.{slice_get}
-use Rattle.types.specs.declared.value.Value.{Value}
-use Rattle.types.specs.declared.value.Value.TheVariants as values
-use Rattle.types.specs.declared.outcome.Trap.{Trap}
-use Rattle.types.specs.declared.outcome.Stop.{Stop}
 use Rattle.types.specs.declared.outcome.Outcome.{Outcome}
-use Rattle.types.specs.declared.outcome.Outcome.TheVariants as outcomes
 use Rattle.types.specs.declared.outcome.ThreadReport.{ThreadReport}
-use Rattle.types.specs.Outcomes.{trap_words, trap_number, stop_words, stop_number}
 use Rattle.hex.specs.Hex.{encode_lower}
 use Rattle.search_endings.specs.Ends.{status_of}
-use Rattle.report_json.specs.declared.places.PlaceObject.{PlaceObject}
+use Rattle.show_json.specs.declared.places.PlaceObject.{PlaceObject}
 use Rattle.report_json.specs.declared.ends.RunEndObject.{RunEndObject}
-use Rattle.report_json.specs.Json.{Json, Field, null, number, text, list, is, is_given, are_some, numbered, object_of}
-use Rattle.report_json.specs.Places.{place_json}
-
--- What a function returned: null, or the number under its type.
-abbrev pub result_json : Option Value → Json
-result_json None = null
-result_json (Some (values.I32 n)) = object_of (is (codes "i32") (number n) ∷ [])
-result_json (Some (values.I64 n)) = object_of (is (codes "i64") (number n) ∷ [])
-
--- A trap or a stop: its words and its number.
-abbrev pub trap_fields : Trap → List Field
-trap_fields t = is (codes "trap") (text (trap_words t)) ∷ is (codes "number") (number (trap_number t)) ∷ []
-
-abbrev pub stop_fields : Stop → List Field
-stop_fields s = is (codes "stop") (text (stop_words s)) ∷ is (codes "number") (number (stop_number s)) ∷ []
-
--- How a thread ended.
-abbrev pub outcome_fields : Outcome → List Field
-outcome_fields (outcomes.Done result) = is (codes "ok") (result_json result) ∷ []
-outcome_fields (outcomes.Trap t) = trap_fields t
-outcome_fields (outcomes.Stop s) = stop_fields s
-
-abbrev pub outcome_json : Outcome → Json
-outcome_json outcome = object_of (outcome_fields outcome)
+use Rattle.show_json.specs.Json.{Json, Field, number, text, list, is, is_given, are_some, numbered, object_of}
+use Rattle.show_json.specs.Outcomes.{outcome_json}
+use Rattle.show_json.specs.Places.{place_json}
 
 -- A thread of a run: its number, how it ended, the units that it spent, and where it stood, if that is known.
 abbrev pub thread_fields : ℕ → ThreadReport → Option PlaceObject → List Field

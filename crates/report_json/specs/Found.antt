@@ -5,7 +5,7 @@ use Rattle.report_json.specs.declared.found.FoundAs.TheVariants.{Run, Ending, No
 use Rattle.report_json.specs.declared.found.RunSize.{RunSize}
 use Rattle.report_json.specs.declared.found.Shrunk.{Shrunk}
 use Rattle.report_json.specs.declared.found.FoundObject.{FoundObject}
-use Rattle.report_json.specs.Json.{Json, Field, number, is, is_given, object_of}
+use Rattle.show_json.specs.Json.{Json, Field, number, is, is_given, object_of}
 use Rattle.report_json.specs.Ends.{run_json}
 
 -- As what: the run of a number, the ending of a number in the list, from 1 on, a run that comes after so many entries

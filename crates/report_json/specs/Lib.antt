@@ -1,13 +1,6 @@
-pub mod Json
-pub mod Sent
-pub mod Unwritten
-pub mod Places
 pub mod Raced
 pub mod Ends
 pub mod Refusals
 pub mod Found
 pub mod Drawn
 pub mod Complete
-pub mod Rows
-pub mod Functions
-pub mod Moments

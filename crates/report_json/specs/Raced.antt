@@ -3,8 +3,8 @@ use Rattle.std.specs.Prelude.{ℕ, List, [], ◌∷◌, codes, Option, Some, Non
 use Rattle.report_json.specs.declared.raced.RacingThreads.{RacingThreads}
 use Rattle.report_json.specs.declared.raced.RunRaces.{RunRaces}
 use Rattle.report_json.specs.declared.raced.RunRaces.TheVariants.{Never, Found, Between, Unknown}
-use Rattle.report_json.specs.Json.{Json, Field, number, text, is, object_of}
-use Rattle.report_json.specs.Rows.{pair_json}
+use Rattle.show_json.specs.Json.{Json, Field, number, text, is, object_of}
+use Rattle.show_json.specs.Rows.{pair_json}
 
 -- Whether any run has one.
 abbrev pub races_words : RunRaces → List ℕ

@@ -8,7 +8,7 @@ use Rattle.report_json.specs.declared.refusals.RefusedObject.TheVariants.{Unread
 use Rattle.report_json.specs.declared.refusals.RefusalObject.{RefusalObject}
 use Rattle.report_json.specs.declared.refusals.Failure.{Failure}
 use Rattle.report_json.specs.declared.refusals.Failure.TheVariants.{Memory, Thread, File}
-use Rattle.report_json.specs.Json.{Json, Field, number, text, is, are_some, object_of}
+use Rattle.show_json.specs.Json.{Json, Field, number, text, is, are_some, object_of}
 
 abbrev pub stage : List ℕ → Field
 stage name = is (codes "stage") (text name)

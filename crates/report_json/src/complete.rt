@@ -1,19 +1,20 @@
 //! A search through every order of entries.
-ghost use Rattle.std.specs.Prelude.{◌≡◌, [], ◌∷◌, OnOk, IfErr};
+ghost use Rattle.std.specs.Prelude.{◌≡◌, [], ◌∷◌, codes, OnOk, IfErr};
 ghost use Rattle.replay_forms.specs.Texts.{Wrote};
-ghost use Rattle.report_json.specs.Unwritten.{LeavesAs};
+ghost use Rattle.show_json.specs.Unwritten.{LeavesAs};
 ghost use Rattle.report_json.specs.Complete.{cycle_json, fair_words, cycle_field, liveness_json, complete_json};
 ghost use Rattle.report_json.specs.Complete.{levels_told, verdict_words};
-ghost use Rattle.report_json.specs.Sent as counted;
-ghost use Rattle.report_json.specs.Json.{json_line};
-ghost use Rattle.report_json.specs.Sent.{SendsField};
+ghost use Rattle.show_json.specs.Sent as counted;
+ghost use Rattle.show_json.specs.Json.{is_given, json_line};
+ghost use Rattle.show_json.specs.Sent.{SendsField};
 
+use crate::drawn::Endings;
 use crate::found::FoundObject;
-use crate::object::{ToJson, given, put, put_if, put_list, write_line};
 use crate::raced::{RunRaces, count_races, put_races};
 use search_endings::Ending;
 use search_reach::{Ended, FairCycle, FairRuns, Liveness, Verdict};
 use serde::Serializer;
+use show_json::{ToJson, given, put, put_if, put_list, write_line};
 use show_text::Unwritten;
 use std::alloc::Global;
 use std::io::Write;
@@ -32,13 +33,18 @@ pub struct CompleteObject<'a> {
     pub found: Option<FoundObject<'a>>,
 }
 
-impl ToJson for FairCycle {
-    ghost json = { cycle_json };
+/// A fair run that goes on for ever.
+#[derive(Clone, Copy)]
+struct CycleObject<'a>(&'a FairCycle);
+
+impl ToJson for CycleObject<'_> {
+    ghost json = { λ c. cycle_json c.0.now };
 
     fn send<S: Serializer>(&self, alloc: Global, out: &mut S) -> Result<(), S::Error> {
+        let cycle = self.0;
         out.begin_map(Some(2))?;
-        put_list(alloc, out, "threads", &self.threads)?;
-        put(alloc, out, "states", &self.states)?;
+        put_list(alloc, out, "threads", &cycle.threads)?;
+        put(alloc, out, "states", &cycle.states)?;
         out.end_map()
     }
 }
@@ -71,20 +77,40 @@ fn put_cycle<S: Serializer>(
     ensures { OnOk result (SendsField (cycle_field fair_runs.now) (S.written out.old) (S.written out.new)) }
 {
     match fair_runs {
-        FairRuns::GoOn(cycle) => put(alloc, out, "cycle", cycle),
+        FairRuns::GoOn(cycle) => put(alloc, out, "cycle", &CycleObject(cycle)),
         FairRuns::AllEnd | FairRuns::Unknown => Ok(()),
     }
 }
 
-impl ToJson for Liveness {
-    ghost json = { liveness_json };
+/// What never ends.
+#[derive(Clone, Copy)]
+struct LivenessObject<'a>(&'a Liveness);
+
+impl ToJson for LivenessObject<'_> {
+    ghost json = { λ l. liveness_json l.0.now };
 
     fn send<S: Serializer>(&self, alloc: Global, out: &mut S) -> Result<(), S::Error> {
-        out.begin_map(Some(2 + cycles(&self.fair_runs)))?;
-        put(alloc, out, "endless", &self.endless.len())?;
-        put(alloc, out, "fair_runs", &fair_of(&self.fair_runs))?;
-        put_cycle(alloc, out, &self.fair_runs)?;
+        let liveness = self.0;
+        out.begin_map(Some(2 + cycles(&liveness.fair_runs)))?;
+        put(alloc, out, "endless", &liveness.endless.len())?;
+        put(alloc, out, "fair_runs", &fair_of(&liveness.fair_runs))?;
+        put_cycle(alloc, out, &liveness.fair_runs)?;
         out.end_map()
+    }
+}
+
+/// Sends what never ends, where that was looked for.
+fn put_liveness<S: Serializer>(
+    alloc: Global,
+    out: &mut S,
+    liveness: &Option<Liveness>,
+) -> Result<(), S::Error>
+    ensures { OnOk result
+        (SendsField (is_given (codes "liveness") liveness_json liveness.now) (S.written out.old) (S.written out.new)) }
+{
+    match liveness {
+        Some(liveness) => put(alloc, out, "liveness", &LivenessObject(liveness)),
+        None => Ok(()),
     }
 }
 
@@ -123,9 +149,9 @@ impl ToJson for CompleteObject<'_> {
         put(alloc, out, "states", &all.states)?;
         put(alloc, out, "most", &self.most)?;
         put_if(alloc, out, "gone_through", &levels)?;
-        put_list(alloc, out, "endings", all.endings.as_slice())?;
+        put(alloc, out, "endings", &Endings(all.endings.as_slice()))?;
         put_races(alloc, out, &self.races)?;
-        put_if(alloc, out, "liveness", &all.liveness)?;
+        put_liveness(alloc, out, &all.liveness)?;
         put_if(alloc, out, "found", &self.found)?;
         out.end_map()
     }

@@ -2,20 +2,20 @@
 ghost use Rattle.std.specs.Prelude.{◌≡◌, OnOk, IfErr};
 ghost use Rattle.replay_forms.specs.Texts.{Wrote};
 ghost use Rattle.report_lines.specs.Drawn.{way_text};
-ghost use Rattle.report_json.specs.Unwritten.{LeavesAs};
+ghost use Rattle.show_json.specs.Unwritten.{LeavesAs};
 ghost use Rattle.report_json.specs.Drawn as specified;
 ghost use Rattle.report_json.specs.Drawn.{ending_json, met_json, runs_json, coverage_json, drawn_json};
 ghost use Rattle.report_json.specs.Drawn.{verdict_words, end_field, ending_fields};
-ghost use Rattle.report_json.specs.Json.{json_line, text};
-ghost use Rattle.report_json.specs.Sent.{SendsField, SendsFields, count};
+ghost use Rattle.show_json.specs.Json.{json_line, list_of, text};
+ghost use Rattle.show_json.specs.Sent.{Sends, SendsField, SendsFields, count};
 
 use crate::ends::{Outcomes, put_bytes};
 use crate::found::FoundObject;
-use crate::object::{ToJson, put, put_list, send_two, write_line};
 use crate::raced::{RunRaces, count_races, put_races};
 use search_endings::Ending;
 use selection::Way;
 use serde::Serializer;
+use show_json::{ToJson, put, put_list, send_two, write_line};
 use show_text::Unwritten;
 use std::alloc::Global;
 use std::io::Write;
@@ -70,11 +70,15 @@ pub struct DrawnObject<'a> {
     pub halt: DrawnEnd<'a>,
 }
 
-impl ToJson for Way {
-    ghost json = { λ way. text (way_text way) };
+/// How a run was drawn.
+#[derive(Clone, Copy)]
+struct Strategy(Way);
+
+impl ToJson for Strategy {
+    ghost json = { λ s. text (way_text s.0) };
 
     fn send<S: Serializer>(&self, alloc: Global, out: &mut S) -> Result<(), S::Error> {
-        match self {
+        match self.0 {
             Way::Mix => out.str("mix"),
             Way::Random => out.str("random"),
             Way::Spin => out.str("spin"),
@@ -107,13 +111,29 @@ fn put_ending<S: Serializer>(alloc: Global, out: &mut S, ending: &Ending) -> Res
     put_bytes(alloc, out, has_some(bytes), bytes)
 }
 
-impl ToJson for Ending {
-    ghost json = { ending_json };
+/// Sends an ending: how its threads ended, the page count, and the bytes that are looked at.
+fn send_ending<S: Serializer>(alloc: Global, out: &mut S, ending: &Ending) -> Result<(), S::Error>
+    ensures { OnOk result (Sends (ending_json ending.now) (S.written out.old) (S.written out.new)) }
+{
+    out.begin_map(Some(count_fields(ending)))?;
+    put_ending(alloc, out, ending)?;
+    out.end_map()
+}
+
+/// Endings in their order.
+#[derive(Clone, Copy)]
+pub(crate) struct Endings<'a>(pub(crate) &'a [Ending]);
+
+impl ToJson for Endings<'_> {
+    ghost json = { λ e. list_of ending_json e.0.now };
 
     fn send<S: Serializer>(&self, alloc: Global, out: &mut S) -> Result<(), S::Error> {
-        out.begin_map(Some(count_fields(self)))?;
-        put_ending(alloc, out, self)?;
-        out.end_map()
+        let endings = self.0;
+        out.begin_seq(Some(endings.len()))?;
+        for ending in endings {
+            send_ending(alloc, out, ending)?;
+        }
+        out.end_seq()
     }
 }
 
@@ -124,7 +144,7 @@ impl ToJson for MetEnding<'_> {
         out.begin_map(Some(3 + count_fields(self.ending)))?;
         put(alloc, out, "times", &self.times)?;
         put(alloc, out, "first", &self.first)?;
-        put(alloc, out, "strategy", &self.way)?;
+        put(alloc, out, "strategy", &Strategy(self.way))?;
         put_ending(alloc, out, self.ending)?;
         out.end_map()
     }

@@ -4,69 +4,22 @@ ghost use Rattle.std.specs.List.{list_all};
 ghost use Rattle.replay_forms.specs.Texts.{Wrote};
 ghost use Rattle.search_endings.specs.Ends as specified;
 ghost use Rattle.search_endings.specs.Ends.{status_of};
-ghost use Rattle.hex.specs.Hex.{encode_lower};
-ghost use Rattle.report_json.specs.Unwritten.{LeavesAs};
+ghost use Rattle.show_json.specs.Unwritten.{LeavesAs};
 ghost use Rattle.report_json.specs.Ends as ends;
-ghost use Rattle.report_json.specs.Ends.{result_json, outcome_json, bytes_field, run_json};
+ghost use Rattle.report_json.specs.Ends.{bytes_field, run_json};
 ghost use Rattle.report_json.specs.Ends.{threads_json, outcomes_json, thread_fields, ended_json};
-ghost use Rattle.report_json.specs.Json.{json_line, object_of, text};
-ghost use Rattle.report_json.specs.Sent.{Sends, SendsField};
-ghost use Rattle.types.specs.Outcomes.{trap_words, stop_words};
+ghost use Rattle.show_json.specs.Json.{json_line, object_of};
+ghost use Rattle.show_json.specs.Sent.{Sends, SendsField};
 
-use crate::object::{ToJson, given, put, put_if, put_some, send_one, send_two, some, write_line};
-use crate::places::PlaceObject;
 use search_endings::is_done;
 use serde::Serializer;
+use show_json::{
+    Hex, PlaceObject, ToJson, given, put, put_if, put_some, send_two, some, write_line,
+};
 use show_text::Unwritten;
 use std::alloc::Global;
 use std::io::Write;
-use types::{Outcome, Stop, ThreadReport, Trap, Value};
-
-impl ToJson for Option<Value> {
-    ghost json = { result_json };
-
-    fn send<S: Serializer>(&self, alloc: Global, out: &mut S) -> Result<(), S::Error> {
-        match *self {
-            None => out.unit(),
-            Some(Value::I32(n)) => send_one(alloc, out, "i32", &n),
-            Some(Value::I64(n)) => send_one(alloc, out, "i64", &n),
-        }
-    }
-}
-
-impl ToJson for Trap {
-    ghost json = { λ t. text (trap_words t) };
-
-    fn send<S: Serializer>(&self, alloc: Global, out: &mut S) -> Result<(), S::Error> {
-        match self.to_string(alloc) {
-            Ok(words) => out.str(words.as_str()),
-            Err(_) => Err(out.custom("no memory")),
-        }
-    }
-}
-
-impl ToJson for Stop {
-    ghost json = { λ s. text (stop_words s) };
-
-    fn send<S: Serializer>(&self, alloc: Global, out: &mut S) -> Result<(), S::Error> {
-        match self.to_string(alloc) {
-            Ok(words) => out.str(words.as_str()),
-            Err(_) => Err(out.custom("no memory")),
-        }
-    }
-}
-
-impl ToJson for Outcome {
-    ghost json = { outcome_json };
-
-    fn send<S: Serializer>(&self, alloc: Global, out: &mut S) -> Result<(), S::Error> {
-        match self {
-            Outcome::Done(result) => send_one(alloc, out, "ok", result),
-            Outcome::Trap(trap) => send_two(alloc, out, ("trap", trap), ("number", &trap.number())),
-            Outcome::Stop(stop) => send_two(alloc, out, ("stop", stop), ("number", &stop.number())),
-        }
-    }
-}
+use types::{Outcome, ThreadReport};
 
 /// Sends a thread of a run: its number, how it ended, what it spent, and where it stood, if that is known.
 fn send_thread<S: Serializer>(
@@ -141,21 +94,6 @@ impl ToJson for Outcomes<'_> {
             send_ended(alloc, out, thread, *outcome)?;
         }
         out.end_seq()
-    }
-}
-
-/// Bytes, which are printed as digits of base 16.
-#[derive(Clone, Copy)]
-pub(crate) struct Hex<'a>(pub(crate) &'a [u8]);
-
-impl ToJson for Hex<'_> {
-    ghost json = { λ h. text (encode_lower h.0.now) };
-
-    fn send<S: Serializer>(&self, alloc: Global, out: &mut S) -> Result<(), S::Error> {
-        match hex::encode(alloc, self.0) {
-            Ok(digits) => out.str(digits.as_str()),
-            Err(_) => Err(out.custom("no memory")),
-        }
     }
 }
 

@@ -2,11 +2,11 @@
 ghost use Rattle.std.specs.Prelude.{OnOk};
 ghost use Rattle.report_json.specs.Found as specified;
 ghost use Rattle.report_json.specs.Found.{size_json, shrunk_json, found_json};
-ghost use Rattle.report_json.specs.Sent.{SendsField};
+ghost use Rattle.show_json.specs.Sent.{SendsField};
 
 use crate::ends::RunEndObject;
-use crate::object::{ToJson, given, put, put_if, send_two};
 use serde::Serializer;
+use show_json::{ToJson, given, put, put_if, send_two};
 use std::alloc::Global;
 
 /// As what something was found.

@@ -2,11 +2,10 @@
 ghost use Rattle.std.specs.Prelude.{◌≡◌, OnOk};
 ghost use Rattle.report_json.specs.Raced as specified;
 ghost use Rattle.report_json.specs.Raced.{racing_json, races_fields};
-ghost use Rattle.report_json.specs.Sent.{SendsField, SendsFields, count};
+ghost use Rattle.show_json.specs.Sent.{SendsField, SendsFields, count};
 
-use crate::object::{ToJson, put, send_two};
-use crate::races::RacePair;
 use serde::Serializer;
+use show_json::{RacePair, ToJson, put, send_two};
 use std::alloc::Global;
 
 /// Two threads that race in some run.

@@ -1,16 +1,16 @@
 //! What was refused, and what failed; and an accepted module.
 ghost use Rattle.std.specs.Prelude.{◌≡◌, [], ◌∷◌, codes, OnOk, IfErr};
 ghost use Rattle.replay_forms.specs.Texts.{Wrote};
-ghost use Rattle.report_json.specs.Unwritten.{LeavesAs};
+ghost use Rattle.show_json.specs.Unwritten.{LeavesAs};
 ghost use Rattle.report_json.specs.Refusals as specified;
 ghost use Rattle.report_json.specs.Refusals.{refused_json, refusal_json, failure_json, failed_json};
 ghost use Rattle.report_json.specs.Refusals.{accepted_json};
-ghost use Rattle.report_json.specs.Json.{json_line, object_of, is, number};
-ghost use Rattle.report_json.specs.Sent.{Sends};
+ghost use Rattle.show_json.specs.Json.{json_line, object_of, is, number};
+ghost use Rattle.show_json.specs.Sent.{Sends};
 
-use crate::object::{ToJson, put, put_some, send_one, send_two, some, write_line};
 use binary_wire::Fault;
 use serde::Serializer;
+use show_json::{ToJson, put, put_some, send_one, send_two, some, write_line};
 use show_text::Unwritten;
 use std::alloc::Global;
 use std::io::Write;

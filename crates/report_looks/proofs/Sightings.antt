@@ -10,7 +10,7 @@ use Rattle.spawn_host.specs.declared.end.EndState.{EndState}
 use Rattle.race_history.specs.declared.access.AccessKind.{AccessKind}
 use Rattle.race_history.specs.declared.race.Race.{Race}
 use Rattle.race_history.specs.Races.{AreRaces, IsLastRace}
-use Rattle.report_json.specs.declared.races.RacePair.{RacePair}
+use Rattle.show_json.specs.declared.races.RacePair.{RacePair}
 use Rattle.report_jobs.specs.Prints.{change}
 use Rattle.show_races.specs.Races.{SaysOfRun}
 use Rattle.show_races.specs.Rows.{AreRowsOf, kinds_of}

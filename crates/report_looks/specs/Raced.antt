@@ -22,7 +22,7 @@ use Rattle.show_races.specs.declared.found.RecordRaces.{RecordRaces}
 use Rattle.report_command.specs.declared.form.Form.{Form}
 use Rattle.report_command.specs.declared.form.Form.TheVariants.{Lines, Json}
 use Rattle.report_jobs.specs.Prints.{WriterChange}
-use Rattle.report_json.specs.declared.races.RacePair.{RacePair}
+use Rattle.show_json.specs.declared.races.RacePair.{RacePair}
 use Rattle.report_objects.specs.RaceObjects.{IsPairOf, WritesPairs}
 
 -- The text is that of this record, of a run of the module, and these are its rows.

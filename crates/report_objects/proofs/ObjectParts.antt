@@ -7,7 +7,7 @@ use Rattle.std.proofs.lemmas.List.Concat.{flat_map-cons}
 use Rattle.std.proofs.lemmas.List.Elements.{All-append}
 use Rattle.types.specs.declared.event.Entry.{Entry}
 use Rattle.race_history.specs.declared.race.Race.{Race}
-use Rattle.report_json.specs.declared.moments.LastRow.{LastRow}
+use Rattle.show_json.specs.declared.moments.LastRow.{LastRow}
 use Rattle.show_moments.specs.Scenes.{Seen, others_of}
 use Rattle.show_moments.specs.Texts.{dump_text}
 use Rattle.show_races.specs.Told.{IsWithin}

@@ -6,10 +6,10 @@ use Rattle.std.specs.Io.KnownBytes.{Appends}
 use Rattle.std.proofs.Math.Seq.{take-append_seam, get_or-append_seam}
 use Rattle.std.proofs.lemmas.List.{take_all}
 use Rattle.types.specs.declared.event.Entry.{Entry}
-use Rattle.report_json.specs.declared.rows.NamedRow.{NamedRow}
-use Rattle.report_json.specs.Json.{json_line}
-use Rattle.report_json.specs.Rows.{row_text, rows_back, rows_front, rows_json, rows_text}
-use Rattle.report_json.proofs.RowTexts.{is_nil, rows_done, rows_go_on}
+use Rattle.show_json.specs.declared.rows.NamedRow.{NamedRow}
+use Rattle.show_json.specs.Json.{json_line}
+use Rattle.show_json.specs.Rows.{row_text, rows_back, rows_front, rows_json, rows_text}
+use Rattle.show_json.proofs.RowTexts.{is_nil, rows_done, rows_go_on}
 use Rattle.show_rows.specs.declared.listing.Shown.{Shown}
 use Rattle.show_rows.specs.declared.listing.Story.{Story}
 use Rattle.show_named.specs.Names.{HasData}

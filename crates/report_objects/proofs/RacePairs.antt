@@ -6,9 +6,9 @@ use Rattle.types.specs.declared.event.Entry.{Entry}
 use Rattle.race_history.specs.declared.access.ThreadAccess.{ThreadAccess}
 use Rattle.race_history.specs.declared.access.AccessKind.{AccessKind}
 use Rattle.race_history.specs.declared.race.Race.{Race}
-use Rattle.report_json.specs.declared.races.NextWrite.{NextWrite}
-use Rattle.report_json.specs.declared.races.RaceEntry.{RaceEntry}
-use Rattle.report_json.specs.declared.races.RacePair.{RacePair}
+use Rattle.show_json.specs.declared.races.NextWrite.{NextWrite}
+use Rattle.show_json.specs.declared.races.RaceEntry.{RaceEntry}
+use Rattle.show_json.specs.declared.races.RacePair.{RacePair}
 use Rattle.show_races.specs.Written.{IsNextWrite, access_at}
 use Rattle.show_races.specs.declared.found.RecordRaces.{RecordRaces}
 use Rattle.show_rows.specs.declared.listing.Shown.{Shown}

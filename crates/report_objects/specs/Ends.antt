@@ -11,12 +11,12 @@ use Rattle.types.specs.declared.outcome.ThreadReport.{ThreadReport}
 use Rattle.types.specs.Outcomes.{outcome_text}
 use Rattle.report_command.specs.declared.form.Form.{Form}
 use Rattle.report_command.specs.declared.form.Form.TheVariants.{Lines, Json}
-use Rattle.report_json.specs.Json.{json_line}
-use Rattle.report_json.specs.Moments.{end_json}
-use Rattle.report_json.specs.declared.moments.EndShown.{EndShown}
-use Rattle.report_json.specs.declared.moments.EndedThread.{EndedThread}
-use Rattle.report_json.specs.declared.moments.LastRow.{LastRow}
-use Rattle.report_json.specs.declared.moments.WaitsFor.{WaitsFor}
+use Rattle.show_json.specs.Json.{json_line}
+use Rattle.show_json.specs.Moments.{end_json}
+use Rattle.show_json.specs.declared.moments.EndShown.{EndShown}
+use Rattle.show_json.specs.declared.moments.EndedThread.{EndedThread}
+use Rattle.show_json.specs.declared.moments.LastRow.{LastRow}
+use Rattle.show_json.specs.declared.moments.WaitsFor.{WaitsFor}
 use Rattle.show_moments.specs.Scenes.{IsStanding, Seen, seen_by}
 use Rattle.show_moments.specs.Texts.{dump_text}
 use Rattle.show_moments.specs.declared.moment.Moment.{Moment}

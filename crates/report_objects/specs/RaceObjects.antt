@@ -10,17 +10,17 @@ use Rattle.race_history.specs.declared.access.AccessKind.TheVariants.{Plain, Ato
 use Rattle.race_history.specs.declared.race.Race.{Race}
 use Rattle.interp.specs.declared.place.CodePlace.{CodePlace}
 use Rattle.selection.specs.declared.choice.Look.{Look}
-use Rattle.report_json.specs.Json.{json_line}
-use Rattle.report_json.specs.Rows.{races_json, rows_json, rows_text}
-use Rattle.report_json.specs.declared.places.Offset.{Offset}
-use Rattle.report_json.specs.declared.places.PlaceObject.{PlaceObject}
-use Rattle.report_json.specs.declared.places.SourceObject.{SourceObject}
-use Rattle.report_json.specs.declared.rows.NamedRow.{NamedRow}
-use Rattle.report_json.specs.declared.rows.RowObject.{RowObject}
-use Rattle.report_json.specs.declared.races.NextWrite.{NextWrite}
-use Rattle.report_json.specs.declared.races.RaceEntry.{RaceEntry}
-use Rattle.report_json.specs.declared.races.RacePair.{RacePair}
-use Rattle.report_json.specs.declared.races.RacePairs.{RacePairs}
+use Rattle.show_json.specs.Json.{json_line}
+use Rattle.show_json.specs.Rows.{races_json, rows_json, rows_text}
+use Rattle.show_json.specs.declared.places.Offset.{Offset}
+use Rattle.show_json.specs.declared.places.PlaceObject.{PlaceObject}
+use Rattle.show_json.specs.declared.places.SourceObject.{SourceObject}
+use Rattle.show_json.specs.declared.rows.NamedRow.{NamedRow}
+use Rattle.show_json.specs.declared.rows.RowObject.{RowObject}
+use Rattle.show_json.specs.declared.races.NextWrite.{NextWrite}
+use Rattle.show_json.specs.declared.races.RaceEntry.{RaceEntry}
+use Rattle.show_json.specs.declared.races.RacePair.{RacePair}
+use Rattle.show_json.specs.declared.races.RacePairs.{RacePairs}
 use Rattle.show_races.specs.Written.{IsNextWrite, access_at}
 use Rattle.show_races.specs.declared.found.RecordRaces.{RecordRaces}
 use Rattle.show_named.specs.Names.{HasData}

@@ -6,15 +6,15 @@ use Rattle.race_history.specs.declared.race.Race.{Race}
 use Rattle.selection.specs.declared.choice.NumberSpan.{NumberSpan}
 use Rattle.shared_memory.specs.declared.sleeper.Sleeper.{Sleeper}
 use Rattle.waiters.specs.declared.kept.KeptQueue.{KeptQueue}
-use Rattle.report_json.specs.Json.{json_line}
-use Rattle.report_json.specs.Moments.{moment_json, wrote_json}
-use Rattle.report_json.specs.declared.moments.LastRow.{LastRow}
-use Rattle.report_json.specs.declared.moments.MemoryBytes.{MemoryBytes}
-use Rattle.report_json.specs.declared.moments.MomentShown.{MomentShown}
-use Rattle.report_json.specs.declared.moments.MomentThread.{MomentThread}
-use Rattle.report_json.specs.declared.moments.ThreadState.{ThreadState}
-use Rattle.report_json.specs.declared.moments.ThreadState.TheVariants as states
-use Rattle.report_json.specs.declared.rows.NamedRow.{NamedRow}
+use Rattle.show_json.specs.Json.{json_line}
+use Rattle.show_json.specs.Moments.{moment_json, wrote_json}
+use Rattle.show_json.specs.declared.moments.LastRow.{LastRow}
+use Rattle.show_json.specs.declared.moments.MemoryBytes.{MemoryBytes}
+use Rattle.show_json.specs.declared.moments.MomentShown.{MomentShown}
+use Rattle.show_json.specs.declared.moments.MomentThread.{MomentThread}
+use Rattle.show_json.specs.declared.moments.ThreadState.{ThreadState}
+use Rattle.show_json.specs.declared.moments.ThreadState.TheVariants as states
+use Rattle.show_json.specs.declared.rows.NamedRow.{NamedRow}
 use Rattle.show_moments.specs.Scenes.{IsTold, Seen, seen_by}
 use Rattle.show_moments.specs.declared.moment.Moment.{Moment}
 use Rattle.show_moments.specs.declared.scene.MomentView.{MomentView}

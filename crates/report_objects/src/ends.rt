@@ -10,7 +10,7 @@ ghost use Rattle.report_objects.specs.Ends.{WritesEndIn, WritesEndLines, WritesE
 use crate::objects::named_row;
 use crate::scenes::{last_row, memory_of};
 use report_command::Form;
-use report_json::{EndShown, EndedThread, LastRow, WaitsFor};
+use show_json::{EndShown, EndedThread, LastRow, WaitsFor};
 use show_moments::{Moment, MomentView, Scene, ThreadSnapshot, dump_text};
 use show_rows::Story;
 use show_text::Unwritten;
@@ -196,7 +196,7 @@ fn write_ended<'t, W: Write>(
         cycles,
         memory: memory_of(scene.moment),
     };
-    report_json::write_end(scene.alloc, out, &object)
+    show_json::write_end(scene.alloc, out, &object)
 }
 
 /// The threads, as the object has them.

@@ -3,10 +3,10 @@ ghost use Rattle.std.specs.Prelude.{◌<◌, All, IfOk, OnOk, length};
 ghost use Rattle.report_objects.specs.RaceObjects.{AddsRows, IsNamedRowAt, IsOffset, IsPlaceOf, IsRowOf};
 ghost use Rattle.report_objects.specs.RaceObjects.{IsSource, WritesObject};
 
-use report_json::{
+use selection::Look;
+use show_json::{
     NamedRow, Offset, PlaceObject, RowObject, SourceObject, begin_rows, end_rows, write_row,
 };
-use selection::Look;
 use show_named::DataMap;
 use show_rows::{Shown, Story, chosen_entries};
 use show_spots::Spot;

@@ -8,7 +8,7 @@ ghost use Rattle.report_objects.specs.RaceObjects.{IsEntryOf, IsNextOf, IsPairOf
 
 use crate::objects::row_of;
 use race_history::{AccessKind, Race, ThreadAccess, access_of};
-use report_json::{NextWrite, RaceEntry, RacePair, RacePairs};
+use show_json::{NextWrite, RaceEntry, RacePair, RacePairs};
 use show_races::{RecordRaces, next_atomic_write};
 use show_rows::{Shown, Story};
 use show_text::Unwritten;
@@ -152,5 +152,5 @@ pub fn write_pairs<W: Write>(
         pairs: pairs.as_slice(),
         is_cut: races.is_cut,
     };
-    report_json::write_races(alloc, out, &object)
+    show_json::write_races(alloc, out, &object)
 }

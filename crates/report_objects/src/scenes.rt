@@ -9,12 +9,12 @@ ghost use Rattle.report_objects.specs.Scenes.{WritesLastObject, WritesScene, Wri
 
 use crate::objects::named_row;
 use race_history::Race;
-use report_json::{
+use selection::NumberSpan;
+use shared_memory::Sleeper;
+use show_json::{
     LastRow, MemoryBytes, MomentShown, MomentThread, NamedRow, ThreadState, write_last,
     write_moment,
 };
-use selection::NumberSpan;
-use shared_memory::Sleeper;
 use show_moments::{Moment, MomentView, Scene, Stance, ToldNext, ToldThread};
 use show_named::{DataMap, SoughtWrite};
 use show_rows::{Shown, Story};

@@ -6,7 +6,7 @@ use Rattle.spawn_host.specs.declared.request.CallFault.{CallFault}
 use Rattle.spawn_host.specs.declared.request.CallFault.TheVariants as calls
 use Rattle.report_memory.specs.declared.laying.Unlaid.{Unlaid}
 use Rattle.report_memory.specs.declared.laying.Unlaid.TheVariants as unlaids
-use Rattle.report_json.specs.Json.{Json, are_some, is, json_line, number, object_of, text}
+use Rattle.show_json.specs.Json.{Json, are_some, is, json_line, number, object_of, text}
 use Rattle.report_json.specs.Refusals.{failed_json, fault, refused_json, stage}
 use Rattle.report_json.specs.declared.refusals.RefusedObject.TheVariants as objects
 use Rattle.report_json.specs.declared.refusals.Failure.TheVariants as failures

@@ -1,4 +1,5 @@
-//! The modules of one atomic add, from their bytes to printed lines.
+//! A module of one atomic add, from its bytes to printed lines. What is printed of each of the 4,096 is a clause of the
+//! call.
 
 use report_first::{FirstFault, first};
 use std::alloc::Global;
@@ -29,48 +30,9 @@ fn gives<R: Threads + Wait + Sync>(
     first(rt, alloc, bytes, dump, &mut out) == answer && out.as_slice() == wrote.as_bytes()
 }
 
-static ADDED: &str = "thread 0: ok i32:0\npages 1\n";
-
-static TRAPPED: &str = "thread 0: trap unaligned atomic\npages 1\n";
-
-#[test]
-fn runs_each_of_the_4096_modules(rt: HostRuntime) -> Result<(), Fail> {
-    for address in 0..64 {
-        let (status, lines) = if address % 4 == 0 {
-            (0, ADDED)
-        } else {
-            (1, TRAPPED)
-        };
-        for addend in 0..64 {
-            let bytes = adding(address, addend);
-            assert!(rt;
-                gives(&rt, rt.alloc(), &bytes, 0, Ok(status), lines),
-                "{address} {addend}"
-            );
-        }
-    }
-    Ok(())
-}
-
 #[test]
 fn prints_the_bytes(rt: HostRuntime) -> Result<(), Fail> {
     let lines = "thread 0: ok i32:0\npages 1\nbytes 00 00 00 00 3f 00 00 00\n";
     assert!(rt; gives(&rt, rt.alloc(), &adding(4, 63), 8, Ok(0), lines));
-    Ok(())
-}
-
-#[test]
-fn other_bytes_are_not_here(rt: HostRuntime) -> Result<(), Fail> {
-    let not_here = Err(FirstFault::NotHere);
-    let module = adding(60, 63);
-    for at in 0..46 {
-        let mut bytes = module;
-        bytes[at] ^= 0x40;
-        assert!(rt; gives(&rt, rt.alloc(), &bytes, 8, not_here, ""), "{at}");
-        assert!(rt;
-            gives(&rt, rt.alloc(), &module[..at], 8, not_here, ""),
-            "{at}"
-        );
-    }
     Ok(())
 }

@@ -1,13 +1,11 @@
-//! What cases can't say of the program's jobs, of files and streams, and of schedules. Each front of a module is
-//! tried, and command lines as values, the modules of one atomic add, and writers that fail; files of which a front is
-//! read, records that take the place of a file once all of them is there, streams that nobody reads, and buffers of
-//! which not all gets out; what a record holds. `cases` has command lines and what they print.
+//! What cases can't say of the program's jobs, of files and streams, and of schedules. A module of one atomic add by
+//! its own call, and writers that fail; files of which a front is read, records that take the place of a file once all
+//! of them is there, streams that nobody reads, and buffers of which not all gets out. `cases` has command lines and
+//! what they print.
 //!
 //! The scheduled machine is stepped along the schedules of real runs.
 #![tactic(auto)]
 
-#[cfg(test)]
-mod checks;
 #[cfg(test)]
 mod first;
 #[cfg(test)]

@@ -2,7 +2,7 @@
 
 use crate::frames::Frames;
 use crate::site::Site;
-use report_json::{Offset, PlaceObject, SourceObject};
+use show_json::{Offset, PlaceObject, SourceObject};
 use show_rows::CodeMap;
 use show_spots::Spot;
 use std::alloc::{AllocError, Global};

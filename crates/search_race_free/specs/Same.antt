@@ -52,7 +52,7 @@ owning_eq_back eq_shared eq_thread shared thread x y e =
     let xs = x.owned.items in
     let ys = y.owned.items in
     let a = flat_eq_back eq_shared eq_thread shared thread x.flat y.flat
-        (first_so (flat_eq eq_shared eq_thread x.flat y.flat) (pointwise touches.eq-value.it xs ys) e) in
+    (first_so (flat_eq eq_shared eq_thread x.flat y.flat) (pointwise touches.eq-value.it xs ys) e) in
     let b = second_so (flat_eq eq_shared eq_thread x.flat y.flat) (pointwise touches.eq-value.it xs ys) e in
     let same = same_touches xs ys b in
     ap (λ t. t && pointwise touches.eq-value.it ys xs) a

@@ -1,14 +1,12 @@
-//! Runs of the memories, alone and through their trait. What the sequential one answers, the recorder's log replayed
-//! on it, and threads that change the same word of a row, by exchanges and by single steps. The laws of histories are
-//! called here too.
+//! Runs of the memories through their trait: one seat beside the sequential memory, the recorder's log replayed on it,
+//! and threads that change the same word of a row, by exchanges and by single steps. The laws of histories are called
+//! here too. `cases` has each operator on edge values.
 #![tactic(auto)]
 
 #[cfg(test)]
 mod adding;
 #[cfg(test)]
 mod beside;
-#[cfg(test)]
-mod lanes;
 #[cfg(test)]
 mod laws;
 #[cfg(test)]

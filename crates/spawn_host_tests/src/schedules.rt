@@ -8,29 +8,27 @@ use std::process::Abort;
 use std::sync::Wait;
 use std::test::Fail;
 use std::thread::Threads;
-use test_modules::{COUNTING, Module, SLEEPERS, SPAWNING_ALL, TABLE, TELLING, TREE};
+use test_modules::{COUNTING, SLEEPERS, SPAWNING_ALL, TABLE, TELLING, TREE};
 use types::{Outcome, Stop, Trap, Value};
 
 /// A module, what its threads wait for, and how they end over each of these memories.
 #[derive(Clone, Copy)]
-pub(crate) struct Scheduled {
-    pub(crate) name: &'static str,
-    pub(crate) module: Module,
-    pub(crate) args: &'static [Value],
-    pub(crate) fuel: u64,
-    pub(crate) memories: &'static [Memory],
-    pub(crate) holds: &'static [Hold],
-    pub(crate) ends: &'static [Ended],
+struct Scheduled {
+    name: &'static str,
+    module: &'static [u8],
+    args: &'static [Value],
+    memories: &'static [Memory],
+    holds: &'static [Hold],
+    ends: &'static [Ended],
     /// The first bytes of the memory at the end.
-    pub(crate) bytes: &'static [u8],
+    bytes: &'static [u8],
 }
 
-/// Over both memories, without a gate.
-pub(crate) const FREE: Scheduled = Scheduled {
+/// Over both memories, without a hold.
+const FREE: Scheduled = Scheduled {
     name: "",
-    module: Module::Bytes(b""),
+    module: b"",
     args: &[],
-    fuel: FUEL,
     memories: &BOTH,
     holds: &[],
     ends: &[],
@@ -44,25 +42,21 @@ fn is_right<R: Threads + Wait + Sync>(
     row: &Scheduled,
     memory: Memory,
 ) -> Result<bool, Trouble> {
-    let module = row.module.bytes(alloc)?;
     let gate = Holding::new(alloc, row.holds)?;
-    let end = run(rt, alloc, &module, row.args, row.fuel, memory, &gate)?;
+    let end = run(rt, alloc, row.module, row.args, FUEL, memory, &gate)?;
     Ok(gate.was_kept() && has_ends(&end, row.ends) && end.bytes.starts_with(row.bytes))
 }
 
-/// Makes each of the runs, so often over each of its memories.
-pub(crate) fn check_all<R: Threads + Wait + Abort + Sync>(
+/// Makes each of the runs, over each of its memories.
+fn check_all<R: Threads + Wait + Abort + Sync>(
     rt: &R,
     alloc: Global,
     rows: &[Scheduled],
-    times: u32,
 ) -> Result<(), Trouble> {
     for row in rows {
         for memory in row.memories {
-            for _ in 0..times {
-                let name = row.name;
-                assert!(rt; is_right(rt, alloc, row, *memory)?, "{name}: {memory:?}");
-            }
+            let name = row.name;
+            assert!(rt; is_right(rt, alloc, row, *memory)?, "{name}: {memory:?}");
         }
     }
     Ok(())
@@ -74,20 +68,6 @@ const GROWN: [Ended; 16] = [
     (Outcome::Done(Some(Value::I32(7))), None),
     END, END, END, END, END, END, END, END, END, END, END, END, END, END, END,
 ];
-
-static TREES: [Scheduled; 1] = [Scheduled {
-    name: "a tree of threads",
-    module: Module::Bytes(TREE),
-    ends: &GROWN,
-    bytes: b"\xfe\xff\x00\x00",
-    ..FREE
-}];
-
-#[test]
-fn grows_a_tree_of_threads(rt: HostRuntime) -> Result<(), Fail> {
-    check_all(&rt, rt.alloc(), &TREES, 100)?;
-    Ok(())
-}
 
 /// Thread 0 goes on only when the fifteenth thread comes, which another one spawned.
 #[rattlefmt::skip]
@@ -117,7 +97,7 @@ const SPAWNED_THROUGH_TABLE: [Ended; 2] = [
 static SPAWNS: [Scheduled; 3] = [
     Scheduled {
         name: "a tree behind a gate",
-        module: Module::Bytes(TREE),
+        module: TREE,
         holds: &LAST_OF_TREE,
         ends: &GROWN,
         bytes: b"\xfe\xff\x00\x00",
@@ -125,7 +105,7 @@ static SPAWNS: [Scheduled; 3] = [
     },
     Scheduled {
         name: "through a table, stored first",
-        module: Module::Bytes(TABLE),
+        module: TABLE,
         holds: &STORED_FIRST,
         ends: &SPAWNED_THROUGH_TABLE,
         bytes: b"\x05\x00\x00\x00",
@@ -133,7 +113,7 @@ static SPAWNS: [Scheduled; 3] = [
     },
     Scheduled {
         name: "through a table, stored last",
-        module: Module::Bytes(TABLE),
+        module: TABLE,
         holds: &STORED_LAST,
         ends: &SPAWNED_THROUGH_TABLE,
         bytes: b"\x05\x00\x00\x00",
@@ -143,7 +123,7 @@ static SPAWNS: [Scheduled; 3] = [
 
 #[test]
 fn spawns_behind_gates(rt: HostRuntime) -> Result<(), Fail> {
-    check_all(&rt, rt.alloc(), &SPAWNS, 1)?;
+    check_all(&rt, rt.alloc(), &SPAWNS)?;
     Ok(())
 }
 
@@ -179,23 +159,17 @@ const ASLEEP_LAST: [Hold; 6] = [
     Hold { thread: 3, from: 0, sign: Sign { thread: 4, spent: 6, turns: 1 } },
 ];
 
-static SLEEPS: [Scheduled; 3] = [
-    Scheduled {
-        name: "asleep on any schedule",
-        module: Module::Bytes(SLEEPERS),
-        ends: &SLEPT,
-        ..FREE
-    },
+static SLEEPS: [Scheduled; 2] = [
     Scheduled {
         name: "asleep first",
-        module: Module::Bytes(SLEEPERS),
+        module: SLEEPERS,
         holds: &ASLEEP_FIRST,
         ends: &SLEPT,
         ..FREE
     },
     Scheduled {
         name: "asleep last",
-        module: Module::Bytes(SLEEPERS),
+        module: SLEEPERS,
         holds: &ASLEEP_LAST,
         ends: &SLEPT,
         ..FREE
@@ -204,7 +178,7 @@ static SLEEPS: [Scheduled; 3] = [
 
 #[test]
 fn traps_while_others_sleep(rt: HostRuntime) -> Result<(), Fail> {
-    check_all(&rt, rt.alloc(), &SLEEPS, 1)?;
+    check_all(&rt, rt.alloc(), &SLEEPS)?;
     Ok(())
 }
 
@@ -220,32 +194,10 @@ const TOLD_FIRST: [Hold; 1] = [
     Hold { thread: 1, from: 0, sign: Sign { thread: 0, spent: 6, turns: 1 } },
 ];
 
-static FULL_LOGS: [Scheduled; 6] = [
-    Scheduled {
-        name: "a log of one entry",
-        module: Module::Bytes(TELLING),
-        args: &[Value::I32(u32::MAX)],
-        memories: &[Memory::Locked { limit: 1 }],
-        ends: &[
-            (Outcome::Stop(Stop::RecordFull), Some(5)),
-            (Outcome::Stop(Stop::RecordFull), Some(4)),
-        ],
-        ..FREE
-    },
-    Scheduled {
-        name: "a log of two",
-        module: Module::Bytes(TELLING),
-        args: &[Value::I32(u32::MAX)],
-        memories: &[Memory::Locked { limit: 2 }],
-        ends: &[
-            (Outcome::Stop(Stop::RecordFull), Some(5)),
-            (Outcome::Stop(Stop::RecordFull), Some(4)),
-        ],
-        ..FREE
-    },
+static FULL_LOGS: [Scheduled; 4] = [
     Scheduled {
         name: "a log of three, asleep for good",
-        module: Module::Bytes(TELLING),
+        module: TELLING,
         args: &[Value::I32(u32::MAX)],
         memories: &[Memory::Locked { limit: 3 }],
         holds: &TOLD_LAST,
@@ -257,7 +209,7 @@ static FULL_LOGS: [Scheduled; 6] = [
     },
     Scheduled {
         name: "a log of three, and a timeout",
-        module: Module::Bytes(TELLING),
+        module: TELLING,
         args: &[Value::I32(5)],
         memories: &[Memory::Locked { limit: 3 }],
         holds: &TOLD_LAST,
@@ -269,7 +221,7 @@ static FULL_LOGS: [Scheduled; 6] = [
     },
     Scheduled {
         name: "a log of three, told first",
-        module: Module::Bytes(TELLING),
+        module: TELLING,
         args: &[Value::I32(u32::MAX)],
         memories: &[Memory::Locked { limit: 3 }],
         holds: &TOLD_FIRST,
@@ -281,7 +233,7 @@ static FULL_LOGS: [Scheduled; 6] = [
     },
     Scheduled {
         name: "a log of four",
-        module: Module::Bytes(TELLING),
+        module: TELLING,
         args: &[Value::I32(u32::MAX)],
         memories: &[Memory::Locked { limit: 4 }],
         holds: &TOLD_LAST,
@@ -296,7 +248,7 @@ static FULL_LOGS: [Scheduled; 6] = [
 /// Two entries are the spawn and its answer, so a log of three is full behind the next question.
 #[test]
 fn a_full_log_meets_a_wait(rt: HostRuntime) -> Result<(), Fail> {
-    check_all(&rt, rt.alloc(), &FULL_LOGS, 1)?;
+    check_all(&rt, rt.alloc(), &FULL_LOGS)?;
     Ok(())
 }
 
@@ -385,28 +337,19 @@ const ARGUMENTS: &[u8] = b"\
 \x10\x0f\x0e\x0d\x0c\x0b\x0a\x09\x08\x07\x06\x05\x04\x03\x02\x01\
 \x00";
 
-static REFUSED: [Scheduled; 2] = [
-    Scheduled {
-        name: "a 64th spawn",
-        module: Module::Bytes(SPAWNING_ALL),
-        ends: &REFUSED_ONE,
-        bytes: ARGUMENTS,
-        ..FREE
-    },
-    Scheduled {
-        name: "a 64th spawn behind all ends",
-        module: Module::Bytes(SPAWNING_ALL),
-        holds: &LAST_FIRST,
-        ends: &REFUSED_ONE,
-        bytes: ARGUMENTS,
-        ..FREE
-    },
-];
+static REFUSED: [Scheduled; 1] = [Scheduled {
+    name: "a 64th spawn behind all ends",
+    module: SPAWNING_ALL,
+    holds: &LAST_FIRST,
+    ends: &REFUSED_ONE,
+    bytes: ARGUMENTS,
+    ..FREE
+}];
 
-/// The last spawn is refused, also where all 63 have come to their ends before.
+/// The last spawn is refused also where all 63 have come to their ends before.
 #[test]
 fn refuses_a_64th_spawn(rt: HostRuntime) -> Result<(), Fail> {
-    check_all(&rt, rt.alloc(), &REFUSED, 1)?;
+    check_all(&rt, rt.alloc(), &REFUSED)?;
     Ok(())
 }
 
@@ -466,10 +409,10 @@ const BEHIND_ALL: [Hold; 4] = [
     Hold { thread: 0, from: 12, sign: Sign { thread: 4, spent: LAST, turns: 1 } },
 ];
 
-static COUNTS: [Scheduled; 5] = [
+static COUNTS: [Scheduled; 4] = [
     Scheduled {
         name: "in order",
-        module: Module::Bytes(COUNTING),
+        module: COUNTING,
         holds: &IN_ORDER,
         ends: &COUNTED,
         bytes: b"\xa0\x00\x00\x00\x00\x00\x00\x00\x04\x00\x00\x00",
@@ -477,22 +420,15 @@ static COUNTS: [Scheduled; 5] = [
     },
     Scheduled {
         name: "from the last",
-        module: Module::Bytes(COUNTING),
+        module: COUNTING,
         holds: &FROM_THE_LAST,
         ends: &COUNTED,
         bytes: b"\xa0\x00\x00\x00\x00\x00\x00\x00\x04\x00\x00\x00",
         ..FREE
     },
     Scheduled {
-        name: "at once",
-        module: Module::Bytes(COUNTING),
-        ends: &COUNTED_AT_ONCE,
-        bytes: b"\xa0\x00\x00\x00\x00\x00\x00\x00\x04\x00\x00\x00",
-        ..FREE
-    },
-    Scheduled {
         name: "asleep first",
-        module: Module::Bytes(COUNTING),
+        module: COUNTING,
         holds: &SLEEPING,
         ends: &COUNTED_AT_ONCE,
         bytes: b"\xa0\x00\x00\x00\x00\x00\x00\x00\x04\x00\x00\x00",
@@ -500,7 +436,7 @@ static COUNTS: [Scheduled; 5] = [
     },
     Scheduled {
         name: "behind all",
-        module: Module::Bytes(COUNTING),
+        module: COUNTING,
         holds: &BEHIND_ALL,
         ends: &COUNTED_AT_ONCE,
         bytes: b"\xa0\x00\x00\x00\x00\x00\x00\x00\x04\x00\x00\x00",
@@ -510,6 +446,6 @@ static COUNTS: [Scheduled; 5] = [
 
 #[test]
 fn counts(rt: HostRuntime) -> Result<(), Fail> {
-    check_all(&rt, rt.alloc(), &COUNTS, 1)?;
+    check_all(&rt, rt.alloc(), &COUNTS)?;
     Ok(())
 }

@@ -14,7 +14,7 @@ pub struct Small<'a> {
 }
 
 /// The bytes that each module begins with.
-pub const HEADER: &[u8] = b"\x00\x61\x73\x6d\x01\x00\x00\x00";
+const HEADER: &[u8] = b"\x00\x61\x73\x6d\x01\x00\x00\x00";
 
 /// One shared page: `(memory 1 1 shared)`.
 pub const SHARED: &[u8] = b"\x05\x04\x01\x03\x01\x01";
@@ -27,7 +27,7 @@ pub const I32: &[u8] = b"\x7f";
 pub const I64: &[u8] = b"\x7e";
 
 /// A function that gives an i32; one shared page.
-pub const GIVING_I32: Small<'static> = Small {
+const GIVING_I32: Small<'static> = Small {
     output: I32,
     memory: SHARED,
     body: b"",
@@ -40,7 +40,7 @@ pub const GIVING_NOTHING: Small<'static> = Small {
 };
 
 /// Puts the pieces behind the bytes, one after the other.
-pub(crate) fn push_all(bytes: &mut Vec<u8>, pieces: &[&[u8]]) -> Result<(), AllocError> {
+fn push_all(bytes: &mut Vec<u8>, pieces: &[&[u8]]) -> Result<(), AllocError> {
     for piece in pieces {
         bytes.extend_from_slice(piece)?;
     }
@@ -84,16 +84,6 @@ impl Small<'_> {
 /// ```
 pub const ADDING: Small<'static> = Small {
     body: b"\x41\x00\x41\x05\xfe\x1e\x02\x00",
-    ..GIVING_I32
-};
-
-/// Takes 5 from the i32 at 0, and gives what was there.
-///
-/// ```wat
-/// (i32.atomic.rmw.sub (i32.const 0) (i32.const 5))
-/// ```
-pub const TAKING: Small<'static> = Small {
-    body: b"\x41\x00\x41\x05\xfe\x25\x02\x00",
     ..GIVING_I32
 };
 
@@ -160,18 +150,6 @@ pub const WAITING_FOR_GOOD: Small<'static> = Small {
     ..GIVING_I32
 };
 
-/// Adds 5 to the i32 at 0, and goes round in a loop for good.
-///
-/// ```wat
-/// (drop (i32.atomic.rmw.add (i32.const 0) (i32.const 5)))
-/// (loop $round
-///   br $round)
-/// ```
-pub const SPINNING: Small<'static> = Small {
-    body: b"\x41\x00\x41\x05\xfe\x1e\x02\x00\x1a\x03\x40\x0c\x00\x0b",
-    ..GIVING_NOTHING
-};
-
 /// Adds 1 to the i32 at 0 in each round of a loop that doesn't end: five units a round.
 ///
 /// ```wat
@@ -183,59 +161,3 @@ pub const ENDLESS: Small<'static> = Small {
     body: b"\x03\x40\x41\x00\x41\x01\xfe\x1e\x02\x00\x1a\x0c\x00\x0b",
     ..GIVING_NOTHING
 };
-
-/// A function of 66 locals of type i64 that calls itself: 992 frames of it hold 65,472 values.
-///
-/// ```wat
-/// (module
-///   (memory 1 1 shared)
-///   (func $f (export "f")
-///     ;; 66 locals
-///     call $f))
-/// ```
-pub const FILLING: &[u8] = b"\
-\x00\x61\x73\x6d\x01\x00\x00\x00\
-\x01\x04\x01\x60\x00\x00\
-\x03\x02\x01\x00\
-\x05\x04\x01\x03\x01\x01\
-\x07\x05\x01\x01\x66\x00\x00\
-\x0a\x08\x01\x06\x01\x42\x7f\x10\x00\x0b";
-
-/// What stands before 255 empty blocks in one another.
-pub const DEEPEST: &[u8] = b"\
-\x00\x61\x73\x6d\x01\x00\x00\x00\
-\x01\x04\x01\x60\x00\x00\
-\x03\x02\x01\x00\
-\x05\x04\x01\x03\x01\x01\
-\x07\x05\x01\x01\x66\x00\x00\
-\x0a\x82\x06\x01\xff\x05\x00";
-
-/// What stands before 256 of them.
-pub const TOO_DEEP: &[u8] = b"\
-\x00\x61\x73\x6d\x01\x00\x00\x00\
-\x01\x04\x01\x60\x00\x00\
-\x03\x02\x01\x00\
-\x05\x04\x01\x03\x01\x01\
-\x07\x05\x01\x01\x66\x00\x00\
-\x0a\x85\x06\x01\x82\x06\x00";
-
-/// Counts an argument n above 0 down to 0, in 5 n + 5 units.
-///
-/// ```wat
-/// (module
-///   (func (export "f") (param $n i32)
-///     nop
-///     nop
-///     (loop $next
-///       local.get $n
-///       i32.const 1
-///       i32.sub
-///       local.tee $n
-///       br_if $next)))
-/// ```
-pub const COUNTDOWN: &[u8] = b"\
-\x00\x61\x73\x6d\x01\x00\x00\x00\
-\x01\x05\x01\x60\x01\x7f\x00\
-\x03\x02\x01\x00\
-\x07\x05\x01\x01\x66\x00\x00\
-\x0a\x12\x01\x10\x00\x01\x01\x03\x40\x20\x00\x41\x01\x6b\x22\x00\x0d\x00\x0b\x0b";

@@ -1,81 +1,11 @@
-//! Numbers and places of faults, tables of branches, and offsets.
+//! Tables of branches, and offsets.
 
 use crate::equal::equal;
 use std::alloc::{AllocError, Global as Alloc};
-use std::process::Abort;
 use std::test::Fail;
 use types::{Instr, PlainInstr, Value};
 use validate_module_rules::offset;
-use validate_typing::{
-    BodyPlace, Fault, Table, Target, ValidFault, expression_stands_for_one_nesting,
-};
-
-/// The kinds by their numbers.
-static NUMBERS: [(Fault, u8); 20] = [
-    (Fault::TypeMismatch, 1),
-    (Fault::UnknownLabel, 2),
-    (Fault::UnknownLocal, 3),
-    (Fault::UnknownGlobal, 4),
-    (Fault::UnknownFunction, 5),
-    (Fault::UnknownType, 6),
-    (Fault::UnknownTable, 7),
-    (Fault::UnknownMemory, 8),
-    (Fault::ConstantGlobal, 9),
-    (Fault::Alignment, 10),
-    (Fault::Limits, 11),
-    (Fault::DuplicateExport, 12),
-    (Fault::MoreThanOne, 13),
-    (Fault::NotConstant, 14),
-    (Fault::UnknownImport, 15),
-    (Fault::SharedWithoutMaximum, 16),
-    (Fault::StartSection, 17),
-    (Fault::ThreadEntry, 18),
-    (Fault::SegmentOutside, 19),
-    (Fault::OutOfMemory, 20),
-];
-
-fn check_numbers<R: Abort>(rt: &R, cases: &[(Fault, u8)]) {
-    for (kind, number) in cases {
-        equal(rt, *number, &kind.number(), number);
-    }
-}
-
-#[test]
-fn numbers_the_kinds(rt: HostRuntime) -> Result<(), Fail> {
-    check_numbers(&rt, &NUMBERS);
-    Ok(())
-}
-
-const IN_BODY: ValidFault = ValidFault::InBody {
-    kind: Fault::Alignment,
-    function: 3,
-    instruction: 9,
-};
-
-const PLACE: BodyPlace = BodyPlace {
-    function: 3,
-    instruction: 9,
-};
-
-/// Faults with their kinds and places.
-static PLACES: [(ValidFault, Fault, Option<BodyPlace>); 3] = [
-    (ValidFault::OutOfMemory, Fault::OutOfMemory, None),
-    (ValidFault::Outside(Fault::Limits), Fault::Limits, None),
-    (IN_BODY, Fault::Alignment, Some(PLACE)),
-];
-
-fn check_places<R: Abort>(rt: &R, cases: &[(ValidFault, Fault, Option<BodyPlace>)]) {
-    for (fault, kind, place) in cases {
-        let found = (fault.kind(), fault.place());
-        equal(rt, kind.number(), &found, &(*kind, *place));
-    }
-}
-
-#[test]
-fn tells_kinds_and_places(rt: HostRuntime) -> Result<(), Fail> {
-    check_places(&rt, &PLACES);
-    Ok(())
-}
+use validate_typing::{Table, Target, expression_stands_for_one_nesting};
 
 fn target(to: u32) -> Target {
     Target {

@@ -1,4 +1,2 @@
 pub mod Dealing
 pub mod Beginning
-pub mod Beside
-pub mod Seats

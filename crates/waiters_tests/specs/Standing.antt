@@ -1,7 +1,7 @@
--- How a thread stands by the list that its seat has seen, or by a wait queue.
-use Rattle.std.specs.Prelude.{ℕ, ◌≡◌, false, List, [], None}
+-- How a thread stands by the list that its seat has seen.
+use Rattle.std.specs.Prelude.{ℕ, ◌≡◌, List, []}
 use Rattle.types.specs.declared.event.Entry.{Entry}
-use Rattle.shared_memory.specs.WaitQueue.{WaitQueue, is_asleep, answer_due, IsFree}
+use Rattle.shared_memory.specs.WaitQueue.{IsFree}
 use Rattle.shared_memory.specs.History.{entries_of, queue_after}
 use Rattle.waiters_desk.specs.Calls.{IsWaiting}
 
@@ -16,8 +16,3 @@ StandsWaiting n seen = IsWaiting (queue_after seen) n
 -- It has entered nothing.
 abbrev pub StandsNew : ℕ → List Entry → Type 0
 StandsNew n seen = entries_of n seen ≡ []
-
--- It has no open question.
-pub record HasNoneOpen (q : WaitQueue) (n : ℕ) : Type 0 where
-  pub awake : is_asleep q n ≡ false
-  pub told : answer_due q n ≡ None

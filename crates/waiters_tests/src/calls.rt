@@ -28,27 +28,6 @@ pub fn sleeps<M: SharedMemory, W: Wait + Drop>(
     }
 }
 
-/// What a thread that doesn't fall asleep at a word of 4 bytes gets, where it waits for a value.
-pub fn asks<M: SharedMemory, W: Wait + Drop>(
-    desk: &Desk<M, W>,
-    memory: &M,
-    seat: &mut M::Seat,
-    addr: u64,
-    expected: u32,
-) -> Option<Asked>
-    requires address { addr % 4 ≡ 0 }
-    requires free { StandsFree (M.name seat.old) (M.seen seat.old) }
-    ensures name { M.name seat.new ≡ M.name seat.old }
-    ensures free { OnSome result (StandsFree (M.name seat.new) (M.seen seat.new)) }
-{
-    match desk.wait(memory, seat, addr, 4, u64::from(expected), 0) {
-        Ok(Asked::Asleep) => None,
-        Ok(Asked::Told(number)) => Some(Asked::Told(number)),
-        Ok(Asked::OutOfBounds) => Some(Asked::OutOfBounds),
-        Err(Full) => None,
-    }
-}
-
 /// A notify; the thread goes on.
 pub fn notifies<M: SharedMemory, W: Wait + Drop>(
     desk: &Desk<M, W>,

@@ -1,6 +1,5 @@
-//! Scripts that drive a queue and a desk, with threads. Over a recorder: a script on one thread, a full log, all ids,
-//! and two threads at once; questions and answers of a recorder beside the sequential memory; and the dealing of a
-//! recorder's seats, which the measurements share.
+//! Threads that are blocked at a desk, over a recorder; the laws of the desk; and the dealing of a recorder's seats, which
+//! the measurements share. `cases` has runs that wait and notify.
 #![tactic(auto)]
 
 #[cfg(test)]
@@ -10,10 +9,6 @@ mod calls;
 mod dealt;
 #[cfg(test)]
 mod laws;
-#[cfg(test)]
-mod questions;
-#[cfg(test)]
-mod queue;
 #[cfg(test)]
 mod script;
 #[cfg(test)]

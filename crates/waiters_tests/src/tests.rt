@@ -4,7 +4,7 @@ ghost use Rattle.waiters_tests.specs.Standing.{StandsFree, StandsNew};
 
 use crate::blocked::{Told, begin_beside, sleep_beside, wake_in_turn};
 use crate::dealt::{Dealt, deal};
-use crate::script::{Script, ThreadSeats, play, play_short, spawn_all, wait_alone};
+use crate::script::ThreadSeats;
 use crate::together::{Together, notify_beside};
 use locked_recorder::{Finished, LockedRecorder, Naming, Prepared};
 use shared_memory::SharedMemory;
@@ -15,8 +15,8 @@ use std::test::Fail;
 use std::thread::Threads;
 use std::time::Clock;
 use test_cases::hold;
-use types::{Answer, Event, MOST_SPAWNED, MOST_THREADS, PAGE_SIZE, Question};
-use waiters_desk::{Asked, Desk, Full, Notified};
+use types::{Answer, PAGE_SIZE};
+use waiters_desk::{Desk, Full, Notified};
 
 /// A page of zeros.
 const PAGE: [u8; PAGE_SIZE] = [0; PAGE_SIZE];
@@ -24,10 +24,6 @@ const PAGE: [u8; PAGE_SIZE] = [0; PAGE_SIZE];
 /// What is tried at a desk.
 #[derive(Clone, Copy)]
 enum Trial {
-    Script,
-    ShortLog,
-    Alone,
-    AllIds,
     Together,
     InTurn,
     Asleep,
@@ -38,10 +34,6 @@ enum Trial {
 /// What was heard there.
 #[derive(Clone, Copy, PartialEq)]
 enum Heard {
-    Script(Option<Script>),
-    ShortLog(Option<(Result<Notified, Full>, [Answer; 2])>),
-    Alone(Option<Answer>),
-    AllIds([Result<u32, Full>; MOST_THREADS]),
     Together(Option<Together>),
     InTurn(Option<(Result<Notified, Full>, [Told; 3])>),
     Asleep(Option<(Answer, Option<Answer>)>),
@@ -72,10 +64,6 @@ where
         three,
     } = seats;
     match trial {
-        Trial::Script => Heard::Script(play(desk, memory, zero, one, two, three)),
-        Trial::ShortLog => Heard::ShortLog(play_short(desk, memory, zero, one, two)),
-        Trial::Alone => Heard::Alone(wait_alone(desk, memory, zero)),
-        Trial::AllIds => Heard::AllIds(spawn_all(desk, memory, zero)),
         Trial::Together => Heard::Together(notify_beside(rt, desk, memory, zero, one)),
         Trial::InTurn => Heard::InTurn(wake_in_turn(rt, desk, memory, zero, one, two, three)),
         Trial::Asleep => Heard::Asleep(sleep_beside(rt, desk, memory, zero, one)),
@@ -150,70 +138,6 @@ fn hears<R: Threads + Wait + Clock + Sync>(
         ("what was heard", heard == wanted),
         ("the log's length", end.log.len() == entries),
     ])
-}
-
-#[test]
-fn the_script_answers_step_by_step(rt: HostRuntime) -> Result<(), Fail> {
-    let woken = Answer::Number(0);
-    let timed_out = Answer::Number(2);
-    let script = Script {
-        spawned: [1, 2, 7, 9],
-        woke: [Notified::Woke(1), Notified::Woke(1), Notified::Woke(0)],
-        told: [woken, woken],
-        at_once: [Asked::Told(1), Asked::Told(2), Asked::OutOfBounds],
-        ended: [timed_out, timed_out],
-        never: None,
-    };
-    hears(
-        &rt,
-        rt.alloc(),
-        1000,
-        Trial::Script,
-        Heard::Script(Some(script)),
-        29,
-    )
-}
-
-/// The entry that the notify would have had is the end of thread 0.
-fn leaves_seventh(end: &Finished) -> bool {
-    let seventh = end.log.get(6).map(|entry| (entry.thread, entry.event));
-    seventh == Some((0, Event::Ask(Question::Leave)))
-}
-
-#[test]
-fn a_full_log_wakes_nobody(rt: HostRuntime) -> Result<(), Fail> {
-    let (heard, end) = try_at(&rt, rt.alloc(), 6, Trial::ShortLog)?;
-    let for_good = [Answer::ForGood, Answer::ForGood];
-    hold(&[
-        (
-            "what was heard",
-            heard == Heard::ShortLog(Some((Err(Full), for_good))),
-        ),
-        ("the log's length", end.log.len() == 10),
-        ("the seventh entry", leaves_seventh(&end)),
-    ])
-}
-
-#[test]
-fn who_waits_alone_sleeps_for_good(rt: HostRuntime) -> Result<(), Fail> {
-    let for_good = Heard::Alone(Some(Answer::ForGood));
-    hears(&rt, rt.alloc(), 1000, Trial::Alone, for_good, 2)
-}
-
-#[test]
-fn the_sixty_fourth_spawn_is_refused(rt: HostRuntime) -> Result<(), Fail> {
-    let mut ids = [Ok(u32::MAX); MOST_THREADS];
-    for i in 0..MOST_SPAWNED as u32 {
-        ids[i as usize] = Ok(i + 1);
-    }
-    hears(
-        &rt,
-        rt.alloc(),
-        1000,
-        Trial::AllIds,
-        Heard::AllIds(ids),
-        128,
-    )
 }
 
 #[test]

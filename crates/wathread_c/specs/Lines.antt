@@ -1,6 +1,6 @@
 -- The lines of JSON that calls answer, with the status of each.
 use Rattle.std.specs.Prelude.{ℕ, ◌≡◌, ◌↔◌, ◌≤◌, List, [], None}
-use Rattle.report_json.specs.Json.{json_line}
+use Rattle.show_json.specs.Json.{json_line}
 use Rattle.report_json.specs.Complete.{complete_json}
 use Rattle.report_json.specs.Ends.{run_json}
 use Rattle.report_json.specs.Refusals.{accepted_json, refusal_json, status_of_refused}

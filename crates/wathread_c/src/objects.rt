@@ -3,7 +3,7 @@ ghost use Rattle.std.specs.Prelude.{◌≡◌, ◌↔◌, ◌≤◌, IfOk};
 ghost use Rattle.host_calls.specs.Well.{IsWell};
 ghost use Rattle.report_json.specs.Complete.{complete_json};
 ghost use Rattle.report_json.specs.Ends.{run_json};
-ghost use Rattle.report_json.specs.Json.{json_line};
+ghost use Rattle.show_json.specs.Json.{json_line};
 ghost use Rattle.report_json.specs.Refusals.{refusal_json};
 ghost use Rattle.search_endings.specs.Ends as specified;
 ghost use Rattle.wathread_c.specs.Answers.{no_answer};

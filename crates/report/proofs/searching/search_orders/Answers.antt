@@ -4,7 +4,7 @@ use Rattle.report_jobs.specs.Prints.{change}
 use Rattle.report.specs.Rest.{TellsRest}
 use Rattle.report.specs.Searched.{IsSearched}
 use Rattle.report.proofs.Orders.{searched_by}
-use Rattle.report.specs.declared.searching.Met.{Met}
+use Rattle.report.specs.declared.searching.OrdersMet.{OrdersMet}
 use Rattle.report.proofs.Pairs.{can_tell}
 use Rattle.report.proofs.searching.search_orders.Goals as goal
 
@@ -24,7 +24,7 @@ returns-clause-searched g c =
     let before = contents c.args.streams.now.out in
     let between = contents c.race_told.new.streams.out in
     let after = contents c.tell_orders.new.streams.out in
-    let met : Met = record { whole = c.in_ok-whole.whole; raced = c.in_ok-raced.raced; most = c.args.orders.now.most } in
+    let met : OrdersMet = record { whole = c.in_ok-whole.whole; raced = c.in_ok-raced.raced; most = c.args.orders.now.most } in
     IfOk-weaker c.tell_orders.result
     (λ done. TellsRest g.T.Teller.form q s met (change between after) (change b last) done.status)
     (λ done. IsSearched q.parts s (change before after) (change a last) done.status)

@@ -1,7 +1,7 @@
 use Rattle.std.proofs.Common.{◌≡◌, [], ap, ◌∙◌, arith}
 use Rattle.std.specs.Int.{from_bool}
 use Rattle.report_json.specs.Drawn.{has_some}
-use Rattle.report_json.proofs.Sent.{count_bytes}
+use Rattle.report_json.proofs.Bytes.{count_bytes}
 use Rattle.report_json.proofs.drawn.count_fields.Goals as goal
 
 pub returns : goal.returns

@@ -1,9 +1,10 @@
 use Rattle.std.proofs.Common.{codes, ap, ◌∙◌, refl}
 use Rattle.std.proofs.lemmas.Result.{on_ok_weaker}
-use Rattle.report_json.specs.Json.{number}
+use Rattle.show_json.specs.Json.{number}
 use Rattle.report_json.specs.Ends.{outcomes_json}
 use Rattle.report_json.specs.Drawn.{has_some}
-use Rattle.report_json.proofs.Sent.{same_field, same_bytes}
+use Rattle.show_json.proofs.Sent.{same_field}
+use Rattle.report_json.proofs.Bytes.{same_bytes}
 use Rattle.report_json.proofs.drawn.put_ending.Goals as goal
 
 pub returns : goal.returns

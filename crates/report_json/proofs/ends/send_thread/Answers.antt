@@ -1,9 +1,9 @@
 use Rattle.std.proofs.Common.{◌≡◌, ◌+◌, codes, [], refl, arith}
 use Rattle.std.proofs.lemmas.Result.{on_ok_weaker}
-use Rattle.report_json.specs.Sent.{count}
-use Rattle.report_json.specs.Places.{place_json}
+use Rattle.show_json.specs.Sent.{count}
+use Rattle.show_json.specs.Places.{place_json}
 use Rattle.report_json.specs.Ends.{thread_fields}
-use Rattle.report_json.proofs.Sent.{object_sent, count_given}
+use Rattle.show_json.proofs.Sent.{object_sent, count_given}
 use Rattle.report_json.proofs.ends.send_thread.Goals as goal
 
 pub returns : goal.returns

@@ -1,10 +1,10 @@
 use Rattle.std.proofs.Common.{Option, codes, ap, sym, subst}
 use Rattle.std.proofs.lemmas.Result.{on_ok_weaker}
 use Rattle.report_json.specs.declared.raced.RunRaces.{RunRaces}
-use Rattle.report_json.specs.Json.{text}
+use Rattle.show_json.specs.Json.{text}
 use Rattle.report_json.specs.Raced.{words_field}
-use Rattle.report_json.specs.Sent.{SendsField}
-use Rattle.report_json.proofs.Sent.{same_field}
+use Rattle.show_json.specs.Sent.{SendsField}
+use Rattle.show_json.proofs.Sent.{same_field}
 use Rattle.report_json.proofs.raced.put_words.Goals as goal
 
 pub returns-in-Some : goal.returns-in-Some

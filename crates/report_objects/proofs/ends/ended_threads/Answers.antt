@@ -1,6 +1,6 @@
 use Rattle.std.proofs.Common.{◌+◌, List, sym, subst, take}
 use Rattle.std.specs.List.{AllZip}
-use Rattle.report_json.specs.declared.moments.EndedThread.{EndedThread}
+use Rattle.show_json.specs.declared.moments.EndedThread.{EndedThread}
 use Rattle.show_moments.specs.Scenes.{seen}
 use Rattle.show_rows.proofs.Zipped.{zip_next}
 use Rattle.report_objects.specs.Ends.{IsEndedThread}

@@ -3,7 +3,7 @@ use Rattle.std.specs.Global.{Vec}
 use Rattle.std.proofs.lemmas.Result.{on_ok_weaker}
 use Rattle.types.specs.declared.event.Entry.{Entry}
 use Rattle.types.specs.declared.outcome.ThreadReport.{ThreadReport}
-use Rattle.report_json.specs.declared.moments.EndedThread.{EndedThread}
+use Rattle.show_json.specs.declared.moments.EndedThread.{EndedThread}
 use Rattle.show_moments.specs.Scenes.{seen}
 use Rattle.show_waits.specs.Cycles.{AreToldCycles}
 use Rattle.report_objects.specs.Ends.{AreEndedThreads, WritesEndOf}

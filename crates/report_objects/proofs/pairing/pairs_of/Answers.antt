@@ -1,6 +1,6 @@
 use Rattle.std.proofs.Common.{◌+◌, List, sym, subst, take}
 use Rattle.std.specs.List.{AllZip}
-use Rattle.report_json.specs.declared.races.RacePair.{RacePair}
+use Rattle.show_json.specs.declared.races.RacePair.{RacePair}
 use Rattle.report_objects.specs.RaceObjects.{IsPairOf}
 use Rattle.show_rows.proofs.Zipped.{zipped_more}
 use Rattle.report_objects.proofs.pairing.pairs_of.Goals as goal

@@ -1,8 +1,8 @@
 use Rattle.std.proofs.Common.{ℕ, ◌<◌, ◌∙◌, All, List, length, subst, sym}
 use Rattle.std.specs.List.{AllZip}
 use Rattle.std.proofs.lemmas.Result.{on_ok_weaker}
-use Rattle.report_json.specs.declared.moments.MomentThread.{MomentThread}
-use Rattle.report_json.specs.declared.rows.NamedRow.{NamedRow}
+use Rattle.show_json.specs.declared.moments.MomentThread.{MomentThread}
+use Rattle.show_json.specs.declared.rows.NamedRow.{NamedRow}
 use Rattle.show_moments.specs.Scenes.{seen}
 use Rattle.show_moments.specs.declared.told.ToldThread.{ToldThread}
 use Rattle.report_objects.specs.Scenes.{AreRows, IsThreadObject, WritesSceneOf}

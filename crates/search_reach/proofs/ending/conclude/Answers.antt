@@ -41,7 +41,7 @@ returns-clause-found g c =
     (record { complete = HasAllEnds k g.T.Ending.PartialEq.eq; sound = AreEnds k; lost = CanGetStuck k })
     c.args.plan.now.most c.count-states.result r.states c.in_ok-endings.field-0.endings.keys
     (subst (λ (n : ℕ). IsFound (record { complete = IsAll k; sound = IsSound k; lost = CanGetStuck k })
-        c.args.plan.now.most (g.F.Follows.wish c.args.follower.now)
+    c.args.plan.now.most (g.F.Follows.wish c.args.follower.now)
     c.args.reached.verdict n r.states) (sym (c.count-states.ensures.len r.states r.held)) r.found)
     (λ all. endings-of_all k g.T.Ending.PartialEq.eq r.states r.states c.in_ok-endings.field-0.endings.keys refl all gathered.all)
     gathered.sound (λ lost. lost)

@@ -6,7 +6,7 @@ pub returns-then-not-branch-clause-reached : goal.returns-then-not-branch-clause
 returns-then-not-branch-clause-reached g c =
     let m = c.args.system.now in
     reached-none (g.T.Meets.system m) (g.T.Meets.equal m) (g.T.Meets.holds m c.first.new.table)
-        (g.Q.Seeks.sought c.args.plan.now.sought) _ c.args.plan.now.most _
+    (g.Q.Seeks.sought c.args.plan.now.sought) _ c.args.plan.now.most _
     (search rules)
     (c.in_ok-first.ensures.none c.if-not-branch.true) (c.in_ok-first.ensures.gives_up c.if-not-branch.true)
 
@@ -19,7 +19,7 @@ pub returns-then-branch-clause-reached : goal.returns-then-branch-clause-reached
 returns-then-branch-clause-reached g c =
     let m = c.args.system.now in
     reached-first (g.T.Meets.system m) (g.T.Meets.equal m) (g.T.Meets.holds m c.first.new.table)
-        (g.Q.Seeks.sought c.args.plan.now.sought) _ c.args.plan.now.most _
+    (g.Q.Seeks.sought c.args.plan.now.sought) _ c.args.plan.now.most _
     (search rules) (g.met.T.Meets.alike m) (c.in_ok-first.ensures.first c.if-not-branch.false) _ c.if-branch.true c.in_ok-has_sought.ensures
     c.args.plan.now.order _ c.levels.ensures
 

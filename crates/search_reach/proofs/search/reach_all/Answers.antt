@@ -9,7 +9,7 @@ pub returns-clause-seeks : goal.returns-clause-seeks
 returns-clause-seeks g c =
     let r = c.in_ok-reached.ensures.reached in
     subst (λ l. SeeksAmong (g.T.Explores.system c.args.system.now) (g.Q.Seeks.sought c.args.plan.now.sought)
-        c.in_ok-reached.reached.verdict l) (sym r.held) r.seeks
+    c.in_ok-reached.reached.verdict l) (sym r.held) r.seeks
 
 pub returns-clause-levels : goal.returns-clause-levels
 returns-clause-levels g c =

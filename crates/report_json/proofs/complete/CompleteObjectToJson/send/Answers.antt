@@ -1,14 +1,14 @@
 use Rattle.std.proofs.Common.{ℕ, ◌≡◌, ◌+◌, ◌++◌, codes, Option, List, [], ◌∷◌, refl, ap, arith, subst}
 use Rattle.std.proofs.lemmas.Result.{on_ok_weaker}
 use Rattle.serde.specs.Event.{Log}
-use Rattle.report_json.specs.Sent.{count, given, SendsField}
-use Rattle.report_json.specs.Json.{number, text, list_of, is, is_given}
+use Rattle.show_json.specs.Sent.{count, given, SendsField}
+use Rattle.show_json.specs.Json.{number, text, list_of, is, is_given}
 use Rattle.report_json.specs.Drawn.{ending_json}
 use Rattle.report_json.specs.Found.{found_json}
 use Rattle.report_json.specs.Complete.{levels_told, liveness_json, complete_fields}
 use Rattle.report_json.specs.Raced.{races_fields}
 use Rattle.report_json.proofs.Fields.{count_more, sent_more}
-use Rattle.report_json.proofs.Sent.{object_sent, count_given, same_field}
+use Rattle.show_json.proofs.Sent.{object_sent, count_given, same_field}
 use Rattle.report_json.proofs.complete.CompleteObjectToJson.send.Goals as goal
 
 given_same : (name : List ℕ) (a b : Option ℕ) (old new : Log) → a ≡ b → SendsField (is_given name number a) old new
@@ -47,8 +47,8 @@ returns g c =
               given_same (codes "gone_through") _ _ _ _ c.levels_of-levels.ensures c.in_ok-put_if.ensures,
               (
                 _,
-                same_field (codes "endings") _ _ _ _ (ap (list_of ending_json) c.as_slice.ensures.keys) c.in_ok-put_list.ensures,
-                sent_more (races_fields complete.races) live _ _ _ c.in_ok-put_races.ensures (_, c.in_ok-put_if-2.ensures, (_, c.in_ok-put_if-3.ensures, refl)),
+                same_field (codes "endings") _ _ _ _ (ap (list_of ending_json) c.as_slice.ensures.keys) c.in_ok-put-5.ensures,
+                sent_more (races_fields complete.races) live _ _ _ c.in_ok-put_races.ensures (_, c.in_ok-put_liveness.ensures, (_, c.in_ok-put_if-2.ensures, refl)),
               ),
             ),
           ),

@@ -1,11 +1,11 @@
 use Rattle.std.proofs.Common.{◌≡◌, ◌+◌, codes, [], ◌∷◌, refl, ap, arith}
 use Rattle.std.proofs.lemmas.Result.{on_ok_weaker}
-use Rattle.report_json.specs.Sent.{count}
-use Rattle.report_json.specs.Json.{text}
+use Rattle.show_json.specs.Sent.{count}
+use Rattle.show_json.specs.Json.{text}
 use Rattle.report_json.specs.Drawn.{drawn_fields, end_field}
 use Rattle.report_json.specs.Raced.{races_fields}
 use Rattle.report_json.proofs.Fields.{count_end, count_more, sent_more}
-use Rattle.report_json.proofs.Sent.{object_sent, same_field}
+use Rattle.show_json.proofs.Sent.{object_sent, same_field}
 use Rattle.report_json.proofs.drawn.DrawnObjectToJson.send.Goals as goal
 
 pub returns : goal.returns

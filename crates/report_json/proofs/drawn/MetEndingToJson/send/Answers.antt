@@ -1,8 +1,8 @@
 use Rattle.std.proofs.Common.{◌≡◌, ◌+◌, arith}
 use Rattle.std.proofs.lemmas.Result.{on_ok_weaker}
-use Rattle.report_json.specs.Sent.{count}
+use Rattle.show_json.specs.Sent.{count}
 use Rattle.report_json.specs.Drawn.{met_fields}
-use Rattle.report_json.proofs.Sent.{object_sent}
+use Rattle.show_json.proofs.Sent.{object_sent}
 use Rattle.report_json.proofs.drawn.MetEndingToJson.send.Goals as goal
 
 pub returns : goal.returns

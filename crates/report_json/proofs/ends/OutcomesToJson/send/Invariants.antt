@@ -1,7 +1,7 @@
 use Rattle.std.proofs.Common.{drop}
 use Rattle.serde.specs.Event.{Log}
 use Rattle.serde_json.specs.Events.{SendsItems}
-use Rattle.report_json.specs.Json.{items_of, numbered}
+use Rattle.show_json.specs.Json.{items_of, numbered}
 use Rattle.report_json.specs.Ends.{ended_json}
 use Rattle.report_json.proofs.ends.OutcomesToJson.send.Given as goal
 

@@ -1,10 +1,11 @@
 use Rattle.std.proofs.Common.{◌≡◌, ◌+◌, codes, [], ◌∷◌, refl, ap, arith}
 use Rattle.std.proofs.lemmas.Result.{on_ok_weaker}
-use Rattle.report_json.specs.Sent.{count}
+use Rattle.show_json.specs.Sent.{count}
 use Rattle.std.proofs.Common.{take, nat_lt}
-use Rattle.report_json.specs.Json.{number, text, are_some}
+use Rattle.show_json.specs.Json.{number, text, are_some}
 use Rattle.report_json.specs.Ends.{run_fields}
-use Rattle.report_json.proofs.Sent.{object_sent, count_some, count_bytes, same_field, same_bytes}
+use Rattle.show_json.proofs.Sent.{object_sent, count_some, same_field}
+use Rattle.report_json.proofs.Bytes.{count_bytes, same_bytes}
 use Rattle.report_json.proofs.ends.RunEndObjectToJson.send.Goals as goal
 
 pub returns : goal.returns

@@ -1,7 +1,7 @@
 use Rattle.std.proofs.Common.{rules}
 use Rattle.std.proofs.lemmas.Result.{on_ok_weaker}
 use Rattle.report_json.specs.Ends.{thread_json}
-use Rattle.report_json.proofs.Sent.{numbered_sent}
+use Rattle.show_json.proofs.Sent.{numbered_sent}
 use Rattle.report_json.proofs.ends.ThreadsToJson.send.Goals as goal
 
 pub returns : goal.returns

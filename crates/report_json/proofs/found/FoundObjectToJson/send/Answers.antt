@@ -1,11 +1,11 @@
 use Rattle.std.proofs.Common.{◌≡◌, ◌+◌, codes, [], ◌∷◌, refl, arith}
 use Rattle.std.proofs.lemmas.Result.{on_ok_weaker}
-use Rattle.report_json.specs.Sent.{count}
-use Rattle.report_json.specs.Json.{is_given}
+use Rattle.show_json.specs.Sent.{count}
+use Rattle.show_json.specs.Json.{is_given}
 use Rattle.report_json.specs.Ends.{run_json}
 use Rattle.report_json.specs.Found.{shrunk_json, found_fields}
 use Rattle.report_json.proofs.Fields.{count_found}
-use Rattle.report_json.proofs.Sent.{object_sent, count_given}
+use Rattle.show_json.proofs.Sent.{object_sent, count_given}
 use Rattle.report_json.proofs.found.FoundObjectToJson.send.Goals as goal
 
 pub returns : goal.returns

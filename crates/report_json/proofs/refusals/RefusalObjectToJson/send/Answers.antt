@@ -1,9 +1,9 @@
 use Rattle.std.proofs.Common.{◌≡◌, ◌+◌, codes, [], refl, ap, arith}
 use Rattle.std.proofs.lemmas.Result.{on_ok_weaker}
-use Rattle.report_json.specs.Sent.{count}
-use Rattle.report_json.specs.Json.{number, text}
+use Rattle.show_json.specs.Sent.{count}
+use Rattle.show_json.specs.Json.{number, text}
 use Rattle.report_json.specs.Refusals.{refusal_fields}
-use Rattle.report_json.proofs.Sent.{object_sent, count_some, same_field}
+use Rattle.show_json.proofs.Sent.{object_sent, count_some, same_field}
 use Rattle.report_json.proofs.refusals.RefusalObjectToJson.send.Goals as goal
 
 pub returns : goal.returns

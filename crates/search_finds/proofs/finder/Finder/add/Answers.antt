@@ -39,12 +39,12 @@ returns-clause-endings g c =
 pub returns-clause-pieces : goal.returns-clause-pieces
 returns-clause-pieces g c =
     pieces_left (g.J.Judges.judges c.args.self.now.judge.now c.args.self.now.maker.request.now)
-        c.args.self.now.maker c.args.ahead _ _ _ _ c.pop.ensures.items c.in-Some.is
+    c.args.self.now.maker c.args.ahead _ _ _ _ c.pop.ensures.items c.in-Some.is
     c.requires.pieces
 
 pub returns-clause-last : goal.returns-clause-last
 returns-clause-last g c =
     let fewer = one_fewer (g.J.Judges.judges c.args.self.now.judge.now c.args.self.now.maker.request.now)
-        c.args.self.now.maker c.args.ahead _ _ _ _ c.pop.ensures.items
+    c.args.self.now.maker c.args.ahead _ _ _ _ c.pop.ensures.items
     c.in-Some.is in
     let all = c.requires.last in omega (arith, fewer, all)

@@ -1,5 +1,0 @@
-use Rattle.report_json.proofs.RowTexts.{rows_are_whole}
-use Rattle.report_json.proofs.rows.the_rows_are_one_object.Goals as goal
-
-pub returns : goal.returns
-returns c = rows_are_whole
