@@ -48,7 +48,7 @@ fn look() -> NextAccess
 fn growth(opening: &[u8], memory: &Changes, more: u32) -> NextAccess
     ensures { result ≡ access_by (length opening.now) (memory_of opening.now memory.now) false (Grow more) }
 {
-    if can_grow(memory, more) {
+    if can_grow(opening, memory, more) {
         NextAccess {
             plain: false,
             writes: true,
