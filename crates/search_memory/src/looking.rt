@@ -80,9 +80,7 @@ impl ChangedMemory<'_> {
     {
         match *event {
             Event::Size => Reply::Value(self.pages()),
-            Event::Grow(more) if self.can_grow(more) => {
-                Reply::Value(self.pages())
-            }
+            Event::Grow(more) if self.can_grow(more) => { Reply::Value(self.pages()) }
             Event::Grow(_) => Reply::Value(u64::from(u32::MAX)),
             Event::Load { addr, width, reach } if self.ends_within(reach) => {
                 Reply::Value(self.number_at(addr, width))

@@ -125,7 +125,8 @@ plain b opening = record {
       independent b w wants.reached n e (access-at w n e wants) opening (is_plain (w.threads u)) (is_plain (w.threads n)) u f spared;
 }
   where
-    access-at : (w : systems.State Shared Walker) (n : ℕ) (e : Event) → WantsPlain (system_of b) (access_of opening) (first_state b) w n e → IsAccess w.shared.memory e
+    access-at : (w : systems.State Shared Walker) (n : ℕ) (e : Event) → WantsPlain (system_of b) (access_of opening) (first_state b) w n e
+        → IsAccess w.shared.memory e
     access-at w n e wants = is-access opening w.shared.memory (is_plain (w.threads n)) e wants.plain
 
 -- who is gone can't go on

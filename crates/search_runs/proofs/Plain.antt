@@ -307,7 +307,8 @@ module _ (m : Memory) (p : Bool) (b v k : ℕ) (within : b + v ≤ length m.byte
       (apart-back b v a w (store-apart t true a w r (subst (λ x. nat_le x (length m.bytes) ≡ true) same e) h)) within
   other-writes t a w r n end same h false e = refl
 
-  pub other-leaves : (opening : ℕ) (f : Event) → (Meet (access_by opening m p f) (inside true true b v) → ⊥) → written (state_after m f) b v k ≡ state_after (written m b v k) f
+  pub other-leaves : (opening : ℕ) (f : Event) → (Meet (access_by opening m p f) (inside true true b v) → ⊥)
+      → written (state_after m f) b v k ≡ state_after (written m b v k) f
   other-leaves opening Size h = refl
   other-leaves opening (Grow more) h = by (can_grow m more) ∙
       sym (ap (λ l. if nat_le (l / PAGE_SIZE + more) m.max then grown (written m b v k) more else written m b v k) long)
@@ -431,7 +432,8 @@ module _ (m : Memory) (p : Bool) (b v k : ℕ) (within : b + v ≤ length m.byte
           (loaded-apart m b v k a w (store-apart m p b v k within false (loaded m a w == expected) a w (a + w) e never) (inr within))
       by false e = refl
 
-  written-same : (opening : ℕ) (f : Event) → (Meet (access_by opening m p f) (inside true true b v) → ⊥) → access_by opening (written m b v k) p f ≡ access_by opening m p f
+  written-same : (opening : ℕ) (f : Event) → (Meet (access_by opening m p f) (inside true true b v) → ⊥)
+      → access_by opening (written m b v k) p f ≡ access_by opening m p f
   written-same opening Size h = refl
   written-same opening (Grow more) h =
       ap (λ l. if nat_le (l / PAGE_SIZE + more) m.max then growth opening else no_bytes) (long m p b v k within)
