@@ -1,6 +1,7 @@
 //! The rows of a record, one below the other.
 
-ghost use Rattle.std.specs.Prelude.{◌≡◌, ◌<◌, [], ◌∷◌, ◌++◌, cond, length, string_bytes, IfOk, OnOk, All, option_and_then, option_map};
+ghost use Rattle.std.specs.Prelude.{◌≡◌, ◌<◌, [], ◌∷◌, ◌++◌, cond, length, string_bytes, IfOk, OnOk, All};
+ghost use Rattle.std.specs.Prelude.{option_and_then, option_map};
 ghost use Rattle.show_rows.specs.Listing.{line_at, chosen, row_at, context_at, outcome_of, is_atomic_row};
 ghost use Rattle.show_rows.specs.Listing.{made_row, place_of, caller_of, call_of, IsPlaceText, IsCallText, IsPlaceTextOf};
 ghost use Rattle.show_rows.specs.Listing.{IsStoryOf, AreWordsOf, AddsEntry, AddsEntries, WritesRows};
