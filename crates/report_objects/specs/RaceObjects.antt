@@ -1,5 +1,5 @@
 -- What an object has of an entry, that of a show of the entries that are chosen, and that of races of two that race.
-use Rattle.std.specs.Prelude.{ℕ, ◌≡◌, Bool, false, true, List, nat_lt, OnSome, Option, Some, None}
+use Rattle.std.specs.Prelude.{ℕ, ◌≡◌, ◌||◌, Bool, false, true, List, nat_lt, OnSome, Option, Some, None}
 use Rattle.std.specs.Borrow.{Bor}
 use Rattle.std.specs.List.{AllZip, slice_get}
 use Rattle.std.specs.Io.KnownBytes.{Appends}
@@ -22,7 +22,7 @@ use Rattle.show_json.specs.declared.races.NextWrite.{NextWrite}
 use Rattle.show_json.specs.declared.races.RaceEntry.{RaceEntry}
 use Rattle.show_json.specs.declared.races.RacePair.{RacePair}
 use Rattle.show_json.specs.declared.races.RacePairs.{RacePairs}
-use Rattle.show_races.specs.Written.{IsNextWrite, access_at}
+use Rattle.show_races.specs.Written.{IsNextWrite, access_at, changes_pages}
 use Rattle.show_races.specs.declared.found.RecordRaces.{RecordRaces}
 use Rattle.show_named.specs.Names.{HasData}
 use Rattle.show_named.specs.declared.data_map.DataMap.{DataMap}
@@ -123,9 +123,18 @@ pub record IsNextOf (shown : Shown) (sites : List Site) (r : Race) (write : Opti
   pub is_next : IsNextWrite shown.record.now.log sites made.thread r.first next
   pub is : IsWriteOf shown r.second next write
 
+-- One of the two changes the number of pages, and so the other looks at it: no entry that does touches a byte.
+abbrev pub is_change : Option Entry → Bool
+is_change None = false
+is_change (Some made) = changes_pages made
+
+abbrev pub is_of_pages : List Entry → Race → Bool
+is_of_pages log r = is_change (slice_get log r.first) || is_change (slice_get log r.second)
+
 -- Two entries that race, and that write.
 pub record IsPairOf (shown : Shown) (story : Story) (sites : List Site) (r : Race)
     (pair : RacePair) : Type 0 where
+  pub pages : pair.is_of_pages ≡ is_of_pages shown.record.now.log r
   pub first : IsEntryOf shown story sites r.first pair.first
   pub second : IsEntryOf shown story sites r.second pair.second
   pub next : IsNextOf shown sites r pair.next_write

@@ -9,7 +9,7 @@ ghost use Rattle.report_objects.specs.RaceObjects.{IsEntryOf, IsNextOf, IsPairOf
 use crate::objects::row_of;
 use race_history::{AccessKind, Race, Site, ThreadAccess, bytes_of};
 use show_json::{NextWrite, RaceEntry, RacePair, RacePairs};
-use show_races::{RecordRaces, next_atomic_write};
+use show_races::{RecordRaces, changes_pages, next_atomic_write};
 use show_rows::{Shown, Story};
 use show_text::Unwritten;
 use std::alloc::{AllocError, Global};
@@ -90,12 +90,31 @@ fn next_write(shown: &Shown, sites: &[Site], race: Race) -> Option<NextWrite>
     }
 }
 
+/// Whether the entry at a place changes the number of pages.
+fn is_change(log: &[Entry], at: usize) -> bool
+    ensures { result ≡ specified.is_change (slice_get log.now at) }
+{
+    match log.get(at) {
+        Some(entry) => changes_pages(entry),
+        None => false,
+    }
+}
+
+/// Whether one entry of a race looks at the number of pages, which the other changes.
+fn is_of_pages(shown: &Shown, race: Race) -> bool
+    ensures { result ≡ specified.is_of_pages shown.now.record.now.log race }
+{
+    let log = shown.record.log.as_slice();
+    is_change(log, race.first) || is_change(log, race.second)
+}
+
 /// Two entries that race, by which instruction each entry of the log was made.
 pub fn pair_of<'a>(shown: &'a Shown, story: &'a Story, sites: &[Site], race: Race) -> RacePair<'a>
     requires { IsWithin shown.now.record.now.log race }
     ensures { IsPairOf shown.now story.now sites.now race result }
 {
     RacePair {
+        is_of_pages: is_of_pages(shown, race),
         first: entry_of(shown, story, sites, race.first),
         second: entry_of(shown, story, sites, race.second),
         next_write: next_write(shown, sites, race),
