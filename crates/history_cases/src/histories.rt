@@ -5,6 +5,7 @@
 //!
 //! ```text
 //! races 0p00 0t01 0s04 1l04 => 2-3   a history, an arrow, and the pairs of places that race, by the second one
+//! opening 8                          the pages with which the memory opens have so many bytes; else 65,536
 //! ```
 //!
 //! The words of a history are those that `bench/races.py` explains, which makes histories and judges them by the

@@ -1,31 +1,22 @@
 -- The entries just before one.
-use Rattle.std.proofs.Common.{◌≡◌, ◌∙◌, ◌⊎◌, ◌<◌, ◌≤◌, ◌+◌, ◌++◌, ◌==◌, ℕ, zero, suc, List, [], ◌∷◌, Option, Some, None}
+use Rattle.std.proofs.Common.{◌≡◌, ◌∙◌, ◌⊎◌, ◌<◌, ◌≤◌, ◌+◌, ◌++◌, ◌==◌, ℕ, zero, suc, List, [], Option, Some, None}
 use Rattle.std.proofs.Common.{length, get_or, set, take, inl, inr, refl, sym, ap, subst, arith, add-one}
 use Rattle.std.proofs.Common.{get_or-set_other, get_or-set_same}
 use Rattle.std.specs.Prelude.{nat_lt, slice_get}
 use Rattle.std.specs.List.{Contains}
 use Rattle.std.specs.Option.{option_to_list}
 use Rattle.std.proofs.lemmas.Bool.{cases_eq, cases_lt, cond-false, cond-true, eq-eqb, lt-ltb, ltb-true, ne_eqb}
-use Rattle.std.proofs.lemmas.List.{get_or_default}
 use Rattle.std.proofs.lemmas.List.Elements.{Contains-append_cases, Contains-append_left, Contains-append_right}
 use Rattle.std.proofs.lemmas.Option.{cond_some, get_or_from_slice_get, none-some, same_Some, slice_get-get_or, slice_get_within}
 use Rattle.types.specs.declared.event.Entry.{Entry}
 use Rattle.shared_memory.specs.History.{queue_after}
-use Rattle.race_history.specs.declared.access.AccessKind.{AccessKind}
+use Rattle.race_history.specs.declared.access.Site.{Site}
 use Rattle.race_history.specs.Places.{IsAt, thread_at}
 use Rattle.race_history.specs.Order.{IsEdge, IsOfOneThread, IsStartOf, ReadsFrom, Starts, Wakes}
 use Rattle.race_history.specs.Calls.{AreStarts, AreWakers}
 use Rattle.race_history.specs.Writers.{AreWriters}
 use Rattle.race_history.specs.Sources.{AreSources, if_before, last_of, start_before}
-use Rattle.race_history.proofs.Lists.{Contains-cons_cases, Contains-here, Contains-none, IsAt-any}
-
-some_in : (o : Option ℕ) (x : ℕ) → Contains (option_to_list o) x → o ≡ Some x
-some_in None x c = absurd (Contains-none x c)
-some_in (Some y) x c = elim (Contains-cons_cases y [] x c) [ inl e ↦ ap (λ (n : ℕ). Some n) e | inr r ↦ absurd (Contains-none x r) ]
-
-in_some : (o : Option ℕ) (x : ℕ) → o ≡ Some x → Contains (option_to_list o) x
-in_some None x e = absurd (none-some x e)
-in_some (Some y) x e = subst (λ (n : ℕ). Contains (y ∷ []) n) (same_Some y x e) (Contains-here y [])
+use Rattle.race_history.proofs.Lists.{in_some, some_in}
 
 module _ (log : List Entry) where
   -- the last entry of a thread before a place
@@ -109,40 +100,41 @@ module _ (log : List Entry) where
         ap (if_before place) get ∙ cond-true (nat_lt i place) (Some i) None (lt-ltb i place earlier)
 
 -- all that come just before
-module _ (log : List Entry) (kinds : List AccessKind) (place : ℕ) (within : place < length log)
-    (wakers : List ℕ) (start writer previous : Option ℕ)
+module _ (log : List Entry) (sites : List Site) (opening : ℕ) (place : ℕ) (within : place < length log)
+    (wakers : List ℕ) (start : Option ℕ) (writers : List ℕ) (previous : Option ℕ)
     (wakers_from : (i : ℕ) → Contains wakers i → Wakes log i place) (wakers_to : (i : ℕ) → Wakes log i place → Contains wakers i)
     (start_from : (i : ℕ) → start ≡ Some i → Starts log i place) (start_to : (i : ℕ) → Starts log i place → start ≡ Some i)
-    (writer_from : (i : ℕ) → writer ≡ Some i → ReadsFrom log kinds i place) (writer_to : (i : ℕ) → ReadsFrom log kinds i place → writer ≡ Some i)
+    (writers_from : (i : ℕ) → Contains writers i → ReadsFrom log sites opening i place)
+    (writers_to : (i : ℕ) → ReadsFrom log sites opening i place → Contains writers i)
     (last : previous ≡ last_of log (thread_at log place) place) where
   previous_from : (i : ℕ) → previous ≡ Some i → IsOfOneThread log i place
   previous_from i e =
       let q = last_of_is log (thread_at log place) place i (sym last ∙ e) in
       record { earlier = q.0; within = within; same = q.1 }
 
-  here_from : (i : ℕ) → Contains (wakers ++ option_to_list start ++ option_to_list writer ++ option_to_list previous) i → IsEdge log kinds i place
+  here_from : (i : ℕ) → Contains (wakers ++ option_to_list start ++ writers ++ option_to_list previous) i → IsEdge log sites opening i place
   here_from i c =
-      elim (Contains-append_cases (wakers ++ option_to_list start ++ option_to_list writer) (option_to_list previous) i c) [
-        | inl three ↦ elim (Contains-append_cases (wakers ++ option_to_list start) (option_to_list writer) i three) [
+      elim (Contains-append_cases (wakers ++ option_to_list start ++ writers) (option_to_list previous) i c) [
+        | inl three ↦ elim (Contains-append_cases (wakers ++ option_to_list start) (writers) i three) [
           | inl two ↦ elim (Contains-append_cases wakers (option_to_list start) i two) [
             | inl one ↦ inr (inr (inr (wakers_from i one)))
             | inr s ↦ inr (inl (start_from i (some_in start i s)))
           ]
-          | inr r ↦ inr (inr (inl (writer_from i (some_in writer i r))))
+          | inr r ↦ inr (inr (inl (writers_from i r)))
         ]
         | inr p ↦ inl (previous_from i (some_in previous i p))
       ]
 
   abbrev Covers : ℕ → ℕ → Type 0
   Covers i k =
-      Contains (wakers ++ option_to_list start ++ option_to_list writer ++ option_to_list previous) k × ((i ≡ k) ⊎ IsEdge log kinds i k)
+      Contains (wakers ++ option_to_list start ++ writers ++ option_to_list previous) k × ((i ≡ k) ⊎ IsEdge log sites opening i k)
 
-  in_three : (i : ℕ) → Contains (wakers ++ option_to_list start ++ option_to_list writer) i → (k : ℕ) × Covers i k
+  in_three : (i : ℕ) → Contains (wakers ++ option_to_list start ++ writers) i → (k : ℕ) × Covers i k
   in_three i c =
-      (i, (Contains-append_left (wakers ++ option_to_list start ++ option_to_list writer) (option_to_list previous) i c, inl refl))
+      (i, (Contains-append_left (wakers ++ option_to_list start ++ writers) (option_to_list previous) i c, inl refl))
 
   in_two : (i : ℕ) → Contains (wakers ++ option_to_list start) i → (k : ℕ) × Covers i k
-  in_two i c = in_three i (Contains-append_left (wakers ++ option_to_list start) (option_to_list writer) i c)
+  in_two i c = in_three i (Contains-append_left (wakers ++ option_to_list start) (writers) i c)
 
   of_thread : (i : ℕ) → IsOfOneThread log i place → (k : ℕ) × Covers i k
   of_thread i o =
@@ -151,15 +143,15 @@ module _ (log : List Entry) (kinds : List AccessKind) (place : ℕ) (within : pl
       let is = last_of_is log (thread_at log place) place p q.1.0 in
       let before : p < place = is.0 in
       let late : i ≤ p = q.1.1 in
-      let has : Contains (wakers ++ option_to_list start ++ option_to_list writer ++ option_to_list previous) p =
-      Contains-append_right (wakers ++ option_to_list start ++ option_to_list writer) (option_to_list previous) p
+      let has : Contains (wakers ++ option_to_list start ++ writers ++ option_to_list previous) p =
+      Contains-append_right (wakers ++ option_to_list start ++ writers) (option_to_list previous) p
       (in_some previous p (last ∙ q.1.0)) in
       elim (cases_lt i p) [
         | inl lt ↦ (p, (has, inr (inl (record { earlier = lt; within = omega arith; same = o.same ∙ sym is.1 }))))
         | inr le ↦ (p, (has, inl (omega arith)))
       ]
 
-  pub sources_here : AreSources log kinds place (wakers ++ option_to_list start ++ option_to_list writer ++ option_to_list previous)
+  pub sources_here : AreSources log sites opening place (wakers ++ option_to_list start ++ writers ++ option_to_list previous)
   sources_here = record {
     from = here_from;
     all = λ i e. elim e [
@@ -168,7 +160,7 @@ module _ (log : List Entry) (kinds : List AccessKind) (place : ℕ) (within : pl
         | inl s ↦ in_two i (Contains-append_right wakers (option_to_list start) i (in_some start i (start_to i s)))
         | inr more' ↦ elim more' [
           | inl r ↦
-              in_three i (Contains-append_right (wakers ++ option_to_list start) (option_to_list writer) i (in_some writer i (writer_to i r)))
+              in_three i (Contains-append_right (wakers ++ option_to_list start) (writers) i (writers_to i r))
           | inr w ↦ in_two i (Contains-append_left wakers (option_to_list start) i (wakers_to i w))
         ]
       ]
@@ -176,24 +168,21 @@ module _ (log : List Entry) (kinds : List AccessKind) (place : ℕ) (within : pl
   }
 
 -- those that are gathered
-pub sources_next : (log : List Entry) (kinds : List AccessKind) (place : ℕ) → place < length log
-    → (writers : List (Option ℕ)) → AreWriters log kinds (length log) writers → (starts : List ℕ) → AreStarts log (length log) starts
+pub sources_next : (log : List Entry) (sites : List Site) (opening place : ℕ) → place < length log
+    → (writers : List (List ℕ)) → AreWriters log sites opening (length log) writers → (starts : List ℕ) → AreStarts log (length log) starts
     → (wakers : List (List ℕ)) → AreWakers log (length log) wakers → (previous : Option ℕ) → previous ≡ last_of log (thread_at log place) place
-    → AreSources log kinds place (get_or wakers place [] ++ option_to_list (start_before starts (thread_at log place) place)
-    ++ option_to_list (get_or writers place None) ++ option_to_list previous)
-sources_next log kinds place within writers written starts started wakers woken previous last =
-    let count : length writers ≡ length log = written.count in
-    let there : place < length writers = omega arith in
-    sources_here log kinds place within (get_or wakers place []) (start_before starts (thread_at log place) place) (get_or writers place None)
-    previous (λ i c. woken.from i place c) (λ i w. woken.all i place within w)
+    → AreSources log sites opening place (get_or wakers place [] ++ option_to_list (start_before starts (thread_at log place) place)
+    ++ get_or writers place [] ++ option_to_list previous)
+sources_next log sites opening place within writers written starts started wakers woken previous last =
+    sources_here log sites opening place within (get_or wakers place []) (start_before starts (thread_at log place) place)
+    (get_or writers place []) previous (λ i c. woken.from i place c) (λ i w. woken.all i place within w)
     (start_from log starts started place within (thread_at log place) refl) (start_to log starts started place within (thread_at log place) refl)
-    (λ i e. written.from i place (record { within = there; is = get_or_default writers place (Some i) None there ∙ e }))
-    (λ i r. IsAt-any writers place (Some i) None (written.all i place within r)) last
+    (λ i c. written.from i place c) (λ i r. written.all i place within r) last
 
-pub same_four : (w v : List ℕ) (s t r q p o : Option ℕ) → w ≡ v → s ≡ t → r ≡ q → p ≡ o
-    → w ++ option_to_list s ++ option_to_list r ++ option_to_list p ≡ v ++ option_to_list t ++ option_to_list q ++ option_to_list o
+pub same_four : (w v : List ℕ) (s t : Option ℕ) (r q : List ℕ) (p o : Option ℕ) → w ≡ v → s ≡ t → r ≡ q → p ≡ o
+    → w ++ option_to_list s ++ r ++ option_to_list p ≡ v ++ option_to_list t ++ q ++ option_to_list o
 same_four w v s t r q p o a b c d =
-    ap (λ (x : List ℕ). x ++ option_to_list s ++ option_to_list r ++ option_to_list p) a
-    ∙ (ap (λ (x : Option ℕ). v ++ option_to_list x ++ option_to_list r ++ option_to_list p) b
-    ∙ (ap (λ (x : Option ℕ). v ++ option_to_list t ++ option_to_list x ++ option_to_list p) c
-    ∙ ap (λ (x : Option ℕ). v ++ option_to_list t ++ option_to_list q ++ option_to_list x) d))
+    ap (λ (x : List ℕ). x ++ option_to_list s ++ r ++ option_to_list p) a
+    ∙ (ap (λ (x : Option ℕ). v ++ option_to_list x ++ r ++ option_to_list p) b
+    ∙ (ap (λ (x : List ℕ). v ++ option_to_list t ++ x ++ option_to_list p) c
+    ∙ ap (λ (x : Option ℕ). v ++ option_to_list t ++ q ++ option_to_list x) d))

@@ -1,9 +1,10 @@
--- The last accesses stay the last ones where one is kept.
+-- The last accesses stay the last ones where more are kept.
 use Rattle.std.proofs.Common.{◌≡◌, ◌∙◌, ◌<◌, ◌≤◌, ◌+◌, ◌/◌, ◌%◌, ◌⊎◌, ℕ, zero, suc, List, [], ◌∷◌, Bool, not, length}
 use Rattle.std.proofs.Common.{filter, map, get_or, set, replicate, inl, inr, refl, sym, ap, subst, arith}
 use Rattle.std.proofs.Common.{get_or-set_same, get_or-set_other}
+use Rattle.std.proofs.Math.Nat.{mod-lt}
 use Rattle.std.specs.Global.{Vec}
-use Rattle.std.specs.List.{AllPairs, Contains}
+use Rattle.std.specs.List.{AllPairs, Contains, fold}
 use Rattle.std.proofs.lemmas.Bool.{both_ways, cases_Bool, cases_eq, cases_lt, not-true, not_from_false}
 use Rattle.std.proofs.lemmas.List.{get_or-map, get_or_default, length-map, length-set, map-set}
 use Rattle.std.proofs.lemmas.List.Elements.{Contains-append_left, Contains-push, Contains-push_cases}
@@ -11,13 +12,15 @@ use Rattle.std.proofs.lemmas.List.Kept.{AllPairs-filter}
 use Rattle.std.proofs.lemmas.List.Quantifiers.{all_pairs_push}
 use Rattle.types.specs.declared.event.Entry.{Entry}
 use Rattle.race_history.specs.declared.access.ThreadAccess.{ThreadAccess}
-use Rattle.race_history.specs.declared.access.AccessKind.{AccessKind}
+use Rattle.race_history.specs.declared.access.Site.{Site}
 use Rattle.race_history.specs.declared.lasts.Last.{Last}
-use Rattle.race_history.specs.Places.{IsAccess}
-use Rattle.race_history.specs.Lasts.{AreLasts, IsAhead, Keeps, list_for, with_last}
+use Rattle.race_history.specs.Accesses.{accesses_of}
+use Rattle.race_history.specs.Places.{IsAccess, IsAt}
+use Rattle.race_history.specs.Lasts.{AreLasts, AreLastsOf, AreOther, IsMadeBefore, keeping, kept, list_for, with_last}
 use Rattle.race_history.specs.Tests.{is_same}
-use Rattle.race_history.proofs.Lists.{Contains-at, Contains-filter, Contains-none, IsAt-get, filter-Contains}
-use Rattle.race_history.proofs.Places.{IsAccess-same}
+use Rattle.race_history.proofs.Lists.{Contains-at, Contains-cons_cases, Contains-filter, Contains-here, Contains-none, Contains-there}
+use Rattle.race_history.proofs.Lists.{IsAt-get, filter-Contains}
+use Rattle.race_history.proofs.Places.{access_made, made_here}
 use Rattle.race_history.proofs.Words.{same_from, same_to}
 
 -- what a list has once one more is in it
@@ -43,46 +46,47 @@ module _ (xs : List Last) (y : Last) where
         (filter-Contains other xs x h (not_from_false (is_same x.access y.access) isnt)))
   ]
 
-  pub put_in_order : ((x : Last) → Contains xs x → x.place < y.place) → AllPairs IsAhead xs → AllPairs IsAhead (with_last y xs)
-  put_in_order before h =
-      all_pairs_push IsAhead (filter other xs) y (AllPairs-filter IsAhead other xs h)
-      (λ k d lt.
+  pub put_once : AllPairs AreOther xs → AllPairs AreOther (with_last y xs)
+  put_once h =
+      all_pairs_push AreOther (filter other xs) y (AllPairs-filter AreOther other xs h)
+      (λ k d lt e.
       let x : Last = get_or (filter other xs) k d in
       let q = Contains-filter other xs x (Contains-at (filter other xs) k x (IsAt-get (filter other xs) k d lt)) in
-      record {
-        earlier = before x q.0;
-        other = λ e. both_ways (is_same x.access y.access) (not-true (is_same x.access y.access) q.1) (same_to x.access y.access e);
-      })
+      both_ways (is_same x.access y.access) (not-true (is_same x.access y.access) q.1) (same_to x.access y.access e))
 
--- in a list in order an access stands once
-pub once : (xs : List Last) (x y : Last) → AllPairs IsAhead xs → Contains xs x → Contains xs y → x.access ≡ y.access → x ≡ y
+-- an access stands once
+pub once : (xs : List Last) (x y : Last) → AllPairs AreOther xs → Contains xs x → Contains xs y → x.access ≡ y.access → x ≡ y
 once xs x y h c d e =
     let i : ℕ = c.0 in
     let j : ℕ = d.0 in
     let xi : get_or xs i x ≡ x = c.2 in
     let yj : get_or xs j x ≡ y = get_or_default xs j x y d.1 ∙ d.2 in
     elim (cases_lt i j) [
-      | inl lt ↦ absurd ((h i j x lt d.1).other (ap (λ (z : Last). z.access) xi ∙ (e ∙ ap (λ (z : Last). z.access) (sym yj))))
+      | inl lt ↦ absurd ((h i j x lt d.1) (ap (λ (z : Last). z.access) xi ∙ (e ∙ ap (λ (z : Last). z.access) (sym yj))))
       | inr ge ↦ elim (cases_lt j i) [
-        | inl lt ↦ absurd ((h j i x lt c.1).other (ap (λ (z : Last). z.access) yj ∙ (sym e ∙ ap (λ (z : Last). z.access) (sym xi))))
+        | inl lt ↦ absurd ((h j i x lt c.1) (ap (λ (z : Last). z.access) yj ∙ (sym e ∙ ap (λ (z : Last). z.access) (sym xi))))
         | inr le ↦ let same : i ≡ j = omega arith in sym xi ∙ (ap (λ (k : ℕ). get_or xs k x) same ∙ yj)
       ]
     ]
 
--- one list of all is put in its place
-pub keeps_set : (lists : List (List Last)) (k : ℕ) (new : List Last) (x : Last) → k ≡ x.access.addr / 8 % length lists → k < length lists
-    → new ≡ with_last x (get_or lists k []) → Keeps lists (set lists k new) x
-keeps_set lists k new x e lt is =
-    let addr : ℕ = x.access.addr in
-    let after : List (List Last) = set lists k new in
-    let count : length after ≡ length lists = length-set lists k new in
-    let at : addr / 8 % length after ≡ k = ap (λ (n : ℕ). addr / 8 % n) count ∙ sym e in
-    let there : list_for after addr ≡ new = ap (λ (j : ℕ). get_or after j []) at ∙ get_or-set_same lists k new [] lt in
-    record {
-      count = count;
-      put = there ∙ (is ∙ ap (λ (j : ℕ). with_last x (get_or lists j [])) e);
-      others = λ j ne. get_or-set_other lists k j new [] (λ f. ne (f ∙ e));
-    }
+-- where each list is after one is put in its place
+module _ (lists : List (List Last)) (x : Last) (some : 0 < length lists) where
+  abbrev at : ℕ
+  at = x.access.addr / 8 % length lists
+
+  pub kept_length : length (kept lists x) ≡ length lists
+  kept_length = length-set lists at (with_last x (list_for lists x.access.addr))
+
+  pub kept_list : (addr : ℕ) → list_for (kept lists x) addr ≡ get_or (kept lists x) (addr / 8 % length lists) []
+  kept_list addr = ap (λ (n : ℕ). get_or (kept lists x) (addr / 8 % n) []) kept_length
+
+  pub kept_here : (k : ℕ) → k ≡ at → get_or (kept lists x) k [] ≡ with_last x (list_for lists x.access.addr)
+  kept_here k e =
+      ap (λ (j : ℕ). get_or (kept lists x) j []) e
+      ∙ get_or-set_same lists at (with_last x (list_for lists x.access.addr)) [] (mod-lt (x.access.addr / 8) some)
+
+  pub kept_others : (k : ℕ) → (k ≡ at → ⊥) → get_or (kept lists x) k [] ≡ get_or lists k []
+  kept_others k ne = get_or-set_other lists at k (with_last x (list_for lists x.access.addr)) [] ne
 
 abbrev pub no_list : List Last
 no_list = []
@@ -96,116 +100,174 @@ some_lists : (n : ℕ) → 0 < n → 0 < length (replicate n no_list)
 some_lists zero some = absurd (omega arith)
 some_lists (suc n) some = omega arith
 
-module _ (log : List Entry) (kinds : List AccessKind) where
-  pub lasts_none : (n : ℕ) → 0 < n → AreLasts log kinds 0 (replicate n no_list)
+-- one more access is made, at a place that is behind all those before
+module _ (IsMade : ℕ → ThreadAccess → Type 0) (lists : List (List Last)) (place : ℕ) (a : ThreadAccess) (h : AreLastsOf IsMade lists)
+    (behind : (p : ℕ) (b : ThreadAccess) → IsMade p b → p ≤ place) where
+  abbrev last : Last
+  last = record { place = place; access = a }
+
+  abbrev IsMadeOr : ℕ → ThreadAccess → Type 0
+  IsMadeOr p b = IsMade p b ⊎ ((p ≡ place) × (b ≡ a))
+
+  abbrev at_last : ℕ
+  at_last = a.addr / 8 % length lists
+
+  once_more : (k : ℕ) → AllPairs AreOther (get_or (kept lists last) k [])
+  once_more k = elim (cases_eq k at_last) [
+    | inl e ↦
+        subst (λ (l : List Last). AllPairs AreOther l) (sym (kept_here lists last h.some k e))
+        (put_once (list_for lists a.addr) last (h.once at_last))
+    | inr ne ↦ subst (λ (l : List Last). AllPairs AreOther l) (sym (kept_others lists last h.some k ne)) (h.once k)
+  ]
+
+  made_more : (k : ℕ) (x : Last) → Contains (get_or (kept lists last) k []) x → IsMadeOr x.place x.access
+  made_more k x c = elim (cases_eq k at_last) [
+    | inl e ↦
+        elim (put_from (list_for lists a.addr) last x (subst (λ (l : List Last). Contains l x) (kept_here lists last h.some k e) c)) [
+          | inl old ↦ inl (h.made at_last x old)
+          | inr f ↦ inr (ap (λ (z : Last). z.place) f, ap (λ (z : Last). z.access) f)
+        ]
+    | inr ne ↦ inl (h.made k x (subst (λ (l : List Last). Contains l x) (kept_others lists last h.some k ne) c))
+  ]
+
+  abbrev Has : ℕ → ThreadAccess → Type 0
+  Has p b = (x : Last) × (Contains (list_for (kept lists last) b.addr) x × (x.access ≡ b) × (p ≤ x.place))
+
+  -- the list of the word has the new one
+  has_new : (b : ThreadAccess) → b.addr / 8 % length lists ≡ at_last → Contains (list_for (kept lists last) b.addr) last
+  has_new b e =
+      subst (λ (l : List Last). Contains l last)
+      (sym (kept_list lists last h.some b.addr ∙ kept_here lists last h.some (b.addr / 8 % length lists) e))
+      (put_has (list_for lists a.addr) last)
+
+  old_more : (p : ℕ) (b : ThreadAccess) → IsMade p b → Has p b
+  old_more p b is =
+      let o = h.all p b is in
+      let x : Last = o.0 in
+      elim (cases_eq (b.addr / 8 % length lists) at_last) [
+        | inl e ↦
+            let same : list_for lists b.addr ≡ list_for lists a.addr = ap (λ (j : ℕ). get_or lists j []) e in
+            let back : with_last last (list_for lists a.addr) ≡ list_for (kept lists last) b.addr =
+            sym (kept_list lists last h.some b.addr ∙ kept_here lists last h.some (b.addr / 8 % length lists) e) in
+            elim (put_kept (list_for lists a.addr) last x (subst (λ (l : List Last). Contains l x) same o.1.0)) [
+              | inl stays ↦ (x, (subst (λ (l : List Last). Contains l x) back stays, o.1.1, o.1.2))
+              | inr f ↦ (last, (has_new b e, sym f ∙ o.1.1, behind p b is))
+            ]
+        | inr ne ↦
+            let same : list_for (kept lists last) b.addr ≡ list_for lists b.addr =
+            kept_list lists last h.some b.addr ∙ kept_others lists last h.some (b.addr / 8 % length lists) ne in
+            (x, (subst (λ (l : List Last). Contains l x) (sym same) o.1.0, o.1.1, o.1.2))
+      ]
+
+  all_more : (p : ℕ) (b : ThreadAccess) → IsMadeOr p b → Has p b
+  all_more p b is = elim is [
+    | inl old ↦ old_more p b old
+    | inr new ↦
+        let same : p ≡ place = new.0 in
+        let word : b.addr / 8 % length lists ≡ at_last = ap (λ (c : ThreadAccess). c.addr / 8 % length lists) new.1 in
+        let le : p ≤ place = omega arith in
+        (last, (has_new b word, sym new.1, le))
+  ]
+
+  pub kept_more : AreLastsOf IsMadeOr (kept lists last)
+  kept_more =
+      let some : 0 < length lists = h.some in
+      let count : length (kept lists last) ≡ length lists = kept_length lists last some in
+      record { some = omega arith; once = once_more; made = made_more; all = all_more }
+
+-- what says the same of accesses
+pub lasts_same : (M N : ℕ → ThreadAccess → Type 0) (lists : List (List Last)) → ((p : ℕ) (a : ThreadAccess) → M p a → N p a)
+    → ((p : ℕ) (a : ThreadAccess) → N p a → M p a) → AreLastsOf M lists → AreLastsOf N lists
+lasts_same M N lists to from h = record {
+  some = h.some;
+  once = h.once;
+  made = λ k x c. to x.place x.access (h.made k x c);
+  all = λ p a is. h.all p a (from p a is);
+}
+
+-- all accesses of an entry are kept, one after the other
+pub kept_all : (place : ℕ) (accesses : List ThreadAccess) (IsMade : ℕ → ThreadAccess → Type 0) (lists : List (List Last)) → AreLastsOf IsMade lists
+    → ((p : ℕ) (b : ThreadAccess) → IsMade p b → p ≤ place)
+    → AreLastsOf (λ p b. IsMade p b ⊎ ((p ≡ place) × Contains accesses b)) (fold (keeping place) lists accesses)
+kept_all place [] IsMade lists h behind =
+    lasts_same IsMade (λ p b. IsMade p b ⊎ ((p ≡ place) × Contains [] b)) lists (λ p b is. inl is)
+    (λ p b is. elim is [ inl old ↦ old | inr new ↦ absurd (Contains-none b new.1) ]) h
+kept_all place (a ∷ accesses) IsMade lists h behind =
+    let M : ℕ → ThreadAccess → Type 0 = λ p b. IsMade p b ⊎ ((p ≡ place) × (b ≡ a)) in
+    let later : (p : ℕ) (b : ThreadAccess) → M p b → p ≤ place = λ p b is. elim is [
+      | inl old ↦ behind p b old
+      | inr new ↦ let e : p ≡ place = new.0 in omega arith
+    ] in
+    lasts_same (λ p b. M p b ⊎ ((p ≡ place) × Contains accesses b)) (λ p b. IsMade p b ⊎ ((p ≡ place) × Contains (a ∷ accesses) b))
+    (fold (keeping place) (kept lists (record { place = place; access = a })) accesses)
+    (λ p b is. elim is [
+      | inl one ↦ elim one [
+        | inl old ↦ inl old
+        | inr new ↦ inr (new.0, subst (λ (c : ThreadAccess). Contains (a ∷ accesses) c) (sym new.1) (Contains-here a accesses))
+      ]
+      | inr rest ↦ inr (rest.0, Contains-there a accesses b rest.1)
+    ])
+    (λ p b is. elim is [
+      | inl old ↦ inl (inl old)
+      | inr new ↦ elim (Contains-cons_cases a accesses b new.1) [
+        | inl e ↦ inl (inr (new.0, sym e))
+        | inr c ↦ inr (new.0, c)
+      ]
+    ])
+    (kept_all place accesses M (kept lists (record { place = place; access = a })) (kept_more IsMade lists place a h behind) later)
+
+pub fold_length : (place : ℕ) (accesses : List ThreadAccess) (lists : List (List Last)) → 0 < length lists
+    → length (fold (keeping place) lists accesses) ≡ length lists
+fold_length place [] lists some = refl
+fold_length place (a ∷ accesses) lists some =
+    let x : Last = record { place = place; access = a } in
+    let one : length (kept lists x) ≡ length lists = kept_length lists x some in
+    fold_length place accesses (kept lists x) (omega arith) ∙ one
+
+module _ (log : List Entry) (sites : List Site) (opening : ℕ) where
+  pub lasts_none : (n : ℕ) → 0 < n → AreLasts log sites opening 0 (replicate n no_list)
   lasts_none n some = record {
     some = some_lists n some;
-    in_order = λ k. subst (λ (l : List Last). AllPairs IsAhead l) (sym (empty_at n k)) (λ i j d lt within. absurd (omega arith));
+    once = λ k. subst (λ (l : List Last). AllPairs AreOther l) (sym (empty_at n k)) (λ i j d lt within. absurd (omega arith));
     made = λ k x h. absurd (Contains-none x (subst (λ (l : List Last). Contains l x) (empty_at n k) h));
-    all = λ place a lt h. absurd (omega arith);
+    all = λ place a h. let lt : place < 0 = h.0 in absurd (omega arith);
   }
 
-  pub lasts_skip : (end : ℕ) (lists : List (List Last)) → ((a : ThreadAccess) → IsAccess log kinds end a → ⊥)
-      → AreLasts log kinds end lists → AreLasts log kinds (end + 1) lists
-  lasts_skip end lists none h = record {
-    some = h.some;
-    in_order = h.in_order;
-    made = λ k x c. let m = h.made k x c in let lt : x.place < end = m.0 in (omega arith, m.1);
-    all = λ place a lt i. elim (cases_lt place end) [
-      | inl before ↦ h.all place a before i
-      | inr at ↦ let e : place ≡ end = omega arith in absurd (none a (subst (λ (p : ℕ). IsAccess log kinds p a) e i))
-    ];
-  }
-
-  module _ (end : ℕ) (lists new : List (List Last)) (a : ThreadAccess) (h : AreLasts log kinds end lists) (is : IsAccess log kinds end a)
-      (keeps : Keeps lists new (record { place = end; access = a })) where
-    abbrev last : Last
-    last = record { place = end; access = a }
-
-    -- where a byte's list is after
-    moved : (addr : ℕ) → list_for new addr ≡ get_or new (addr / 8 % length lists) []
-    moved addr = ap (λ (n : ℕ). get_or new (addr / 8 % n) []) keeps.count
-
-    -- what its list is
-    there : (k : ℕ) → k ≡ a.addr / 8 % length lists → get_or new k [] ≡ with_last last (list_for lists a.addr)
-    there k e = ap (λ (j : ℕ). get_or new j []) e ∙ (sym (moved a.addr) ∙ keeps.put)
-
-    in_order_more : (k : ℕ) → AllPairs IsAhead (get_or new k [])
-    in_order_more k =
-        elim (cases_eq k (a.addr / 8 % length lists)) [
-          | inl e ↦
-              subst (λ (l : List Last). AllPairs IsAhead l) (sym (there k e))
-              (put_in_order (list_for lists a.addr) last (λ x c. (h.made (a.addr / 8 % length lists) x c).0)
-              (h.in_order (a.addr / 8 % length lists)))
-          | inr ne ↦ subst (λ (l : List Last). AllPairs IsAhead l) (sym (keeps.others k ne)) (h.in_order k)
-        ]
-
-    made_more : (k : ℕ) (x : Last) → Contains (get_or new k []) x → (x.place < end + 1) × IsAccess log kinds x.place x.access
-    made_more k x c =
-        elim (cases_eq k (a.addr / 8 % length lists)) [
-          | inl e ↦
-              elim (put_from (list_for lists a.addr) last x (subst (λ (l : List Last). Contains l x) (there k e) c)) [
-                | inl old ↦
-                    let m = h.made (a.addr / 8 % length lists) x old in
-                    let lt : x.place < end = m.0 in (omega arith, m.1)
-                | inr f ↦
-                    let place : x.place ≡ end = ap (λ (z : Last). z.place) f in (
-                      omega arith,
-                      subst (λ (z : Last). IsAccess log kinds z.place z.access) (sym f) is,
-                    )
-              ]
-          | inr ne ↦
-              let m = h.made k x (subst (λ (l : List Last). Contains l x) (keeps.others k ne) c) in
-              let lt : x.place < end = m.0 in (omega arith, m.1)
-        ]
-
-    all_more : (place : ℕ) (b : ThreadAccess) → place < end + 1 → IsAccess log kinds place b
-        → (x : Last) × (Contains (list_for new b.addr) x × (x.access ≡ b) × (place ≤ x.place))
-    all_more place b lt i =
-        elim (cases_lt place end) [
-          | inl before ↦
-              let o = h.all place b before i in
-              let x : Last = o.0 in
-              let later : place ≤ x.place = o.1.2 in
-              elim (cases_eq (b.addr / 8 % length lists) (a.addr / 8 % length lists)) [
-                | inl e ↦
-                    let same : list_for lists b.addr ≡ list_for lists a.addr = ap (λ (j : ℕ). get_or lists j []) e in
-                    let back : with_last last (list_for lists a.addr) ≡ list_for new b.addr =
-                    sym (there (b.addr / 8 % length lists) e) ∙ sym (moved b.addr) in
-                    elim (put_kept (list_for lists a.addr) last x (subst (λ (l : List Last). Contains l x) same o.1.0)) [
-                      | inl kept ↦ (x, (subst (λ (l : List Last). Contains l x) back kept, o.1.1, later))
-                      | inr f ↦
-                          let ends : place ≤ end = omega arith in
-                          (last, (subst (λ (l : List Last). Contains l last) back (put_has (list_for lists a.addr) last), sym f ∙ o.1.1, ends))
-                    ]
-                | inr ne ↦
-                    let same : list_for new b.addr ≡ list_for lists b.addr = moved b.addr ∙ keeps.others (b.addr / 8 % length lists) ne in
-                    (x, (subst (λ (l : List Last). Contains l x) (sym same) o.1.0, o.1.1, later))
-              ]
-          | inr at ↦
-              let e : place ≡ end = omega arith in
-              let same : a ≡ b = IsAccess-same log kinds end a b is (subst (λ (p : ℕ). IsAccess log kinds p b) e i) in
-              let ends : place ≤ end = omega arith in
-              let has : Contains (list_for new a.addr) last =
-              subst (λ (l : List Last). Contains l last) (sym keeps.put) (put_has (list_for lists a.addr) last) in
-              (last, (subst (λ (z : ThreadAccess). Contains (list_for new z.addr) last) same has, same, ends))
-        ]
-
-    pub lasts_more : AreLasts log kinds (end + 1) new
-    lasts_more =
-        let some : 0 < length lists = h.some in
-        let count : length new ≡ length lists = keeps.count in
-        record { some = omega arith; in_order = in_order_more; made = made_more; all = all_more }
+  pub lasts_more : (end : ℕ) (lists : List (List Last)) (e : Entry) (site : Site) → IsAt log end e → IsAt sites end site
+      → AreLasts log sites opening end lists
+      → AreLasts log sites opening (end + 1) (fold (keeping end) lists (accesses_of e site opening))
+  lasts_more end lists e site at of h =
+      let accesses : List ThreadAccess = accesses_of e site opening in
+      let M : ℕ → ThreadAccess → Type 0 = IsMadeBefore log sites opening end in
+      lasts_same (λ p b. M p b ⊎ ((p ≡ end) × Contains accesses b)) (IsMadeBefore log sites opening (end + 1)) (fold (keeping end) lists accesses)
+      (λ p b is. elim is [
+        | inl old ↦ let lt : p < end = old.0 in (omega arith, old.1)
+        | inr new ↦
+            let here : p ≡ end = new.0 in (
+              omega arith,
+              subst (λ (k : ℕ). IsAccess log sites opening k b) (sym here) (access_made log sites opening end e site b at of new.1),
+            )
+      ])
+      (λ p b is.
+      let lt : p < end + 1 = is.0 in
+      elim (cases_lt p end) [
+        | inl before ↦ inl (before, is.1)
+        | inr le ↦
+            let here : p ≡ end = omega arith in
+            inr (here, made_here log sites opening end e site b at of (subst (λ (k : ℕ). IsAccess log sites opening k b) here is.1))
+      ])
+      (kept_all end accesses M lists h (λ p b is. let lt : p < end = is.0 in omega arith))
 
 -- the lists after one has one more
 pub table_set : (vs : List (Vec Last)) (k : ℕ) (old new : Vec Last) (x : Last) → k ≡ x.access.addr / 8 % length vs → k < length vs
     → old ≡ get_or vs k old → new.items ≡ with_last x old.items
-    → Keeps (map (λ (v : Vec Last). v.items) vs) (map (λ (v : Vec Last). v.items) (set vs k new)) x
+    → map (λ (v : Vec Last). v.items) (set vs k new) ≡ kept (map (λ (v : Vec Last). v.items) vs) x
 table_set vs k old new x e lt at is =
     let f : Vec Last → List Last = λ v. v.items in
     let long : length (map f vs) ≡ length vs = length-map vs f in
     let here : get_or (map f vs) k [] ≡ old.items = get_or-map f vs k old [] lt ∙ ap f (sym at) in
-    let put : new.items ≡ with_last x (get_or (map f vs) k []) = is ∙ ap (λ (l : List Last). with_last x l) (sym here) in
     let word : k ≡ x.access.addr / 8 % length (map f vs) = e ∙ ap (λ (n : ℕ). x.access.addr / 8 % n) (sym long) in
-    subst (λ (l : List (List Last)). Keeps (map f vs) l x) (sym (map-set f vs k new))
-    (keeps_set (map f vs) k new.items x word (omega arith) put)
+    let put : new.items ≡ with_last x (list_for (map f vs) x.access.addr) =
+    is ∙ (ap (λ (l : List Last). with_last x l) (sym here) ∙ ap (λ (j : ℕ). with_last x (get_or (map f vs) j [])) word) in
+    map-set f vs k new ∙ (ap (λ (l : List Last). set (map f vs) k l) put
+    ∙ ap (λ (j : ℕ). set (map f vs) j (with_last x (list_for (map f vs) x.access.addr))) word)

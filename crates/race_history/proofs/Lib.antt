@@ -9,5 +9,6 @@ pub mod Starting
 pub mod Before
 pub mod Gathering
 pub mod Clocked
+pub mod Clashing
 pub mod Racing
 pub mod Legal

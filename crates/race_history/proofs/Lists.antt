@@ -1,10 +1,14 @@
 -- Lists: what they contain, and what stands where.
-use Rattle.std.proofs.Common.{◌≡◌, ◌∙◌, ◌⊎◌, ◌<◌, ◌≤◌, ◌+◌, ◌-◌, ◌++◌, ℕ, zero, suc, List, [], ◌∷◌, Bool, true, length}
+use Rattle.std.proofs.Common.{◌≡◌, ◌∙◌, ◌⊎◌, ◌<◌, ◌≤◌, ◌+◌, ◌-◌, ◌++◌, ℕ, zero, suc, List, [], ◌∷◌, Bool, true, length, Option, Some, None}
 use Rattle.std.proofs.Common.{get_or, map, filter, take, inl, inr, refl, sym, ap, subst, arith}
-use Rattle.std.specs.List.{AllPairs, Contains}
+use Rattle.std.specs.List.{AllPairs, Contains, fold}
+use Rattle.std.specs.Option.{option_to_list}
 use Rattle.std.proofs.lemmas.Bool.{cases_Bool, cases_lt, cond-true, cond-false, cond_both}
 use Rattle.std.proofs.lemmas.List.{get_or-append_right, get_or-map, get_or-take, get_or_append_left, get_or_default}
-use Rattle.std.proofs.lemmas.List.{get_or_push, length-append, length-map, length-take-le, length_push, take_more}
+use Rattle.std.proofs.lemmas.List.{get_or_past, get_or_push, length-append, length-map, length-take-le, length_push, take_more}
+use Rattle.std.proofs.lemmas.List.Elements.{Contains-append_cases, Contains-append_left, Contains-append_right, Contains-push}
+use Rattle.std.proofs.lemmas.List.Elements.{Contains-push_cases}
+use Rattle.std.proofs.lemmas.Option.{none-some, same_Some}
 use Rattle.race_history.specs.Places.{IsAt}
 
 module _ {X : Type 0} where
@@ -125,6 +129,88 @@ module _ {X : Type 0} where
   -- a list with one more at its end
   pub grown : (P : List X → Type 0) (xs : List X) (k : ℕ) (x : X) → k < length xs → x ≡ get_or xs k x → P (take k xs ++ x ∷ []) → P (take (k + 1) xs)
   grown P xs k x lt is h = subst P (sym (take_more xs k x lt ∙ ap (λ (y : X). take k xs ++ y ∷ []) (sym is))) h
+
+  -- an option's list
+  pub some_in : (o : Option X) (x : X) → Contains (option_to_list o) x → o ≡ Some x
+  some_in None x c = absurd (Contains-none x c)
+  some_in (Some y) x c = elim (Contains-cons_cases y [] x c) [ inl e ↦ ap (λ (z : X). Some z) e | inr r ↦ absurd (Contains-none x r) ]
+
+  pub in_some : (o : Option X) (x : X) → o ≡ Some x → Contains (option_to_list o) x
+  in_some None x e = absurd (none-some x e)
+  in_some (Some y) x e = subst (λ (z : X). Contains (y ∷ []) z) (same_Some y x e) (Contains-here y [])
+
+  -- a list that is one longer has what it had, and the last
+  pub Contains-more : (xs : List X) (k : ℕ) (d x : X) → k < length xs → Contains (take (k + 1) xs) x
+      → Contains (take k xs) x ⊎ (get_or xs k d ≡ x)
+  Contains-more xs k d x lt c =
+      Contains-push_cases (take k xs) (get_or xs k d) x (subst (λ (l : List X). Contains l x) (take_more xs k d lt) c)
+
+  pub more-Contains : (xs : List X) (k : ℕ) (d x : X) → k < length xs → Contains (take k xs) x ⊎ (get_or xs k d ≡ x)
+      → Contains (take (k + 1) xs) x
+  more-Contains xs k d x lt h =
+      subst (λ (l : List X). Contains l x) (sym (take_more xs k d lt))
+      (elim h [
+        | inl old ↦ Contains-append_left (take k xs) (get_or xs k d ∷ []) x old
+        | inr e ↦ subst (λ (z : X). Contains (take k xs ++ get_or xs k d ∷ []) z) e (Contains-push (take k xs) (get_or xs k d))
+      ])
+
+-- lists that are put one behind the other
+module _ {X Y : Type 0} (f : X → List Y) where
+  abbrev joining : List Y → X → List Y
+  joining ys x = ys ++ f x
+
+  pub fold_from : (xs : List X) (ys : List Y) (y : Y) → Contains (fold joining ys xs) y
+      → Contains ys y ⊎ ((x : X) × (Contains xs x × Contains (f x) y))
+  fold_from [] ys y c = inl c
+  fold_from (x ∷ xs) ys y c = elim (fold_from xs (ys ++ f x) y c) [
+    | inl before ↦ elim (Contains-append_cases ys (f x) y before) [
+      | inl old ↦ inl old
+      | inr new ↦ inr (x, (Contains-here x xs, new))
+    ]
+    | inr r ↦ inr (r.0, (Contains-there x xs r.0 r.1.0, r.1.1))
+  ]
+
+  pub fold_old : (xs : List X) (ys : List Y) (y : Y) → Contains ys y → Contains (fold joining ys xs) y
+  fold_old [] ys y c = c
+  fold_old (x ∷ xs) ys y c = fold_old xs (ys ++ f x) y (Contains-append_left ys (f x) y c)
+
+  pub fold_to : (xs : List X) (ys : List Y) (x : X) (y : Y) → Contains xs x → Contains (f x) y → Contains (fold joining ys xs) y
+  fold_to [] ys x y c d = absurd (Contains-none x c)
+  fold_to (z ∷ xs) ys x y c d = elim (Contains-cons_cases z xs x c) [
+    | inl e ↦
+        fold_old xs (ys ++ f z) y (Contains-append_right ys (f z) y (subst (λ (w : X). Contains (f w) y) (sym e) d))
+    | inr r ↦ fold_to xs (ys ++ f z) x y r d
+  ]
+
+-- a list of lists with one more, whose lists have what stands in a relation to their places
+module _ {X : Type 0} (R : X → ℕ → Type 0) (end : ℕ) (ws : List (List X)) (l : List X) (count : length ws ≡ end) where
+  pub lists_from : ((x : X) (k : ℕ) → Contains (get_or ws k []) x → R x k) → ((x : X) → Contains l x → R x end)
+      → (x : X) (k : ℕ) → Contains (get_or (ws ++ l ∷ []) k []) x → R x k
+  lists_from old new x k c = elim (cases_lt k end) [
+    | inl before ↦
+        let lt : k < length ws = omega arith in
+        old x k (subst (λ (y : List X). Contains y x) (get_or_append_left ws (l ∷ []) [] k lt) c)
+    | inr le ↦ elim (cases_lt end k) [
+      | inl after ↦
+          let long : length (ws ++ l ∷ []) ≡ length ws + 1 = length_push ws l in
+          let past : length (ws ++ l ∷ []) ≤ k = omega arith in
+          absurd (Contains-none x (subst (λ (y : List X). Contains y x) (get_or_past (ws ++ l ∷ []) k [] past) c))
+      | inr ge ↦
+          let e : k ≡ end = omega arith in
+          subst (R x) (sym e) (new x (subst (λ (y : List X). Contains y x) (get_or_push ws l [] k (count ∙ sym e)) c))
+    ]
+  ]
+
+  pub lists_all : ((x : X) (k : ℕ) → k < end → R x k → Contains (get_or ws k []) x) → ((x : X) → R x end → Contains l x)
+      → (x : X) (k : ℕ) → k < end + 1 → R x k → Contains (get_or (ws ++ l ∷ []) k []) x
+  lists_all old new x k lt r = elim (cases_lt k end) [
+    | inl before ↦
+        let within : k < length ws = omega arith in
+        subst (λ (y : List X). Contains y x) (sym (get_or_append_left ws (l ∷ []) [] k within)) (old x k before r)
+    | inr le ↦
+        let e : k ≡ end = omega arith in
+        subst (λ (y : List X). Contains y x) (sym (get_or_push ws l [] k (count ∙ sym e))) (new x (subst (R x) e r))
+  ]
 
 module _ {X Y : Type 0} (f : X → Y) where
   pub Contains-map : (xs : List X) (y : Y) → Contains (map f xs) y → (x : X) × (Contains xs x × (f x ≡ y))

@@ -1,7 +1,11 @@
--- What stands at a place of a history, and what access it makes.
-use Rattle.std.proofs.Common.{◌≡◌, ◌∙◌, ◌≤◌, ◌+◌, ◌%◌, ◌⊎◌, ℕ, List, true, false, Option, Some, None, inl, inr, refl, sym, ap, subst, arith}
+-- What stands at a place of a history, and which accesses it makes.
+use Rattle.std.proofs.Common.{◌≡◌, ◌∙◌, ◌≤◌, ◌+◌, ◌++◌, ◌%◌, ◌⊎◌, ℕ, List, Bool, true, false, Option, Some, None, inl, inr, refl, sym, ap, subst, arith, not}
+use Rattle.std.specs.Prelude.{if◌then◌else◌, nat_lt}
+use Rattle.std.specs.List.{Contains}
+use Rattle.std.specs.Option.{option_to_list}
 use Rattle.std.proofs.lemmas.Bool.{cond_both}
-use Rattle.std.proofs.lemmas.Option.{none-some, same_Some}
+use Rattle.std.proofs.lemmas.List.Elements.{Contains-append_cases}
+use Rattle.std.proofs.lemmas.Option.{cond_some, none-some, same_Some}
 use Rattle.types.specs.declared.event.Entry.{Entry}
 use Rattle.types.specs.declared.event.Event.{Event}
 use Rattle.types.specs.declared.event.Event.TheVariants.{Size, Grow, Load, Store, Rmw, Cmpxchg, Ask, Told}
@@ -10,13 +14,21 @@ use Rattle.types.specs.declared.event.Reply.{Reply}
 use Rattle.shared_memory.specs.Events.{IsAtomic, IsEvent}
 use Rattle.shared_memory.specs.History.{AreEntries, IsEntry}
 use Rattle.race_history.specs.declared.access.ThreadAccess.{ThreadAccess}
-use Rattle.race_history.specs.declared.access.AccessKind.{AccessKind}
-use Rattle.race_history.specs.Accesses.{access_of, access_within, changing, has_value, is_atomic, is_out_of_bounds, reading}
+use Rattle.race_history.specs.declared.access.Site.{Site}
+use Rattle.race_history.specs.declared.access.Location.{Location}
+use Rattle.race_history.specs.declared.access.Location.TheVariants.{Bytes, Pages, Waiters, Threads}
+use Rattle.race_history.specs.Accesses.{accesses_of, bytes_of, bytes_within, call_of, call_within, changing, counting, end_of, entering}
+use Rattle.race_history.specs.Accesses.{has_value, is_atomic, is_out_of_bounds, pages_of, pages_within, reading}
 use Rattle.race_history.specs.Places.{IsAt, IsAccess, thread_at}
 use Rattle.race_history.specs.Lasts.{IsInWord}
-use Rattle.race_history.proofs.Lists.{IsAt-same, map-at}
+use Rattle.race_history.proofs.Lists.{IsAt-same, map-at, some_in}
 
--- what an entry's access is like, if each event's is
+-- an access of a thread to a location
+record IsTo (n : ℕ) (l : Location) (a : ThreadAccess) : Type 0 where
+  pub thread : n ≡ a.thread
+  pub location : a.location ≡ l
+
+-- what holds of one holds of the other
 module _ (P : ThreadAccess → Type 0) where
   of_some : (r a : ThreadAccess) → Some r ≡ Some a → P r → P a
   of_some r a e h = subst P (same_Some r a e) h
@@ -24,28 +36,81 @@ module _ (P : ThreadAccess → Type 0) where
   of_none : (a : ThreadAccess) → None ≡ Some a → P a
   of_none a e = absurd (none-some a e)
 
-  pub of_entry : (e : Entry) (kind : AccessKind) (a : ThreadAccess) → access_of e kind ≡ Some a
-      → (access_within e.thread e.event e.reply kind ≡ Some a → P a) → P a
-  of_entry e kind a is h =
-      cond_both (is_out_of_bounds e.reply) None (access_within e.thread e.event e.reply kind) (λ (o : Option ThreadAccess). o ≡ Some a → P a)
-      (λ out. of_none a) (λ within. h) is
+in_bounds : (out : Bool) (o : Option ThreadAccess) (a : ThreadAccess) → (if out then None else o) ≡ Some a → o ≡ Some a
+in_bounds out o a = cond_both out None o (λ (p : Option ThreadAccess). p ≡ Some a → o ≡ Some a) (λ is e. absurd (none-some a e)) (λ isnt e. e)
 
--- it is of the entry's thread
-thread_within : (n : ℕ) (event : Event) (reply : Reply) (kind : AccessKind) (a : ThreadAccess) → access_within n event reply kind ≡ Some a → n ≡ a.thread
-thread_within n (Load addr width reach) reply kind a e = of_some (λ (b : ThreadAccess). n ≡ b.thread) (reading n addr width (is_atomic kind)) a e refl
-thread_within n (Store addr width reach value) reply kind a e =
-    of_some (λ (b : ThreadAccess). n ≡ b.thread)
-    (record { thread = n; addr = addr; width = width; reads = false; writes = true; atomic = is_atomic kind }) a e refl
-thread_within n (Rmw op addr width value) reply kind a e = of_some (λ (b : ThreadAccess). n ≡ b.thread) (changing n addr width true) a e refl
-thread_within n (Cmpxchg addr width expected replacement) reply kind a e =
-    of_some (λ (b : ThreadAccess). n ≡ b.thread) (changing n addr width (has_value reply expected)) a e refl
-thread_within n (Ask (Wait addr width expected timeout)) reply kind a e = of_some (λ (b : ThreadAccess). n ≡ b.thread) (reading n addr width true) a e refl
-thread_within n (Ask (Notify addr count)) reply kind a e = of_none (λ (b : ThreadAccess). n ≡ b.thread) a e
-thread_within n (Ask (Spawn arg)) reply kind a e = of_none (λ (b : ThreadAccess). n ≡ b.thread) a e
-thread_within n (Ask Leave) reply kind a e = of_none (λ (b : ThreadAccess). n ≡ b.thread) a e
-thread_within n (Told answer) reply kind a e = of_none (λ (b : ThreadAccess). n ≡ b.thread) a e
-thread_within n Size reply kind a e = of_none (λ (b : ThreadAccess). n ≡ b.thread) a e
-thread_within n (Grow more) reply kind a e = of_none (λ (b : ThreadAccess). n ≡ b.thread) a e
+module _ (n : ℕ) (a : ThreadAccess) where
+  made_to : (l : Location) (r : ThreadAccess) → Some r ≡ Some a → n ≡ r.thread → r.location ≡ l → IsTo n l a
+  made_to l r e thread location = of_some (IsTo n l) r a e (record { thread = thread; location = location })
+
+  bytes_to : (event : Event) (reply : Reply) (site : Site) → bytes_within n event reply site ≡ Some a → IsTo n Bytes a
+  bytes_to (Load addr width reach) reply site e = made_to Bytes (reading n addr width (is_atomic site.kind) site.code) e refl refl
+  bytes_to (Store addr width reach value) reply site e =
+      made_to Bytes (record {
+        thread = n;
+        location = Bytes;
+        addr = addr;
+        width = width;
+        reads = false;
+        writes = true;
+        atomic = is_atomic site.kind;
+        code = site.code;
+      }) e refl refl
+  bytes_to (Rmw op addr width value) reply site e = made_to Bytes (changing n addr width true site.code) e refl refl
+  bytes_to (Cmpxchg addr width expected replacement) reply site e =
+      made_to Bytes (changing n addr width (has_value reply expected) site.code) e refl refl
+  bytes_to (Ask (Wait addr width expected timeout)) reply site e = made_to Bytes (reading n addr width true site.code) e refl refl
+  bytes_to (Ask (Notify addr count)) reply site e = of_none (IsTo n Bytes) a e
+  bytes_to (Ask (Spawn arg)) reply site e = of_none (IsTo n Bytes) a e
+  bytes_to (Ask Leave) reply site e = of_none (IsTo n Bytes) a e
+  bytes_to (Told answer) reply site e = of_none (IsTo n Bytes) a e
+  bytes_to Size reply site e = of_none (IsTo n Bytes) a e
+  bytes_to (Grow more) reply site e = of_none (IsTo n Bytes) a e
+
+  abbrev IsCall : Type 0
+  IsCall = IsInWord a × (IsTo n Waiters a ⊎ IsTo n Threads a)
+
+  one_wide : (r : ThreadAccess) → Some r ≡ Some a → r.width ≡ 1 → IsInWord a
+  one_wide r e wide = of_some IsInWord r a e (let addr : ℕ = r.addr in record { some = omega arith; one_word = omega arith })
+
+  no_call : None ≡ Some a → IsCall
+  no_call e = absurd (none-some a e)
+
+  calls_to : (event : Event) → call_within n event ≡ Some a → IsCall
+  calls_to (Ask (Wait addr width expected timeout)) e =
+      (one_wide (entering n Waiters addr) e refl, inl (made_to Waiters (entering n Waiters addr) e refl refl))
+  calls_to (Ask (Notify addr count)) e =
+      (one_wide (entering n Waiters addr) e refl, inl (made_to Waiters (entering n Waiters addr) e refl refl))
+  calls_to (Ask (Spawn arg)) e = (one_wide (entering n Threads 0) e refl, inr (made_to Threads (entering n Threads 0) e refl refl))
+  calls_to (Ask Leave) e = no_call e
+  calls_to (Told answer) e = no_call e
+  calls_to Size e = no_call e
+  calls_to (Grow more) e = no_call e
+  calls_to (Load addr width reach) e = no_call e
+  calls_to (Store addr width reach value) e = no_call e
+  calls_to (Rmw op addr width value) e = no_call e
+  calls_to (Cmpxchg addr width expected replacement) e = no_call e
+
+  abbrev IsCount : Type 0
+  IsCount = IsInWord a × IsTo n Pages a
+
+  counts : (writes atomic : Bool) → Some (counting n writes atomic) ≡ Some a → IsCount
+  counts writes atomic e = (one_wide (counting n writes atomic) e refl, made_to Pages (counting n writes atomic) e refl refl)
+
+  looks : (event : Event) (opening : ℕ) → (if nat_lt opening (end_of event) then Some (counting n false false) else None) ≡ Some a → IsCount
+  looks event opening e =
+      let p = cond_some (nat_lt opening (end_of event)) (counting n false false) a e in
+      counts false false (ap (λ (b : ThreadAccess). Some b) p.1)
+
+  counts_to : (event : Event) (reply : Reply) (opening : ℕ) → pages_within n event reply opening ≡ Some a → IsCount
+  counts_to Size reply opening e = counts false true e
+  counts_to (Grow more) reply opening e = counts (not (has_value reply 4294967295)) true e
+  counts_to (Load addr width reach) reply opening e = looks (Load addr width reach) opening e
+  counts_to (Store addr width reach value) reply opening e = looks (Store addr width reach value) opening e
+  counts_to (Rmw op addr width value) reply opening e = looks (Rmw op addr width value) opening e
+  counts_to (Cmpxchg addr width expected replacement) reply opening e = looks (Cmpxchg addr width expected replacement) opening e
+  counts_to (Ask question) reply opening e = looks (Ask question) opening e
+  counts_to (Told answer) reply opening e = looks (Told answer) opening e
 
 -- a width that divides an address keeps within a word
 atomic_in_word : (addr width : ℕ) → IsAtomic addr width → (1 ≤ width) × (addr % 8 + width ≤ 8)
@@ -71,61 +136,122 @@ wait_in_word addr width either aligned =
       | inr e ↦ atomic_in_word addr width (record { of_width = inr (inr (inr e)); aligned = aligned })
     ]
 
-module _ (n : ℕ) (reply : Reply) (kind : AccessKind) (a : ThreadAccess) where
+module _ (n : ℕ) (reply : Reply) (site : Site) (a : ThreadAccess) where
   in_word : (r : ThreadAccess) → Some r ≡ Some a → (1 ≤ r.width) × (r.addr % 8 + r.width ≤ 8) → IsInWord a
   in_word r e h = of_some IsInWord r a e (record { some = h.0; one_word = h.1 })
 
-  word_within : (event : Event) → IsEvent event → access_within n event reply kind ≡ Some a → IsInWord a
-  word_within (Load addr width reach) h e = in_word (reading n addr width (is_atomic kind)) e (h.some, h.one_word)
-  word_within (Store addr width reach value) h e =
-      in_word (record { thread = n; addr = addr; width = width; reads = false; writes = true; atomic = is_atomic kind }) e (h.0.some, h.0.one_word)
-  word_within (Rmw op addr width value) h e = in_word (changing n addr width true) e (atomic_in_word addr width h.0)
-  word_within (Cmpxchg addr width expected replacement) h e =
-      in_word (changing n addr width (has_value reply expected)) e (atomic_in_word addr width h.0)
-  word_within (Ask (Wait addr width expected timeout)) h e = in_word (reading n addr width true) e (wait_in_word addr width h.0 h.1)
-  word_within (Ask (Notify addr count)) h e = of_none IsInWord a e
-  word_within (Ask (Spawn arg)) h e = of_none IsInWord a e
-  word_within (Ask Leave) h e = of_none IsInWord a e
-  word_within (Told answer) h e = of_none IsInWord a e
-  word_within Size h e = of_none IsInWord a e
-  word_within (Grow more) h e = of_none IsInWord a e
+  bytes_word : (event : Event) → IsEvent event → bytes_within n event reply site ≡ Some a → IsInWord a
+  bytes_word (Load addr width reach) h e = in_word (reading n addr width (is_atomic site.kind) site.code) e (h.some, h.one_word)
+  bytes_word (Store addr width reach value) h e =
+      in_word (record {
+        thread = n;
+        location = Bytes;
+        addr = addr;
+        width = width;
+        reads = false;
+        writes = true;
+        atomic = is_atomic site.kind;
+        code = site.code;
+      }) e (h.0.some, h.0.one_word)
+  bytes_word (Rmw op addr width value) h e = in_word (changing n addr width true site.code) e (atomic_in_word addr width h.0)
+  bytes_word (Cmpxchg addr width expected replacement) h e =
+      in_word (changing n addr width (has_value reply expected) site.code) e (atomic_in_word addr width h.0)
+  bytes_word (Ask (Wait addr width expected timeout)) h e = in_word (reading n addr width true site.code) e (wait_in_word addr width h.0 h.1)
+  bytes_word (Ask (Notify addr count)) h e = of_none IsInWord a e
+  bytes_word (Ask (Spawn arg)) h e = of_none IsInWord a e
+  bytes_word (Ask Leave) h e = of_none IsInWord a e
+  bytes_word (Told answer) h e = of_none IsInWord a e
+  bytes_word Size h e = of_none IsInWord a e
+  bytes_word (Grow more) h e = of_none IsInWord a e
 
-module _ (log : List Entry) (kinds : List AccessKind) where
-  -- an entry makes one access
-  pub IsAccess-same : (place : ℕ) (a b : ThreadAccess) → IsAccess log kinds place a → IsAccess log kinds place b → a ≡ b
-  IsAccess-same place a b h i =
-      let e : h.entry ≡ i.entry = IsAt-same log place h.entry i.entry h.entered i.entered in
-      let k : h.kind ≡ i.kind = IsAt-same kinds place h.kind i.kind h.kinded i.kinded in
-      let same : access_of h.entry h.kind ≡ access_of i.entry i.kind =
-      ap (λ (x : Entry). access_of x h.kind) e ∙ ap (λ (x : AccessKind). access_of i.entry x) k in
-      same_Some a b (sym h.made ∙ (same ∙ i.made))
+module _ (e : Entry) (site : Site) (opening : ℕ) where
+  -- the access to a location
+  abbrev at_location : Location → Option ThreadAccess
+  at_location Bytes = bytes_of e site
+  at_location Pages = pages_of e opening
+  at_location Waiters = call_of e
+  at_location Threads = call_of e
+
+  bytes_is : (a : ThreadAccess) → bytes_of e site ≡ Some a → IsTo e.thread Bytes a
+  bytes_is a is = bytes_to e.thread a e.event e.reply site (in_bounds (is_out_of_bounds e.reply) (bytes_within e.thread e.event e.reply site) a is)
+
+  call_is : (a : ThreadAccess) → call_of e ≡ Some a → IsCall e.thread a
+  call_is a is = calls_to e.thread a e.event (in_bounds (is_out_of_bounds e.reply) (call_within e.thread e.event) a is)
+
+  count_is : (a : ThreadAccess) → pages_of e opening ≡ Some a → IsCount e.thread a
+  count_is a is = counts_to e.thread a e.event e.reply opening is
+
+  parts : (a : ThreadAccess) → Contains (accesses_of e site opening) a
+      → (bytes_of e site ≡ Some a) ⊎ (call_of e ≡ Some a) ⊎ (pages_of e opening ≡ Some a)
+  parts a c =
+      elim (Contains-append_cases (option_to_list (bytes_of e site) ++ option_to_list (call_of e)) (option_to_list (pages_of e opening)) a c) [
+        | inl two ↦ elim (Contains-append_cases (option_to_list (bytes_of e site)) (option_to_list (call_of e)) a two) [
+          | inl b ↦ inl (some_in (bytes_of e site) a b)
+          | inr l ↦ inr (inl (some_in (call_of e) a l))
+        ]
+        | inr p ↦ inr (inr (some_in (pages_of e opening) a p))
+      ]
+
+  -- the access to its location is this one
+  one_each : (a : ThreadAccess) → Contains (accesses_of e site opening) a → at_location a.location ≡ Some a
+  one_each a c = elim (parts a c) [
+    | inl b ↦ ap at_location (bytes_is a b).location ∙ b
+    | inr more ↦ elim more [
+      | inl l ↦ elim (call_is a l).1 [
+        | inl waits ↦ ap at_location waits.location ∙ l
+        | inr starts ↦ ap at_location starts.location ∙ l
+      ]
+      | inr p ↦ ap at_location (count_is a p).1.location ∙ p
+    ]
+  ]
+
+  of_thread : (a : ThreadAccess) → Contains (accesses_of e site opening) a → e.thread ≡ a.thread
+  of_thread a c = elim (parts a c) [
+    | inl b ↦ (bytes_is a b).thread
+    | inr more ↦ elim more [
+      | inl l ↦ elim (call_is a l).1 [ inl waits ↦ waits.thread | inr starts ↦ starts.thread ]
+      | inr p ↦ (count_is a p).1.thread
+    ]
+  ]
+
+  within_word : IsEvent e.event → (a : ThreadAccess) → Contains (accesses_of e site opening) a → IsInWord a
+  within_word is a c = elim (parts a c) [
+    | inl b ↦
+        bytes_word e.thread e.reply site a e.event is
+        (in_bounds (is_out_of_bounds e.reply) (bytes_within e.thread e.event e.reply site) a b)
+    | inr more ↦ elim more [ inl l ↦ (call_is a l).0 | inr p ↦ (count_is a p).0 ]
+  ]
+
+module _ (log : List Entry) (sites : List Site) (opening : ℕ) where
+  -- the entry and the site at a place are these
+  pub made_here : (place : ℕ) (e : Entry) (site : Site) (a : ThreadAccess) → IsAt log place e → IsAt sites place site → IsAccess log sites opening place a
+      → Contains (accesses_of e site opening) a
+  made_here place e site a at of h =
+      subst (λ (x : Entry). Contains (accesses_of x site opening) a) (IsAt-same log place h.entry e h.entered at)
+      (subst (λ (x : Site). Contains (accesses_of h.entry x opening) a) (IsAt-same sites place h.site site h.sited of) h.made)
+
+  -- an entry makes one access to a location
+  pub IsAccess-same : (place : ℕ) (a b : ThreadAccess) → IsAccess log sites opening place a → IsAccess log sites opening place b
+      → a.location ≡ b.location → a ≡ b
+  IsAccess-same place a b h i to =
+      let c = made_here place h.entry h.site b h.entered h.sited i in
+      same_Some a b (sym (one_each h.entry h.site opening a h.made)
+      ∙ (ap (at_location h.entry h.site opening) to ∙ one_each h.entry h.site opening b c))
 
   pub thread_is : (place : ℕ) (e : Entry) → IsAt log place e → thread_at log place ≡ e.thread
   thread_is place e h = map-at (λ (x : Entry). x.thread) log place e 0 h
 
-  pub access_thread : (place : ℕ) (a : ThreadAccess) → IsAccess log kinds place a → thread_at log place ≡ a.thread
-  access_thread place a h =
-      let e : Entry = h.entry in
-      thread_is place e h.entered
-      ∙ of_entry (λ (b : ThreadAccess). e.thread ≡ b.thread) e h.kind a h.made (thread_within e.thread e.event e.reply h.kind a)
+  pub access_thread : (place : ℕ) (a : ThreadAccess) → IsAccess log sites opening place a → thread_at log place ≡ a.thread
+  access_thread place a h = thread_is place h.entry h.entered ∙ of_thread h.entry h.site opening a h.made
 
   -- and within a word
-  pub access_word : AreEntries log → (place : ℕ) (a : ThreadAccess) → IsAccess log kinds place a → IsInWord a
+  pub access_word : AreEntries log → (place : ℕ) (a : ThreadAccess) → IsAccess log sites opening place a → IsInWord a
   access_word entries place a h =
       let e : Entry = h.entry in
       let P : Entry → Type 0 = IsEntry in
       let is : IsEntry e = subst P h.entered.is (entries place e h.entered.within) in
-      of_entry IsInWord e h.kind a h.made (word_within e.thread e.reply h.kind a e.event is.event)
+      within_word e h.site opening is.event a h.made
 
-  pub access_made : (place : ℕ) (e : Entry) (kind : AccessKind) (a : ThreadAccess) → IsAt log place e → IsAt kinds place kind → access_of e kind ≡ Some a
-      → IsAccess log kinds place a
-  access_made place e kind a at of is = record { entry = e; kind = kind; entered = at; kinded = of; made = is }
-
-  -- none is made where the test says so
-  pub no_access : (place : ℕ) (e : Entry) (kind : AccessKind) → IsAt log place e → IsAt kinds place kind → access_of e kind ≡ None
-      → (a : ThreadAccess) → IsAccess log kinds place a → ⊥
-  no_access place e kind at of none a h =
-      let same : access_of h.entry h.kind ≡ access_of e kind =
-      ap (λ (x : Entry). access_of x h.kind) (IsAt-same log place h.entry e h.entered at)
-      ∙ ap (λ (x : AccessKind). access_of e x) (IsAt-same kinds place h.kind kind h.kinded of) in
-      none-some a (sym none ∙ (sym same ∙ h.made))
+  pub access_made : (place : ℕ) (e : Entry) (site : Site) (a : ThreadAccess) → IsAt log place e → IsAt sites place site
+      → Contains (accesses_of e site opening) a → IsAccess log sites opening place a
+  access_made place e site a at of is = record { entry = e; site = site; entered = at; sited = of; made = is }

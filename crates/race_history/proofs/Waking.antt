@@ -1,9 +1,9 @@
 -- Who was woken and hasn't taken the answer, and whom an answer taken was due to.
-use Rattle.std.proofs.Common.{◌≡◌, ◌∙◌, ◌<◌, ◌≤◌, ◌+◌, ◌++◌, ◌==◌, ℕ, List, [], ◌∷◌, Bool, true, false, not, length}
+use Rattle.std.proofs.Common.{◌≡◌, ◌∙◌, ◌<◌, ◌+◌, ◌++◌, ◌==◌, ℕ, List, [], ◌∷◌, Bool, true, false, not, length}
 use Rattle.std.proofs.Common.{map, filter, take, inl, inr, refl, sym, ap, subst, arith}
 use Rattle.std.specs.List.{Contains, list_any}
 use Rattle.std.proofs.lemmas.Bool.{both_ways, cases_lt, cond-true, cond_both, eq-eqb, eqb-true, ne_eqb, not-true, not_from_false, or_cases}
-use Rattle.std.proofs.lemmas.List.{get_or_append_left, get_or_past, get_or_push, length_push}
+use Rattle.std.proofs.lemmas.List.{length_push}
 use Rattle.std.proofs.lemmas.List.Elements.{Contains-append_cases, Contains-append_left, Contains-append_right}
 use Rattle.std.proofs.lemmas.List.Folds.{list_any_at}
 use Rattle.types.specs.declared.event.Entry.{Entry}
@@ -19,7 +19,7 @@ use Rattle.race_history.specs.Places.{IsAt, is_told, is_told_at, thread_at}
 use Rattle.race_history.specs.Order.{IsWakeOf, Wakes}
 use Rattle.race_history.specs.Calls.{AreWakers, AreWoken, IsPending, noted, noted_after, notified, noting, wakers_at}
 use Rattle.race_history.proofs.Lists.{Contains-filter, Contains-here, Contains-map, Contains-none, Contains-there}
-use Rattle.race_history.proofs.Lists.{IsAt-same, filter-Contains, map-Contains, map-at}
+use Rattle.race_history.proofs.Lists.{IsAt-same, filter-Contains, lists_all, lists_from, map-Contains, map-at}
 
 any_has : {X : Type 0} (p : X → Bool) (xs : List X) → list_any p xs ≡ true → (x : X) × (Contains xs x × (p x ≡ true))
 any_has p [] h = absurd (both_ways false refl h)
@@ -257,28 +257,6 @@ wakers_more log end ws l h from to =
     let count : length ws ≡ end = h.count in
     record {
       count = length_push ws l ∙ ap (λ (n : ℕ). n + 1) count;
-      from = λ first second c. elim (cases_lt second end) [
-        | inl before ↦
-            let lt : second < length ws = omega arith in
-            h.from first second (subst (λ (x : List ℕ). Contains x first) (get_or_append_left ws (l ∷ []) [] second lt) c)
-        | inr le ↦ elim (cases_lt end second) [
-          | inl after ↦
-              let long : length (ws ++ l ∷ []) ≡ length ws + 1 = length_push ws l in
-              let past : length (ws ++ l ∷ []) ≤ second = omega arith in
-              absurd (Contains-none first (subst (λ (x : List ℕ). Contains x first) (get_or_past (ws ++ l ∷ []) second [] past) c))
-          | inr ge ↦
-              let e : second ≡ end = omega arith in
-              subst (λ (n : ℕ). Wakes log first n) (sym e)
-              (from first (subst (λ (x : List ℕ). Contains x first) (get_or_push ws l [] second (count ∙ sym e)) c))
-        ]
-      ];
-      all = λ first second lt r. elim (cases_lt second end) [
-        | inl before ↦
-            let within : second < length ws = omega arith in
-            subst (λ (x : List ℕ). Contains x first) (sym (get_or_append_left ws (l ∷ []) [] second within)) (h.all first second before r)
-        | inr le ↦
-            let e : second ≡ end = omega arith in
-            subst (λ (x : List ℕ). Contains x first) (sym (get_or_push ws l [] second (count ∙ sym e)))
-            (to first (subst (λ (n : ℕ). Wakes log first n) e r))
-      ];
+      from = lists_from (Wakes log) end ws l count h.from from;
+      all = lists_all (Wakes log) end ws l count h.all to;
     }

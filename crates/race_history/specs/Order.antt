@@ -1,11 +1,12 @@
 -- Which entries of a history happen before which.
 --
 -- As in the threads proposal ("Memory model"), it is the transitive closure of each thread's own order and of what
--- synchronizes: an atomic write with an atomic read of exactly the same bytes that reads from it. A history is in the
--- order of one sequentially consistent memory, so a read reads from the last write before it. Atomic accesses of
--- different ranges order nothing, as there. Threads are the host's: here a spawn comes before all of its thread. A notify
--- comes before the answer of each thread that it wakes, and orders nothing else; ECMAScript orders any two calls at one
--- list of waiters, so where only such calls lie between two accesses, here they race.
+-- synchronizes: an atomic write with an atomic read of exactly the same bytes of one location that reads from it. A
+-- history is in the order of one sequentially consistent memory, so a read reads from the last write before it. Atomic
+-- accesses of different ranges order nothing, as there. By the locations beside the bytes a memory.grow comes before the
+-- next memory.grow or memory.size and one that succeeded before all of these, the waits and notifies at one list of
+-- waiters are in their order, and so are the spawns. Threads are the host's: a spawn comes before all of its thread, and a
+-- notify before the answer of each thread that it wakes. A timeout orders nothing, nor does a thread's end by itself.
 use Rattle.std.specs.Prelude.{ℕ, ◌≡◌, ◌⊎◌, ◌+◌, ◌<◌, true, false, List, length, take}
 use Rattle.types.specs.declared.event.Entry.{Entry}
 use Rattle.types.specs.declared.event.Event.TheVariants.{Ask}
@@ -13,7 +14,7 @@ use Rattle.types.specs.declared.event.Question.TheVariants.{Notify}
 use Rattle.shared_memory.specs.WaitQueue.{is_among, next_id, woken_at}
 use Rattle.shared_memory.specs.History.{queue_after}
 use Rattle.race_history.specs.declared.access.ThreadAccess.{ThreadAccess}
-use Rattle.race_history.specs.declared.access.AccessKind.{AccessKind}
+use Rattle.race_history.specs.declared.access.Site.{Site}
 use Rattle.race_history.specs.Accesses.{Meet, AreMatched, is_out_of_bounds}
 use Rattle.race_history.specs.Places.{IsAt, IsAccess, thread_at, is_told_at}
 
@@ -37,16 +38,16 @@ pub record Starts (log : List Entry) (first second : ℕ) : Type 0 where
 
 -- An atomic write, and an atomic read of exactly these bytes that reads what it wrote: no write that touches one of
 -- them stands between.
-pub record ReadsFrom (log : List Entry) (kinds : List AccessKind) (first second : ℕ) : Type 0 where
+pub record ReadsFrom (log : List Entry) (sites : List Site) (opening first second : ℕ) : Type 0 where
   pub earlier : first < second
   pub write : ThreadAccess
   pub read : ThreadAccess
-  pub made : IsAccess log kinds first write
-  pub met : IsAccess log kinds second read
+  pub made : IsAccess log sites opening first write
+  pub met : IsAccess log sites opening second read
   pub matched : AreMatched write read
   pub writes : write.writes ≡ true
   pub reads : read.reads ≡ true
-  pub last : (k : ℕ) (c : ThreadAccess) → first < k → k < second → IsAccess log kinds k c → c.writes ≡ true
+  pub last : (k : ℕ) (c : ThreadAccess) → first < k → k < second → IsAccess log sites opening k c → c.writes ≡ true
       → Meet c read → ⊥
 
 -- The entry is a notify that wakes this thread.
@@ -67,11 +68,11 @@ pub record Wakes (log : List Entry) (first second : ℕ) : Type 0 where
   pub told : is_told_at log second ≡ true
   pub next : (k : ℕ) → first < k → k < second → is_told_at log k ≡ true → thread_at log k ≡ thread_at log second → ⊥
 
-abbrev pub IsEdge : List Entry → List AccessKind → ℕ → ℕ → Type 0
-IsEdge log kinds first second =
-    IsOfOneThread log first second ⊎ Starts log first second ⊎ ReadsFrom log kinds first second ⊎ Wakes log first second
+abbrev pub IsEdge : List Entry → List Site → ℕ → ℕ → ℕ → Type 0
+IsEdge log sites opening first second =
+    IsOfOneThread log first second ⊎ Starts log first second ⊎ ReadsFrom log sites opening first second ⊎ Wakes log first second
 
 -- Happens before: along edges, one or more.
-pub data IsBefore (log : List Entry) (kinds : List AccessKind) : ℕ → ℕ → Type 0 where
-  along : {i j : ℕ} → IsEdge log kinds i j → IsBefore log kinds i j
-  further : {i j k : ℕ} → IsBefore log kinds i j → IsEdge log kinds j k → IsBefore log kinds i k
+pub data IsBefore (log : List Entry) (sites : List Site) (opening : ℕ) : ℕ → ℕ → Type 0 where
+  along : {i j : ℕ} → IsEdge log sites opening i j → IsBefore log sites opening i j
+  further : {i j k : ℕ} → IsBefore log sites opening i j → IsEdge log sites opening j k → IsBefore log sites opening i k

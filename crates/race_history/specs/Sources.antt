@@ -3,7 +3,7 @@ use Rattle.std.specs.Prelude.{ℕ, zero, suc, ◌≡◌, ◌⊎◌, ◌==◌, na
 use Rattle.std.specs.Prelude.{List, map, Contains, Option, Some, None, slice_get}
 use Rattle.std.specs.Global.{Vec}
 use Rattle.types.specs.declared.event.Entry.{Entry}
-use Rattle.race_history.specs.declared.access.AccessKind.{AccessKind}
+use Rattle.race_history.specs.declared.access.Site.{Site}
 use Rattle.race_history.specs.Places.{thread_at}
 use Rattle.race_history.specs.Order.{IsEdge}
 
@@ -26,7 +26,7 @@ last_of log n zero = None
 last_of log n (suc place) = if thread_at log place == n then Some place else last_of log n place
 
 -- These happen just before an entry; and whatever does, is one of them, or happens just before one of them.
-pub record AreSources (log : List Entry) (kinds : List AccessKind) (place : ℕ) (here : List ℕ) : Type 0 where
-  pub from : (first : ℕ) → Contains here first → IsEdge log kinds first place
-  pub all : (first : ℕ) → IsEdge log kinds first place
-      → (k : ℕ) × (Contains here k × ((first ≡ k) ⊎ IsEdge log kinds first k))
+pub record AreSources (log : List Entry) (sites : List Site) (opening place : ℕ) (here : List ℕ) : Type 0 where
+  pub from : (first : ℕ) → Contains here first → IsEdge log sites opening first place
+  pub all : (first : ℕ) → IsEdge log sites opening first place
+      → (k : ℕ) × (Contains here k × ((first ≡ k) ⊎ IsEdge log sites opening first k))

@@ -1,11 +1,13 @@
 -- The writes that reads read from.
-use Rattle.std.specs.Prelude.{ℕ, ◌≡◌, ◌<◌, ◌&&◌, nat_lt, if◌then◌else◌, List, length, Option, Some, None}
+use Rattle.std.specs.Prelude.{ℕ, ◌≡◌, ◌<◌, ◌&&◌, ◌++◌, nat_lt, if◌then◌else◌, List, [], length, Contains, slice_index_or}
+use Rattle.std.specs.Prelude.{Option, Some, None}
 use Rattle.std.specs.List.{fold}
+use Rattle.std.specs.Option.{option_to_list}
 use Rattle.types.specs.declared.event.Entry.{Entry}
 use Rattle.race_history.specs.declared.access.ThreadAccess.{ThreadAccess}
-use Rattle.race_history.specs.declared.access.AccessKind.{AccessKind}
+use Rattle.race_history.specs.declared.access.Site.{Site}
 use Rattle.race_history.specs.declared.lasts.Last.{Last}
-use Rattle.race_history.specs.Places.{IsAt}
+use Rattle.race_history.specs.Lasts.{list_for}
 use Rattle.race_history.specs.Order.{ReadsFrom}
 use Rattle.race_history.specs.Tests.{touches, are_matched}
 
@@ -25,8 +27,17 @@ from_latest a (Some x) = if a.reads && are_matched x.access a then Some x.place 
 abbrev pub read_from : List Last → ThreadAccess → Option ℕ
 read_from list a = from_latest a (fold (later a) None list)
 
--- Of each entry before a place, the write that it reads from.
-pub record AreWriters (log : List Entry) (kinds : List AccessKind) (end : ℕ) (writers : List (Option ℕ)) : Type 0 where
+-- The places of the writes that these accesses read from.
+abbrev pub with_writer : List (List Last) → List ℕ → ThreadAccess → List ℕ
+with_writer lists found a = found ++ option_to_list (read_from (list_for lists a.addr) a)
+
+abbrev pub writers_in : List (List Last) → List ThreadAccess → List ℕ
+writers_in lists accesses = fold (with_writer lists) [] accesses
+
+-- Of each entry before a place, the writes that it reads from.
+pub record AreWriters (log : List Entry) (sites : List Site) (opening end : ℕ) (writers : List (List ℕ)) : Type 0 where
   pub count : length writers ≡ end
-  pub from : (first second : ℕ) → IsAt writers second (Some first) → ReadsFrom log kinds first second
-  pub all : (first second : ℕ) → second < end → ReadsFrom log kinds first second → IsAt writers second (Some first)
+  pub from : (first second : ℕ) → Contains (slice_index_or writers second []) first
+      → ReadsFrom log sites opening first second
+  pub all : (first second : ℕ) → second < end → ReadsFrom log sites opening first second
+      → Contains (slice_index_or writers second []) first

@@ -6,7 +6,7 @@ ghost use Rattle.race_history.specs.Sources.{rows};
 ghost use Rattle.race_history.specs.Clocks.{AreClocks, IsJoined};
 ghost use Rattle.race_history.specs.Writers.{AreWriters};
 
-use crate::access::AccessKind;
+use crate::access::Site;
 use crate::calls::Calls;
 use crate::sources::{gather, start_before};
 use std::alloc::{AllocError, Global};
@@ -60,17 +60,19 @@ fn joined(
 pub(crate) fn make_clocks(
     alloc: Global,
     log: &[Entry],
-    kinds: &[AccessKind],
-    writers: &[Option<usize>],
+    sites: &[Site],
+    opening: u64,
+    writers: &[Vec<usize>],
     calls: &Calls,
     threads: usize,
 ) -> Result<Vec<Vec<usize>>, AllocError>
     requires threads { All (λ (e : Entry). e.thread < threads) log.now }
-    requires writers { AreWriters log.now kinds.now (length log.now) writers.now }
+    requires writers { AreWriters log.now sites.now opening (length log.now) (rows writers.now) }
     requires calls { AreCalls log.now (length log.now) calls.now }
-    ensures { IfOk result (λ v. AreClocks log.now kinds.now threads (length log.now) (rows v.items)) }
+    ensures { IfOk result (λ v. AreClocks log.now sites.now opening threads (length log.now) (rows v.items)) }
 {
-    let _ = kinds;
+    let _ = sites;
+    let _ = opening;
     let mut previous = vec![in alloc; None; threads]?;
     let mut here = Vec::new(alloc);
     let mut clocks = Vec::with_capacity(alloc, log.len())?;
@@ -78,7 +80,8 @@ pub(crate) fn make_clocks(
         let thread = entry.thread as usize;
         let start = start_before(calls.starts.as_slice(), thread, place);
         let wakers = calls.wakers[place].as_slice();
-        gather(&mut here, wakers, start, writers[place], previous[thread])?;
+        let reads = writers[place].as_slice();
+        gather(&mut here, wakers, start, reads, previous[thread])?;
         let mut row = joined(alloc, clocks.as_slice(), here.as_slice(), threads)?;
         row[thread] = place + 1;
         clocks.push(row)?;

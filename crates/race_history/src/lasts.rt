@@ -1,6 +1,7 @@
 //! The last accesses, word by word.
 ghost use Rattle.std.specs.Prelude.{◌≡◌, ◌<◌, ◌/◌, ◌%◌, [], IfOk, OnOk, length, replicate};
-ghost use Rattle.race_history.specs.Lasts.{Keeps, list_for, table, with_last};
+ghost use Rattle.std.specs.List.{fold};
+ghost use Rattle.race_history.specs.Lasts.{keeping, kept, list_for, table, with_last};
 
 use crate::access::{ThreadAccess, is_same};
 use std::alloc::{AllocError, Global};
@@ -13,7 +14,7 @@ pub(crate) struct Last {
 }
 
 /// Of each access that was made the last place. Those of one aligned 8-byte word stand in one list, maybe with those of
-/// other words, the earliest first.
+/// other words and locations.
 #[derive(Drop)]
 pub(crate) struct Lasts {
     pub(crate) lists: Vec<Vec<Last>>,
@@ -59,11 +60,29 @@ impl Lasts {
     }
 
     /// Keeps an access, which is behind all those before.
-    pub(crate) fn keep(&mut self, last: Last) -> Result<(), AllocError>
+    fn keep(&mut self, last: Last) -> Result<(), AllocError>
         requires { 0 < length (table self.old) }
-        ensures { OnOk result (Keeps (table self.old) (table self.new) last) }
+        ensures { OnOk result (table self.new ≡ kept (table self.old) last) }
     {
         let k = list_of(last.access.addr, self.lists.len());
         put(&mut self.lists[k], last)
+    }
+
+    /// Keeps the accesses of the entry at a place, which is behind all those before.
+    pub(crate) fn keep_all(
+        &mut self,
+        place: usize,
+        accesses: &[ThreadAccess],
+    ) -> Result<(), AllocError>
+        requires { 0 < length (table self.old) }
+        ensures { OnOk result (table self.new ≡ fold (keeping place) (table self.old) accesses.now) }
+    {
+        for access in accesses {
+            self.keep(Last {
+                place,
+                access: *access,
+            })?;
+        }
+        Ok(())
     }
 }

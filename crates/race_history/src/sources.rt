@@ -25,21 +25,21 @@ fn push_some(places: &mut Vec<usize>, place: Option<usize>) -> Result<(), AllocE
 }
 
 /// Puts into a list in place of what it has those just before an entry: the notifies that woke its thread, the start of
-/// that, the write that it reads from, and the thread's entry before it.
+/// that, the writes that it reads from, and the thread's entry before it.
 pub(crate) fn gather(
     here: &mut Vec<usize>,
     wakers: &[usize],
     start: Option<usize>,
-    writer: Option<usize>,
+    writers: &[usize],
     previous: Option<usize>,
 ) -> Result<(), AllocError>
     ensures { OnOk result (here.new.items
-        ≡ wakers.now ++ option_to_list start ++ option_to_list writer ++ option_to_list previous) }
+        ≡ wakers.now ++ option_to_list start ++ writers.now ++ option_to_list previous) }
 {
     here.clear();
     here.extend_from_slice(wakers)?;
     push_some(here, start)?;
-    push_some(here, writer)?;
+    here.extend_from_slice(writers)?;
     push_some(here, previous)?;
     Ok(())
 }

@@ -1,9 +1,12 @@
 //! The atomic writes that atomic reads read from.
-ghost use Rattle.std.specs.Prelude.{◌≡◌, IfOk, None, fold, length};
+ghost use Rattle.std.specs.Prelude.{◌≡◌, ◌<◌, ◌++◌, IfOk, OnOk, None, fold, length};
+ghost use Rattle.std.specs.Option.{option_to_list};
 ghost use Rattle.shared_memory.specs.History.{AreEntries};
-ghost use Rattle.race_history.specs.Writers.{AreWriters, later, read_from};
+ghost use Rattle.race_history.specs.Lasts.{list_for, table};
+ghost use Rattle.race_history.specs.Sources.{rows};
+ghost use Rattle.race_history.specs.Writers.{AreWriters, later, read_from, with_writer, writers_in};
 
-use crate::access::{AccessKind, ThreadAccess, access_of, are_matched, touches};
+use crate::access::{Site, ThreadAccess, accesses_of, are_matched, touches};
 use crate::lasts::{Last, Lasts};
 use std::alloc::{AllocError, Global};
 use types::Entry;
@@ -43,25 +46,55 @@ fn read_from(list: &[Last], access: &ThreadAccess) -> Option<usize>
     None
 }
 
-/// Of each entry the place of the atomic write that it reads from, if it is an atomic read of what one wrote.
+/// Puts the place of the write that an access reads from behind the others, if it reads from one.
+fn add_writer(
+    found: &mut Vec<usize>,
+    lasts: &Lasts,
+    access: &ThreadAccess,
+) -> Result<(), AllocError>
+    requires { 0 < length (table lasts.now) }
+    ensures { OnOk result (found.new.items ≡ with_writer (table lasts.now) found.old.items access.now) }
+{
+    if let Some(place) = read_from(lasts.near(access.addr), access) {
+        found.push(place)?;
+    }
+    Ok(())
+}
+
+/// The places of the writes that the accesses of an entry read from.
+fn writers_in(
+    alloc: Global,
+    lasts: &Lasts,
+    accesses: &[ThreadAccess],
+) -> Result<Vec<usize>, AllocError>
+    requires { 0 < length (table lasts.now) }
+    ensures { IfOk result (λ v. v.items ≡ writers_in (table lasts.now) accesses.now) }
+{
+    let mut found = Vec::new(alloc);
+    for access in accesses {
+        add_writer(&mut found, lasts, access)?;
+    }
+    Ok(found)
+}
+
+/// Of each entry the places of the atomic writes that it reads from.
 pub(crate) fn find_writers(
     alloc: Global,
     log: &[Entry],
-    kinds: &[AccessKind],
-) -> Result<Vec<Option<usize>>, AllocError>
-    requires kinds { length kinds.now ≡ length log.now }
+    sites: &[Site],
+    opening: u64,
+) -> Result<Vec<Vec<usize>>, AllocError>
+    requires sites { length sites.now ≡ length log.now }
     requires entries { AreEntries log.now }
-    ensures { IfOk result (λ v. AreWriters log.now kinds.now (length log.now) v.items) }
+    ensures { IfOk result (λ v. AreWriters log.now sites.now opening (length log.now) (rows v.items)) }
 {
     let mut lasts = Lasts::new(alloc, log.len() + 1)?;
     let mut found = Vec::with_capacity(alloc, log.len())?;
     for (place, entry) in log.iter().enumerate() {
-        let Some(access) = access_of(entry, kinds[place]) else {
-            found.push(None)?;
-            continue;
-        };
-        found.push(read_from(lasts.near(access.addr), &access))?;
-        lasts.keep(Last { place, access })?;
+        let accesses = accesses_of(alloc, entry, &sites[place], opening)?;
+        let made = accesses.as_slice();
+        found.push(writers_in(alloc, &lasts, made)?)?;
+        lasts.keep_all(place, made)?;
     }
     Ok(found)
 }

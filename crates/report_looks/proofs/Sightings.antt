@@ -7,14 +7,15 @@ use Rattle.types.specs.declared.parts.Parts.{Parts}
 use Rattle.replay_text.specs.declared.parts.RecordParts.{RecordParts}
 use Rattle.replay.specs.Runs.{IsRunOf}
 use Rattle.spawn_host.specs.declared.end.EndState.{EndState}
-use Rattle.race_history.specs.declared.access.AccessKind.{AccessKind}
+use Rattle.race_history.specs.declared.access.Site.{Site}
 use Rattle.race_history.specs.declared.race.Race.{Race}
 use Rattle.race_history.specs.Races.{AreRaces, IsLastRace}
 use Rattle.show_json.specs.declared.races.RacePair.{RacePair}
 use Rattle.report_jobs.specs.Prints.{change}
 use Rattle.show_races.specs.Races.{SaysOfRun}
-use Rattle.show_races.specs.Rows.{AreRowsOf, kinds_of}
-use Rattle.show_races.proofs.Told.{kinds_alike, told_of}
+use Rattle.show_races.specs.Rows.{AreRowsOf, sites_of}
+use Rattle.show_races.specs.Sites.{opening_of}
+use Rattle.show_races.proofs.Told.{sites_alike, told_of}
 use Rattle.show_races.specs.Told.{HasNoRace, IsWithin}
 use Rattle.show_races.specs.Written.{SaysRace, WritesFirst}
 use Rattle.show_rows.specs.Listing.{IsStoryOf}
@@ -37,13 +38,13 @@ module _ (m : Parts) (r : RecordParts) (rows : List (Option Row)) (seen : (end :
       → IsFirstRace m r f
   first_by f same code told some =
       let mine = of_rows ∙ sym same in
-      let alike = kinds_alike shown.record.now.log r.log shown.code.now.parts.now m shown.rows.now f.rows.items log of_module mine in
+      let alike = sites_alike shown.record.now.log r.log shown.code.now.parts.now m shown.rows.now f.rows.items log of_module mine in
       record {
         seen = (seen.0, seen.1, subst (λ (xs : List (Option Row)). AreRowsOf m r seen.0 xs) (sym same) seen.2);
         of_module = code;
         is_story = subst (λ (l : List Entry). IsStoryOf l f.told.story) log told.is_story;
-        kinds = told.kinds ∙ alike;
-        races = told_of (λ l k. AreRaces l k f.told.races.pairs.items) shown.record.now.log r.log shown.code.now.parts.now m shown.rows.now
+        sites = told.sites ∙ alike;
+        races = told_of (λ l k o. AreRaces l k o f.told.races.pairs.items) shown.record.now.log r.log shown.code.now.parts.now m shown.rows.now
             f.rows.items log of_module mine told.races;
         told = record {
           some = some;
@@ -57,7 +58,7 @@ module _ (m : Parts) (r : RecordParts) (rows : List (Option Row)) (seen : (end :
     end = seen.0;
     run = seen.1;
     rows_are = seen.2;
-    says = told_of (λ l k. HasNoRace l k) shown.record.now.log r.log shown.code.now.parts.now m shown.rows.now rows log of_module of_rows
+    says = told_of (λ l k o. HasNoRace l k o) shown.record.now.log r.log shown.code.now.parts.now m shown.rows.now rows log of_module of_rows
         (told.none empty);
   }
 
@@ -72,16 +73,16 @@ shown_by m r f first shown is = record {
 }
 
 race_of : (m : Parts) (r : RecordParts) (f : FirstRace) → IsFirstRace m r f → (d : Race)
-    → IsLastRace r.log (kinds_of m r f.rows.items) (get_or f.told.races.pairs.items 0 d)
+    → IsLastRace r.log (sites_of m r f.rows.items) (opening_of m) (get_or f.told.races.pairs.items 0 d)
 race_of m r f first d = first.races (get_or f.told.races.pairs.items 0 d) (Contains-get_or f.told.races.pairs.items 0 d first.told.some)
 
 -- the first of a run's races, in an object
 pub object_by : (m : Parts) (r : RecordParts) (f : FirstRace) → IsFirstRace m r f → (shown : Shown) → IsShownBy r f shown
-    → (kinds : List AccessKind) (ps : List Race) (d : Race) (pair : RacePair) → kinds ≡ f.told.races.kinds.items → ps ≡ f.told.races.pairs.items
-    → IsPairOf shown f.told.story kinds (get_or ps 0 d) pair → SaysObject m r pair
-object_by m r f first shown is kinds ps d pair same alike says =
-    let there : IsPairOf shown f.told.story kinds (get_or f.told.races.pairs.items 0 d) pair =
-    subst (λ (rs : List Race). IsPairOf shown f.told.story kinds (get_or rs 0 d) pair) alike says in
+    → (sites : List Site) (ps : List Race) (d : Race) (pair : RacePair) → sites ≡ f.told.races.sites.items → ps ≡ f.told.races.pairs.items
+    → IsPairOf shown f.told.story sites (get_or ps 0 d) pair → SaysObject m r pair
+object_by m r f first shown is sites ps d pair same alike says =
+    let there : IsPairOf shown f.told.story sites (get_or f.told.races.pairs.items 0 d) pair =
+    subst (λ (rs : List Race). IsPairOf shown f.told.story sites (get_or rs 0 d) pair) alike says in
     record {
       rows = f.rows.items;
       end = first.seen.0;
@@ -92,7 +93,7 @@ object_by m r f first shown is kinds ps d pair same alike says =
       is_shown = shown_by m r f first shown is;
       race = get_or f.told.races.pairs.items 0 d;
       is_race = race_of m r f first d;
-      says = subst (λ (ks : List AccessKind). IsPairOf shown f.told.story ks (get_or f.told.races.pairs.items 0 d) pair) (same ∙ first.kinds) there;
+      says = subst (λ (ks : List Site). IsPairOf shown f.told.story ks (get_or f.told.races.pairs.items 0 d) pair) (same ∙ first.sites) there;
     }
 
 -- and in words
@@ -111,7 +112,7 @@ pair_by m r f first shown is true old new (race, within, at, text, says, lines) 
     is_shown = shown_by m r f first shown is;
     race = race;
     is_race = first.races race (0, within, at);
-    says = subst (λ (ks : List AccessKind). SaysRace shown f.told.story ks race text) first.kinds says;
+    says = subst (λ (ks : List Site). SaysRace shown f.told.story ks race text) first.sites says;
   },
 )
 pair_by m r f first shown is false old new (none, same) =

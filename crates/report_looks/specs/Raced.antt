@@ -8,14 +8,15 @@ use Rattle.replay_text.specs.declared.parts.RecordParts.{RecordParts}
 use Rattle.replay_text.specs.Text.{IsRecord, record_text}
 use Rattle.spawn_host.specs.declared.end.EndState.{EndState}
 use Rattle.replay.specs.Runs.{IsRunOf}
-use Rattle.race_history.specs.declared.access.AccessKind.{AccessKind}
+use Rattle.race_history.specs.declared.access.Site.{Site}
 use Rattle.race_history.specs.declared.race.Race.{Race}
 use Rattle.race_history.specs.Races.{AreRaces, IsLastRace}
 use Rattle.show_rows.specs.declared.rows.Row.{Row}
 use Rattle.show_rows.specs.Listing.{IsStoryOf}
 use Rattle.show_rows.specs.declared.listing.Shown.{Shown}
 use Rattle.show_rows.specs.declared.listing.Story.{Story}
-use Rattle.show_races.specs.Rows.{AreRowsOf, kinds_of}
+use Rattle.show_races.specs.Rows.{AreRowsOf, sites_of}
+use Rattle.show_races.specs.Sites.{opening_of}
 use Rattle.show_races.specs.Told.{AreApart, AreMany, HasNoRace, IsMore, TellsEach}
 use Rattle.show_races.specs.Written.{SaysRace, TellsRaces}
 use Rattle.show_races.specs.declared.found.RecordRaces.{RecordRaces}
@@ -38,7 +39,7 @@ pub record IsRaceFree (m : Parts) (saved : List ℕ) : Type 0 where
   pub record_is : RecordParts
   pub rows : List (Option Row)
   pub seen : IsSeen m saved record_is rows
-  pub none : HasNoRace record_is.log (kinds_of m record_is rows)
+  pub none : HasNoRace record_is.log (sites_of m record_is rows) (opening_of m)
 
 -- or in which two do.
 pub record IsRacy (m : Parts) (saved : List ℕ) : Type 0 where
@@ -46,14 +47,14 @@ pub record IsRacy (m : Parts) (saved : List ℕ) : Type 0 where
   pub rows : List (Option Row)
   pub seen : IsSeen m saved record_is rows
   pub race : Race
-  pub races : IsLastRace record_is.log (kinds_of m record_is rows) race
+  pub races : IsLastRace record_is.log (sites_of m record_is rows) (opening_of m) race
 
 -- They are told in lines, or in an object.
 abbrev pub TellsIn : Form → Shown → Story → RecordRaces → Option (List ℕ) → Option (List ℕ) → Type 0
 TellsIn Lines shown story races old new = TellsRaces shown story races old new
 TellsIn Json shown story races old new = WritesPairs shown story races old new
 
--- What was written tells of so many races at most, each one of the run and by the kinds of its entries, no two of the same
+-- What was written tells of so many races at most, each one of the run and by the instructions of its entries, no two of the same
 -- two places of the code, and of each race of the run at its places, where it isn't said that they are not all; and where
 -- that is said there are more.
 pub record WritesRaces (m : Parts) (r : RecordParts) (rows : List (Option Row)) (most : ℕ) (form : Form)
@@ -65,8 +66,8 @@ pub record WritesRaces (m : Parts) (r : RecordParts) (rows : List (Option Row)) 
   pub story : Story
   pub is_story : IsStoryOf shown.record.now.log story
   pub races : RecordRaces
-  pub kinds : races.kinds.items ≡ kinds_of m r rows
-  pub race : AreRaces r.log (kinds_of m r rows) races.pairs.items
+  pub sites : races.sites.items ≡ sites_of m r rows
+  pub race : AreRaces r.log (sites_of m r rows) (opening_of m) races.pairs.items
   pub each : races.is_cut ≡ false → TellsEach shown story races.pairs.items
   pub once : AreApart shown story races.pairs.items
   pub cut : races.is_cut ≡ true → IsMore shown story races.pairs.items most ⊎ AreMany shown
@@ -96,7 +97,7 @@ pub record IsShownOf (m : Parts) (r : RecordParts) (rows : List (Option Row)) (s
 
 -- Two entries of a run's record race, and this is said of them.
 pub record HasPair (m : Parts) (r : RecordParts)
-    (IsSaid : Shown → Story → List AccessKind → Race → Type 0) : Type 0 where
+    (IsSaid : Shown → Story → List Site → Race → Type 0) : Type 0 where
   pub rows : List (Option Row)
   pub end : EndState
   pub run : IsRunOf m r end
@@ -105,16 +106,16 @@ pub record HasPair (m : Parts) (r : RecordParts)
   pub story : Story
   pub is_shown : IsShownOf m r rows shown story
   pub race : Race
-  pub is_race : IsLastRace r.log (kinds_of m r rows) race
-  pub says : IsSaid shown story (kinds_of m r rows) race
+  pub is_race : IsLastRace r.log (sites_of m r rows) (opening_of m) race
+  pub says : IsSaid shown story (sites_of m r rows) race
 
 -- The text says so in the words of `races`.
 abbrev pub SaysPair : Parts → RecordParts → List ℕ → Type 0
-SaysPair m r text = HasPair m r (λ shown story kinds race. SaysRace shown story kinds race text)
+SaysPair m r text = HasPair m r (λ shown story sites race. SaysRace shown story sites race text)
 
 -- An object says so.
 abbrev pub SaysObject : Parts → RecordParts → RacePair → Type 0
-SaysObject m r pair = HasPair m r (λ shown story kinds race. IsPairOf shown story kinds race pair)
+SaysObject m r pair = HasPair m r (λ shown story sites race. IsPairOf shown story sites race pair)
 
 -- A race of a run was written.
 abbrev pub WritesPair : Parts → RecordParts → WriterChange → Type 0

@@ -7,9 +7,9 @@ use Rattle.replay.specs.Runs.{IsRunOf}
 use Rattle.race_history.specs.Races.{AreRaces}
 use Rattle.show_rows.specs.Listing.{IsStoryOf}
 use Rattle.show_rows.specs.declared.listing.Shown.{Shown}
-use Rattle.show_races.specs.Kinds.{kinds_shown}
+use Rattle.show_races.specs.Sites.{opening_of, opening_shown, sites_shown}
 use Rattle.show_races.specs.Told.{AreApart, AreMany, HasNoRace, IsMore, IsWithin, TellsEach}
-use Rattle.show_races.specs.Rows.{AreRowsOf, kinds_of}
+use Rattle.show_races.specs.Rows.{AreRowsOf, sites_of}
 use Rattle.report_looks.specs.declared.sighting.FirstRace.{FirstRace}
 use Rattle.report_looks.specs.declared.sighting.ToldRaces.{ToldRaces}
 
@@ -17,12 +17,12 @@ use Rattle.report_looks.specs.declared.sighting.ToldRaces.{ToldRaces}
 -- isn't said that they are cut, and else there are more.
 pub record AreTold (shown : Shown) (most : ℕ) (told : ToldRaces) : Type 0 where
   pub is_story : IsStoryOf shown.record.now.log told.story
-  pub kinds : told.races.kinds.items ≡ kinds_shown shown
-  pub races : AreRaces shown.record.now.log (kinds_shown shown) told.races.pairs.items
+  pub sites : told.races.sites.items ≡ sites_shown shown
+  pub races : AreRaces shown.record.now.log (sites_shown shown) (opening_shown shown) told.races.pairs.items
   pub each : told.races.is_cut ≡ false → TellsEach shown told.story told.races.pairs.items
   pub once : AreApart shown told.story told.races.pairs.items
   pub cut : told.races.is_cut ≡ true → IsMore shown told.story told.races.pairs.items most ⊎ AreMany shown
-  pub none : told.races.pairs.items ≡ [] → HasNoRace shown.record.now.log (kinds_shown shown)
+  pub none : told.races.pairs.items ≡ [] → HasNoRace shown.record.now.log (sites_shown shown) (opening_shown shown)
   pub few : length told.races.pairs.items ≤ most
   pub within : All (IsWithin shown.record.now.log) told.races.pairs.items
 
@@ -36,8 +36,8 @@ pub record IsFirstRace (m : Parts) (r : RecordParts) (f : FirstRace) : Type 0 wh
   pub seen : (end : EndState) × IsRunOf m r end × AreRowsOf m r end f.rows.items
   pub of_module : f.code.parts.now ≡ m
   pub is_story : IsStoryOf r.log f.told.story
-  pub kinds : f.told.races.kinds.items ≡ kinds_of m r f.rows.items
-  pub races : AreRaces r.log (kinds_of m r f.rows.items) f.told.races.pairs.items
+  pub sites : f.told.races.sites.items ≡ sites_of m r f.rows.items
+  pub races : AreRaces r.log (sites_of m r f.rows.items) (opening_of m) f.told.races.pairs.items
   pub told : CanBeTold r f
 
 -- The record is shown by these rows and this code.

@@ -9,7 +9,8 @@ ghost use Rattle.report_jobs.specs.Why.{RefusesModule, RefusesRecord};
 ghost use Rattle.report_looks.specs.Silent.{IfRefusedRecord};
 ghost use Rattle.report_jobs.specs.Prints.{changed};
 ghost use Rattle.show_races.specs.Races.{Says};
-ghost use Rattle.show_races.specs.Rows.{kinds_of};
+ghost use Rattle.show_races.specs.Rows.{sites_of};
+ghost use Rattle.show_races.specs.Sites.{opening_of};
 ghost use Rattle.report_looks.specs.Raced.{IsRaceFree, IsRacy, OfModule, PrintsRaces, SaysOf, TellsIn, WritesRaces};
 
 use crate::showing::{CodeBytes, SeenRun, UnseenRecord, seen_of, unfit_of};
@@ -143,7 +144,8 @@ fn write_seen<W: Write>(
 ) -> Result<bool, Unwritten>
     requires { 1 ≤ asked.now.most }
     ensures says { IfOk result
-        (Says seen.now.«record».log (kinds_of «module».now.parts seen.now.«record» seen.now.rows.items)) }
+        (Says seen.now.«record».log
+        (sites_of «module».now.parts seen.now.«record» seen.now.rows.items) (opening_of «module».now.parts)) }
     ensures writes { IfOk result (λ _. WritesRaces «module».now.parts seen.now.«record» seen.now.rows.items asked.now.most
         asked.now.form (changed W.contents out.old out.new)) }
 {

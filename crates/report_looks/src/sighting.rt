@@ -123,7 +123,7 @@ impl<'m, 'n> FirstRace<'m, 'n> {
         pair_of(
             shown,
             &self.told.story,
-            races.kinds.as_slice(),
+            races.sites.as_slice(),
             races.pairs.as_slice()[0],
         )
     }

@@ -1,11 +1,12 @@
 -- What an object has of an entry, that of a show of the entries that are chosen, and that of races of two that race.
-use Rattle.std.specs.Prelude.{ℕ, ◌≡◌, Bool, false, true, List, nat_lt, OnSome, Option, Some, None}
+use Rattle.std.specs.Prelude.{ℕ, ◌≡◌, ◌||◌, Bool, false, true, List, nat_lt, OnSome, Option, Some, None}
 use Rattle.std.specs.Borrow.{Bor}
 use Rattle.std.specs.List.{AllZip, slice_get}
 use Rattle.std.specs.Io.KnownBytes.{Appends}
 use Rattle.types.specs.declared.event.Entry.{Entry}
 use Rattle.race_history.specs.declared.access.ThreadAccess.{ThreadAccess}
 use Rattle.race_history.specs.declared.access.AccessKind.{AccessKind}
+use Rattle.race_history.specs.declared.access.Site.{Site}
 use Rattle.race_history.specs.declared.access.AccessKind.TheVariants.{Plain, Atomic}
 use Rattle.race_history.specs.declared.race.Race.{Race}
 use Rattle.interp.specs.declared.place.CodePlace.{CodePlace}
@@ -21,7 +22,7 @@ use Rattle.show_json.specs.declared.races.NextWrite.{NextWrite}
 use Rattle.show_json.specs.declared.races.RaceEntry.{RaceEntry}
 use Rattle.show_json.specs.declared.races.RacePair.{RacePair}
 use Rattle.show_json.specs.declared.races.RacePairs.{RacePairs}
-use Rattle.show_races.specs.Written.{IsNextWrite, access_at}
+use Rattle.show_races.specs.Written.{IsNextWrite, access_at, changes_pages}
 use Rattle.show_races.specs.declared.found.RecordRaces.{RecordRaces}
 use Rattle.show_named.specs.Names.{HasData}
 use Rattle.show_named.specs.declared.data_map.DataMap.{DataMap}
@@ -82,28 +83,31 @@ pub record WritesObject (shown : Shown) (map : DataMap) (look : Look) (old new :
   pub object : Appends old new (json_line (rows_json rows))
 
 -- By an atomic instruction.
-abbrev pub is_atomic_kind : Option AccessKind → Bool
-is_atomic_kind None = false
-is_atomic_kind (Some Plain) = false
-is_atomic_kind (Some Atomic) = true
+abbrev pub is_atomic_kind : AccessKind → Bool
+is_atomic_kind Plain = false
+is_atomic_kind Atomic = true
 
--- The first byte of an access, and how many it touches; an entry that races makes one.
+abbrev pub is_atomic_site : Option Site → Bool
+is_atomic_site None = false
+is_atomic_site (Some site) = is_atomic_kind site.kind
+
+-- The first byte of an access to bytes, and how many it touches; a grow that races with a bounds check makes none.
 abbrev pub first_byte : Option ThreadAccess → ℕ
 first_byte None = 0
 first_byte (Some a) = a.addr
 
-abbrev pub bytes_of : Option ThreadAccess → ℕ
-bytes_of None = 0
-bytes_of (Some a) = a.width
+abbrev pub width_of : Option ThreadAccess → ℕ
+width_of None = 0
+width_of (Some a) = a.width
 
 -- The entry at a place, with what it touches, and how.
-pub record IsEntryOf (shown : Shown) (story : Story) (kinds : List AccessKind) (at : ℕ) (e : RaceEntry) : Type 0 where
+pub record IsEntryOf (shown : Shown) (story : Story) (sites : List Site) (at : ℕ) (e : RaceEntry) : Type 0 where
   pub made : Entry
   pub stands : slice_get shown.record.now.log at ≡ Some made
   pub row : IsRowOf shown story at made e.row
-  pub atomic : e.is_atomic ≡ is_atomic_kind (slice_get kinds at)
-  pub addr : e.addr ≡ first_byte (access_at shown.record.now.log kinds at)
-  pub width : e.width ≡ bytes_of (access_at shown.record.now.log kinds at)
+  pub atomic : e.is_atomic ≡ is_atomic_site (slice_get sites at)
+  pub addr : e.addr ≡ first_byte (access_at shown.record.now.log sites at)
+  pub width : e.width ≡ width_of (access_at shown.record.now.log sites at)
 
 -- The next atomic write of a thread: its line of the record, and whether it stands before a second entry.
 abbrev pub IsWriteOf : Shown → ℕ → Option ℕ → Option NextWrite → Type 0
@@ -112,23 +116,32 @@ IsWriteOf shown second (Some at) (Some next) = (next.line ≡ line_at shown at) 
 IsWriteOf shown second known next = ⊥
 
 -- The next one of the thread that makes the first entry of a race, behind that.
-pub record IsNextOf (shown : Shown) (kinds : List AccessKind) (r : Race) (write : Option NextWrite) : Type 0 where
+pub record IsNextOf (shown : Shown) (sites : List Site) (r : Race) (write : Option NextWrite) : Type 0 where
   pub made : Entry
   pub stands : slice_get shown.record.now.log r.first ≡ Some made
   pub next : Option ℕ
-  pub is_next : IsNextWrite shown.record.now.log kinds made.thread r.first next
+  pub is_next : IsNextWrite shown.record.now.log sites made.thread r.first next
   pub is : IsWriteOf shown r.second next write
 
+-- One of the two changes the number of pages, and so the other looks at it: no entry that does touches a byte.
+abbrev pub is_change : Option Entry → Bool
+is_change None = false
+is_change (Some made) = changes_pages made
+
+abbrev pub is_of_pages : List Entry → Race → Bool
+is_of_pages log r = is_change (slice_get log r.first) || is_change (slice_get log r.second)
+
 -- Two entries that race, and that write.
-pub record IsPairOf (shown : Shown) (story : Story) (kinds : List AccessKind) (r : Race)
+pub record IsPairOf (shown : Shown) (story : Story) (sites : List Site) (r : Race)
     (pair : RacePair) : Type 0 where
-  pub first : IsEntryOf shown story kinds r.first pair.first
-  pub second : IsEntryOf shown story kinds r.second pair.second
-  pub next : IsNextOf shown kinds r pair.next_write
+  pub pages : pair.is_of_pages ≡ is_of_pages shown.record.now.log r
+  pub first : IsEntryOf shown story sites r.first pair.first
+  pub second : IsEntryOf shown story sites r.second pair.second
+  pub next : IsNextOf shown sites r pair.next_write
 
 -- What was written is the object of each of these races, in order, which says whether that are all.
 pub record WritesPairs (shown : Shown) (story : Story) (races : RecordRaces) (old new : Option (List ℕ)) : Type 0 where
   pub pairs : RacePairs
-  pub each : AllZip (IsPairOf shown story races.kinds.items) races.pairs.items pairs.pairs.now
+  pub each : AllZip (IsPairOf shown story races.sites.items) races.pairs.items pairs.pairs.now
   pub more : pairs.is_cut ≡ races.is_cut
   pub object : Appends old new (json_line (races_json pairs))

@@ -19,4 +19,3 @@ mod validity;
 
 pub use explained::{JobInputs, call_of, explain};
 pub use object::write_undone;
-pub use records::{UnfitThread, add_misfit};

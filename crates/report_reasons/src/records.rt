@@ -76,17 +76,17 @@ fn add_none_such(out: &mut String) -> Result<(), AllocError>
 
 /// The thread of a line that doesn't fit.
 #[derive(Clone, Copy)]
-pub struct UnfitThread<'a> {
-    pub number: u32,
+pub(crate) struct UnfitThread<'a> {
+    pub(crate) number: u32,
     /// What it comes to in place of the line, where that is known.
-    pub turn: Option<Turn>,
+    pub(crate) turn: Option<Turn>,
     /// Where it stands behind its last entry, as it is printed.
-    pub spot: &'a str,
+    pub(crate) spot: &'a str,
 }
 
 /// Adds why a line of a record, by its number from 1 on, is of no run of the module, with what its thread does in place of
 /// it, where that is known.
-pub fn add_misfit(
+pub(crate) fn add_misfit(
     out: &mut String,
     saved: &[u8],
     number: usize,

@@ -14,4 +14,4 @@ mod looking;
 mod stepping;
 
 pub use beside::{ChangedByte, Changes, changes_in};
-pub use stepping::{holds, memory, step};
+pub use stepping::{can_grow, holds, memory, step};

@@ -2,7 +2,7 @@
 
 ghost use Rattle.std.specs.Prelude.{◌≡◌, ◌+◌, ◌^◌, ◌<◌, ◌≤◌, length, nat_le, IfOk};
 ghost use Rattle.shared_memory.specs.Events.{IsEvent, IsQuestion};
-ghost use Rattle.shared_memory.specs.Memory.{loaded, pages, reply_of, reply_to_question};
+ghost use Rattle.shared_memory.specs.Memory.{can_grow, loaded, pages, reply_of, reply_to_question};
 ghost use Rattle.shared_memory_sequential.specs.Opening.{IsSized};
 ghost use Rattle.search_memory.specs.Memories.{memory_at, memory_of, AreWritten, StayDifferences};
 
@@ -50,6 +50,13 @@ impl ChangedMemory<'_> {
         (self.len() / PAGE_SIZE) as u64
     }
 
+    /// Whether so many more pages fit under the maximum.
+    pub(crate) fn can_grow(&self, more: u32) -> bool
+        ensures { result ≡ can_grow (memory_at self.now) more }
+    {
+        self.pages() + u64::from(more) <= u64::from(self.changed.max)
+    }
+
     /// The number in `width` bytes at an address, the lowest byte first.
     pub(crate) fn number_at(&self, addr: u64, width: u8) -> u64
         requires inside { addr + width ≤ length (memory_at self.now).bytes }
@@ -73,9 +80,7 @@ impl ChangedMemory<'_> {
     {
         match *event {
             Event::Size => Reply::Value(self.pages()),
-            Event::Grow(more) if self.pages() + u64::from(more) <= u64::from(self.changed.max) => {
-                Reply::Value(self.pages())
-            }
+            Event::Grow(more) if self.can_grow(more) => { Reply::Value(self.pages()) }
             Event::Grow(_) => Reply::Value(u64::from(u32::MAX)),
             Event::Load { addr, width, reach } if self.ends_within(reach) => {
                 Reply::Value(self.number_at(addr, width))

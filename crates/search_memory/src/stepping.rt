@@ -2,7 +2,7 @@
 
 ghost use Rattle.std.specs.Prelude.{◌≡◌, ◌≤◌, ◌+◌, ◌==◌, ◌&&◌, nat_le, length, fold, IfOk};
 ghost use Rattle.shared_memory.specs.Events.{IsEvent};
-ghost use Rattle.shared_memory.specs.Memory.{loaded, reply_of};
+ghost use Rattle.shared_memory.specs.Memory.{can_grow, loaded, reply_of};
 ghost use Rattle.shared_memory_sequential.specs.Opening.{IsSized};
 ghost use Rattle.search_memory.specs.Memories.{memory_of, with_change, AreAfter, StayDifferences};
 
@@ -55,6 +55,13 @@ pub fn holds(opening: &[u8], changed: &Changes, addr: u64, width: u8, number: u6
 {
     let beside = ChangedMemory { opening, changed };
     beside.is_within(addr, width) && beside.number_at(addr, width) == number
+}
+
+/// Whether so many more pages fit under the memory's maximum.
+pub fn can_grow(opening: &[u8], changed: &Changes, more: u32) -> bool
+    ensures { result ≡ can_grow (memory_of opening.now changed.now) more }
+{
+    ChangedMemory { opening, changed }.can_grow(more)
 }
 
 /// The changes after `memory.grow`, by the whole memory.

@@ -11,7 +11,6 @@ use Rattle.search_race_free.specs.Races.{HasRace}
 use Rattle.search_race_free.specs.Reduced.{SomeRace, reduced_steps}
 use Rattle.search_race_free.specs.declared.owning.Owning.{Owning}
 use Rattle.search_race_free.specs.declared.race.ThreadRace.{ThreadRace}
-use Rattle.search_runs.specs.Accesses.{access_of}
 use Rattle.search_runs.specs.Called.{Walker as Thread, system_of, first_state}
 use Rattle.search_endings.specs.Endings.{Ending}
 use Rattle.search_runs.specs.Ends.{HasEndedSo}
@@ -20,7 +19,7 @@ use Rattle.search_parts.specs.declared.shared.HashedThread.{HashedThread as Shar
 use Rattle.search_modules.specs.declared.called.Searched.{Searched}
 use Rattle.search_modules.specs.Moved.{called, threads, IsStuck}
 use Rattle.search_modules.specs.Endings.{IsWorkerOf, CanBeLost}
-use Rattle.search_modules.specs.Races.{CanRaceSo}
+use Rattle.search_modules.specs.Races.{CanRaceSo, access_in}
 use Rattle.search_modules.specs.Returned.{IsCall}
 use Rattle.search_modules.proofs.Finding.{gone, lost_by}
 
@@ -47,5 +46,5 @@ lost_freely m s entry args call worker stuck = by stuck.gets.is
     by (inr race) = inr (record { one = race.0; other = race.1 }, (called s, call, race.2))
 
 pub race_by : (m : Parts) (s : Searched) (entry : List ℕ) (args : List Value) → IsCall m entry args (called s) → (r : ThreadRace)
-    → HasRace (system_of (called s)) (first_state (called s)) access_of r.one r.other → CanRaceSo m entry args r
+    → HasRace (system_of (called s)) (first_state (called s)) (access_in (called s)) r.one r.other → CanRaceSo m entry args r
 race_by m s entry args call r race = (called s, call, race)

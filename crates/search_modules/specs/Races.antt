@@ -1,25 +1,32 @@
 -- Races of the runs of a call.
-use Rattle.std.specs.Prelude.{ℕ, ◌⊎◌, List}
+use Rattle.std.specs.Prelude.{ℕ, ◌⊎◌, List, length}
+use Rattle.types.specs.declared.event.Event.{Event}
 use Rattle.types.specs.declared.value.Value.{Value}
 use Rattle.types.specs.declared.parts.Parts.{Parts}
 use Rattle.spawn_host.specs.Requests.{Requested}
 use Rattle.search_endings.specs.Endings.{Ending}
 use Rattle.search_reach.specs.Found.{Claims}
+use Rattle.schedule_threads.specs.Shared.{Shared}
+use Rattle.search_settled.specs.declared.access.NextAccess.{NextAccess}
 use Rattle.search_race_free.specs.Races.{HasRace, NoneRace}
 use Rattle.search_race_free.specs.declared.race.ThreadRace.{ThreadRace}
 use Rattle.search_runs.specs.Accesses.{access_of}
-use Rattle.search_runs.specs.Called.{Called, system_of, first_state}
+use Rattle.search_runs.specs.Called.{Called, Walker, system_of, first_state}
 use Rattle.search_modules.specs.Endings.{HasEveryEnding, AllCanEndSo, CanBeLost}
 use Rattle.search_modules.specs.Returned.{IsCall}
+
+-- What a thread of a call does with the memory by an event.
+abbrev pub access_in : Called → Shared → Walker → Event → NextAccess
+access_in b = access_of (length b.opening.bytes)
 
 -- By this call threads without budgets come to where these two race.
 abbrev pub CanRaceSo : Parts → List ℕ → List Value → ThreadRace → Type 0
 CanRaceSo m entry args r =
-    (b : Called) × IsCall m entry args b × HasRace (system_of b) (first_state b) access_of r.one r.other
+    (b : Called) × IsCall m entry args b × HasRace (system_of b) (first_state b) (access_in b) r.one r.other
 
 -- By this call no threads without budgets race, in any run.
 abbrev pub NeverRaces : Parts → List ℕ → List Value → Type 0
-NeverRaces m entry args = (b : Called) × IsCall m entry args b × NoneRace (system_of b) (first_state b) access_of
+NeverRaces m entry args = (b : Called) × IsCall m entry args b × NoneRace (system_of b) (first_state b) (access_in b)
 
 -- What a search through the orders of what isn't plain claims: it gives up where there is a race, too.
 abbrev pub race_free_claims_of : Requested → ℕ → Claims Ending

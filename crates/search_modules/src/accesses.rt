@@ -7,14 +7,15 @@ use search_settled::NextAccess;
 use std::alloc::{AllocError, Global};
 
 impl Accesses for Searched<'_> {
+    ghost use Rattle.std.specs.Prelude.{length};
     ghost use Rattle.search_modules.specs.Moved.{called};
     ghost use Rattle.search_runs.proofs.Accessing.{plain, beyond, finished};
 
-    ghost plain = { λ t. plain (called t) };
+    ghost plain = { λ t. plain (called t) (length t.opening.items) };
 
-    ghost beyond = { λ t. beyond (called t) };
+    ghost beyond = { λ t. beyond (called t) (length t.opening.items) };
 
-    ghost finished = { λ t. finished (called t) t.dump };
+    ghost finished = { λ t. finished (called t) (length t.opening.items) t.dump };
 
     fn access(
         &self,

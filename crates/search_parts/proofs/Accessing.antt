@@ -7,23 +7,24 @@ use Rattle.schedule.specs.System.{Want, Want.Turns, Want.Calls, Want.Awaits, Wan
 use Rattle.schedule_threads.specs.Shared.{Shared}
 use Rattle.schedule_machine.specs.Threads.{called}
 use Rattle.search_race_free.specs.Wanted.{access_by}
-use Rattle.search_runs.specs.Accesses.{in_bounds, no_bytes, access_of}
+use Rattle.search_runs.specs.Accesses.{in_bounds, look, access_of}
 use Rattle.search_runs.specs.Called.{Called, Walker, system_of}
 
 -- who wants an event makes its access
-pub by-event : (b : Called) (x : Shared) (t : Walker) (w : Want Event) (e : Event) → Some e ≡ called w → access_by (system_of b) access_of x t w ≡ Some
-    (access_of x t e)
-by-event b x t Turns e h = absurd (cc h)
-by-event b x t (Calls f) e h = let same : e ≡ f = cc h in ap (λ y. Some (access_of x t y)) (sym same)
-by-event b x t Awaits e h = absurd (cc h)
-by-event b x t Gone e h = absurd (cc h)
+pub by-event : (b : Called) (opening : ℕ) (x : Shared) (t : Walker) (w : Want Event) (e : Event) → Some e ≡ called w
+    → access_by (system_of b) (access_of opening) x t w ≡ Some (access_of opening x t e)
+by-event b opening x t Turns e h = absurd (cc h)
+by-event b opening x t (Calls f) e h = let same : e ≡ f = cc h in ap (λ y. Some (access_of opening x t y)) (sym same)
+by-event b opening x t Awaits e h = absurd (cc h)
+by-event b opening x t Gone e h = absurd (cc h)
 
 -- who wants none, and no turn of its own, makes none
-pub by-none : (b : Called) (x : Shared) (t : Walker) (w : Want Event) → None ≡ called w → (w ≡ Turns → ⊥) → access_by (system_of b) access_of x t w ≡ None
-by-none b x t Turns h rests = absurd (rests refl)
-by-none b x t (Calls f) h rests = absurd (cc h)
-by-none b x t Awaits h rests = refl
-by-none b x t Gone h rests = refl
+pub by-none : (b : Called) (opening : ℕ) (x : Shared) (t : Walker) (w : Want Event) → None ≡ called w → (w ≡ Turns → ⊥)
+    → access_by (system_of b) (access_of opening) x t w ≡ None
+by-none b opening x t Turns h rests = absurd (rests refl)
+by-none b opening x t (Calls f) h rests = absurd (cc h)
+by-none b opening x t Awaits h rests = refl
+by-none b opening x t Gone h rests = refl
 
 -- out of bounds it doesn't matter what is there
 pub found-there : (m : Memory) (found : Bool) (addr width : ℕ)
@@ -31,7 +32,7 @@ pub found-there : (m : Memory) (found : Bool) (addr width : ℕ)
 found-there m found addr width = by (nat_le (addr + width) (length m.bytes))
   where
     by : (t : Bool)
-        → (if t then record { plain = false && nat_le (addr + width) (addr + width); writes = t && found; addr = addr; width = width } else no_bytes)
-        ≡ (if t then record { plain = false && nat_le (addr + width) (addr + width); writes = found; addr = addr; width = width } else no_bytes)
+        → (if t then record { plain = false && nat_le (addr + width) (addr + width); writes = t && found; addr = addr; width = width } else look)
+        ≡ (if t then record { plain = false && nat_le (addr + width) (addr + width); writes = found; addr = addr; width = width } else look)
     by true = refl
     by false = refl

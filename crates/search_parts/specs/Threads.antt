@@ -1,5 +1,5 @@
 -- The threads of a call, and what stands for them.
-use Rattle.std.specs.Prelude.{ℕ, ◌≡◌, List, Option}
+use Rattle.std.specs.Prelude.{ℕ, ◌≡◌, List, length, Option}
 use Rattle.types.specs.declared.limits.TheConstants.{MOST_THREADS}
 use Rattle.types.specs.declared.event.Answer.{Answer}
 use Rattle.types.specs.declared.event.Event.{Event}
@@ -28,7 +28,7 @@ abbrev pub threads_of : WithTables → Called → List ℕ → ThreadSystem Shar
 threads_of w b opening = record {
   system = system_of b;
   first = first_state b;
-  accesses = access_of;
+  accesses = access_of (length opening);
   count = started_in;
   most = MOST_THREADS;
   shares = Shares opening;
@@ -47,7 +47,7 @@ IsEventIn w opening c s n o = (b : Called) (z : State Shared Thread) → IsThrea
 -- This is what it does with the memory next, if it can go on.
 abbrev pub IsAccessIn : WithTables → List ℕ → Common → RestingThread → ℕ → Option NextAccess → Type 0
 IsAccessIn w opening c s n o = (b : Called) (z : State Shared Thread) → IsThreadIn w opening c s n b z
-    → o ≡ next_access (system_of b) access_of z n
+    → o ≡ next_access (system_of b) (access_of (length opening)) z n
 
 -- A settled state of a call, and how it has ended.
 abbrev pub IsSettled : List ℕ → RestingState Common HashedThread → Type 0

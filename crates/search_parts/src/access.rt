@@ -1,17 +1,17 @@
 //! What a thread does with the memory next.
 
 ghost use Rattle.std.specs.Prelude.{◌≡◌, ◌≤◌, ◌+◌, ◌==◌, length, nat_le, Bool, false, IfOk};
-ghost use Rattle.types.specs.declared.event.Event.TheVariants.{Ask};
+ghost use Rattle.types.specs.declared.event.Event.TheVariants.{Ask, Grow};
 ghost use Rattle.shared_memory.specs.Events.{IsEvent};
-ghost use Rattle.shared_memory.specs.Memory.{Memory, loaded};
+ghost use Rattle.shared_memory.specs.Memory.{Memory, can_grow, loaded};
 ghost use Rattle.search_memory.specs.Memories.{memory_of};
-ghost use Rattle.search_runs.specs.Accesses.{no_bytes, in_bounds, access_by};
+ghost use Rattle.search_runs.specs.Accesses.{no_bytes, look, growth, in_bounds, access_by};
 ghost use Rattle.search_parts.specs.Threads.{IsInCall, IsAccessIn};
 
 use crate::plain::is_plain;
 use crate::shared::{Common, HashedThread};
 use crate::wants::wanted;
-use search_memory::{Changes, holds};
+use search_memory::{Changes, can_grow, holds};
 use search_settled::NextAccess;
 use std::alloc::{AllocError, Global};
 use types::{Event, Question};
@@ -26,6 +26,37 @@ fn no_bytes() -> NextAccess
         writes: false,
         addr: 0,
         width: 0,
+    }
+}
+
+/// A byte that no memory has.
+const NO_MEMORY_HAS: u64 = 1 << 32;
+
+/// What looks how many pages there are.
+fn look() -> NextAccess
+    ensures { result ≡ look }
+{
+    NextAccess {
+        plain: false,
+        writes: false,
+        addr: NO_MEMORY_HAS,
+        width: 1,
+    }
+}
+
+/// A growth of a memory that opens with so many bytes, by so many pages, where it has room for them.
+fn growth(opening: &[u8], memory: &Changes, more: u32) -> NextAccess
+    ensures { result ≡ access_by (length opening.now) (memory_of opening.now memory.now) false (Grow more) }
+{
+    if can_grow(opening, memory, more) {
+        NextAccess {
+            plain: false,
+            writes: true,
+            addr: opening.len() as u64,
+            width: NO_MEMORY_HAS + 1,
+        }
+    } else {
+        no_bytes()
     }
 }
 
@@ -55,7 +86,7 @@ fn load_or_store(
             width: u64::from(width),
         }
     } else {
-        no_bytes()
+        look()
     }
 }
 
@@ -71,7 +102,7 @@ fn atomic(len: u64, writes: bool, addr: u64, width: u8) -> NextAccess
             width: u64::from(width),
         }
     } else {
-        no_bytes()
+        look()
     }
 }
 
@@ -85,20 +116,27 @@ fn exchange(opening: &[u8], memory: &Changes, addr: u64, width: u8, expected: u6
     atomic(memory.len as u64, writes, addr, width)
 }
 
-/// What a question does with a memory of so many bytes: a wait reads.
-fn asked(len: u64, question: Question) -> NextAccess
-    ensures { (m : Memory) (plain : Bool) → length m.bytes ≡ len → result ≡ access_by m plain (Ask question) }
+/// What a question does with a memory of so many bytes that opened with so many: a wait reads, and a notify may look.
+fn asked(opening: u64, len: u64, question: Question) -> NextAccess
+    ensures { (m : Memory) (plain : Bool) → length m.bytes ≡ len → result ≡ access_by opening m plain (Ask question) }
 {
     match question {
         Question::Wait { addr, width, .. } => atomic(len, false, addr, width),
-        Question::Notify { .. } | Question::Spawn { .. } | Question::Leave => no_bytes(),
+        Question::Notify { addr, .. } => {
+            if ends_by(addr, 4, opening) {
+                no_bytes()
+            } else {
+                look()
+            }
+        }
+        Question::Spawn { .. } | Question::Leave => no_bytes(),
     }
 }
 
 /// What an event does with the memory, by an instruction that is a load or a store, or by an atomic one.
 fn access_by(opening: &[u8], memory: &Changes, plain: bool, event: &Event) -> NextAccess
     requires { IsEvent event.now }
-    ensures { result ≡ access_by (memory_of opening.now memory.now) plain event.now }
+    ensures { result ≡ access_by (length opening.now) (memory_of opening.now memory.now) plain event.now }
 {
     let len = memory.len as u64;
     match *event {
@@ -116,9 +154,9 @@ fn access_by(opening: &[u8], memory: &Changes, plain: bool, event: &Event) -> Ne
             expected,
             ..
         } => exchange(opening, memory, addr, width, expected),
-        Event::Ask(question) => asked(len, question),
+        Event::Ask(question) => asked(opening.len() as u64, len, question),
         Event::Size => no_bytes(),
-        Event::Grow(_) => no_bytes(),
+        Event::Grow(more) => growth(opening, memory, more),
         Event::Told(_) => no_bytes(),
     }
 }

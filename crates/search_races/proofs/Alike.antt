@@ -1,4 +1,4 @@
--- Rows at the same places have the same kinds.
+-- Rows at the same places are of the same instructions.
 use Rattle.std.proofs.Common.{◌≡◌, ℕ, zero, suc, ◌<◌, ◌≤◌, List, ◌∷◌, [], ◌++◌, length, map, Option, Some}
 use Rattle.std.proofs.Common.{option_and_then, option_map, slice_get, get_or, refl, sym, ap, ◌∙◌, arith, if◌then◌else◌}
 use Rattle.std.proofs.Common.{Bool}
@@ -6,11 +6,12 @@ use Rattle.std.proofs.lemmas.Option.{slice_get-get_or, slice_get-map}
 use Rattle.types.specs.declared.parts.Parts.{Parts}
 use Rattle.interp.specs.declared.place.CodePlace.{CodePlace}
 use Rattle.race_history.specs.declared.access.AccessKind.{AccessKind}
+use Rattle.race_history.specs.declared.access.Site.{Site}
 use Rattle.race_history.specs.declared.access.AccessKind.TheVariants.{Plain, Atomic}
 use Rattle.show_rows.specs.declared.rows.Row.{Row}
 use Rattle.show_rows.specs.Listing.{is_atomic_in, row_in}
 use Rattle.show_rows.specs.Spots.{is_atomic}
-use Rattle.show_races.specs.Kinds.{kind_in, kinds_in}
+use Rattle.show_races.specs.Sites.{code_in, code_of, kind_in, site_in, sites_in}
 use Rattle.search_races.specs.Heard.{row_heard}
 use Rattle.search_races.proofs.Stood.{Filled, RowHas}
 
@@ -29,8 +30,22 @@ module _ (m : Parts) (rows : Filled) (places : List CodePlace) (has : (j : ℕ) 
       ∙ (ap (λ (x : CodePlace). is_atomic m x) h.2 ∙ sym (ap (λ (o : Option Row). is_atomic_in m o) (row_is j z at))) in
       ap (λ (b : Bool). if b then Atomic else Plain) atomic
 
-  pub kinds_same : (n : ℕ) → n ≤ length places → kinds_in m rows n ≡ kinds_in m (map row_heard places) n
-  kinds_same zero few = refl
-  kinds_same (suc n) few =
-      ap (λ (l : List AccessKind). l ++ kind_in m rows n ∷ []) (kinds_same n (omega (arith, few)))
-      ∙ ap (λ (x : AccessKind). kinds_in m (map row_heard places) n ++ x ∷ []) (kind_same n (omega (arith, few)))
+  code_same : (j : ℕ) → j < length places → code_in rows j ≡ code_in (map row_heard places) j
+  code_same j lt =
+      let z : CodePlace = get_or places j (record { function = 0; instr = 0 }) in
+      let at = slice_get-get_or places j (record { function = 0; instr = 0 }) lt in
+      let h = has j z at in
+      ap (λ (o : Option Row). code_of (option_map (λ row. row.place) o)) h.1
+      ∙ (ap (λ (x : CodePlace). code_of (Some x)) h.2
+      ∙ sym (ap (λ (o : Option Row). code_of (option_map (λ row. row.place) o)) (row_is j z at)))
+
+  site_same : (j : ℕ) → j < length places → site_in m rows j ≡ site_in m (map row_heard places) j
+  site_same j lt =
+      ap (λ (k : AccessKind). record { kind = k; code = code_in rows j }) (kind_same j lt)
+      ∙ ap (λ (n : ℕ). record { kind = kind_in m (map row_heard places) j; code = n }) (code_same j lt)
+
+  pub sites_same : (n : ℕ) → n ≤ length places → sites_in m rows n ≡ sites_in m (map row_heard places) n
+  sites_same zero few = refl
+  sites_same (suc n) few =
+      ap (λ (l : List Site). l ++ site_in m rows n ∷ []) (sites_same n (omega (arith, few)))
+      ∙ ap (λ (x : Site). sites_in m (map row_heard places) n ++ x ∷ []) (site_same n (omega (arith, few)))

@@ -31,7 +31,7 @@ use Rattle.search_scheduled.specs.declared.ear.Places.{Places}
 use Rattle.search_scheduled.specs.Courses as courses
 use Rattle.search_scheduled.specs.Heard.{IsHeard, IsHeardOn, HearsAnswer, HearsSettled, HearsPlace, IsMadeBy, place_in}
 use Rattle.search_scheduled.specs.SpareThreads.{HasBegun}
-use Rattle.race_history.specs.declared.access.AccessKind.{AccessKind}
+use Rattle.race_history.specs.declared.access.Site.{Site}
 use Rattle.show_rows.specs.declared.rows.Row.{Row}
 use Rattle.show_rows.specs.declared.rows.Rows.{Rows}
 use Rattle.show_rows.specs.Rows.{RowsSee, number_before}
@@ -39,8 +39,9 @@ use Rattle.search_scheduled.specs.declared.running.MadeRun.{MadeRun}
 use Rattle.search_finds.specs.Finds.{IsFind}
 use Rattle.search_races.specs.Heard.{row_heard}
 use Rattle.show_races.specs.Races.{Says, SaysOfRun}
-use Rattle.show_races.specs.Rows.{AreRowsOf, kinds_of}
-use Rattle.search_races.proofs.Alike.{kinds_same}
+use Rattle.show_races.specs.Rows.{AreRowsOf, sites_of}
+use Rattle.show_races.specs.Sites.{opening_of}
+use Rattle.search_races.proofs.Alike.{sites_same}
 use Rattle.search_races.proofs.Stood.{Filled, RowHas, row_of, stands_there, has_set, keeps_set, see_in, see_length}
 use Rattle.search_races.proofs.Stood.{see_keeps, see_has, left_in, behind_keeps, behind_is, last_keeps, round_in}
 use Rattle.search_races.proofs.Stood.{round_length, with_rows, round_of, round_sees}
@@ -445,7 +446,7 @@ module _ (m : Parts) (r : RecordParts) (first : Course Thread) (begun : HasBegun
 -- what is said of a made run's races by the places that were heard
 pub heard_so : (q : Requested) (limit : ℕ) (made : MadeRun) (d : Vec (Option Row)) → IsFind q limit made → made.heard.hears ≡ true
     → d.items ≡ map row_heard made.heard.places.items → (is : Bool)
-    → Says made.record.log (kinds_of q.parts made.record (map row_heard made.heard.places.items)) is → SaysOfRun q.parts made.record is
+    → Says made.record.log (sites_of q.parts made.record (map row_heard made.heard.places.items)) (opening_of q.parts) is → SaysOfRun q.parts made.record is
 heard_so q limit made d find listens alike is says =
     let h = find.heard in
     let begun = h.begun made.record find.of_call in
@@ -460,6 +461,6 @@ heard_so q limit made d find listens alike is says =
       end = made.end;
       run = find.run;
       rows_are = x.1;
-      says = subst (λ (l : List AccessKind). Says made.record.log l is)
-          (sym (kinds_same q.parts x.0 made.heard.places.items x.2 (length made.record.log) (omega (arith, x.3)))) says;
+      says = subst (λ (l : List Site). Says made.record.log l (opening_of q.parts) is)
+          (sym (sites_same q.parts x.0 made.heard.places.items x.2 (length made.record.log) (omega (arith, x.3)))) says;
     }

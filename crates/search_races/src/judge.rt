@@ -2,18 +2,18 @@
 ghost use Rattle.std.specs.Prelude.{◌≡◌, ◌≤◌, ◌<◌, ℕ, IfOk, true, false, length, map};
 ghost use Rattle.shared_memory.specs.History.{AreEntries};
 ghost use Rattle.shared_memory.specs.Legal.{IsQueueLegal};
-ghost use Rattle.show_races.specs.Kinds.{kinds_shown};
+ghost use Rattle.show_races.specs.Sites.{opening_of as opening_by, opening_shown, sites_shown};
 ghost use Rattle.search_finds.specs.Finds.{IsFind};
 ghost use Rattle.search_races.specs.Heard.{row_heard};
 ghost use Rattle.show_races.specs.Races.{Says, SaysOfRun};
-ghost use Rattle.show_races.specs.Rows.{kinds_of as kinds_by};
+ghost use Rattle.show_races.specs.Rows.{sites_of as sites_by};
 
 use interp::CodePlace;
 use race_history::{Race, is_history, races_of};
 use replay_text::Record;
 use search_finds::Judges;
 use search_scheduled::MadeRun;
-use show_races::{kinds_of, watched};
+use show_races::{opening_of, sites_of, watched};
 use show_rows::{CodeMap, Row, Shown};
 use spawn_host::Request;
 use std::alloc::{AllocError, Global};
@@ -31,11 +31,12 @@ fn is_any(pairs: &[Race]) -> bool
 fn is_racy(alloc: Global, shown: Shown) -> Result<bool, AllocError>
     requires entries { AreEntries shown.record.now.log }
     requires legal { IsQueueLegal shown.record.now.log }
-    ensures { IfOk result (Says shown.entry.record.now.log (kinds_shown shown.entry)) }
+    ensures { IfOk result (Says shown.entry.record.now.log (sites_shown shown.entry) (opening_shown shown.entry)) }
 {
-    let kinds = kinds_of(alloc, shown)?;
+    let sites = sites_of(alloc, shown)?;
+    let opening = opening_of(alloc, shown.code.parts())?;
     let log = shown.record.log.as_slice();
-    let races = races_of(alloc, log, kinds.as_slice(), 1)?;
+    let races = races_of(alloc, log, sites.as_slice(), opening, 1)?;
     Ok(is_any(races.pairs.as_slice()))
 }
 
@@ -46,7 +47,8 @@ fn is_racy_by(
     record: &Record,
     rows: &[Option<Row>],
 ) -> Result<bool, AllocError>
-    ensures { IfOk result (Says «record».now.log (kinds_by «module».now.parts «record».now rows.now)) }
+    ensures { IfOk result (Says «record».now.log
+        (sites_by «module».now.parts «record».now rows.now) (opening_by «module».now.parts)) }
 {
     let code = CodeMap::read(alloc, module.parts(), &[], &[])?;
     let shown = Shown {

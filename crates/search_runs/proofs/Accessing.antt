@@ -91,12 +91,13 @@ module _ (b : Called) (w : systems.State Shared Walker) (reach : CanReach b w) (
   gives-none m =
       ap (λ q. answer_due q m) (queue-still w.shared.memory w.shared.queue n e (reply_of w.shared.memory e) is) ∙ no-dues w.shared.queue m heard
 
-  module _ (p q : Bool) (u : ℕ) (f : Event) (spared : Conflict (access_by w.shared.memory p f) (access_by w.shared.memory q e) → ⊥) where
+  module _ (opening : ℕ) (p q : Bool) (u : ℕ) (f : Event)
+      (spared : Conflict (access_by opening w.shared.memory p f) (access_by opening w.shared.memory q e) → ⊥) where
     -- what the event makes of the queue
     queue-other : queue_by (shared_by w.shared n e) u f ≡ queue_by w.shared u f
     queue-other =
         ap (λ z. queue_step z u f (reply_of (state_after w.shared.memory e) f)) queue-is
-        ∙ ap (queue_step w.shared.queue u f) (found-still w.shared.memory p q f e is spared)
+        ∙ ap (queue_step w.shared.queue u f) (found-still opening w.shared.memory p q f e is spared)
 
     queue-after : without_dues (queue_by (shared_by w.shared u f) n e) ≡ without_dues (queue_by (shared_by w.shared n e) u f)
     queue-after =
@@ -105,51 +106,52 @@ module _ (b : Called) (w : systems.State Shared Walker) (reach : CanReach b w) (
 
     pub independent : AreIndependent (system_of b) w.shared n e u f
     independent = record {
-      reply = reply-still w.shared.memory p q f e is spared;
-      reply_other = found-still w.shared.memory p q f e is spared;
-      shared = λ i. record { memory = leaves-same w.shared.memory p q f e is spared i; queue = queue-after i };
+      reply = reply-still opening w.shared.memory p q f e is spared;
+      reply_other = found-still opening w.shared.memory p q f e is spared;
+      shared = λ i. record { memory = leaves-same opening w.shared.memory p q f e is spared i; queue = queue-after i };
       gives = λ m. ap (λ z. answer_due z m) queue-other;
       starts = λ m. starts-same b w.shared (shared_by w.shared n e) f m queue-is;
     }
 
-pub plain : (b : Called) → ArePlain (system_of b) access_of (first_state b)
-plain b = record {
+pub plain : (b : Called) (opening : ℕ) → ArePlain (system_of b) (access_of opening) (first_state b)
+plain b opening = record {
   gives = λ w n e wants m. gives-none b w wants.reached n e (access-at w n e wants) m;
   starts = λ w n e wants m. starts-nobody b w.shared w.shared.memory e m (access-at w n e wants);
-  same = λ w n e wants t f spared. access-same w.shared.memory (is_plain t) (is_plain (w.threads n)) f e (access-at w n e wants) spared;
-  still = λ w n e wants t f c. conflict-still w.shared.memory (is_plain t) (is_plain (w.threads n)) f e (access-at w n e wants) c;
+  same = λ w n e wants t f spared. access-same opening w.shared.memory (is_plain t) (is_plain (w.threads n)) f e (access-at w n e wants) spared;
+  still = λ w n e wants t f c. conflict-still opening w.shared.memory (is_plain t) (is_plain (w.threads n)) f e (access-at w n e wants) c;
   stays = λ w n e wants u f calls.
-      access-stays w.shared.memory (state_after w.shared.memory f) (is_plain (w.threads n)) e (access-at w n e wants) (longer w.shared.memory f);
+      access-stays opening w.shared.memory (state_after w.shared.memory f) (is_plain (w.threads n)) e (access-at w n e wants) (longer w.shared.memory f);
   independent = λ w n e wants u f calls apart spared.
-      independent b w wants.reached n e (access-at w n e wants) (is_plain (w.threads u)) (is_plain (w.threads n)) u f spared;
+      independent b w wants.reached n e (access-at w n e wants) opening (is_plain (w.threads u)) (is_plain (w.threads n)) u f spared;
 }
   where
-    access-at : (w : systems.State Shared Walker) (n : ℕ) (e : Event) → WantsPlain (system_of b) access_of (first_state b) w n e → IsAccess w.shared.memory e
-    access-at w n e wants = is-access w.shared.memory (is_plain (w.threads n)) e wants.plain
+    access-at : (w : systems.State Shared Walker) (n : ℕ) (e : Event) → WantsPlain (system_of b) (access_of opening) (first_state b) w n e
+        → IsAccess w.shared.memory e
+    access-at w n e wants = is-access opening w.shared.memory (is_plain (w.threads n)) e wants.plain
 
 -- who is gone can't go on
-gone-not : (b : Called) (w : systems.State Shared Walker) (n : ℕ) (a : NextAccess) → unlimited_wants (machine_of b.program) (w.threads n) ≡ Gone
-    → next_access (system_of b) access_of w n ≡ Some a → ⊥
-gone-not b w n a gone h = none-some a (sym (ap (nexts.access_by (system_of b) access_of w.shared (w.threads n)) gone) ∙ h)
+gone-not : (b : Called) (opening : ℕ) (w : systems.State Shared Walker) (n : ℕ) (a : NextAccess) → unlimited_wants (machine_of b.program) (w.threads n) ≡ Gone
+    → next_access (system_of b) (access_of opening) w n ≡ Some a → ⊥
+gone-not b opening w n a gone h = none-some a (sym (ap (nexts.access_by (system_of b) (access_of opening) w.shared (w.threads n)) gone) ∙ h)
 
-pub beyond : (b : Called) → NoneBeyond (system_of b) access_of (first_state b) MOST_THREADS
-beyond b w reach n past a h =
+pub beyond : (b : Called) (opening : ℕ) → NoneBeyond (system_of b) (access_of opening) (first_state b) MOST_THREADS
+beyond b opening w reach n past a h =
     let o = orderly b w reach in
     let sound = o.sound in
     let low : length (WaitQueue.args w.shared.queue) < length (WaitQueue.due w.shared.queue) = sound.few in
     let dues = o.dues in
-    gone-not b w n a (ap (unlimited_wants (machine_of b.program)) (missing b w reach n (omega (arith, low, dues, past)))) h
+    gone-not b opening w n a (ap (unlimited_wants (machine_of b.program)) (missing b w reach n (omega (arith, low, dues, past)))) h
 
 is_there : (xs : List Outcome) (n : ℕ) → n < length xs → (x : Outcome) × (slice_get xs n ≡ Some x)
 is_there [] n lt = absurd (omega (arith, lt))
 is_there (x ∷ xs) zero lt = (x, refl)
 is_there (x ∷ xs) (suc n) lt = is_there xs n (omega (arith, lt))
 
-pub finished : (b : Called) (dump : ℕ) → NobodyGoesOn (system_of b) access_of (HasEndedSo dump)
-finished b dump w o ends n a h = elim (cases_lt n (next_id w.shared.queue)) [
+pub finished : (b : Called) (opening dump : ℕ) → NobodyGoesOn (system_of b) (access_of opening) (HasEndedSo dump)
+finished b opening dump w o ends n a h = elim (cases_lt n (next_id w.shared.queue)) [
   | inl low ↦
       (let count = ends.count in
       let at = is_there o.outcomes n (omega (arith, low, count)) in
-      gone-not b w n a (ap (unlimited_wants (machine_of b.program)) (ends.left n at.0 at.1)) h)
-  | inr past ↦ gone-not b w n a (ap (unlimited_wants (machine_of b.program)) (ends.others n past)) h
+      gone-not b opening w n a (ap (unlimited_wants (machine_of b.program)) (ends.left n at.0 at.1)) h)
+  | inr past ↦ gone-not b opening w n a (ap (unlimited_wants (machine_of b.program)) (ends.others n past)) h
 ]

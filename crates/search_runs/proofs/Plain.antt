@@ -16,7 +16,7 @@ use Rattle.shared_memory.specs.Memory.{Memory, pages, loaded, written, combined,
 use Rattle.shared_memory.proofs.Numbers.{length-le_bytes}
 use Rattle.search_settled.specs.declared.access.NextAccess.{NextAccess}
 use Rattle.search_settled.specs.Accesses.{HasByte, Meet, Conflict}
-use Rattle.search_runs.specs.Accesses.{no_bytes, in_bounds, access_by}
+use Rattle.search_runs.specs.Accesses.{no_bytes, look, growth, in_bounds, access_by}
 use Rattle.search_runs.proofs.Bytes as bytes
 
 -- within a memory
@@ -46,7 +46,7 @@ in-fits : (m : Memory) (plain writes : Bool) (addr width reach : ℕ) → (in_bo
 in-fits m plain writes addr width reach h = by (nat_le reach (length m.bytes)) refl h
   where
     by : (t : Bool) → nat_le reach (length m.bytes) ≡ t
-        → (if t then inside (plain && nat_le (addr + width) reach) writes addr width else no_bytes).plain ≡ true → FitsIn m addr width reach
+        → (if t then inside (plain && nat_le (addr + width) reach) writes addr width else look).plain ≡ true → FitsIn m addr width reach
     by true e g = record {
       ends = leb-true (addr + width) reach (both-true plain (nat_le (addr + width) reach) g).1;
       reaches = leb-true reach (length m.bytes) e;
@@ -59,28 +59,32 @@ not-plain h = absurd (true≢false (sym h))
 rmw-plain : (m : Memory) (writes : Bool) (addr width reach : ℕ) → (in_bounds m false writes addr width reach).plain ≡ true → ⊥
 rmw-plain m writes addr width reach h = by (nat_le reach (length m.bytes)) h
   where
-    by : (t : Bool) → (if t then inside (false && nat_le (addr + width) reach) writes addr width else no_bytes).plain ≡ true → ⊥
+    by : (t : Bool) → (if t then inside (false && nat_le (addr + width) reach) writes addr width else look).plain ≡ true → ⊥
     by true g = not-plain g
     by false g = not-plain g
 
+never-plain : {B : Type 0} (t : Bool) (x y : NextAccess) → x.plain ≡ false → y.plain ≡ false → (if t then x else y).plain ≡ true → B
+never-plain true x y a b h = not-plain (sym a ∙ h)
+never-plain false x y a b h = not-plain (sym b ∙ h)
+
 -- what is plain is one of these
-pub is-access : (m : Memory) (p : Bool) (e : Event) → (access_by m p e).plain ≡ true → IsAccess m e
-is-access m p Size h = not-plain h
-is-access m p (Grow more) h = not-plain h
-is-access m p (Load addr width reach) h = in-fits m p false addr width reach h
-is-access m p (Store addr width reach value) h = in-fits m p true addr width reach h
-is-access m p (Rmw op addr width value) h = rmw-plain m true addr width (addr + width) h
-is-access m p (Cmpxchg addr width expected replacement) h = rmw-plain m (loaded m addr width == expected) addr width (addr + width) h
-is-access m p (Ask (Wait addr width expected timeout)) h = rmw-plain m false addr width (addr + width) h
-is-access m p (Ask (Notify addr count)) h = not-plain h
-is-access m p (Ask (Spawn arg)) h = not-plain h
-is-access m p (Ask Leave) h = not-plain h
-is-access m p (Told answer) h = not-plain h
+pub is-access : (opening : ℕ) (m : Memory) (p : Bool) (e : Event) → (access_by opening m p e).plain ≡ true → IsAccess m e
+is-access opening m p Size h = not-plain h
+is-access opening m p (Grow more) h = never-plain (can_grow m more) (growth opening) no_bytes refl refl h
+is-access opening m p (Load addr width reach) h = in-fits m p false addr width reach h
+is-access opening m p (Store addr width reach value) h = in-fits m p true addr width reach h
+is-access opening m p (Rmw op addr width value) h = rmw-plain m true addr width (addr + width) h
+is-access opening m p (Cmpxchg addr width expected replacement) h = rmw-plain m (loaded m addr width == expected) addr width (addr + width) h
+is-access opening m p (Ask (Wait addr width expected timeout)) h = rmw-plain m false addr width (addr + width) h
+is-access opening m p (Ask (Notify addr count)) h = never-plain (nat_le (addr + 4) opening) no_bytes look refl refl h
+is-access opening m p (Ask (Spawn arg)) h = not-plain h
+is-access opening m p (Ask Leave) h = not-plain h
+is-access opening m p (Told answer) h = not-plain h
 
 -- its bytes
 pub in-is : (m : Memory) (plain writes : Bool) (addr width reach : ℕ) → nat_le reach (length m.bytes) ≡ true
     → in_bounds m plain writes addr width reach ≡ inside (plain && nat_le (addr + width) reach) writes addr width
-in-is m plain writes addr width reach e = ap (λ t. if t then inside (plain && nat_le (addr + width) reach) writes addr width else no_bytes) e
+in-is m plain writes addr width reach e = ap (λ t. if t then inside (plain && nat_le (addr + width) reach) writes addr width else look) e
 
 -- Ranges of bytes without a byte in common.
 abbrev pub Apart : ℕ → ℕ → ℕ → ℕ → Type 0
@@ -185,28 +189,28 @@ spares-apart m p a w r b v e h =
     apart-of (inside (p && nat_le (a + w) r) true a w) (inside true true b v) (subst (λ x. Spares x b v) (in-is m p true a w r e) h refl)
 
 -- what is read is there still
-pub loaded-still : (m : Memory) (p : Bool) (f : Event) (b v : ℕ) → b + v ≤ length m.bytes → Spares (access_by m p f) b v
+pub loaded-still : (opening : ℕ) (m : Memory) (p : Bool) (f : Event) (b v : ℕ) → b + v ≤ length m.bytes → Spares (access_by opening m p f) b v
     → loaded (state_after m f) b v ≡ loaded m b v
-loaded-still m p Size b v within h = refl
-loaded-still m p (Grow more) b v within h = by (can_grow m more)
+loaded-still opening m p Size b v within h = refl
+loaded-still opening m p (Grow more) b v within h = by (can_grow m more)
   where
     by : (t : Bool) → loaded (if t then grown m more else m) b v ≡ loaded m b v
     by true = ap le_number (bytes.taken-more m.bytes (replicate (PAGE_SIZE * more) 0) b v within)
     by false = refl
-loaded-still m p (Load addr width reach) b v within h = refl
-loaded-still m p (Store addr width reach value) b v within h = by (nat_le reach (length m.bytes)) refl
+loaded-still opening m p (Load addr width reach) b v within h = refl
+loaded-still opening m p (Store addr width reach value) b v within h = by (nat_le reach (length m.bytes)) refl
   where
     by : (t : Bool) → nat_le reach (length m.bytes) ≡ t → loaded (if t then written m addr width value else m) b v ≡ loaded m b v
     by true e = loaded-apart m addr width value b v (spares-apart m p addr width reach b v e h) (inl within)
     by false e = refl
-loaded-still m p (Rmw op addr width value) b v within h = by (nat_le (addr + width) (length m.bytes)) refl
+loaded-still opening m p (Rmw op addr width value) b v within h = by (nat_le (addr + width) (length m.bytes)) refl
   where
     by : (t : Bool) → nat_le (addr + width) (length m.bytes) ≡ t
         → loaded (if t then written m addr width (combined op width (loaded m addr width) value) else m) b v ≡ loaded m b v
     by true e = loaded-apart m addr width (combined op width (loaded m addr width) value) b v (spares-apart m false addr width (addr + width) b v e h)
         (inl within)
     by false e = refl
-loaded-still m p (Cmpxchg addr width expected replacement) b v within h = by (nat_le (addr + width) (length m.bytes)) refl
+loaded-still opening m p (Cmpxchg addr width expected replacement) b v within h = by (nat_le (addr + width) (length m.bytes)) refl
   where
     swapped : nat_le (addr + width) (length m.bytes) ≡ true → (t : Bool) → Spares (in_bounds m false t addr width (addr + width)) b v
         → loaded (if t then written m addr width replacement else m) b v ≡ loaded m b v
@@ -217,22 +221,22 @@ loaded-still m p (Cmpxchg addr width expected replacement) b v within h = by (na
         → loaded (if t then (if loaded m addr width == expected then written m addr width replacement else m) else m) b v ≡ loaded m b v
     by true e = swapped e (loaded m addr width == expected) h
     by false e = refl
-loaded-still m p (Ask question) b v within h = refl
-loaded-still m p (Told answer) b v within h = refl
+loaded-still opening m p (Ask question) b v within h = refl
+loaded-still opening m p (Told answer) b v within h = refl
 
 -- An access and an event that don't conflict.
-module _ (m : Memory) (p q : Bool) (f : Event) where
+module _ (opening : ℕ) (m : Memory) (p q : Bool) (f : Event) where
   abbrev pub Spared : Event → Type 0
-  Spared e = Conflict (access_by m p f) (access_by m q e) → ⊥
+  Spared e = Conflict (access_by opening m p f) (access_by opening m q e) → ⊥
 
-  load-spared : (b v r : ℕ) → FitsIn m b v r → Spared (Load b v r) → Spares (access_by m p f) b v
+  load-spared : (b v r : ℕ) → FitsIn m b v r → Spared (Load b v r) → Spares (access_by opening m p f) b v
   load-spared b v r fits h writes meet =
-      h (subst (λ y. Conflict (access_by m p f) y) (sym (in-is m q false b v r (le-leb r (length m.bytes) fits.reaches)))
+      h (subst (λ y. Conflict (access_by opening m p f) y) (sym (in-is m q false b v r (le-leb r (length m.bytes) fits.reaches)))
       (record { meet = meet; write = inl writes }))
 
-  store-spared : (b v r k : ℕ) → FitsIn m b v r → Spared (Store b v r k) → Meet (access_by m p f) (inside true true b v) → ⊥
+  store-spared : (b v r k : ℕ) → FitsIn m b v r → Spared (Store b v r k) → Meet (access_by opening m p f) (inside true true b v) → ⊥
   store-spared b v r k fits h meet =
-      h (subst (λ y. Conflict (access_by m p f) y) (sym (in-is m q true b v r (le-leb r (length m.bytes) fits.reaches)))
+      h (subst (λ y. Conflict (access_by opening m p f) y) (sym (in-is m q true b v r (le-leb r (length m.bytes) fits.reaches)))
       (record { meet = meet; write = inr refl }))
 
   -- it finds the same after the event
@@ -245,7 +249,7 @@ module _ (m : Memory) (p q : Bool) (f : Event) where
       let ends = fits.ends in
       let reaches = fits.reaches in
       if-in z r (Value (loaded z b v)) OutOfBounds (omega (arith, more, reaches))
-      ∙ (ap Value (loaded-still m p f b v (omega (arith, ends, reaches)) (load-spared b v r fits h))
+      ∙ (ap Value (loaded-still opening m p f b v (omega (arith, ends, reaches)) (load-spared b v r fits h))
       ∙ sym (if-in m r (Value (loaded m b v)) OutOfBounds reaches))
   reply-still (Store b v r k) fits h =
       let more = longer m f in
@@ -282,18 +286,18 @@ module _ (m : Memory) (p : Bool) (b v k : ℕ) (within : b + v ≤ length m.byte
       by true e = ap Value (loaded-apart m b v k a w (store-apart t writes a w r (subst (λ x. nat_le x (length m.bytes) ≡ true) same e) never) (inr within))
       by false e = refl
 
-  pub other-found : (f : Event) → (Meet (access_by m p f) (inside true true b v) → ⊥) → reply_of (written m b v k) f ≡ reply_of m f
-  other-found Size h = ap (λ l. Value (l / PAGE_SIZE)) long
-  other-found (Grow more) h = ap (λ l. Value (if nat_le (l / PAGE_SIZE + more) m.max then l / PAGE_SIZE else 4294967295)) long
-  other-found (Load a w r) h = other-loads p false a w r r refl h
-  other-found (Store a w r n) h = if-same m (written m b v k) r Done OutOfBounds long
-  other-found (Rmw op a w value) h = other-loads false true a w (a + w) (a + w) refl h
-  other-found (Cmpxchg a w expected replacement) h = other-loads false (loaded m a w == expected) a w (a + w) (a + w) refl h
-  other-found (Ask (Wait a w expected timeout)) h = other-loads false false a w (a + w) (a + w) refl h
-  other-found (Ask (Notify a count)) h = if-same m (written m b v k) (a + 4) Done OutOfBounds long
-  other-found (Ask (Spawn arg)) h = refl
-  other-found (Ask Leave) h = refl
-  other-found (Told answer) h = refl
+  pub other-found : (opening : ℕ) (f : Event) → (Meet (access_by opening m p f) (inside true true b v) → ⊥) → reply_of (written m b v k) f ≡ reply_of m f
+  other-found opening Size h = ap (λ l. Value (l / PAGE_SIZE)) long
+  other-found opening (Grow more) h = ap (λ l. Value (if nat_le (l / PAGE_SIZE + more) m.max then l / PAGE_SIZE else 4294967295)) long
+  other-found opening (Load a w r) h = other-loads p false a w r r refl h
+  other-found opening (Store a w r n) h = if-same m (written m b v k) r Done OutOfBounds long
+  other-found opening (Rmw op a w value) h = other-loads false true a w (a + w) (a + w) refl h
+  other-found opening (Cmpxchg a w expected replacement) h = other-loads false (loaded m a w == expected) a w (a + w) (a + w) refl h
+  other-found opening (Ask (Wait a w expected timeout)) h = other-loads false false a w (a + w) (a + w) refl h
+  other-found opening (Ask (Notify a count)) h = if-same m (written m b v k) (a + 4) Done OutOfBounds long
+  other-found opening (Ask (Spawn arg)) h = refl
+  other-found opening (Ask Leave) h = refl
+  other-found opening (Told answer) h = refl
 
   -- it leaves the same, whichever comes first
   other-writes : (t : Bool) (a w r n end : ℕ) → end ≡ r → (Meet (in_bounds m t true a w r) (inside true true b v) → ⊥) →
@@ -303,19 +307,20 @@ module _ (m : Memory) (p : Bool) (b v k : ℕ) (within : b + v ≤ length m.byte
       (apart-back b v a w (store-apart t true a w r (subst (λ x. nat_le x (length m.bytes) ≡ true) same e) h)) within
   other-writes t a w r n end same h false e = refl
 
-  pub other-leaves : (f : Event) → (Meet (access_by m p f) (inside true true b v) → ⊥) → written (state_after m f) b v k ≡ state_after (written m b v k) f
-  other-leaves Size h = refl
-  other-leaves (Grow more) h = by (can_grow m more) ∙
+  pub other-leaves : (opening : ℕ) (f : Event) → (Meet (access_by opening m p f) (inside true true b v) → ⊥)
+      → written (state_after m f) b v k ≡ state_after (written m b v k) f
+  other-leaves opening Size h = refl
+  other-leaves opening (Grow more) h = by (can_grow m more) ∙
       sym (ap (λ l. if nat_le (l / PAGE_SIZE + more) m.max then grown (written m b v k) more else written m b v k) long)
     where
       by : (t : Bool) → written (if t then grown m more else m) b v k ≡ (if t then grown (written m b v k) more else written m b v k)
       by true = same-memory m _ _ (bytes.spliced-more m.bytes (le_bytes v k) (replicate (PAGE_SIZE * more) 0) b v within)
       by false = refl
-  other-leaves (Load a w r) h = refl
-  other-leaves (Store a w r n) h =
+  other-leaves opening (Load a w r) h = refl
+  other-leaves opening (Store a w r n) h =
       other-writes p a w r n r refl h (nat_le r (length m.bytes)) refl ∙
       sym (if-same m (written m b v k) r (written (written m b v k) a w n) (written m b v k) long)
-  other-leaves (Rmw op a w value) h =
+  other-leaves opening (Rmw op a w value) h =
       other-writes false a w (a + w) (combined op w (loaded m a w) value) (a + w) refl h (nat_le (a + w) (length m.bytes)) refl
       ∙ (by (nat_le (a + w) (length m.bytes)) refl
       ∙ sym (if-same m (written m b v k) (a + w) (written (written m b v k) a w (combined op w (loaded (written m b v k) a w) value)) (written m b v k) long))
@@ -326,7 +331,7 @@ module _ (m : Memory) (p : Bool) (b v k : ℕ) (within : b + v ≤ length m.byte
       by true e = ap (λ o. written (written m b v k) a w (combined op w o value))
           (sym (loaded-apart m b v k a w (store-apart false true a w (a + w) e h) (inr within)))
       by false e = refl
-  other-leaves (Cmpxchg a w expected replacement) h =
+  other-leaves opening (Cmpxchg a w expected replacement) h =
       by (nat_le (a + w) (length m.bytes)) refl
       ∙ sym (if-same m (written m b v k) (a + w) (if loaded (written m b v k) a w == expected then written (written m b v k) a w replacement else written m b v
       k) (written m b v k) long)
@@ -344,12 +349,12 @@ module _ (m : Memory) (p : Bool) (b v k : ℕ) (within : b + v ≤ length m.byte
           ∙ ap (λ o. if o == expected then written (written m b v k) a w replacement else written m b v k)
           (sym (loaded-apart m b v k a w (store-apart false (loaded m a w == expected) a w (a + w) e h) (inr within)))
       by false e = refl
-  other-leaves (Ask question) h = refl
-  other-leaves (Told answer) h = refl
+  other-leaves opening (Ask question) h = refl
+  other-leaves opening (Told answer) h = refl
 
-module _ (m : Memory) (p q : Bool) (f : Event) where
+module _ (opening : ℕ) (m : Memory) (p q : Bool) (f : Event) where
   -- the event finds the same after the access
-  pub found-still : (e : Event) → IsAccess m e → Spared m p q f e → reply_of (state_after m e) f ≡ reply_of m f
+  pub found-still : (e : Event) → IsAccess m e → Spared opening m p q f e → reply_of (state_after m e) f ≡ reply_of m f
   found-still Size is h = absurd is
   found-still (Grow more) is h = absurd is
   found-still (Load b v r) fits h = refl
@@ -357,14 +362,14 @@ module _ (m : Memory) (p q : Bool) (f : Event) where
       let ends = fits.ends in
       let reaches = fits.reaches in
       ap (λ z. reply_of z f) (if-in m r (written m b v k) m reaches)
-      ∙ other-found m p b v k (omega (arith, ends, reaches)) f (store-spared m p q f b v r k fits h)
+      ∙ other-found m p b v k (omega (arith, ends, reaches)) opening f (store-spared opening m p q f b v r k fits h)
   found-still (Rmw op addr width value) is h = absurd is
   found-still (Cmpxchg addr width expected replacement) is h = absurd is
   found-still (Ask question) is h = absurd is
   found-still (Told answer) is h = absurd is
 
   -- they leave the same, whichever comes first
-  pub leaves-same : (e : Event) → IsAccess m e → Spared m p q f e → state_after (state_after m f) e ≡ state_after (state_after m e) f
+  pub leaves-same : (e : Event) → IsAccess m e → Spared opening m p q f e → state_after (state_after m f) e ≡ state_after (state_after m e) f
   leaves-same Size is h = absurd is
   leaves-same (Grow more) is h = absurd is
   leaves-same (Load b v r) fits h = refl
@@ -374,7 +379,7 @@ module _ (m : Memory) (p q : Bool) (f : Event) where
       let more = longer m f in
       let z = state_after m f in
       if-in z r (written z b v k) z (omega (arith, more, reaches))
-      ∙ (other-leaves m p b v k (omega (arith, ends, reaches)) f (store-spared m p q f b v r k fits h)
+      ∙ (other-leaves m p b v k (omega (arith, ends, reaches)) opening f (store-spared opening m p q f b v r k fits h)
       ∙ sym (ap (λ y. state_after y f) (if-in m r (written m b v k) m reaches)))
   leaves-same (Rmw op addr width value) is h = absurd is
   leaves-same (Cmpxchg addr width expected replacement) is h = absurd is
@@ -395,10 +400,21 @@ as-long m (Cmpxchg addr width expected replacement) is = absurd is
 as-long m (Ask question) is = absurd is
 as-long m (Told answer) is = absurd is
 
+-- and may have as many pages
+as-much-most : (m : Memory) (e : Event) → IsAccess m e → (state_after m e).max ≡ m.max
+as-much-most m Size is = absurd is
+as-much-most m (Grow more) is = absurd is
+as-much-most m (Load b v r) fits = refl
+as-much-most m (Store b v r k) fits = ap (λ (z : Memory). z.max) (if-in m r (written m b v k) m fits.reaches)
+as-much-most m (Rmw op addr width value) is = absurd is
+as-much-most m (Cmpxchg addr width expected replacement) is = absurd is
+as-much-most m (Ask question) is = absurd is
+as-much-most m (Told answer) is = absurd is
+
 -- what an event does with a memory depends on its length, and a compare-exchange's on what is there
 in-same : (m z : Memory) (plain writes : Bool) (addr width reach : ℕ) → length z.bytes ≡ length m.bytes
     → in_bounds z plain writes addr width reach ≡ in_bounds m plain writes addr width reach
-in-same m z plain writes addr width reach h = ap (λ l. if nat_le reach l then inside (plain && nat_le (addr + width) reach) writes addr width else no_bytes) h
+in-same m z plain writes addr width reach h = ap (λ l. if nat_le reach l then inside (plain && nat_le (addr + width) reach) writes addr width else look) h
 
 -- in the memory after a store that it doesn't meet
 module _ (m : Memory) (p : Bool) (b v k : ℕ) (within : b + v ≤ length m.bytes) where
@@ -409,25 +425,27 @@ module _ (m : Memory) (p : Bool) (b v k : ℕ) (within : b + v ≤ length m.byte
       by (nat_le (a + w) (length m.bytes)) refl
     where
       by : (s : Bool) → nat_le (a + w) (length m.bytes) ≡ s
-          → (if s then inside (false && nat_le (a + w) (a + w)) (loaded (written m b v k) a w == expected) a w else no_bytes)
-          ≡ (if s then inside (false && nat_le (a + w) (a + w)) (loaded m a w == expected) a w else no_bytes)
+          → (if s then inside (false && nat_le (a + w) (a + w)) (loaded (written m b v k) a w == expected) a w else look)
+          ≡ (if s then inside (false && nat_le (a + w) (a + w)) (loaded m a w == expected) a w else look)
       by true e =
           ap (λ n. inside (false && nat_le (a + w) (a + w)) (n == expected) a w)
           (loaded-apart m b v k a w (store-apart m p b v k within false (loaded m a w == expected) a w (a + w) e never) (inr within))
       by false e = refl
 
-  written-same : (f : Event) → (Meet (access_by m p f) (inside true true b v) → ⊥) → access_by (written m b v k) p f ≡ access_by m p f
-  written-same Size h = refl
-  written-same (Grow more) h = refl
-  written-same (Load addr width reach) h = in-same m (written m b v k) p false addr width reach (long m p b v k within)
-  written-same (Store addr width reach value) h = in-same m (written m b v k) p true addr width reach (long m p b v k within)
-  written-same (Rmw op addr width value) h = in-same m (written m b v k) false true addr width (addr + width) (long m p b v k within)
-  written-same (Cmpxchg addr width expected replacement) h = found-same addr width expected h
-  written-same (Ask (Wait addr width expected timeout)) h = in-same m (written m b v k) false false addr width (addr + width) (long m p b v k within)
-  written-same (Ask (Notify addr count)) h = refl
-  written-same (Ask (Spawn arg)) h = refl
-  written-same (Ask Leave) h = refl
-  written-same (Told answer) h = refl
+  written-same : (opening : ℕ) (f : Event) → (Meet (access_by opening m p f) (inside true true b v) → ⊥)
+      → access_by opening (written m b v k) p f ≡ access_by opening m p f
+  written-same opening Size h = refl
+  written-same opening (Grow more) h =
+      ap (λ l. if nat_le (l / PAGE_SIZE + more) m.max then growth opening else no_bytes) (long m p b v k within)
+  written-same opening (Load addr width reach) h = in-same m (written m b v k) p false addr width reach (long m p b v k within)
+  written-same opening (Store addr width reach value) h = in-same m (written m b v k) p true addr width reach (long m p b v k within)
+  written-same opening (Rmw op addr width value) h = in-same m (written m b v k) false true addr width (addr + width) (long m p b v k within)
+  written-same opening (Cmpxchg addr width expected replacement) h = found-same addr width expected h
+  written-same opening (Ask (Wait addr width expected timeout)) h = in-same m (written m b v k) false false addr width (addr + width) (long m p b v k within)
+  written-same opening (Ask (Notify addr count)) h = refl
+  written-same opening (Ask (Spawn arg)) h = refl
+  written-same opening (Ask Leave) h = refl
+  written-same opening (Told answer) h = refl
 
 -- the bytes that an event touches are the same in a memory as long
 in-meets : (m z : Memory) (plain one other : Bool) (addr width reach : ℕ) (y : NextAccess) → length z.bytes ≡ length m.bytes
@@ -435,48 +453,55 @@ in-meets : (m z : Memory) (plain one other : Bool) (addr width reach : ℕ) (y :
 in-meets m z plain one other addr width reach y h meet = subst (λ x. Meet x y) (sym (in-same m z plain other addr width reach h))
     (by (nat_le reach (length m.bytes)) meet)
   where
-    by : (s : Bool) → Meet (if s then inside (plain && nat_le (addr + width) reach) one addr width else no_bytes) y
-        → Meet (if s then inside (plain && nat_le (addr + width) reach) other addr width else no_bytes) y
+    by : (s : Bool) → Meet (if s then inside (plain && nat_le (addr + width) reach) one addr width else look) y
+        → Meet (if s then inside (plain && nat_le (addr + width) reach) other addr width else look) y
     by true g = g
     by false g = g
 
-meets-still : (m z : Memory) (p : Bool) (f : Event) (y : NextAccess) → length z.bytes ≡ length m.bytes → Meet (access_by m p f) y → Meet (access_by z p f) y
-meets-still m z p Size y h meet = meet
-meets-still m z p (Grow more) y h meet = meet
-meets-still m z p (Load addr width reach) y h meet = in-meets m z p false false addr width reach y h meet
-meets-still m z p (Store addr width reach value) y h meet = in-meets m z p true true addr width reach y h meet
-meets-still m z p (Rmw op addr width value) y h meet = in-meets m z false true true addr width (addr + width) y h meet
-meets-still m z p (Cmpxchg addr width expected replacement) y h meet =
-    in-meets m z false (loaded m addr width == expected) (loaded z addr width == expected) addr width (addr + width) y h meet
-meets-still m z p (Ask (Wait addr width expected timeout)) y h meet = in-meets m z false false false addr width (addr + width) y h meet
-meets-still m z p (Ask (Notify addr count)) y h meet = meet
-meets-still m z p (Ask (Spawn arg)) y h meet = meet
-meets-still m z p (Ask Leave) y h meet = meet
-meets-still m z p (Told answer) y h meet = meet
+as-much : (m z : Memory) (more : ℕ) → length z.bytes ≡ length m.bytes → z.max ≡ m.max → can_grow z more ≡ can_grow m more
+as-much m z more h most = ap (λ l. nat_le (l / PAGE_SIZE + more) z.max) h ∙ ap (λ k. nat_le (length m.bytes / PAGE_SIZE + more) k) most
 
-module _ (m : Memory) (p q : Bool) (f : Event) where
+meets-still : (opening : ℕ) (m z : Memory) (p : Bool) (f : Event) (y : NextAccess) → length z.bytes ≡ length m.bytes → z.max ≡ m.max
+    → Meet (access_by opening m p f) y → Meet (access_by opening z p f) y
+meets-still opening m z p Size y h most meet = meet
+meets-still opening m z p (Grow more) y h most meet =
+    subst (λ (t : Bool). Meet (if t then growth opening else no_bytes) y) (sym (as-much m z more h most)) meet
+meets-still opening m z p (Load addr width reach) y h most meet = in-meets m z p false false addr width reach y h meet
+meets-still opening m z p (Store addr width reach value) y h most meet = in-meets m z p true true addr width reach y h meet
+meets-still opening m z p (Rmw op addr width value) y h most meet = in-meets m z false true true addr width (addr + width) y h meet
+meets-still opening m z p (Cmpxchg addr width expected replacement) y h most meet =
+    in-meets m z false (loaded m addr width == expected) (loaded z addr width == expected) addr width (addr + width) y h meet
+meets-still opening m z p (Ask (Wait addr width expected timeout)) y h most meet = in-meets m z false false false addr width (addr + width) y h meet
+meets-still opening m z p (Ask (Notify addr count)) y h most meet = meet
+meets-still opening m z p (Ask (Spawn arg)) y h most meet = meet
+meets-still opening m z p (Ask Leave) y h most meet = meet
+meets-still opening m z p (Told answer) y h most meet = meet
+
+module _ (opening : ℕ) (m : Memory) (p q : Bool) (f : Event) where
   -- what an event does with the memory is the same after an access that it doesn't conflict with
-  pub access-same : (e : Event) → IsAccess m e → Spared m p q f e → access_by (state_after m e) p f ≡ access_by m p f
+  pub access-same : (e : Event) → IsAccess m e → Spared opening m p q f e → access_by opening (state_after m e) p f ≡ access_by opening m p f
   access-same Size is h = absurd is
   access-same (Grow more) is h = absurd is
   access-same (Load b v r) fits h = refl
   access-same (Store b v r k) fits h =
       let ends = fits.ends in
       let reaches = fits.reaches in
-      ap (λ z. access_by z p f) (if-in m r (written m b v k) m reaches)
-      ∙ written-same m p b v k (omega (arith, ends, reaches)) f (store-spared m p q f b v r k fits h)
+      ap (λ z. access_by opening z p f) (if-in m r (written m b v k) m reaches)
+      ∙ written-same m p b v k (omega (arith, ends, reaches)) opening f (store-spared opening m p q f b v r k fits h)
   access-same (Rmw op addr width value) is h = absurd is
   access-same (Cmpxchg addr width expected replacement) is h = absurd is
   access-same (Ask question) is h = absurd is
   access-same (Told answer) is h = absurd is
 
   -- and one that conflicts with it does still
-  pub conflict-still : (e : Event) → IsAccess m e → Conflict (access_by m p f) (access_by m q e) → Conflict (access_by (state_after m e) p f) (access_by m q e)
+  pub conflict-still : (e : Event) → IsAccess m e → Conflict (access_by opening m p f) (access_by opening m q e)
+      → Conflict (access_by opening (state_after m e) p f) (access_by opening m q e)
   conflict-still Size is c = absurd is
   conflict-still (Grow more) is c = absurd is
   conflict-still (Load b v r) fits c = c
   conflict-still (Store b v r k) fits c = record {
-    meet = meets-still m (state_after m (Store b v r k)) p f (access_by m q (Store b v r k)) (as-long m (Store b v r k) fits) c.meet;
+    meet = meets-still opening m (state_after m (Store b v r k)) p f (access_by opening m q (Store b v r k)) (as-long m (Store b v r k) fits)
+        (as-much-most m (Store b v r k) fits) c.meet;
     write = inr (ap (λ (y : NextAccess). y.writes) (in-is m q true b v r (le-leb r (length m.bytes) fits.reaches)));
   }
   conflict-still (Rmw op addr width value) is c = absurd is
@@ -492,12 +517,13 @@ in-more m z plain writes addr width reach fits more =
     ∙ sym (in-is m plain writes addr width reach (le-leb reach (length m.bytes) reaches))
 
 -- what is within bounds stays so
-pub access-stays : (m z : Memory) (q : Bool) (e : Event) → IsAccess m e → length m.bytes ≤ length z.bytes → access_by z q e ≡ access_by m q e
-access-stays m z q Size is more = absurd is
-access-stays m z q (Grow pages) is more = absurd is
-access-stays m z q (Load addr width reach) fits more = in-more m z q false addr width reach fits more
-access-stays m z q (Store addr width reach value) fits more = in-more m z q true addr width reach fits more
-access-stays m z q (Rmw op addr width value) is more = absurd is
-access-stays m z q (Cmpxchg addr width expected replacement) is more = absurd is
-access-stays m z q (Ask question) is more = absurd is
-access-stays m z q (Told answer) is more = absurd is
+pub access-stays : (opening : ℕ) (m z : Memory) (q : Bool) (e : Event) → IsAccess m e → length m.bytes ≤ length z.bytes
+    → access_by opening z q e ≡ access_by opening m q e
+access-stays opening m z q Size is more = absurd is
+access-stays opening m z q (Grow pages) is more = absurd is
+access-stays opening m z q (Load addr width reach) fits more = in-more m z q false addr width reach fits more
+access-stays opening m z q (Store addr width reach value) fits more = in-more m z q true addr width reach fits more
+access-stays opening m z q (Rmw op addr width value) is more = absurd is
+access-stays opening m z q (Cmpxchg addr width expected replacement) is more = absurd is
+access-stays opening m z q (Ask question) is more = absurd is
+access-stays opening m z q (Told answer) is more = absurd is

@@ -1,5 +1,5 @@
 -- What a thread of a module does with the memory by its event.
-use Rattle.std.specs.Prelude.{ℕ, ◌+◌, ◌==◌, ◌&&◌, Bool, true, false, nat_le, length, if◌then◌else◌}
+use Rattle.std.specs.Prelude.{ℕ, ◌+◌, ◌^◌, ◌==◌, ◌&&◌, Bool, true, false, nat_le, length, if◌then◌else◌}
 use Rattle.types.specs.declared.event.Event.{Event}
 use Rattle.types.specs.declared.event.Event.TheVariants.{Size, Grow, Load, Store, Rmw, Cmpxchg, Ask, Told}
 use Rattle.types.specs.declared.event.Question.TheVariants.{Wait, Notify, Spawn, Leave}
@@ -8,7 +8,7 @@ use Rattle.types.specs.declared.instr.Instr.TheVariants as instrs
 use Rattle.types.specs.declared.instr.PlainInstr.{PlainInstr}
 use Rattle.types.specs.declared.instr.PlainInstr.TheVariants as plain
 use Rattle.types.specs.Nesting.{Code, Empty, Then, BlockThen, LoopThen, IfThen, IfElseThen}
-use Rattle.shared_memory.specs.Memory.{Memory, loaded}
+use Rattle.shared_memory.specs.Memory.{Memory, loaded, can_grow}
 use Rattle.schedule_threads.specs.Shared.{Shared}
 use Rattle.interp_machine.specs.Config.{Config}
 use Rattle.interp_machine.specs.State.{State, At, Over}
@@ -48,29 +48,41 @@ is_plain (Away o) = false
 abbrev pub no_bytes : NextAccess
 no_bytes = record { plain = false; writes = false; addr = 0; width = 0 }
 
--- A load or a store, whose whole access ends there and whose bytes lie before that, is plain or atomic; out of bounds it
--- touches no byte.
+-- What looks how many pages there are, and may find more behind a growth: it reads a byte that no memory has. (The length
+-- of a memory is a location, which a test of bounds reads without any order: threads proposal, "Memory model".)
+abbrev pub look : NextAccess
+look = record { plain = false; writes = false; addr = 2 ^ 32; width = 1 }
+
+-- A growth that succeeds writes all that lies behind the opening pages, that byte among it: so it conflicts with each
+-- access that passes them, and with each look. Growths of one memory are atomic, of the same bytes.
+abbrev pub growth : ℕ → NextAccess
+growth opening = record { plain = false; writes = true; addr = opening; width = 2 ^ 32 + 1 }
+
+-- A load or a store, whose whole access ends there and whose bytes lie before that, is plain or atomic; one out of bounds
+-- looks, since it passes the opening pages too.
 abbrev pub in_bounds : Memory → Bool → Bool → ℕ → ℕ → ℕ → NextAccess
 in_bounds m plain writes addr width reach =
     if nat_le reach (length m.bytes)
     then record { plain = plain && nat_le (addr + width) reach; writes = writes; addr = addr; width = width }
-    else no_bytes
+    else look
 
 -- A read-modify-write writes, a compare-exchange exactly where what it expects is there, and a wait reads; all three are
--- atomic.
-abbrev pub access_by : Memory → Bool → Event → NextAccess
-access_by m plain Size = no_bytes
-access_by m plain (Grow more) = no_bytes
-access_by m plain (Load addr width reach) = in_bounds m plain false addr width reach
-access_by m plain (Store addr width reach value) = in_bounds m plain true addr width reach
-access_by m plain (Rmw op addr width value) = in_bounds m false true addr width (addr + width)
-access_by m plain (Cmpxchg addr width expected replacement) =
+-- atomic. A notify touches no byte, and looks where its four bytes pass the opening ones. (All calls at one list of
+-- waiters are in its order, growths and sizes in theirs, and spawns in theirs: none of these races.)
+abbrev pub access_by : ℕ → Memory → Bool → Event → NextAccess
+access_by opening m plain Size = no_bytes
+access_by opening m plain (Grow more) = if can_grow m more then growth opening else no_bytes
+access_by opening m plain (Load addr width reach) = in_bounds m plain false addr width reach
+access_by opening m plain (Store addr width reach value) = in_bounds m plain true addr width reach
+access_by opening m plain (Rmw op addr width value) = in_bounds m false true addr width (addr + width)
+access_by opening m plain (Cmpxchg addr width expected replacement) =
     in_bounds m false (loaded m addr width == expected) addr width (addr + width)
-access_by m plain (Ask (Wait addr width expected timeout)) = in_bounds m false false addr width (addr + width)
-access_by m plain (Ask (Notify addr count)) = no_bytes
-access_by m plain (Ask (Spawn arg)) = no_bytes
-access_by m plain (Ask Leave) = no_bytes
-access_by m plain (Told answer) = no_bytes
+access_by opening m plain (Ask (Wait addr width expected timeout)) = in_bounds m false false addr width (addr + width)
+access_by opening m plain (Ask (Notify addr count)) = if nat_le (addr + 4) opening then no_bytes else look
+access_by opening m plain (Ask (Spawn arg)) = no_bytes
+access_by opening m plain (Ask Leave) = no_bytes
+access_by opening m plain (Told answer) = no_bytes
 
-abbrev pub access_of : Shared → Walker → Event → NextAccess
-access_of x t e = access_by x.memory (is_plain t) e
+-- Of a memory that opens with so many bytes.
+abbrev pub access_of : ℕ → Shared → Walker → Event → NextAccess
+access_of opening x t e = access_by opening x.memory (is_plain t) e

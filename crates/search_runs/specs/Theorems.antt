@@ -30,14 +30,14 @@ ThreadsAreTame = (b : Called) → AreTame (system_of b) (first_state b) MOST_THR
 
 -- A plain access is nobody else's concern, unless it conflicts with theirs.
 abbrev pub AccessesArePlain : Type 0
-AccessesArePlain = (b : Called) → ArePlain (system_of b) access_of (first_state b)
+AccessesArePlain = (b : Called) (opening : ℕ) → ArePlain (system_of b) (access_of opening) (first_state b)
 
 -- At most 64 threads go on, and none that has left.
 abbrev pub FewGoOn : Type 0
-FewGoOn = (b : Called) → NoneBeyond (system_of b) access_of (first_state b) MOST_THREADS
+FewGoOn = (b : Called) (opening : ℕ) → NoneBeyond (system_of b) (access_of opening) (first_state b) MOST_THREADS
 
 abbrev pub NobodyGoesOnInTheEnd : Type 0
-NobodyGoesOnInTheEnd = (b : Called) (dump : ℕ) → NobodyGoesOn (system_of b) access_of (HasEndedSo dump)
+NobodyGoesOnInTheEnd = (b : Called) (opening dump : ℕ) → NobodyGoesOn (system_of b) (access_of opening) (HasEndedSo dump)
 
 -- It can be reached by turns of threads without budgets.
 abbrev pub CanReach : Called → systems.State Shared Walker → Type 0

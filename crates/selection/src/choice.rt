@@ -1,6 +1,6 @@
 //! What is chosen of a record.
 
-ghost use Rattle.std.specs.Prelude.{◌≡◌, ◌≤◌, ◌==◌, IfSome};
+ghost use Rattle.std.specs.Prelude.{◌≡◌, ◌==◌};
 ghost use Rattle.std.specs.List.{list_any};
 ghost use Rattle.selection.specs.Choices as specified;
 ghost use Rattle.selection.specs.Choices.{is_chosen, is_chosen_line, is_chosen_thread, is_chosen_address};
@@ -15,20 +15,6 @@ pub struct NumberSpan {
 }
 
 impl NumberSpan {
-    /// Of a text `A` or `A-B`, where A and B are unsigned decimals and A isn't above B.
-    pub fn read(text: &str) -> Option<NumberSpan>
-        ensures { IfSome result (λ s. s.first ≤ s.last) }
-    {
-        let (first, last) = text.split_once('-').unwrap_or((text, text));
-        let first = first.parse::<u64>().ok()?;
-        let last = last.parse::<u64>().ok()?;
-        if first <= last {
-            Some(NumberSpan { first, last })
-        } else {
-            None
-        }
-    }
-
     /// Whether a number is among them.
     pub fn has(self, number: u64) -> bool
         ensures { result ≡ specified.has self number }

@@ -50,7 +50,7 @@ abbrev pub rows_text : List NamedRow → List ℕ
 rows_text [] = []
 rows_text (row ∷ rows) = row_text true row ++ later_rows rows
 
--- An entry that races: also whether it is atomic, and which bytes it touches.
+-- An entry that races: also whether it is atomic, and which bytes it touches; a grow touches none.
 abbrev pub entry_fields : RaceEntry → List Field
 entry_fields entry =
     is (codes "line") (number entry.row.line)
@@ -65,15 +65,18 @@ entry_fields entry =
 abbrev pub entry_json : RaceEntry → Json
 entry_json entry = object_of (entry_fields entry)
 
--- The next atomic write of the first one's thread: its line, and whether it stands before the second one.
+-- The next atomic write of the first one's thread, of bytes or at another location: its line, and whether it stands before
+-- the second one.
 abbrev pub write_json : NextWrite → Json
 write_json next =
     object_of (is (codes "line") (number next.line) ∷ is (codes "between") (truth next.is_between) ∷ [])
 
--- Two entries that race: whether both are atomic, the earlier one first, and what would order them.
+-- Two entries that race: whether both are atomic, whether one looks at the number of pages and the other changes it, the
+-- earlier one first, and what would order them.
 abbrev pub pair_fields : RacePair → List Field
 pair_fields pair =
     is (codes "mixed") (truth (pair.first.is_atomic && pair.second.is_atomic))
+    ∷ is (codes "pages") (truth pair.is_of_pages)
     ∷ is (codes "first") (entry_json pair.first)
     ∷ is (codes "second") (entry_json pair.second)
     ∷ is_given (codes "next_write") write_json pair.next_write

@@ -19,12 +19,12 @@ pub struct RaceEntry<'a> {
     pub row: RowObject<'a>,
     /// Whether an atomic instruction made it.
     pub is_atomic: bool,
-    /// The first byte that it touches, and how many.
+    /// The first byte that it touches, and how many; a grow touches none.
     pub addr: u64,
     pub width: u8,
 }
 
-/// The next atomic write of the thread whose entry comes first.
+/// The next atomic write of the thread whose entry comes first, of bytes or at another location.
 #[derive(Clone, Copy)]
 pub struct NextWrite {
     /// Its line of the record.
@@ -36,6 +36,8 @@ pub struct NextWrite {
 /// Two entries that race, the earlier one first.
 #[derive(Clone, Copy)]
 pub struct RacePair<'a> {
+    /// Whether one looks at the number of pages, which the other changes.
+    pub is_of_pages: bool,
     pub first: RaceEntry<'a>,
     pub second: RaceEntry<'a>,
     /// If the first one's thread makes one behind it.
@@ -91,8 +93,9 @@ impl ToJson for RacePair<'_> {
 
     fn send<S: Serializer>(&self, alloc: Global, out: &mut S) -> Result<(), S::Error> {
         let is_mixed = both(self.first.is_atomic, self.second.is_atomic);
-        out.begin_map(Some(3 + given(&self.next_write)))?;
+        out.begin_map(Some(4 + given(&self.next_write)))?;
         put(alloc, out, "mixed", &is_mixed)?;
+        put(alloc, out, "pages", &self.is_of_pages)?;
         put(alloc, out, "first", &self.first)?;
         put(alloc, out, "second", &self.second)?;
         put_if(alloc, out, "next_write", &self.next_write)?;

@@ -4,17 +4,22 @@ use Rattle.std.specs.List.{slice_get}
 use Rattle.types.specs.declared.event.Entry.{Entry}
 use Rattle.types.specs.declared.event.Event.TheVariants.{Ask}
 use Rattle.types.specs.declared.event.Question.TheVariants.{Notify}
-use Rattle.race_history.specs.Accesses.{access_of, is_out_of_bounds, HasByte}
+use Rattle.race_history.specs.Accesses.{bytes_of, is_out_of_bounds, HasByte}
 use Rattle.race_history.specs.declared.access.ThreadAccess.{ThreadAccess}
 use Rattle.race_history.specs.declared.access.AccessKind.TheVariants.{Plain}
+use Rattle.race_history.specs.declared.access.Site.{Site}
 use Rattle.selection.specs.declared.choice.NumberSpan.{NumberSpan}
 use Rattle.show_named.specs.declared.lasts.Act.{Act}
 use Rattle.show_named.specs.declared.lasts.Act.TheVariants as acts
 
--- The entry writes a byte at one of these addresses. Whether its access is plain or atomic makes no difference to that.
+-- Any instruction.
+abbrev pub any : Site
+any = record { kind = Plain; code = 0 }
+
+-- The entry writes a byte at one of these addresses. By which instruction it was made makes no difference to that.
 pub record Writes (addrs : NumberSpan) (e : Entry) : Type 0 where
   pub access : ThreadAccess
-  pub is : access_of e Plain ≡ Some access
+  pub is : bytes_of e any ≡ Some access
   pub writes : access.writes ≡ true
   pub byte : ℕ
   pub own : HasByte access byte

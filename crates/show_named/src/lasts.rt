@@ -3,7 +3,7 @@ ghost use Rattle.std.specs.Prelude.{◌≡◌, ◌↔◌, true, None, IfSome};
 ghost use Rattle.show_named.specs.declared.lasts.Act.TheVariants as acts;
 ghost use Rattle.show_named.specs.Lasts.{Does, HasNone, IsLast, IsLastIfAny, Notifies, Writes};
 
-use race_history::{AccessKind, access_of};
+use race_history::{AccessKind, Site, bytes_of};
 use selection::NumberSpan;
 use types::{Entry, Event, Question, Reply};
 
@@ -18,11 +18,17 @@ pub enum Act {
     Notify(u64),
 }
 
+/// Any instruction. By which an entry was made makes no difference to the bytes that it writes.
+const ANY: Site = Site {
+    kind: AccessKind::Plain,
+    code: 0,
+};
+
 /// Whether an entry writes a byte at one of these addresses.
 fn writes(entry: &Entry, addrs: NumberSpan) -> bool
     ensures { (result ≡ true) ↔ Writes addrs entry.now }
 {
-    let Some(access) = access_of(entry, AccessKind::Plain) else {
+    let Some(access) = bytes_of(entry, &ANY) else {
         return false;
     };
     let low = addrs.first.max(access.addr);

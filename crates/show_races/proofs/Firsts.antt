@@ -11,7 +11,7 @@ use Rattle.race_history.specs.Races.{AreInOrder, AreRaces, HasEach, IsCut, IsEar
 use Rattle.show_rows.specs.declared.listing.Shown.{Shown}
 use Rattle.show_rows.specs.declared.listing.Story.{Story}
 use Rattle.show_races.specs.declared.found.TheConstants.{MOST_PAIRS}
-use Rattle.show_races.specs.Kinds.{kinds_shown}
+use Rattle.show_races.specs.Sites.{opening_shown, sites_shown}
 use Rattle.show_races.specs.Told.{AreAlike, AreApart, AreMany, IsFirstAmong, IsFirstThere, IsLeftOut, IsMore, IsTold, TellsEach}
 use Rattle.show_races.proofs.Laws.{named_it}
 
@@ -105,30 +105,29 @@ module _ (shown : Shown) (story : Story) where
     contained : (r : Race) → IsFirstAmong shown story all r → Contains all r
     contained r f = subst (Contains all) f.is (Contains-get_or all f.at r f.within)
 
-    pub firsts_whole : AreRaces shown.record.now.log (kinds_shown shown) all → HasEach shown.record.now.log (kinds_shown shown) all
-        → All (IsFirstThere shown story) told
+    pub firsts_whole : AreRaces shown.record.now.log (sites_shown shown) (opening_shown shown) all
+        → HasEach shown.record.now.log (sites_shown shown) (opening_shown shown) all → All (IsFirstThere shown story) told
     firsts_whole races each k d lt s last alike = among (get_or told k d) s (from k d lt)
-        (named_it shown.record.now.log (kinds_shown shown) all races each s last) alike
+        (named_it shown.record.now.log (sites_shown shown) (opening_shown shown) all each s last) alike
 
-    pub firsts_cut : (most : ℕ) → IsCut shown.record.now.log (kinds_shown shown) all most → All (IsFirstThere shown story) told
+    pub firsts_cut : (most : ℕ) → IsCut shown.record.now.log (sites_shown shown) (opening_shown shown) all most → All (IsFirstThere shown story) told
     firsts_cut most cut k d lt s last alike = elim (cut.first s last) [
       | inl has ↦ among (get_or told k d) s (from k d lt) has alike
       | inr behind ↦ inr (behind (get_or told k d) (contained (get_or told k d) (from k d lt)))
     ]
 
-  pub tells_each : (all told : List Race) → AreRaces shown.record.now.log (kinds_shown shown) all
-      → HasEach shown.record.now.log (kinds_shown shown) all → All (IsTold shown story told) all → TellsEach shown story told
+  pub tells_each : (all told : List Race) → AreRaces shown.record.now.log (sites_shown shown) (opening_shown shown) all
+      → HasEach shown.record.now.log (sites_shown shown) (opening_shown shown) all → All (IsTold shown story told) all → TellsEach shown story told
   tells_each all told races each h first second a b racing =
       let n = each first second a b racing in
       record {
         race = record { first = n.first; second = second };
-        last = races (record { first = n.first; second = second }) n.named;
-        made = n.made;
+        is = n.is;
         met = refl;
         is_told = All-contains (IsTold shown story told) all (record { first = n.first; second = second }) h n.named;
       }
 
-  pub is_more : (all told : List Race) (most : ℕ) → AreRaces shown.record.now.log (kinds_shown shown) all
+  pub is_more : (all told : List Race) (most : ℕ) → AreRaces shown.record.now.log (sites_shown shown) (opening_shown shown) all
       → IsLeftOut shown story all told most → IsMore shown story told most
   is_more all told most races left = record {
     full = left.full;
@@ -147,22 +146,22 @@ module _ (shown : Shown) (story : Story) where
       subst (Contains all) f.is (Contains-get_or all f.at (get_or told k d) f.within)
 
   pub firsts_all : (all told : List Race) (is_cut : Bool) (most : ℕ) → AreInOrder all → All (IsFirstAmong shown story all) told
-      → AreRaces shown.record.now.log (kinds_shown shown) all
-      → (is_cut ≡ false → HasEach shown.record.now.log (kinds_shown shown) all)
-      → (is_cut ≡ true → IsCut shown.record.now.log (kinds_shown shown) all most) → All (IsFirstThere shown story) told
+      → AreRaces shown.record.now.log (sites_shown shown) (opening_shown shown) all
+      → (is_cut ≡ false → HasEach shown.record.now.log (sites_shown shown) (opening_shown shown) all)
+      → (is_cut ≡ true → IsCut shown.record.now.log (sites_shown shown) (opening_shown shown) all most) → All (IsFirstThere shown story) told
   firsts_all all told false most order from races each cut = firsts_whole all told order from races (each refl)
   firsts_all all told true most order from races each cut = firsts_cut all told order from most (cut refl)
 
-  pub each_all : (all told : List Race) (a b : Bool) → (a || b) ≡ false → AreRaces shown.record.now.log (kinds_shown shown) all
-      → (a ≡ false → HasEach shown.record.now.log (kinds_shown shown) all) → (b ≡ false → All (IsTold shown story told) all)
+  pub each_all : (all told : List Race) (a b : Bool) → (a || b) ≡ false → AreRaces shown.record.now.log (sites_shown shown) (opening_shown shown) all
+      → (a ≡ false → HasEach shown.record.now.log (sites_shown shown) (opening_shown shown) all) → (b ≡ false → All (IsTold shown story told) all)
       → TellsEach shown story told
   each_all all told false false none races each told_each = tells_each all told races (each refl) (told_each refl)
   each_all all told false true none races each told_each = absurd (both_ways true none refl)
   each_all all told true b none races each told_each = absurd (both_ways true none refl)
 
   pub cut_all : (all told : List Race) (a b : Bool) (most : ℕ) → (a || b) ≡ true
-      → AreRaces shown.record.now.log (kinds_shown shown) all
-      → (a ≡ true → IsCut shown.record.now.log (kinds_shown shown) all MOST_PAIRS) → (b ≡ true → IsLeftOut shown story all told most)
+      → AreRaces shown.record.now.log (sites_shown shown) (opening_shown shown) all
+      → (a ≡ true → IsCut shown.record.now.log (sites_shown shown) (opening_shown shown) all MOST_PAIRS) → (b ≡ true → IsLeftOut shown story all told most)
       → IsMore shown story told most ⊎ AreMany shown
   cut_all all told true b most some races cut left = inr (all, cut refl)
   cut_all all told false true most some races cut left = inl (is_more all told most races (left refl))

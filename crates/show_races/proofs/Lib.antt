@@ -2,5 +2,6 @@ pub mod Alike
 pub mod Firsts
 pub mod Laws
 pub mod Pulled
+pub mod Releases
 pub mod Telling
 pub mod Told

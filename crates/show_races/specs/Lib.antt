@@ -1,4 +1,4 @@
-pub mod Kinds
+pub mod Sites
 pub mod Races
 pub mod Rows
 pub mod Told

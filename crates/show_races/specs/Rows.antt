@@ -4,11 +4,11 @@ use Rattle.types.specs.declared.parts.Parts.{Parts}
 use Rattle.replay_text.specs.declared.parts.RecordParts.{RecordParts}
 use Rattle.spawn_host.specs.declared.end.EndState.{EndState}
 use Rattle.replay.specs.Watching.{SeesReplay}
-use Rattle.race_history.specs.declared.access.AccessKind.{AccessKind}
+use Rattle.race_history.specs.declared.access.Site.{Site}
 use Rattle.show_rows.specs.declared.rows.Row.{Row}
 use Rattle.show_rows.specs.declared.rows.Rows.{Rows}
 use Rattle.show_rows.specs.Rows.{RowsSee}
-use Rattle.show_races.specs.Kinds.{kinds_in}
+use Rattle.show_races.specs.Sites.{sites_in}
 
 -- The rows of a record's entries, as a replay of it fills them: where the thread of each stands.
 pub record AreRowsOf (m : Parts) (r : RecordParts) (end : EndState) (rows : List (Option Row)) : Type 0 where
@@ -19,6 +19,6 @@ pub record AreRowsOf (m : Parts) (r : RecordParts) (end : EndState) (rows : List
   pub sees : SeesReplay RowsSee m r (Ok end) first last
   pub filled : last.rows.items ≡ rows
 
--- The kinds of its entries, by the instructions where their threads stand.
-abbrev pub kinds_of : Parts → RecordParts → List (Option Row) → List AccessKind
-kinds_of m r rows = kinds_in m rows (length r.log)
+-- The instructions of its entries, where their threads stand.
+abbrev pub sites_of : Parts → RecordParts → List (Option Row) → List Site
+sites_of m r rows = sites_in m rows (length r.log)

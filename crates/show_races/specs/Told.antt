@@ -4,20 +4,19 @@ use Rattle.std.specs.Prelude.{slice_index_or}
 use Rattle.types.specs.declared.event.Entry.{Entry}
 use Rattle.interp.specs.declared.place.CodePlace.{CodePlace}
 use Rattle.race_history.specs.declared.access.ThreadAccess.{ThreadAccess}
-use Rattle.race_history.specs.declared.access.AccessKind.{AccessKind}
+use Rattle.race_history.specs.declared.access.Site.{Site}
 use Rattle.race_history.specs.declared.race.Race.{Race}
-use Rattle.race_history.specs.Places.{IsAccess}
-use Rattle.race_history.specs.Races.{AreRacing, IsLastRace, IsEarlier, IsCut}
+use Rattle.race_history.specs.Races.{AreRacing, IsLastRace, IsEarlier, IsCut, IsRaceOf}
 use Rattle.show_rows.specs.declared.listing.Shown.{Shown}
 use Rattle.show_rows.specs.declared.listing.Story.{Story}
 use Rattle.show_rows.specs.Listing.{place_of}
 use Rattle.show_races.specs.declared.found.Places.{Places}
 use Rattle.show_races.specs.declared.found.TheConstants.{MOST_PAIRS}
-use Rattle.show_races.specs.Kinds.{kinds_shown}
+use Rattle.show_races.specs.Sites.{opening_shown, sites_shown}
 
 -- No two entries race.
-abbrev pub HasNoRace : List Entry → List AccessKind → Type 0
-HasNoRace log kinds = (first second : ℕ) (a b : ThreadAccess) → AreRacing log kinds first second a b → ⊥
+abbrev pub HasNoRace : List Entry → List Site → ℕ → Type 0
+HasNoRace log sites opening = (first second : ℕ) (a b : ThreadAccess) → AreRacing log sites opening first second a b → ⊥
 
 -- Both entries of a pair are entries of the log.
 abbrev pub IsWithin : List Entry → Race → Type 0
@@ -61,25 +60,24 @@ pub record IsLeftOut (shown : Shown) (story : Story) (all told : List Race) (mos
   pub untold : IsTold shown story told other → ⊥
 
 abbrev pub IsLastShown : Shown → Race → Type 0
-IsLastShown shown r = IsLastRace shown.record.now.log (kinds_shown shown) r
+IsLastShown shown r = IsLastRace shown.record.now.log (sites_shown shown) (opening_shown shown) r
 
 -- Of the races at the same two places it is the first.
 abbrev pub IsFirstThere : Shown → Story → Race → Type 0
 IsFirstThere shown story r =
     (s : Race) → IsLastShown shown s → AreAlike shown story s r → (r ≡ s) ⊎ IsEarlier r s
 
--- Of a race: with the last entry that makes the same access as its first one, and the same second one, it is told.
-pub record IsToldOf (shown : Shown) (story : Story) (told : List Race) (a : ThreadAccess) (second : ℕ) : Type 0 where
+-- Of a race by these accesses: with the last entry that makes the first one, and the same second entry, it is told.
+pub record IsToldOf (shown : Shown) (story : Story) (told : List Race) (a b : ThreadAccess) (second : ℕ) : Type 0 where
   pub race : Race
-  pub last : IsLastShown shown race
-  pub made : IsAccess shown.record.now.log (kinds_shown shown) race.first a
+  pub is : IsRaceOf shown.record.now.log (sites_shown shown) (opening_shown shown) race a b
   pub met : race.second ≡ second
   pub is_told : IsTold shown story told race
 
 -- Each race of the run is told, at its two places in the code.
 abbrev pub TellsEach : Shown → Story → List Race → Type 0
 TellsEach shown story told = (first second : ℕ) (a b : ThreadAccess)
-    → AreRacing shown.record.now.log (kinds_shown shown) first second a b → IsToldOf shown story told a second
+    → AreRacing shown.record.now.log (sites_shown shown) (opening_shown shown) first second a b → IsToldOf shown story told a b second
 
 -- Just so many are told, and a race is left out that was made at other places.
 pub record IsMore (shown : Shown) (story : Story) (told : List Race) (most : ℕ) : Type 0 where
@@ -90,4 +88,4 @@ pub record IsMore (shown : Shown) (story : Story) (told : List Race) (most : ℕ
 
 -- There are more races than are looked at.
 abbrev pub AreMany : Shown → Type 0
-AreMany shown = (looked : List Race) × IsCut shown.record.now.log (kinds_shown shown) looked MOST_PAIRS
+AreMany shown = (looked : List Race) × IsCut shown.record.now.log (sites_shown shown) (opening_shown shown) looked MOST_PAIRS

@@ -4,14 +4,14 @@ ghost use Rattle.std.specs.Prelude.{◌≡◌, ◌≤◌, ◌<◌, ◌⊎◌, �
 ghost use Rattle.shared_memory.specs.History.{AreEntries};
 ghost use Rattle.shared_memory.specs.Legal.{IsQueueLegal};
 ghost use Rattle.race_history.specs.Races.{AreInOrder, AreRaces, HasEach, IsCut};
-ghost use Rattle.show_races.specs.Kinds.{kinds_shown};
+ghost use Rattle.show_races.specs.Sites.{opening_shown, sites_shown};
 ghost use Rattle.show_races.specs.Told as told;
 ghost use Rattle.show_races.specs.Told.{AreMany, AreApart, HasNoRace, IsFirstAmong, IsFirstThere, IsLeftOut, IsMore};
 ghost use Rattle.show_races.specs.Told.{IsTold, IsWithin, TellsEach};
 
-use crate::kinds::kinds_of;
+use crate::sites::{opening_of, sites_of};
 use interp::CodePlace;
-use race_history::{AccessKind, Race, Races, races_of};
+use race_history::{Race, Races, Site, races_of};
 use show_rows::{Shown, Story};
 use std::alloc::{AllocError, Global};
 
@@ -21,8 +21,8 @@ const MOST_PAIRS: usize = 1_000_000;
 /// Races of a record's run.
 #[derive(Drop)]
 pub struct RecordRaces {
-    /// By which kind of instruction each entry was made.
-    pub kinds: Vec<AccessKind>,
+    /// By which instruction each entry was made.
+    pub sites: Vec<Site>,
     /// In the order of their second entries. No two were made at the same two places of the code.
     pub pairs: Vec<Race>,
     /// There are more, or more than are looked at.
@@ -122,21 +122,24 @@ fn find_firsts(
 fn all_races(
     alloc: Global,
     shown: Shown,
-    kinds: &[AccessKind],
+    sites: &[Site],
+    opening: u64,
     most: usize,
 ) -> Result<Races, AllocError>
-    requires kinds { kinds.now ≡ kinds_shown shown }
+    requires sites { sites.now ≡ sites_shown shown }
+    requires opening { opening ≡ opening_shown shown }
     requires entries { AreEntries shown.record.now.log }
     requires legal { IsQueueLegal shown.record.now.log }
-    ensures races { IfOk result (λ r. AreRaces shown.entry.record.now.log (kinds_shown shown.entry) r.pairs.items) }
+    ensures races { IfOk result (λ r. AreRaces shown.entry.record.now.log
+        (sites_shown shown.entry) (opening_shown shown.entry) r.pairs.items) }
     ensures in_order { IfOk result (λ r. AreInOrder r.pairs.items) }
     ensures each { IfOk result (λ r. r.is_cut ≡ false
-        → HasEach shown.entry.record.now.log (kinds_shown shown.entry) r.pairs.items) }
+        → HasEach shown.entry.record.now.log (sites_shown shown.entry) (opening_shown shown.entry) r.pairs.items) }
     ensures few { IfOk result (λ r. length r.pairs.items ≤ most) }
     ensures cut { IfOk result (λ r. r.is_cut ≡ true
-        → IsCut shown.entry.record.now.log (kinds_shown shown.entry) r.pairs.items most) }
+        → IsCut shown.entry.record.now.log (sites_shown shown.entry) (opening_shown shown.entry) r.pairs.items most) }
 {
-    races_of(alloc, shown.record.log.as_slice(), kinds, most)
+    races_of(alloc, shown.record.log.as_slice(), sites, opening, most)
 }
 
 /// Whether one of two holds.
@@ -159,8 +162,9 @@ pub fn races_shown(
     requires entries { AreEntries shown.record.now.log }
     requires legal { IsQueueLegal shown.record.now.log }
     requires some { 1 ≤ most }
-    ensures kinds { IfOk result (λ r. r.kinds.items ≡ kinds_shown shown.entry) }
-    ensures races { IfOk result (λ r. AreRaces shown.entry.record.now.log (kinds_shown shown.entry) r.pairs.items) }
+    ensures sites { IfOk result (λ r. r.sites.items ≡ sites_shown shown.entry) }
+    ensures races { IfOk result (λ r. AreRaces shown.entry.record.now.log
+        (sites_shown shown.entry) (opening_shown shown.entry) r.pairs.items) }
     ensures in_order { IfOk result (λ r. AreInOrder r.pairs.items) }
     ensures once { IfOk result (λ r. AreApart shown.entry story.now r.pairs.items) }
     ensures firsts { IfOk result (λ r. All (IsFirstThere shown.entry story.now) r.pairs.items) }
@@ -168,15 +172,16 @@ pub fn races_shown(
     ensures cut { IfOk result (λ r. r.is_cut ≡ true
         → IsMore shown.entry story.now r.pairs.items most ⊎ AreMany shown.entry) }
     ensures none { IfOk result (λ r. r.pairs.items ≡ []
-        → HasNoRace shown.entry.record.now.log (kinds_shown shown.entry)) }
+        → HasNoRace shown.entry.record.now.log (sites_shown shown.entry) (opening_shown shown.entry)) }
     ensures few { IfOk result (λ r. length r.pairs.items ≤ most) }
     ensures within { IfOk result (λ r. All (IsWithin shown.entry.record.now.log) r.pairs.items) }
 {
-    let kinds = kinds_of(alloc, shown)?;
-    let all = all_races(alloc, shown, kinds.as_slice(), MOST_PAIRS)?;
+    let sites = sites_of(alloc, shown)?;
+    let opening = opening_of(alloc, shown.code.parts())?;
+    let all = all_races(alloc, shown, sites.as_slice(), opening, MOST_PAIRS)?;
     let told = find_firsts(alloc, shown, story, all.pairs.as_slice(), most)?;
     Ok(RecordRaces {
-        kinds,
+        sites,
         pairs: told.pairs,
         is_cut: either(all.is_cut, told.is_cut),
     })
@@ -190,12 +195,14 @@ pub fn races_shown(
 pub fn racing_pairs(alloc: Global, shown: Shown, most: usize) -> Result<Vec<Race>, AllocError>
     requires entries { AreEntries shown.record.now.log }
     requires legal { IsQueueLegal shown.record.now.log }
-    ensures races { IfOk result (λ r. AreRaces shown.entry.record.now.log (kinds_shown shown.entry) r.items) }
+    ensures races { IfOk result (λ r. AreRaces shown.entry.record.now.log
+        (sites_shown shown.entry) (opening_shown shown.entry) r.items) }
     ensures each { IfOk result (λ r. length r.items < most
-        → HasEach shown.entry.record.now.log (kinds_shown shown.entry) r.items) }
+        → HasEach shown.entry.record.now.log (sites_shown shown.entry) (opening_shown shown.entry) r.items) }
     ensures within { IfOk result (λ r. All (IsWithin shown.entry.record.now.log) r.items) }
 {
-    let kinds = kinds_of(alloc, shown)?;
-    let all = all_races(alloc, shown, kinds.as_slice(), most)?;
+    let sites = sites_of(alloc, shown)?;
+    let opening = opening_of(alloc, shown.code.parts())?;
+    let all = all_races(alloc, shown, sites.as_slice(), opening, most)?;
     Ok(all.pairs)
 }

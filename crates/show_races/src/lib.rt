@@ -9,13 +9,13 @@
 #![tactic(auto)]
 
 mod found;
-mod kinds;
 mod release;
 mod rows;
+mod sites;
 mod writing;
 
 pub use found::{RecordRaces, races_shown, racing_pairs};
-pub use kinds::kinds_of;
-pub use release::next_atomic_write;
+pub use release::{changes_pages, next_atomic_write};
 pub use rows::{Unseen, rows_seen, watched};
+pub use sites::{opening_of, sites_of};
 pub use writing::{write_first, write_races};

@@ -107,6 +107,13 @@ impl<'m, 'n> CodeMap<'m, 'n> {
         CodeMap { sources, ..self }
     }
 
+    /// The parts of the module.
+    pub fn parts(&self) -> &'m Parts
+        ensures { result.now ≡ self.now.parts.now }
+    {
+        self.parts
+    }
+
     /// The place as it is printed.
     pub fn spot(&self, place: CodePlace) -> Spot<'_>
         ensures { IsSpotOf self.now place result }

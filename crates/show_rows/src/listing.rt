@@ -1,6 +1,7 @@
 //! The rows of a record, one below the other.
 
-ghost use Rattle.std.specs.Prelude.{◌≡◌, ◌<◌, [], ◌∷◌, ◌++◌, cond, length, string_bytes, IfOk, OnOk, All, option_and_then};
+ghost use Rattle.std.specs.Prelude.{◌≡◌, ◌<◌, [], ◌∷◌, ◌++◌, cond, length, string_bytes, IfOk, OnOk, All};
+ghost use Rattle.std.specs.Prelude.{option_and_then, option_map};
 ghost use Rattle.show_rows.specs.Listing.{line_at, chosen, row_at, context_at, outcome_of, is_atomic_row};
 ghost use Rattle.show_rows.specs.Listing.{made_row, place_of, caller_of, call_of, IsPlaceText, IsCallText, IsPlaceTextOf};
 ghost use Rattle.show_rows.specs.Listing.{IsStoryOf, AreWordsOf, AddsEntry, AddsEntries, WritesRows};
@@ -96,6 +97,16 @@ impl Shown<'_, '_, '_, '_, '_> {
     {
         match self.rows.get(at) {
             Some(row) => *row,
+            None => None,
+        }
+    }
+
+    /// Where the thread of the entry at a place stood.
+    pub fn own_place_at(&self, at: usize) -> Option<CodePlace>
+        ensures { result ≡ option_map (λ row. row.place) (row_at self.now at) }
+    {
+        match self.row_at(at) {
+            Some(row) => Some(row.place),
             None => None,
         }
     }

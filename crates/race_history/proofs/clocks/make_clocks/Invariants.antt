@@ -10,5 +10,5 @@ invariant-loop-place l = record {
   long : length l.previous.items ≡ l.threads;
   previous : (n : ℕ) → n < l.threads → get_or l.previous.items n None ≡ last_of l.log n l.place;
   wide : All (λ (v : Vec ℕ). length v.items ≡ l.threads) l.clocks.items;
-  clocks : AreClocks l.log l.kinds l.threads l.place (rows l.clocks.items);
+  clocks : AreClocks l.log l.sites l.opening l.threads l.place (rows l.clocks.items);
 }

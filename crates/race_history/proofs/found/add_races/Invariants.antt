@@ -1,7 +1,6 @@
-use Rattle.std.proofs.Common.{◌≡◌, ◌++◌, filter, map, take}
-use Rattle.race_history.specs.Found.{clashes, race_of}
+use Rattle.std.proofs.Common.{◌≡◌, ◌++◌, map, take}
+use Rattle.race_history.specs.Found.{race_to}
 use Rattle.race_history.proofs.found.add_races.Given as goal
 
-abbrev pub invariant-loop-last : goal.invariant-loop-last
-invariant-loop-last l =
-    l.pairs.items ≡ l.initial.pairs.items ++ map (race_of l.place) (filter (clashes l.access l.clock) (take l.last-index l.list))
+abbrev pub invariant-loop-first : goal.invariant-loop-first
+invariant-loop-first l = l.pairs.items ≡ l.initial.pairs.items ++ map (race_to l.place) (take l.first-index l.firsts)

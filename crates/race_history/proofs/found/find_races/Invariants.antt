@@ -5,7 +5,7 @@ use Rattle.race_history.proofs.found.find_races.Given as goal
 
 abbrev pub invariant-loop-place : goal.invariant-loop-place
 invariant-loop-place l = record {
-  lasts : AreLasts l.log l.kinds l.place (table l.lasts);
-  found : AreFound l.log l.kinds l.place l.pairs.items;
+  lasts : AreLasts l.log l.sites l.opening l.place (table l.lasts);
+  found : AreFound l.log l.sites l.opening l.place l.pairs.items;
   few : length l.pairs.items ≤ l.most;
 }

@@ -3,9 +3,9 @@ use Rattle.types.specs.declared.event.Entry.{Entry}
 use Rattle.show_rows.specs.Listing.{IsStoryOf}
 use Rattle.race_history.specs.Races.{AreRaces}
 use Rattle.replay_text.specs.declared.parts.RecordParts.{RecordParts}
-use Rattle.show_races.specs.Kinds.{kinds_in}
+use Rattle.show_races.specs.Sites.{opening_of, sites_in}
 use Rattle.show_races.specs.Races.{Says}
-use Rattle.show_races.proofs.Told.{kinds_alike, says_by, told_of}
+use Rattle.show_races.proofs.Told.{sites_alike, says_by, told_of}
 use Rattle.report_looks.proofs.racing.write_seen.Goals as goal
 
 pub returns-clause-says : goal.returns-clause-says
@@ -16,9 +16,9 @@ returns-clause-says g c =
     let told = c.in_ok-told.told in
     let are = c.in_ok-told.ensures in
     let is_racy = c.is_racy.result in
-    told_of (λ l k. Says l k is_racy) log c.args.seen.now.record.log m c.args.module.now.parts rows c.args.seen.now.rows.items
+    told_of (λ l k o. Says l k o is_racy) log c.args.seen.now.record.log m c.args.module.now.parts rows c.args.seen.now.rows.items
     (ap (λ (r : RecordParts). r.log) c.parts-2.ensures.parts) (c.in_ok-code.ensures.parts ∙ c.parts.ensures.parts) c.as_slice.ensures.value
-    (says_by log (kinds_in m rows (length log)) told.races.pairs.items is_racy are.races are.none
+    (says_by log (sites_in m rows (length log)) (opening_of m) told.races.pairs.items is_racy are.races are.none
     c.is_racy.ensures.some c.is_racy.ensures.none)
 
 pub returns-clause-writes : goal.returns-clause-writes
@@ -38,9 +38,9 @@ returns-clause-writes g c =
       story = told.story;
       is_story = are.is_story;
       races = told.races;
-      kinds = are.kinds ∙ kinds_alike log c.args.seen.now.record.log m c.args.module.now.parts rows c.args.seen.now.rows.items same parts
+      sites = are.sites ∙ sites_alike log c.args.seen.now.record.log m c.args.module.now.parts rows c.args.seen.now.rows.items same parts
           c.as_slice.ensures.value;
-      race = told_of (λ l k. AreRaces l k told.races.pairs.items) log c.args.seen.now.record.log m c.args.module.now.parts rows
+      race = told_of (λ l k o. AreRaces l k o told.races.pairs.items) log c.args.seen.now.record.log m c.args.module.now.parts rows
           c.args.seen.now.rows.items same parts c.as_slice.ensures.value are.races;
       each = are.each;
       once = are.once;

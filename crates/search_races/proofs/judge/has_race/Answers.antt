@@ -2,7 +2,8 @@ use Rattle.std.proofs.Common.{List, Option, subst}
 use Rattle.std.proofs.lemmas.Result.{IfOk-weaker}
 use Rattle.show_rows.specs.declared.rows.Row.{Row}
 use Rattle.show_races.specs.Races.{Says, SaysOfRun}
-use Rattle.show_races.specs.Rows.{kinds_of}
+use Rattle.show_races.specs.Rows.{sites_of}
+use Rattle.show_races.specs.Sites.{opening_of}
 use Rattle.search_races.proofs.judge.has_race.Goals as goal
 
 pub returns : goal.returns
@@ -16,6 +17,6 @@ returns c =
       end = seen.0;
       run = seen.1;
       rows_are = seen.2;
-      says = subst (λ (l : List (Option Row)). Says r.log (kinds_of m r l) is) c.as_slice.ensures.value says;
+      says = subst (λ (l : List (Option Row)). Says r.log (sites_of m r l) (opening_of m) is) c.as_slice.ensures.value says;
     })
     c.is_racy_by.ensures

@@ -1,19 +1,20 @@
-use Rattle.std.proofs.Common.{◌≡◌, ◌∙◌, List, false, length, IfOk, sym, ap}
+use Rattle.std.proofs.Common.{◌≡◌, ◌∙◌, ℕ, List, false, length, IfOk, subst, sym, ap}
 use Rattle.types.specs.declared.event.Entry.{Entry}
-use Rattle.race_history.specs.declared.access.AccessKind.{AccessKind}
+use Rattle.race_history.specs.declared.access.Site.{Site}
 use Rattle.race_history.specs.Races.{HasEach}
-use Rattle.show_races.specs.Kinds.{kinds_shown}
-use Rattle.show_races.proofs.Laws.{carried, kinds_length}
+use Rattle.show_races.specs.Sites.{opening_shown, sites_shown}
+use Rattle.show_races.proofs.Laws.{carried, sites_length}
 use Rattle.show_races.proofs.found.all_races.Goals as goal
 
-pub races_of-requires-clause-kinds : goal.races_of-requires-clause-kinds
-races_of-requires-clause-kinds c =
-    ap (λ (l : List AccessKind). length l) c.requires.kinds
-    ∙ (kinds_length c.args.shown (length c.args.shown.record.now.log)
+pub races_of-requires-clause-sites : goal.races_of-requires-clause-sites
+races_of-requires-clause-sites c =
+    ap (λ (l : List Site). length l) c.requires.sites
+    ∙ (sites_length c.args.shown (length c.args.shown.record.now.log)
     ∙ ap (λ (l : List Entry). length l) (sym c.as_slice.ensures))
 
 pub returns-clause-each : goal.returns-clause-each
 returns-clause-each c =
-    carried (λ l k. IfOk c.races_of.result (λ r. r.is_cut ≡ false → HasEach l k r.pairs.items)) c.as_slice.result.now
-    c.args.shown.record.now.log c.args.kinds.now (kinds_shown c.args.shown) c.as_slice.ensures c.requires.kinds
-    c.races_of.ensures.each
+    subst (λ (n : ℕ). IfOk c.races_of.result (λ r. r.is_cut ≡ false
+    → HasEach c.args.shown.record.now.log (sites_shown c.args.shown) n r.pairs.items)) c.requires.opening
+    (carried (λ l k. IfOk c.races_of.result (λ r. r.is_cut ≡ false → HasEach l k c.args.opening r.pairs.items)) c.as_slice.result.now
+    c.args.shown.record.now.log c.args.sites.now (sites_shown c.args.shown) c.as_slice.ensures c.requires.sites c.races_of.ensures.each)

@@ -1,7 +1,7 @@
 use Rattle.std.proofs.Common.{◌≡◌, ◌∙◌, List, true, false, All, subst, sym, arith}
 use Rattle.race_history.specs.declared.race.Race.{Race}
 use Rattle.race_history.specs.Races.{AreInOrder}
-use Rattle.show_races.specs.Kinds.{kinds_shown}
+use Rattle.show_races.specs.Sites.{opening_shown, sites_shown}
 use Rattle.show_races.specs.Told.{IsFirstAmong, IsLeftOut, IsTold}
 use Rattle.show_races.proofs.Firsts.{among_all, cut_all, each_all, firsts_all, some_told}
 use Rattle.show_races.proofs.Laws.{no_race, races_within, some_races}
@@ -14,7 +14,7 @@ returns-clause-races c =
     let told = c.in_ok-told.told.pairs.items in
     let from = subst (λ (l : List Race). All (IsFirstAmong shown story l) told) c.as_slice-2.ensures.value
     c.in_ok-told.ensures.from in
-    some_races shown.record.now.log (kinds_shown shown) c.in_ok-all.all.pairs.items told c.in_ok-all.ensures.races
+    some_races shown.record.now.log (sites_shown shown) (opening_shown shown) c.in_ok-all.all.pairs.items told c.in_ok-all.ensures.races
     (among_all shown story c.in_ok-all.all.pairs.items told from)
 
 pub returns-clause-in_order : goal.returns-clause-in_order
@@ -68,11 +68,11 @@ returns-clause-none c =
     subst (λ (l : List Race). IsLeftOut shown story l told c.args.most) c.as_slice-2.ensures.value
     (c.in_ok-told.ensures.cut cut) in
     let pairs = c.in_ok-all.all.pairs.items in
-    no_race shown.record.now.log (kinds_shown shown) pairs told c.in_ok-all.all.is_cut 1000000 (omega arith)
+    no_race shown.record.now.log (sites_shown shown) (opening_shown shown) pairs told c.in_ok-all.all.is_cut 1000000 (omega arith)
     c.in_ok-all.ensures.each c.in_ok-all.ensures.cut
     (some_told shown story pairs told c.in_ok-told.told.is_cut c.args.most c.requires.some tells left)
 
 pub returns-clause-within : goal.returns-clause-within
 returns-clause-within c =
-    races_within c.args.shown.record.now.log (kinds_shown c.args.shown) c.in_ok-told.told.pairs.items
+    races_within c.args.shown.record.now.log (sites_shown c.args.shown) (opening_shown c.args.shown) c.in_ok-told.told.pairs.items
     (returns-clause-races c)

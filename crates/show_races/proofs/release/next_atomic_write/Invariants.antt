@@ -5,5 +5,5 @@ use Rattle.show_races.proofs.release.next_atomic_write.Given as goal
 abbrev pub invariant-loop-at : goal.invariant-loop-at
 invariant-loop-at l = record {
   behind : l.first < l.at;
-  none : (k : ℕ) → l.first < k → k < l.at → is_atomic_write l.log l.kinds l.thread k ≡ false;
+  none : (k : ℕ) → l.first < k → k < l.at → is_atomic_write l.log l.sites l.thread k ≡ false;
 }
