@@ -46,7 +46,7 @@ race_kept q s asked made find raced save kept true is stays = inr (record {
 
 pub raced_kept : (q : Requested) (s : Search) → IsAskedBy s.call q → (racing : Racing) (raced : Raced) → IsRacedOf q s racing raced
     → (save : WriterChange) → KeepsRaced s raced save → (keeps_race s ≡ false → save.new ≡ save.old) → KeepsNoneOrRace q.parts s save
-raced_kept q s asked racing (Run run) (is, find, race) save kept stays =
+raced_kept q s asked racing (Run run is_kept) (is, (find, race), keeps) save kept stays =
     race_kept q s asked run.made find (says_race q.parts run.made.record run.race race (record { first = 0; second = 0 })) save kept
     (keeps_race s) refl stays
 raced_kept q s asked racing (Threads r) is save kept stays = inl kept
@@ -54,11 +54,11 @@ raced_kept q s asked racing Untold is save kept stays = inl kept
 
 -- what is told of a race is so in the module of the call, and can be told
 pub raced_in : (q : Requested) (s : Search) (racing : Racing) (raced : Raced) → IsRacedOf q s racing raced → IsRacedIn q.parts raced
-raced_in q s racing (Run run) (is, find, race) = race
+raced_in q s racing (Run run kept) (is, (find, race), keeps) = race
 raced_in q s racing (Threads r) is = tt
 raced_in q s racing Untold is = tt
 
 pub can_tell : (q : Requested) (s : Search) (racing : Racing) (raced : Raced) → IsRacedOf q s racing raced → CanTell raced
-can_tell q s racing (Run run) (is, find, race) = race.told
+can_tell q s racing (Run run kept) (is, (find, race), keeps) = race.told
 can_tell q s racing (Threads r) is = tt
 can_tell q s racing Untold is = tt

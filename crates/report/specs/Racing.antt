@@ -108,35 +108,44 @@ abbrev pub IsRacyRun : Parts → RacyRun → Type 0
 IsRacyRun m run = IsFirstRace m run.made.record run.race
 
 abbrev pub IsRacedIn : Parts → Raced → Type 0
-IsRacedIn m (raced.Run run) = IsRacyRun m run
+IsRacedIn m (raced.Run run kept) = IsRacyRun m run
 IsRacedIn m (raced.Threads r) = Unit {0}
 IsRacedIn m raced.Untold = Unit {0}
 
 -- It can be told.
 abbrev pub CanTell : Raced → Type 0
-CanTell (raced.Run run) = CanBeTold run.made.record run.race
+CanTell (raced.Run run kept) = CanBeTold run.made.record run.race
 CanTell (raced.Threads r) = Unit {0}
 CanTell raced.Untold = Unit {0}
 
 abbrev pub found : ThreadRace → Racing
 found r = Found r
 
+-- It is of a run by the call.
+abbrev pub IsRacyRunOf : Requested → Search → RacyRun → Type 0
+IsRacyRunOf q s run = IsFind q s.sought.limit run.made × IsRacyRun q.parts run
+
 -- Of a race that is known a run by the call that has one is told, or the threads, and else nothing.
 abbrev pub IsRacedOf : Requested → Search → Racing → Raced → Type 0
-IsRacedOf q s racing (raced.Run run) = ((r : ThreadRace) × (racing ≡ Found r)) × IsFind q s.sought.limit run.made
-    × IsRacyRun q.parts run
+IsRacedOf q s racing (raced.Run run kept) = ((r : ThreadRace) × (racing ≡ Found r)) × IsRacyRunOf q s run
+    × (kept ≡ keeps_race s)
 IsRacedOf q s racing (raced.Threads r) = racing ≡ Found r
 IsRacedOf q s racing raced.Untold = (r : ThreadRace) → racing ≡ Found r → ⊥
 
--- Its lines: the race of the run in the words of `races`, or the threads alone.
+-- How a run with a race can be kept, where it isn't.
+abbrev pub unkept_text : Bool → List ℕ
+unkept_text true = []
+unkept_text false = codes "  to keep this run: search --all --races --record OUT\n"
+
+-- Its lines: the race of the run in the words of `races`, and how that can be kept, where it isn't; or the threads alone.
 abbrev pub SaysRaced : Parts → Raced → List ℕ → Type 0
-SaysRaced m (raced.Run run) text = SaysPair m run.made.record text
+SaysRaced m (raced.Run run kept) text = (pair : List ℕ) × SaysPair m run.made.record pair × (text ≡ pair ++ unkept_text kept)
 SaysRaced m (raced.Threads r) text = text ≡ threads_line r.one r.other
 SaysRaced m raced.Untold text = text ≡ []
 
 -- The record of the run was written, where it is looked for and a place is given.
 abbrev pub KeepsRaced : Search → Raced → WriterChange → Type 0
-KeepsRaced s (raced.Run run) save = KeepsRecord (keeps_race s) save run.made.record
+KeepsRaced s (raced.Run run kept) save = KeepsRecord (keeps_race s) save run.made.record
 KeepsRaced s (raced.Threads r) save = save.new ≡ save.old
 KeepsRaced s raced.Untold save = save.new ≡ save.old
 

@@ -78,7 +78,7 @@ races_alone Unknown = Some said.Unknown
 
 -- The object has a race of the run that was made; or the threads alone; or what is known.
 abbrev pub WritesWith : Parts → Raced → ToldSearch → WriterChange → Type 0
-WritesWith m (raced.Run run) t out = (pair : RacePair) × SaysObject m run.made.record pair × WritesTold t (Some (said.Found pair)) out
+WritesWith m (raced.Run run kept) t out = (pair : RacePair) × SaysObject m run.made.record pair × WritesTold t (Some (said.Found pair)) out
 WritesWith m (raced.Threads r) t out = WritesTold t (Some (said.Between (threads_of r))) out
 WritesWith m raced.Untold t out = WritesTold t (races_alone t.whole.now.racing) out
 

@@ -282,7 +282,7 @@ pub(crate) fn behind_of(
 }
 
 /// Whether the record of a run with a race is kept.
-fn keeps_race(search: &Search) -> bool
+pub(crate) fn keeps_race(search: &Search) -> bool
     ensures { result ≡ racing.keeps_race search.now }
 {
     search.races && search.save.is_some()
@@ -299,7 +299,7 @@ pub(crate) fn keep_raced<S: Write>(
     ensures trouble { IfErr result IsOfSystem }
 {
     match raced {
-        Raced::Run(run) => keep(&run.made.record, keeps_race(search), save),
+        Raced::Run(run, _) => keep(&run.made.record, keeps_race(search), save),
         Raced::Threads(_) | Raced::Untold => Ok(()),
     }
 }

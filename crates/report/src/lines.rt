@@ -5,7 +5,7 @@ ghost use Rattle.replay_forms.specs.Texts.{Wrote};
 ghost use Rattle.report_jobs.specs.Prints.{changed};
 ghost use Rattle.report_looks.specs.Sighted.{CanBeTold};
 ghost use Rattle.report.specs.Found.{found_line, kept_text, shrunk_text};
-ghost use Rattle.report.specs.Racing.{CanTell, IsRacedIn, IsRacyRun, SaysRaced, Tells};
+ghost use Rattle.report.specs.Racing.{CanTell, IsRacedIn, IsRacyRun, SaysRaced, Tells, unkept_text};
 ghost use Rattle.report.specs.Searches.{IsOfSystem};
 ghost use Rattle.report.specs.Telling.{TellsRacy};
 
@@ -76,6 +76,20 @@ fn write_kept<W: Write>(out: &mut W, kept: &KeptRun, dump: u32) -> Result<(), Tr
     }
 }
 
+/// Writes how a run with a race can be kept, where it isn't.
+fn write_unkept<W: Write>(out: &mut W, is_kept: bool) -> io::Result<()>
+    ensures { Wrote W.contents out.old out.new result (unkept_text is_kept) }
+{
+    if is_kept {
+        return Ok(());
+    }
+    write!(
+        out,
+        "  to keep this run: search --all --races --record OUT\n"
+    )?;
+    out.flush()
+}
+
 /// Writes the lines of a race of all runs, where one is told.
 fn write_raced<W: Write>(alloc: Global, raced: &Raced, out: &mut W) -> Result<(), Trouble>
     requires { CanTell raced.now }
@@ -84,8 +98,11 @@ fn write_raced<W: Write>(alloc: Global, raced: &Raced, out: &mut W) -> Result<()
     ensures trouble { IfErr result IsOfSystem }
 {
     match raced {
-        Raced::Run(run) => match run.race.write(alloc, &run.made.record, out) {
-            Ok(()) => Ok(()),
+        Raced::Run(run, is_kept) => match run.race.write(alloc, &run.made.record, out) {
+            Ok(()) => {
+                write_unkept(out, *is_kept)?;
+                Ok(())
+            }
             Err(unwritten) => Err(trouble_of(unwritten)),
         },
         Raced::Threads(race) => {

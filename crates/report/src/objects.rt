@@ -118,7 +118,7 @@ fn write_all<W: Write>(alloc: Global, told: ToldSearch, out: &mut W) -> Result<(
     ensures trouble { IfErr result IsOfSystem }
 {
     match told.raced {
-        Raced::Run(run) => {
+        Raced::Run(run, _) => {
             let shown = run.race.shown(&run.made.record);
             let pair = run.race.pair(&shown);
             write_told(alloc, told, Some(RunRaces::Found(pair)), out)

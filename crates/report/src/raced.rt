@@ -1,20 +1,20 @@
 //! A race that a search found: the run that comes to it.
-ghost use Rattle.std.specs.Prelude.{◌≡◌, false, IfOk, IfErr};
+ghost use Rattle.std.specs.Prelude.{◌≡◌, false, IfOk, IfErr, IfSome};
 ghost use Rattle.search_finds.specs.Judged.{IsFindBy};
 ghost use Rattle.report.specs.DrawnRaces.{HasRacy, SaysRaceOf};
 ghost use Rattle.report.specs.Racing as specified;
-ghost use Rattle.report.specs.Racing.{IsRacedOf};
+ghost use Rattle.report.specs.Racing.{IsRacedOf, IsRacyRunOf};
 ghost use Rattle.report.specs.Searches.{IsOfSystem};
 
 use crate::asked::SearchedCall;
-use crate::found::shrunk_if;
+use crate::found::{keeps_race, shrunk_if};
 use crate::whole::{FirstLook, Racing};
 use report_command::Sought;
 use report_jobs::Trouble;
 use report_json::Shrunk;
 use report_looks::{FirstRace, first_race};
 use search_finds::{Hears, NumberedRun, run_round, shrunk_by, size_of};
-use search_modules::{ThreadRace, race_choices};
+use search_modules::{MOST_PLAIN, ThreadRace, race_choices};
 use search_races::RaceJudge;
 use search_scheduled::MadeRun;
 use show_text::Unwritten;
@@ -34,8 +34,8 @@ pub(crate) enum Raced<'m, 'n> {
     Untold,
     /// These threads race in some run; none was made in which they do.
     Threads(ThreadRace),
-    /// A run that has one.
-    Run(RacyRun<'m, 'n>),
+    /// A run that has one, and whether its record is kept.
+    Run(RacyRun<'m, 'n>, bool),
 }
 
 /// A run with a race that was found: its number, the sizes of one that was shrunk, and the run.
@@ -56,6 +56,39 @@ pub(crate) fn trouble_of(unwritten: Unwritten) -> Trouble
     }
 }
 
+/// How many plain turns in a row a thread makes at most in the run to a race that is tried first: more than the code
+/// between two atomic accesses mostly takes, and few enough that a spin on plain data leaves the log its room.
+const FEW_PLAIN: u32 = 100;
+
+/// The run along the way to a race on which a thread makes so many plain turns in a row at most, if two of its accesses
+/// race.
+fn racy_run<'a>(
+    alloc: Global,
+    call: SearchedCall<'a>,
+    way: &[usize],
+    most_plain: u32,
+) -> Result<Option<RacyRun<'a, 'a>>, Trouble>
+    ensures run { IfOk result (λ o. IfSome o (IsRacyRunOf call.entry.request.now call.entry.search.now)) }
+    ensures trouble { IfErr result IsOfSystem }
+{
+    let SearchedCall {
+        request,
+        code,
+        search,
+    } = call;
+    let Sought { limit, dump, .. } = search.sought;
+    let choices = race_choices(alloc, request, dump as usize, way, most_plain)?;
+    let made = match run_round(alloc, request, limit, choices.as_slice(), &[]) {
+        Ok(made) => made,
+        Err(_) => return Err(Trouble::NoMemory),
+    };
+    match first_race(alloc, request.module(), &made.record, code) {
+        Ok(Some(race)) => Ok(Some(RacyRun { made, race })),
+        Ok(None) => Ok(None),
+        Err(unwritten) => Err(trouble_of(unwritten)),
+    }
+}
+
 /// The run that comes to a race of these threads; or the threads, where it has none.
 fn run_of_race<'a>(
     alloc: Global,
@@ -67,21 +100,13 @@ fn run_of_race<'a>(
         (IsRacedOf call.entry.request.now call.entry.search.now (specified.found race)) }
     ensures trouble { IfErr result IsOfSystem }
 {
-    let SearchedCall {
-        request,
-        code,
-        search,
-    } = call;
-    let Sought { limit, dump, .. } = search.sought;
-    let choices = race_choices(alloc, request, dump as usize, way)?;
-    let made = match run_round(alloc, request, limit, choices.as_slice(), &[]) {
-        Ok(made) => made,
-        Err(_) => return Err(Trouble::NoMemory),
-    };
-    match first_race(alloc, request.module(), &made.record, code) {
-        Ok(Some(race)) => Ok(Raced::Run(RacyRun { made, race })),
-        Ok(None) => Ok(Raced::Threads(race)),
-        Err(unwritten) => Err(trouble_of(unwritten)),
+    let is_kept = keeps_race(call.search);
+    if let Some(run) = racy_run(alloc, call, way, FEW_PLAIN)? {
+        return Ok(Raced::Run(run, is_kept));
+    }
+    match racy_run(alloc, call, way, MOST_PLAIN)? {
+        Some(run) => Ok(Raced::Run(run, is_kept)),
+        None => Ok(Raced::Threads(race)),
     }
 }
 

@@ -17,7 +17,7 @@ use Rattle.show_races.specs.Rows.{AreRowsOf, sites_of}
 use Rattle.show_races.specs.Sites.{opening_of}
 use Rattle.show_races.proofs.Told.{sites_alike, told_of}
 use Rattle.show_races.specs.Told.{HasNoRace, IsWithin}
-use Rattle.show_races.specs.Written.{SaysRace, WritesFirst}
+use Rattle.show_race_words.specs.Written.{SaysRace, WritesFirst}
 use Rattle.show_rows.specs.Listing.{IsStoryOf}
 use Rattle.show_rows.specs.declared.code.CodeMap.{CodeMap}
 use Rattle.show_rows.specs.declared.listing.Shown.{Shown}
@@ -98,10 +98,11 @@ object_by m r f first shown is sites ps d pair same alike says =
 
 -- and in words
 pub pair_by : (m : Parts) (r : RecordParts) (f : FirstRace) → IsFirstRace m r f → (shown : Shown) → IsShownBy r f shown
-    → (is : Bool) (old new : Option (List ℕ)) → WritesFirst shown f.told.story f.told.races is old new → WritesPair m r (change old new)
+    → (is : Bool) (old new : Option (List ℕ)) → WritesFirst shown f.map f.told.story f.told.races is old new → WritesPair m r (change old new)
 pair_by m r f first shown is true old new (race, within, at, text, says, lines) = (
   text,
   lines,
+  f.map,
   record {
     rows = f.rows.items;
     end = first.seen.0;
@@ -112,7 +113,7 @@ pair_by m r f first shown is true old new (race, within, at, text, says, lines) 
     is_shown = shown_by m r f first shown is;
     race = race;
     is_race = first.races race (0, within, at);
-    says = subst (λ (ks : List Site). SaysRace shown f.told.story ks race text) first.sites says;
+    says = subst (λ (ks : List Site). SaysRace shown f.map f.told.story ks race text) first.sites says;
   },
 )
 pair_by m r f first shown is false old new (none, same) =

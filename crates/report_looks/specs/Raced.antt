@@ -18,7 +18,8 @@ use Rattle.show_rows.specs.declared.listing.Story.{Story}
 use Rattle.show_races.specs.Rows.{AreRowsOf, sites_of}
 use Rattle.show_races.specs.Sites.{opening_of}
 use Rattle.show_races.specs.Told.{AreApart, AreMany, HasNoRace, IsMore, TellsEach}
-use Rattle.show_races.specs.Written.{SaysRace, TellsRaces}
+use Rattle.show_named.specs.declared.data_map.DataMap.{DataMap}
+use Rattle.show_race_words.specs.Written.{SaysRace, TellsRaces}
 use Rattle.show_races.specs.declared.found.RecordRaces.{RecordRaces}
 use Rattle.report_command.specs.declared.form.Form.{Form}
 use Rattle.report_command.specs.declared.form.Form.TheVariants.{Lines, Json}
@@ -50,9 +51,9 @@ pub record IsRacy (m : Parts) (saved : List ℕ) : Type 0 where
   pub races : IsLastRace record_is.log (sites_of m record_is rows) (opening_of m) race
 
 -- They are told in lines, or in an object.
-abbrev pub TellsIn : Form → Shown → Story → RecordRaces → Option (List ℕ) → Option (List ℕ) → Type 0
-TellsIn Lines shown story races old new = TellsRaces shown story races old new
-TellsIn Json shown story races old new = WritesPairs shown story races old new
+abbrev pub TellsIn : Form → Shown → DataMap → Story → RecordRaces → Option (List ℕ) → Option (List ℕ) → Type 0
+TellsIn Lines shown map story races old new = TellsRaces shown map story races old new
+TellsIn Json shown map story races old new = WritesPairs shown story races old new
 
 -- What was written tells of so many races at most, each one of the run and by the instructions of its entries, no two of the same
 -- two places of the code, and of each race of the run at its places, where it isn't said that they are not all; and where
@@ -63,6 +64,7 @@ pub record WritesRaces (m : Parts) (r : RecordParts) (rows : List (Option Row)) 
   pub of_record : shown.record.now ≡ r
   pub of_rows : shown.rows.now ≡ rows
   pub of_module : shown.code.now.parts.now ≡ m
+  pub map : DataMap
   pub story : Story
   pub is_story : IsStoryOf shown.record.now.log story
   pub races : RecordRaces
@@ -72,7 +74,7 @@ pub record WritesRaces (m : Parts) (r : RecordParts) (rows : List (Option Row)) 
   pub once : AreApart shown story races.pairs.items
   pub cut : races.is_cut ≡ true → IsMore shown story races.pairs.items most ⊎ AreMany shown
   pub few : length races.pairs.items ≤ most
-  pub tells : TellsIn form shown story races out.old out.new
+  pub tells : TellsIn form shown map story races out.old out.new
 
 pub record PrintsRaces (most : ℕ) (form : Form) (out : WriterChange) (m : Parts) (saved : List ℕ) : Type 0 where
   pub record_is : RecordParts
@@ -109,9 +111,9 @@ pub record HasPair (m : Parts) (r : RecordParts)
   pub is_race : IsLastRace r.log (sites_of m r rows) (opening_of m) race
   pub says : IsSaid shown story (sites_of m r rows) race
 
--- The text says so in the words of `races`.
+-- The text says so in the words of `races`, with names of data.
 abbrev pub SaysPair : Parts → RecordParts → List ℕ → Type 0
-SaysPair m r text = HasPair m r (λ shown story sites race. SaysRace shown story sites race text)
+SaysPair m r text = (map : DataMap) × HasPair m r (λ shown story sites race. SaysRace shown map story sites race text)
 
 -- An object says so.
 abbrev pub SaysObject : Parts → RecordParts → RacePair → Type 0

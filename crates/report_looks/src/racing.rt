@@ -18,7 +18,9 @@ use crate::sighting::races_in;
 use report_command::{Form, RacesJob};
 use report_jobs::{Done, Streams, Undone, load, of_refusal, of_unfit};
 use report_objects::write_pairs;
-use show_races::{RecordRaces, write_races};
+use show_named::DataMap;
+use show_race_words::write_races;
+use show_races::RecordRaces;
 use show_rows::{CodeMap, Shown, Story};
 use show_text::Unwritten;
 use std::alloc::Global;
@@ -118,6 +120,7 @@ fn is_racy(races: &RecordRaces) -> bool
 fn write_told<W: Write>(
     alloc: Global,
     shown: Shown,
+    map: &DataMap,
     story: &Story,
     races: &RecordRaces,
     form: Form,
@@ -125,10 +128,10 @@ fn write_told<W: Write>(
 ) -> Result<(), Unwritten>
     requires { All (IsWithin shown.record.now.log) races.now.pairs.items }
     ensures { OnOk result
-        (TellsIn form shown.entry story.now races.now (W.contents out.old) (W.contents out.new)) }
+        (TellsIn form shown.entry map.now story.now races.now (W.contents out.old) (W.contents out.new)) }
 {
     match form {
-        Form::Lines => write_races(alloc, shown, story, races, out),
+        Form::Lines => write_races(alloc, shown, map, story, races, out),
         Form::Json => write_pairs(alloc, &shown, story, races, out),
     }
 }
@@ -149,6 +152,7 @@ fn write_seen<W: Write>(
     ensures writes { IfOk result (λ _. WritesRaces «module».now.parts seen.now.«record» seen.now.rows.items asked.now.most
         asked.now.form (changed W.contents out.old out.new)) }
 {
+    let map = DataMap::read(alloc, code.names)?;
     let code = CodeMap::read(alloc, module.parts(), code.module, code.names)?;
     let shown = Shown {
         record: seen.record.parts(),
@@ -156,6 +160,14 @@ fn write_seen<W: Write>(
         code: &code,
     };
     let told = races_in(alloc, shown, asked.most as usize)?;
-    write_told(alloc, shown, &told.story, &told.races, asked.form, out)?;
+    write_told(
+        alloc,
+        shown,
+        &map,
+        &told.story,
+        &told.races,
+        asked.form,
+        out,
+    )?;
     Ok(is_racy(&told.races))
 }

@@ -12,7 +12,9 @@ use race_history::is_history;
 use replay_text::Record;
 use report_objects::pair_of;
 use show_json::RacePair;
-use show_races::{RecordRaces, races_shown, watched, write_first};
+use show_named::DataMap;
+use show_race_words::write_first;
+use show_races::{RecordRaces, races_shown, watched};
 use show_rows::{CodeMap, Row, Shown, Story};
 use show_text::Unwritten;
 use std::alloc::Global;
@@ -40,11 +42,12 @@ pub(crate) fn races_in(alloc: Global, shown: Shown, most: usize) -> Result<ToldR
     Ok(ToldRaces { story, races })
 }
 
-/// The first race of a recorded run, with the rows of its entries and the code of its module.
+/// The first race of a recorded run, with the rows of its entries, and the code of its module and the names of its data.
 #[derive(Drop)]
 pub struct FirstRace<'m, 'n> {
     rows: Vec<Option<Row>>,
     code: CodeMap<'m, 'n>,
+    map: DataMap<'n>,
     told: ToldRaces,
 }
 
@@ -64,7 +67,8 @@ pub fn first_race<'m, 'n>(
     let Ok(rows) = watched(alloc, module, record) else {
         return Err(Unwritten::NoMemory);
     };
-    let code = CodeMap::read(alloc, module.parts(), code.module, code.names)?;
+    let names = code.names;
+    let code = CodeMap::read(alloc, module.parts(), code.module, names)?;
     let shown = Shown {
         record: record.parts(),
         rows: rows.as_slice(),
@@ -74,7 +78,13 @@ pub fn first_race<'m, 'n>(
     if told.races.pairs.as_slice().is_empty() {
         return Ok(None);
     }
-    Ok(Some(FirstRace { rows, code, told }))
+    let map = DataMap::read(alloc, names)?;
+    Ok(Some(FirstRace {
+        rows,
+        code,
+        map,
+        told,
+    }))
 }
 
 impl<'m, 'n> FirstRace<'m, 'n> {
@@ -106,6 +116,7 @@ impl<'m, 'n> FirstRace<'m, 'n> {
         write_first(
             alloc,
             self.shown(record),
+            &self.map,
             &self.told.story,
             &self.told.races,
             out,

@@ -9,7 +9,7 @@ use Rattle.race_history.specs.declared.race.Race.{Race}
 use Rattle.show_json.specs.declared.races.NextWrite.{NextWrite}
 use Rattle.show_json.specs.declared.races.RaceEntry.{RaceEntry}
 use Rattle.show_json.specs.declared.races.RacePair.{RacePair}
-use Rattle.show_races.specs.Written.{IsNextWrite, access_at}
+use Rattle.show_races.specs.Releases.{IsNextWrite, access_at}
 use Rattle.show_races.specs.declared.found.RecordRaces.{RecordRaces}
 use Rattle.show_rows.specs.declared.listing.Shown.{Shown}
 use Rattle.show_rows.specs.declared.listing.Story.{Story}

@@ -22,7 +22,7 @@ use Rattle.show_json.specs.declared.races.NextWrite.{NextWrite}
 use Rattle.show_json.specs.declared.races.RaceEntry.{RaceEntry}
 use Rattle.show_json.specs.declared.races.RacePair.{RacePair}
 use Rattle.show_json.specs.declared.races.RacePairs.{RacePairs}
-use Rattle.show_races.specs.Written.{IsNextWrite, access_at, changes_pages}
+use Rattle.show_races.specs.Releases.{IsNextWrite, access_at, changes_pages}
 use Rattle.show_races.specs.declared.found.RecordRaces.{RecordRaces}
 use Rattle.show_named.specs.Names.{HasData}
 use Rattle.show_named.specs.declared.data_map.DataMap.{DataMap}

@@ -2,7 +2,7 @@
 ghost use Rattle.std.specs.Prelude.{◌≡◌, ◌<◌, All, IfOk, OnOk, length};
 ghost use Rattle.std.specs.List.{AllZip, slice_get};
 ghost use Rattle.show_races.specs.Told.{IsWithin};
-ghost use Rattle.show_races.specs.Written.{access_at};
+ghost use Rattle.show_races.specs.Releases.{access_at};
 ghost use Rattle.report_objects.specs.RaceObjects as specified;
 ghost use Rattle.report_objects.specs.RaceObjects.{IsEntryOf, IsNextOf, IsPairOf, WritesPairs};
 

@@ -27,7 +27,7 @@ mod returned;
 
 pub use all::all_endings;
 pub use hands::Hands;
-pub use race_free::{race_choices, race_free_endings, turn_choices};
+pub use race_free::{MOST_PLAIN, race_choices, race_free_endings, turn_choices};
 pub use returned::what_runs_return_is_reached;
 pub use search_race_free::{Alone, RaceFree, ThreadRace};
 pub use search_reach::{Ended, FairCycle, FairRuns, Liveness, Verdict};

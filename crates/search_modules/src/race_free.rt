@@ -21,7 +21,7 @@ use spawn_host::Request;
 use std::alloc::{AllocError, Global};
 
 /// How many plain turns a thread makes in a row before the others have theirs.
-const MOST_PLAIN: u32 = 10_000;
+pub const MOST_PLAIN: u32 = 10_000;
 
 /// All endings of a call of an exported function, each with so many first bytes of the memory, where no threads race:
 /// each makes its loads and stores that aren't atomic at once, and they take turns at all else.
@@ -84,7 +84,8 @@ pub fn turn_choices(
 }
 
 /// The choices of each turn to the accesses that race, along the way that `race_free_endings` gives with a race; as
-/// those of `turn_choices` they are a hint.
+/// those of `turn_choices` they are a hint. A thread makes `most_plain` plain turns in a row at most: with `MOST_PLAIN`
+/// the choices are those of the search, and with fewer a thread that spins on plain data leaves its spin sooner.
 ///
 /// # Errors
 /// Where memory is refused.
@@ -93,7 +94,8 @@ pub fn race_choices(
     request: &Request,
     dump: usize,
     way: &[usize],
+    most_plain: u32,
 ) -> Result<Vec<usize>, AllocError> {
     let searched = searched(alloc, request, dump)?;
-    choices_to_race(alloc, &searched, MOST_PLAIN, way)
+    choices_to_race(alloc, &searched, most_plain, way)
 }

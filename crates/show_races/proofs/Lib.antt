@@ -3,5 +3,4 @@ pub mod Firsts
 pub mod Laws
 pub mod Pulled
 pub mod Releases
-pub mod Telling
 pub mod Told

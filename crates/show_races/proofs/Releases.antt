@@ -5,7 +5,7 @@ use Rattle.std.proofs.lemmas.Bool.{cases_lt}
 use Rattle.std.proofs.lemmas.Option.{slice_get_past}
 use Rattle.types.specs.declared.event.Entry.{Entry}
 use Rattle.race_history.specs.declared.access.Site.{Site}
-use Rattle.show_races.specs.Written.{is_atomic_write, is_write_of}
+use Rattle.show_races.specs.Releases.{is_atomic_write, is_write_of}
 
 module _ (log : List Entry) (sites : List Site) (thread first : ℕ) where
   pub none_next : (at : ℕ) → ((k : ℕ) → first < k → k < at → is_atomic_write log sites thread k ≡ false)

@@ -2,4 +2,4 @@ pub mod Sites
 pub mod Races
 pub mod Rows
 pub mod Told
-pub mod Written
+pub mod Releases

@@ -2,8 +2,8 @@
 
 ghost use Rattle.std.specs.Prelude.{◌≡◌, ◌<◌, length};
 ghost use Rattle.race_history.specs.Accesses.{bytes_of, call_of, has_value, is_out_of_bounds};
-ghost use Rattle.show_races.specs.Written as written;
-ghost use Rattle.show_races.specs.Written.{IsNextWrite, tells};
+ghost use Rattle.show_races.specs.Releases as specified;
+ghost use Rattle.show_races.specs.Releases.{IsNextWrite, tells};
 
 use race_history::{Site, bytes_of};
 use types::{Entry, Event, Question, Reply};
@@ -65,7 +65,7 @@ fn is_refused(reply: Reply) -> bool
 
 /// Whether the entry changes the number of pages.
 pub fn changes_pages(entry: &Entry) -> bool
-    ensures { result ≡ written.changes_pages entry.now }
+    ensures { result ≡ specified.changes_pages entry.now }
 {
     match entry.event {
         Event::Grow(_) => !is_refused(entry.reply),
@@ -75,7 +75,7 @@ pub fn changes_pages(entry: &Entry) -> bool
 
 /// Whether the entry at a place is an atomic write of this thread, of bytes or at another location.
 fn is_atomic_write(log: &[Entry], sites: &[Site], thread: u32, at: usize) -> bool
-    ensures { result ≡ written.is_atomic_write log.now sites.now thread at }
+    ensures { result ≡ specified.is_atomic_write log.now sites.now thread at }
 {
     let (Some(entry), Some(site)) = (log.get(at), sites.get(at)) else {
         return false;

@@ -16,6 +16,6 @@ returns-in-Run-clause-written g c m raced =
     let out = changed g.W.Write.contents c.args.out.now c.write_told.new.out in
     let run = subst (IsRacedIn m) c.in-Run.is raced in
     subst (λ (x : Raced). IfOk c.write_told.result (λ _. WritesWith m x told out)) (sym c.in-Run.is)
-    (IfOk-weaker c.write_told.result (λ _. WritesTold told (Some (said.Found pair)) out) (λ _. WritesWith m (raceds.Run c.in-Run.run') told out)
+    (IfOk-weaker c.write_told.result (λ _. WritesTold told (Some (said.Found pair)) out) (λ _. WritesWith m (raceds.Run c.in-Run.run' c.in-Run.field-1) told out)
     (λ _ written. (pair, c.pair-pair.ensures m c.in-Run.run'.made.«record» run c.shown-shown.ensures, written))
     c.write_told.ensures.written)

@@ -35,6 +35,7 @@ returns-clause-writes g c =
       of_record = c.parts-2.ensures.parts;
       of_rows = c.as_slice.ensures.value;
       of_module = parts;
+      map = c.in_ok-map.map;
       story = told.story;
       is_story = are.is_story;
       races = told.races;

@@ -9,7 +9,7 @@ returns-in-Lines g c =
     let contents = g.W.Write.contents in
     let before = contents c.args.out.now in
     let after = contents c.write_races.new.out in
-    subst (λ (form : Form). OnOk c.write_races.result (TellsIn form c.args.shown c.args.story.now c.args.races.now before after)) (sym c.in-Lines.is)
+    subst (λ (form : Form). OnOk c.write_races.result (TellsIn form c.args.shown c.args.map.now c.args.story.now c.args.races.now before after)) (sym c.in-Lines.is)
     c.write_races.ensures
 
 pub returns-in-Json : goal.returns-in-Json
@@ -17,5 +17,5 @@ returns-in-Json g c =
     let contents = g.W.Write.contents in
     let before = contents c.args.out.now in
     let after = contents c.write_pairs.new.out in
-    subst (λ (form : Form). OnOk c.write_pairs.result (TellsIn form c.args.shown c.args.story.now c.args.races.now before after)) (sym c.in-Json.is)
+    subst (λ (form : Form). OnOk c.write_pairs.result (TellsIn form c.args.shown c.args.map.now c.args.story.now c.args.races.now before after)) (sym c.in-Json.is)
     c.write_pairs.ensures

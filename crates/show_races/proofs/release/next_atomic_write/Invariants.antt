@@ -1,5 +1,5 @@
 use Rattle.std.proofs.Common.{◌≡◌, ◌<◌, ℕ, false}
-use Rattle.show_races.specs.Written.{is_atomic_write}
+use Rattle.show_races.specs.Releases.{is_atomic_write}
 use Rattle.show_races.proofs.release.next_atomic_write.Given as goal
 
 abbrev pub invariant-loop-at : goal.invariant-loop-at

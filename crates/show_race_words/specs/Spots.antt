@@ -1,0 +1,12 @@
+-- Where an entry stands, and where it was made.
+use Rattle.std.specs.Prelude.{ℕ, ◌≡◌, List, ◌++◌, codes}
+use Rattle.std.specs.Fmt.{decimal}
+use Rattle.show_rows.specs.declared.listing.Shown.{Shown}
+use Rattle.show_rows.specs.declared.listing.Story.{Story}
+use Rattle.show_rows.specs.Entries.{behind}
+use Rattle.show_rows.specs.Listing.{IsPlaceTextOf, line_at}
+
+-- The line of the record that has the entry at a place, and where in the code it was made, as far as that is known.
+abbrev pub IsSpot : Shown → Story → ℕ → List ℕ → Type 0
+IsSpot shown story at text = (place : List ℕ) × IsPlaceTextOf shown story at place
+    × (text ≡ codes "entry " ++ (decimal (line_at shown at) ++ behind place))

@@ -1,0 +1,154 @@
+//! Races as text.
+
+ghost use Rattle.std.specs.Prelude.{◌≡◌, ◌<◌, All, IfOk, OnOk, length, string_bytes};
+ghost use Rattle.show_races.specs.Told.{IsWithin};
+ghost use Rattle.show_race_words.specs.Written.{AreStarts, SaysRace, TellsRaces, WritesFirst, kind_of, name_text};
+
+use crate::looks::look_text;
+use crate::ordering::order_text;
+use crate::starts::start_text;
+use race_history::{AccessKind, Race, Site};
+use show_named::{DataMap, named_text};
+use show_races::RecordRaces;
+use show_rows::{Shown, Story};
+use show_text::Unwritten;
+use std::alloc::{AllocError, Global};
+use std::fmt::{self, Formatter};
+use std::io::Write;
+
+/// By which kind of instruction the entry at a place was made.
+fn kind_of(sites: &[Site], at: usize) -> Option<AccessKind>
+    ensures { result ≡ kind_of sites.now at }
+{
+    let site = sites.get(at)?;
+    Some(site.kind)
+}
+
+/// What a race is called: two atomic accesses race where they are of other bytes.
+fn name_of(sites: &[Site], race: Race) -> &'static str
+    ensures { result.now ≡ name_text sites.now race }
+{
+    match (kind_of(sites, race.first), kind_of(sites, race.second)) {
+        (Some(AccessKind::Atomic), Some(AccessKind::Atomic)) => "mixed",
+        _ => "race",
+    }
+}
+
+/// Which entries started the threads of the two entries of a race.
+fn starts_text(alloc: Global, shown: Shown, story: &Story, race: Race) -> Result<String, AllocError>
+    requires first { race.first < length shown.record.now.log }
+    requires second { race.second < length shown.record.now.log }
+    ensures { IfOk result (λ text. AreStarts shown.entry story.now race (string_bytes text)) }
+{
+    let log = shown.record.log.as_slice();
+    let (first, second) = (log[race.first].thread, log[race.second].thread);
+    let mut text = start_text(alloc, shown, story, first)?;
+    let other = start_text(alloc, shown, story, second)?;
+    text.push_str(other.as_str())?;
+    Ok(text)
+}
+
+/// A race: its two entries, what they do with the number of pages, what would have ordered them, and which entries started
+/// their threads.
+fn race_text(
+    alloc: Global,
+    shown: Shown,
+    map: &DataMap,
+    story: &Story,
+    sites: &[Site],
+    race: Race,
+) -> Result<String, AllocError>
+    requires { IsWithin shown.record.now.log race }
+    ensures { IfOk result (λ text. SaysRace shown.entry map.now story.now sites.now race (string_bytes text)) }
+{
+    let name = name_of(sites, race);
+    let one = named_text(alloc, shown, map, story, race.first)?;
+    let other = named_text(alloc, shown, map, story, race.second)?;
+    let look = look_text(alloc, shown, race)?;
+    let order = order_text(alloc, shown, story, sites, race)?;
+    let starts = starts_text(alloc, shown, story, race)?;
+    let text = format!(in alloc; "{name}: {one}; {other}\n{look}{order}{starts}")?;
+    Ok(text)
+}
+
+/// Writes the first of the races of a record's run, where it has one, and answers whether it has.
+///
+/// # Errors
+/// Where memory is refused, or the stream fails.
+pub fn write_first<W: Write>(
+    alloc: Global,
+    shown: Shown,
+    map: &DataMap,
+    story: &Story,
+    races: &RecordRaces,
+    out: &mut W,
+) -> Result<bool, Unwritten>
+    requires { All (IsWithin shown.record.now.log) races.now.pairs.items }
+    ensures { IfOk result
+        (λ is. WritesFirst shown.entry map.now story.now races.now is (W.contents out.old) (W.contents out.new)) }
+{
+    let pairs = races.pairs.as_slice();
+    if pairs.is_empty() {
+        return Ok(false);
+    }
+    let text = race_text(alloc, shown, map, story, races.sites.as_slice(), pairs[0])?;
+    write!(out, "{text}")?;
+    out.flush()?;
+    Ok(true)
+}
+
+/// Whether these are all, where that isn't clear.
+#[derive(Clone, Copy)]
+struct End {
+    is_cut: bool,
+    count: usize,
+}
+
+impl fmt::Display for End {
+    ghost use Rattle.std.specs.Prelude.{Some};
+    ghost use Rattle.show_race_words.specs.Written.{end_text};
+
+    ghost output = { λ e. Some (end_text e.is_cut e.count) };
+
+    fn fmt<W: fmt::Write>(&self, f: &mut Formatter<W>) -> fmt::Result {
+        let count = self.count;
+        if self.is_cut {
+            write!(f, "not all: more than {count}, by `--most`\n")
+        } else if count == 0 {
+            f.write_str("no race\n")
+        } else {
+            Ok(())
+        }
+    }
+}
+
+/// Writes the races of a record's run, a paragraph each, or that there is none; and where some are left out, that these
+/// are not all.
+///
+/// # Errors
+/// Where memory is refused, or the stream fails.
+pub fn write_races<W: Write>(
+    alloc: Global,
+    shown: Shown,
+    map: &DataMap,
+    story: &Story,
+    races: &RecordRaces,
+    out: &mut W,
+) -> Result<(), Unwritten>
+    requires { All (IsWithin shown.record.now.log) races.now.pairs.items }
+    ensures { OnOk result (TellsRaces shown.entry map.now story.now races.now (W.contents out.old) (W.contents out.new)) }
+{
+    let pairs = races.pairs.as_slice();
+    let sites = races.sites.as_slice();
+    for at in 0..pairs.len() {
+        let text = race_text(alloc, shown, map, story, sites, pairs[at])?;
+        write!(out, "{text}")?;
+    }
+    let end = End {
+        is_cut: races.is_cut,
+        count: pairs.len(),
+    };
+    write!(out, "{end}")?;
+    out.flush()?;
+    Ok(())
+}
