@@ -1,0 +1,83 @@
+-- What is told of a race, by the slices that were read.
+use Rattle.std.proofs.Common.{◌≡◌, ◌∙◌, ◌<◌, nat_lt, ℕ, List, ◌++◌, Option, Some, length, get_or, sym, ap, subst, codes}
+use Rattle.std.specs.List.{AllZip, concat, slice_get}
+use Rattle.std.specs.Io.KnownBytes.{Appends}
+use Rattle.std.proofs.lemmas.Option.{slice_get-get_or}
+use Rattle.types.specs.declared.event.Entry.{Entry}
+use Rattle.race_history.specs.declared.access.Site.{Site}
+use Rattle.race_history.specs.declared.race.Race.{Race}
+use Rattle.show_rows.specs.declared.listing.Shown.{Shown}
+use Rattle.show_rows.specs.declared.listing.Story.{Story}
+use Rattle.show_races.specs.declared.found.RecordRaces.{RecordRaces}
+use Rattle.show_races.specs.Releases.{IsNextWrite}
+use Rattle.show_named.specs.declared.data_map.DataMap.{DataMap}
+use Rattle.show_race_words.specs.Spots.{IsSpot}
+use Rattle.show_race_words.specs.Starts.{IsStartText}
+use Rattle.show_race_words.specs.Written.{act_at, end_text, leads_text, look_text, order_text}
+use Rattle.show_race_words.specs.Written.{AreAt, AreStarts, IsLookText, IsNextText, IsOrderText, SaysRace, TellsRaces}
+
+stands : (log whole : List Entry) (at : ℕ) (d : Entry) → log ≡ whole → at < length whole → slice_get whole at ≡ Some (get_or log at d)
+stands log whole at d same within = subst (λ (l : List Entry). slice_get l at ≡ Some (get_or log at d)) same
+    (slice_get-get_or log at d (subst (λ (l : List Entry). at < length l) (sym same) within))
+
+module _ (shown : Shown) (r : Race) (log : List Entry) (d e : Entry) (same : log ≡ shown.record.now.log)
+    (first : r.first < length shown.record.now.log) (second : r.second < length shown.record.now.log) where
+  are_at : AreAt shown.record.now.log r (get_or log r.first d) (get_or log r.second e)
+  are_at = record {
+    first_is = stands log shown.record.now.log r.first d same first;
+    second_is = stands log shown.record.now.log r.second e same second;
+  }
+
+  pub look_by : (text : List ℕ) → text ≡ look_text (get_or log r.first d) (get_or log r.second e) → IsLookText shown r text
+  look_by text is = (get_or log r.first d, get_or log r.second e, are_at, is)
+
+  pub order_by : (story : Story) (sites : List Site) (write : Option ℕ) (next text : List ℕ)
+      → IsNextWrite log sites (get_or log r.first d).thread r.first write → IsNextText shown story r (get_or log r.second e).thread write next
+      → text ≡ order_text (get_or log r.first d).thread (get_or log r.second e).thread next → IsOrderText shown story sites r text
+  order_by story sites write next text is_write is_next is = record {
+    first = get_or log r.first d;
+    second = get_or log r.second e;
+    at = are_at;
+    write = write;
+    write_is = subst (λ (l : List Entry). IsNextWrite l sites (get_or log r.first d).thread r.first write) same is_write;
+    next = next;
+    next_is = is_next;
+    is = is;
+  }
+
+  pub starts_by : (story : Story) (one other text : List ℕ) → IsStartText shown story (get_or log r.first d).thread one
+      → IsStartText shown story (get_or log r.second e).thread other → text ≡ one ++ other → AreStarts shown story r text
+  starts_by story one other text is_one is_other is = record {
+    first = get_or log r.first d;
+    second = get_or log r.second e;
+    at = are_at;
+    one = one;
+    one_is = is_one;
+    other = other;
+    other_is = is_other;
+    is = is;
+  }
+
+-- Of a next entry, by what it is called in the slice.
+pub next_by : (shown : Shown) (story : Story) (r : Race) (second at : ℕ) (log : List Entry) (act spot text : List ℕ)
+    → log ≡ shown.record.now.log → act ≡ act_at log at → IsSpot shown story at spot
+    → text ≡ codes "'s next " ++ (act ++ (codes " is " ++ (spot ++ leads_text (nat_lt at r.second) second)))
+    → IsNextText shown story r second (Some at) text
+next_by shown story r second at log act spot text same act_is is_spot is = (
+  spot,
+  is_spot,
+  is ∙ ap (λ (x : List ℕ). codes "'s next " ++ (x ++ (codes " is " ++ (spot ++ leads_text (nat_lt at r.second) second))))
+      (act_is ∙ ap (λ (l : List Entry). act_at l at) same),
+)
+
+-- Of all races, by the slices that were gone through.
+pub told_all : (shown : Shown) (map : DataMap) (story : Story) (races : RecordRaces) (sites : List Site) (pairs : List Race)
+    (a d : Option (List ℕ)) → sites ≡ races.sites.items → pairs ≡ races.pairs.items
+    → ((texts : List (List ℕ)) × AllZip (SaysRace shown map story sites) pairs texts
+    × Appends a d (concat texts ++ end_text races.is_cut (length pairs)))
+    → TellsRaces shown map story races a d
+told_all shown map story races sites pairs a d same alike told =
+    subst (λ (ks : List Site). (texts : List (List ℕ)) × AllZip (SaysRace shown map story ks) races.pairs.items texts
+    × Appends a d (concat texts ++ end_text races.is_cut (length races.pairs.items))) same
+    (subst (λ (ps : List Race). (texts : List (List ℕ)) × AllZip (SaysRace shown map story sites) ps texts
+    × Appends a d (concat texts ++ end_text races.is_cut (length ps))) alike told)
