@@ -11,16 +11,13 @@ use show_text::Context;
 use std::alloc::{AllocError, Global};
 use types::{Answer, Entry, Event, Question};
 
-/// Whether the entry asks for a thread.
-fn is_spawn(entry: Option<&Entry>) -> bool
-    ensures { result ≡ specified.is_spawn entry.now }
+/// Whether the event asks for a thread.
+fn is_asking(event: Event) -> bool
+    ensures { result ≡ specified.is_asking event }
 {
-    match entry {
-        Some(entry) => match entry.event {
-            Event::Ask(Question::Spawn { arg: _ }) => true,
-            _ => false,
-        },
-        None => false,
+    match event {
+        Event::Ask(Question::Spawn { arg: _ }) => true,
+        _ => false,
     }
 }
 
@@ -38,7 +35,10 @@ fn is_answered(context: Context, number: u32) -> bool
 fn is_start(log: &[Entry], story: &Story, thread: u32, at: usize) -> bool
     ensures { result ≡ specified.is_start log.now story.now thread at }
 {
-    is_spawn(log.get(at)) && is_answered(story.context_at(at), thread)
+    match log.get(at) {
+        Some(entry) => is_asking(entry.event) && is_answered(story.context_at(at), thread),
+        None => false,
+    }
 }
 
 /// The place of the entry that started a thread, if one did whose answer is there.

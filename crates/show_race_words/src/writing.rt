@@ -42,9 +42,9 @@ fn starts_text(alloc: Global, shown: Shown, story: &Story, race: Race) -> Result
 {
     let log = shown.record.log.as_slice();
     let (first, second) = (log[race.first].thread, log[race.second].thread);
-    let mut text = start_text(alloc, shown, story, first)?;
+    let one = start_text(alloc, shown, story, first)?;
     let other = start_text(alloc, shown, story, second)?;
-    text.push_str(other.as_str())?;
+    let text = format!(in alloc; "{one}{other}")?;
     Ok(text)
 }
 

@@ -1,6 +1,4 @@
-use Rattle.std.proofs.Common.{List, ℕ}
 use Rattle.std.proofs.lemmas.Result.{IfOk-weaker}
-use Rattle.show_race_words.specs.Written.{IsLookText}
 use Rattle.show_race_words.proofs.Telling.{look_by}
 use Rattle.show_race_words.proofs.looks.look_text.Goals as goal
 

@@ -3,4 +3,4 @@ use Rattle.show_race_words.proofs.writing.starts_text.Goals as goal
 
 pub returns : goal.returns
 returns c = starts_by c.args.shown c.args.race c.as_slice-log.result.now _ _ c.as_slice-log.ensures c.requires.first c.requires.second
-    c.args.story.now _ _ _ c.in_ok-text.ensures c.in_ok-other.ensures c.in_ok-push_str.ensures
+    c.args.story.now _ _ _ c.in_ok-one.ensures c.in_ok-other.ensures c.in_ok-text.ensures.ok
