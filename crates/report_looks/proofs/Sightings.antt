@@ -12,7 +12,7 @@ use Rattle.race_history.specs.declared.race.Race.{Race}
 use Rattle.race_history.specs.Races.{AreRaces, IsLastRace}
 use Rattle.show_json.specs.declared.races.RacePair.{RacePair}
 use Rattle.report_jobs.specs.Prints.{change}
-use Rattle.show_races.specs.Races.{SaysOfRun}
+use Rattle.show_races.specs.Races.{Says, SaysOfRun}
 use Rattle.show_races.specs.Rows.{AreRowsOf, sites_of}
 use Rattle.show_races.specs.Sites.{opening_of}
 use Rattle.show_races.proofs.Told.{sites_alike, told_of}
@@ -23,7 +23,7 @@ use Rattle.show_rows.specs.declared.code.CodeMap.{CodeMap}
 use Rattle.show_rows.specs.declared.listing.Shown.{Shown}
 use Rattle.show_rows.specs.declared.rows.Row.{Row}
 use Rattle.report_objects.specs.RaceObjects.{IsPairOf}
-use Rattle.report_looks.specs.Raced.{IsShownOf, SaysObject, WritesPair}
+use Rattle.report_looks.specs.Raced.{IsSeen, IsShownOf, SaysObject, SaysOf, WritesPair}
 use Rattle.report_looks.specs.Sighted.{AreTold, IsFirstRace, IsShownBy}
 use Rattle.report_looks.specs.declared.sighting.FirstRace.{FirstRace}
 use Rattle.report_looks.specs.declared.sighting.ToldRaces.{ToldRaces}
@@ -102,19 +102,21 @@ pub pair_by : (m : Parts) (r : RecordParts) (f : FirstRace) → IsFirstRace m r 
 pair_by m r f first shown is true old new (race, within, at, text, says, lines) = (
   text,
   lines,
-  f.map,
-  record {
-    rows = f.rows.items;
-    end = first.seen.0;
-    run = first.seen.1;
-    rows_are = first.seen.2;
-    shown = shown;
-    story = f.told.story;
-    is_shown = shown_by m r f first shown is;
-    race = race;
-    is_race = first.races race (0, within, at);
-    says = subst (λ (ks : List Site). SaysRace shown f.map f.told.story ks race text) first.sites says;
-  },
+  (
+    f.map,
+    record {
+      rows = f.rows.items;
+      end = first.seen.0;
+      run = first.seen.1;
+      rows_are = first.seen.2;
+      shown = shown;
+      story = f.told.story;
+      is_shown = shown_by m r f first shown is;
+      race = race;
+      is_race = first.races race (0, within, at);
+      says = subst (λ (ks : List Site). SaysRace shown f.map f.told.story ks race text) first.sites says;
+    },
+  ),
 )
 pair_by m r f first shown is false old new (none, same) =
     let some = first.told.some in
@@ -130,6 +132,12 @@ says_race m r f first d = record {
   rows_are = first.seen.2;
   says = (get_or f.told.races.pairs.items 0 d, race_of m r f first d);
 }
+
+-- what is said of a record's run is said of its text
+pub says_of : (m : Parts) (saved : List ℕ) (r : RecordParts) (rows : List (Option Row)) → IsSeen m saved r rows → (is : Bool)
+    → Says r.log (sites_of m r rows) (opening_of m) is → SaysOf m saved is
+says_of m saved r rows seen true (race, races) = record { record_is = r; rows = rows; seen = seen; race = race; races = races }
+says_of m saved r rows seen false none = record { record_is = r; rows = rows; seen = seen; none = none }
 
 -- a list that is the same as one without elements
 pub empty_by : (xs ys : List Race) → xs ≡ ys → true ≡ (length xs == 0) → ys ≡ []

@@ -1,6 +1,4 @@
-use Rattle.std.proofs.Common.{◌∙◌, List, length, ap, subst}
-use Rattle.types.specs.declared.event.Entry.{Entry}
-use Rattle.show_rows.specs.Listing.{IsStoryOf}
+use Rattle.std.proofs.Common.{◌∙◌, length, ap}
 use Rattle.race_history.specs.Races.{AreRaces}
 use Rattle.replay_text.specs.declared.parts.RecordParts.{RecordParts}
 use Rattle.show_races.specs.Sites.{opening_of, sites_in}
