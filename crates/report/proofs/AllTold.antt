@@ -1,5 +1,5 @@
 -- What is told of a search, put together of what was told before its end and there.
-use Rattle.std.proofs.Common.{ℕ, ◌≡◌, ◌∙◌, ◌++◌, Bool, true, false, List, Option, Some, None, refl, sym, subst, true≢false}
+use Rattle.std.proofs.Common.{ℕ, ◌≡◌, ◌∙◌, Bool, true, false, List, Option, Some, None, refl, sym, subst, true≢false}
 use Rattle.std.specs.Prelude.{IfOk, Result, Ok, Err}
 use Rattle.std.specs.Io.KnownBytes.{Appends}
 use Rattle.types.specs.declared.parts.Parts.{Parts}
@@ -15,7 +15,7 @@ use Rattle.report_jobs.specs.Prints.{WriterChange, change}
 use Rattle.report_json.specs.declared.raced.RunRaces.{RunRaces}
 use Rattle.report_lines.specs.Found.{found_run_line}
 use Rattle.report.specs.Complete.{complete_lines}
-use Rattle.report.specs.Found.{found_lines, kept_lines, kept_text}
+use Rattle.report.specs.Found.{found_lines, kept_text}
 use Rattle.report.specs.Racing.{SaysRaced}
 use Rattle.report.specs.declared.found.FoundRun.{FoundRun}
 use Rattle.report.specs.declared.found.KeptRun.{KeptRun}

@@ -5,7 +5,6 @@ use Rattle.spawn_host.specs.Requests.{Requested}
 use Rattle.search_scheduled.specs.Headers.{IsOfCall}
 use Rattle.search_scheduled.specs.declared.running.MadeRun.{MadeRun}
 use Rattle.search_finds.specs.Finds.{IsFind}
-use Rattle.search_race_free.specs.declared.race.ThreadRace.{ThreadRace}
 use Rattle.show_races.specs.Races.{SaysOfRun}
 use Rattle.report_command.specs.declared.search.Search.{Search}
 use Rattle.report_jobs.specs.Asked.{IsAskedBy}

@@ -11,7 +11,6 @@ use Rattle.report_jobs.specs.Trapped.{Tells}
 use Rattle.report_jobs.specs.Undone.{TellsEnded, ended_status, undone_line, undone_status}
 use Rattle.report_jobs.specs.Why.{RefusesModule, RefusesRecord}
 use Rattle.report_jobs.specs.declared.undone.Done.{Done}
-use Rattle.report_jobs.specs.declared.undone.Failed.{Failed}
 use Rattle.report_jobs.specs.declared.undone.Refused.{Refused}
 use Rattle.report_jobs.specs.declared.undone.Refused.TheVariants as refused
 use Rattle.report_jobs.specs.declared.undone.Undone.{Undone}

@@ -8,7 +8,7 @@ use Rattle.search_modules.specs.Endings.{HasEveryEnding, AllCanEndSo}
 use Rattle.search_modules.specs.Races.{NeverRaces}
 use Rattle.report_command.specs.declared.search.Search.{Search}
 use Rattle.report_jobs.specs.Asked.{IsAskedBy}
-use Rattle.report_jobs.specs.Prints.{WriterChange, change}
+use Rattle.report_jobs.specs.Prints.{change}
 use Rattle.report.specs.Prints.{IsStatusOf, stops_behind}
 use Rattle.report.specs.Racing.{IsAsked, IsKnownOf, IsWhole, allows, keeps_race}
 use Rattle.report.specs.Searches.{Finds, IsRaceKept, IsSureToEnd, IsWellAt, KeepsNoneOrRace}

@@ -1,5 +1,5 @@
 -- What is said of a table of drawn runs.
-use Rattle.std.specs.Prelude.{ℕ, ◌-◌, ◌/◌, ◌==◌, leb, if◌then◌else◌, Bool, true, false, List, [], ◌++◌, length, codes}
+use Rattle.std.specs.Prelude.{ℕ, ◌-◌, ◌/◌, ◌==◌, leb, if◌then◌else◌, Bool, true, false, List, [], ◌++◌, length}
 use Rattle.std.specs.Prelude.{count_by, sum_by}
 use Rattle.std.specs.List.{flat_map, list_any}
 use Rattle.types.specs.declared.outcome.Outcome.{Outcome}

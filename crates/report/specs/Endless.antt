@@ -1,5 +1,5 @@
 -- Runs that never end, of a search through every order of entries: which are looked for, and what is known of one.
-use Rattle.std.specs.Prelude.{ℕ, ◌≡◌, ◌≢◌, ◌⊎◌, ◌||◌, Bool, false, true, List, [], Option, Some, is_some}
+use Rattle.std.specs.Prelude.{◌≡◌, ◌≢◌, ◌⊎◌, ◌||◌, Bool, false, true, [], Option, Some, is_some}
 use Rattle.search_reach.specs.declared.liveness.FairCycle.{FairCycle}
 use Rattle.search_reach.specs.declared.liveness.FairRuns.TheVariants.{GoOn}
 use Rattle.search_reach.specs.declared.liveness.Liveness.{Liveness}

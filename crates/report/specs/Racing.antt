@@ -1,5 +1,5 @@
 -- What is known of the races of all runs of a call, and what is told of one.
-use Rattle.std.specs.Prelude.{ℕ, ◌≡◌, ◌↔◌, ◌&&◌, Bool, true, false, Option, None, List, [], ◌++◌, codes, is_some}
+use Rattle.std.specs.Prelude.{ℕ, ◌≡◌, ◌↔◌, ◌&&◌, Bool, true, false, None, List, [], ◌++◌, codes, is_some}
 use Rattle.std.specs.Fmt.{decimal}
 use Rattle.std.specs.Io.KnownBytes.{Appends}
 use Rattle.types.specs.declared.parts.Parts.{Parts}
@@ -12,7 +12,6 @@ use Rattle.search_reach.specs.declared.search.Verdict.TheVariants as verdicts
 use Rattle.search_endings.specs.Endings.{Ending}
 use Rattle.search_modules.specs.Races.{CanRaceSo, NeverRaces}
 use Rattle.search_modules.specs.Liveness.{CountsOwned, SaysWhereAllFree}
-use Rattle.search_scheduled.specs.declared.running.MadeRun.{MadeRun}
 use Rattle.search_finds.specs.Finds.{IsFind}
 use Rattle.report_command.specs.declared.search.Search.{Search}
 use Rattle.report_jobs.specs.Prints.{WriterChange, KeepsRecord}

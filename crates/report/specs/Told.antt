@@ -29,8 +29,6 @@ use Rattle.report.specs.Racing.{IsRacedOf, IsWhole, KeepsRaced, SaysRaced}
 use Rattle.report.specs.declared.found.FoundRun.{FoundRun}
 use Rattle.report.specs.declared.found.KeptRun.{KeptRun}
 use Rattle.report.specs.declared.raced.KeptRace.{KeptRace}
-use Rattle.report.specs.declared.raced.Raced.{Raced}
-use Rattle.report.specs.declared.whole.WholeSearch.{WholeSearch}
 use Rattle.report.specs.SearchObjects.{WritesAll, WritesKept, WritesRacy}
 use Rattle.report.specs.Telling.{EndsNone, head_lines}
 use Rattle.report.specs.declared.telling.ToldSearch.{ToldSearch}

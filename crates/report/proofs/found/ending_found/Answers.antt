@@ -1,5 +1,3 @@
-use Rattle.std.proofs.Common.{Option, Some, None, inl, inr, refl}
-use Rattle.search_scheduled.specs.declared.running.MadeRun.{MadeRun}
 use Rattle.report.proofs.Meeting.{one_by}
 use Rattle.report.proofs.found.ending_found.Goals as goal
 

@@ -1,4 +1,4 @@
-use Rattle.std.proofs.Common.{Bool, Option, None, Some, false, true, ap, refl, sym, ◌∙◌, subst}
+use Rattle.std.proofs.Common.{Bool, Option, None, ap, refl, sym, ◌∙◌, subst}
 use Rattle.search_finds.specs.Sizes.{size_in}
 use Rattle.search_finds.specs.declared.size.Size.{Size}
 use Rattle.search_scheduled.specs.declared.running.MadeRun.{MadeRun}

@@ -15,7 +15,7 @@ returns-in_ok-write_unkept-in-Ok-clause-tells g c m raced =
     let before = contents c.args.out.now in
     let paired = contents c.write.new.out in
     let after = contents c.write_unkept.new.out in
-    let is_kept = c.in-Run.is_kept.now in
+    let is_kept = c.in-Run.is_kept in
     let pair = c.in-Ok.ensures m (subst (IsRacedIn m) c.in-Run.is raced) in
     subst (λ (x : Raced). Tells (change before after) (SaysRaced m x)) (sym c.in-Run.is) (
       pair.0 ++ unkept_text is_kept,

@@ -1,6 +1,4 @@
-use Rattle.std.proofs.Common.{◌++◌}
 use Rattle.replay_forms.proofs.Written.{appends_then}
-use Rattle.report_jobs.specs.Prints.{changed}
 use Rattle.report.specs.Found.{run_lines, shrunk_text}
 use Rattle.report.proofs.lines.write_racy.Goals as goal
 

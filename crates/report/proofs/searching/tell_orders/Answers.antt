@@ -1,6 +1,4 @@
 use Rattle.std.proofs.Common.{rules, refl}
-use Rattle.report.specs.Rest.{TellsRest}
-use Rattle.report_jobs.specs.Prints.{change}
 use Rattle.report.proofs.AllTold.{rest_told}
 use Rattle.report.proofs.Keeping.{found_can}
 use Rattle.report.proofs.searching.tell_orders.Goals as goal

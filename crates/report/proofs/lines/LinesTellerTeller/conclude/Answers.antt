@@ -1,4 +1,4 @@
-use Rattle.std.proofs.Common.{◌≡◌, refl, sym, subst}
+use Rattle.std.proofs.Common.{sym, subst}
 use Rattle.std.specs.Prelude.{IfOk}
 use Rattle.report_command.specs.declared.form.Form.TheVariants.{Lines}
 use Rattle.report_jobs.specs.Prints.{changed}

@@ -1,14 +1,12 @@
-use Rattle.std.proofs.Common.{ℕ, ◌≡◌, [], refl, sym, subst}
+use Rattle.std.proofs.Common.{ℕ, refl, sym, subst}
 use Rattle.std.specs.Io.KnownBytes.{Appends}
 use Rattle.std.specs.Prelude.{IfOk}
-use Rattle.std.proofs.KnownBytes.{Appends-nil}
 use Rattle.replay_forms.proofs.Written.{appends_then}
 use Rattle.report_jobs.specs.Prints.{changed}
 use Rattle.report_lines.specs.Drawn.{cut_line}
 use Rattle.report_lines.specs.Found.{found_run_line}
 use Rattle.report.specs.Complete.{complete_lines}
 use Rattle.report.specs.Drawn.{cut_in, table_lines}
-use Rattle.report.specs.Found.{found_line}
 use Rattle.report.specs.Racing.{Tells}
 use Rattle.report.specs.Telling.{CanSay, IsSo, Says, head_lines}
 use Rattle.report.specs.declared.telling.News.{News}
