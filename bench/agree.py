@@ -1,39 +1,49 @@
 #!/usr/bin/env python3
-"""agree.py [--modules N] [--seed S] [--runs R] [--states N] [--from I] [--program PATH]: whether races of all runs and of one
-run agree.
+"""agree.py [--modules N] [--seed S] [--from I] [--runs R] [--states N] [--program PATH] [--channels]: whether races of
+all runs and of one run agree.
 
 `search --all` says `no race` by races of neighbours, and `races` tells those of a run by what happens before what. This
-draws N modules of few threads (2,000 where it isn't said; agree_modules.py) and asks both: `search --all --races`, and
-`search --races` over R drawn runs (2,000), from each run with a race on to those behind it. It prints each disagreement,
-with the module's text and the command lines, and keeps module and record here as agree-S-I.wasm and agree-S-I.record:
+draws N modules of few threads (2,000 where it isn't said; agree_modules.py), from the I-th of seed S on, and asks both:
+`search --all --races`, and `search --races` over R drawn runs (1,000), from each run with a race on to those behind it.
+It prints each disagreement, with the module's text and the command lines, and keeps the module and the record here as
+agree-S-I.wasm and agree-S-I.record. Disagreements are:
 
 - a race in a run of a module of which no run has one, by the other. Of two kinds that is known (MEMORY_MODEL.md, "What
-  no race is worth"): *written over*, the first entry is a compare-exchange that stored, and before the second one another
-  thread stored the same bytes atomically; and *timeout*, between the two a positive timeout ended, since all slept.
-- a race without a run, or with one in which `races` doesn't tell it.
+  no race is worth"). *Written over*: the first entry is a compare-exchange that stored, before the second one another
+  thread stored the same bytes atomically, and the second one only reads. *Timeout*: between the two a positive timeout
+  ended, since all slept;
+- a race without a run, or with one of which `races` doesn't tell it;
+- what an enumeration of all runs (agree_runs.py), which shares no code with the program, says otherwise: whether two
+  threads meet in a race, whether some run has one, or that no run has one of the kind that a drawn run has.
 
 A module with more states than --states (30,000) is left out where nothing is known of its races. The last lines are
 counts: of modules by what both say, of disagreements by kind, of states and runs; of those without a race how many have
-a run in which two threads touch a byte, not both atomically, one writing, in an order that something gives; and how many
-have no ending that the drawn runs didn't meet. The status is 1 where a disagreement is of no known kind.
+a run in which two threads touch a byte, not both atomically, one writing, in an order that something gives; and of how
+many the drawn runs met each ending. The status is 1 where a disagreement is of no known kind. With --channels it asks
+the same of modules made by hand (agree_channels.py), and prints what both say.
 """
 import argparse
 import collections
 import json
 import os
+import shutil
 import subprocess
 import sys
 import tempfile
 
 import agree_channels
 import agree_modules
+import agree_runs
 
 TOP = os.path.dirname(os.path.dirname(os.path.abspath(__file__)))
 BUILT = os.environ.get("PROGRAM", os.path.join(TOP, "crates", "wathread", "out", "wathread.by-rattle"))
 KNOWN = ["written over", "timeout"]
 
 # At most so many runs with a race are looked at, of a module of which no run has one by the other.
-MOST_FOUND = 30
+MOST_FOUND = 12
+
+# So many states of a module are enumerated, which takes a second.
+MOST_ENUMERATED = 3000
 
 # The entries of a run: so many at most, since a thread may go round for ever.
 LIMIT = "1000"
@@ -50,12 +60,12 @@ def answer(words):
 class Module:
     """A drawn module, in a folder, and the words that ask of it."""
 
-    def __init__(self, options, folder, name, kind, bytes, text):
-        self.name, self.kind, self.bytes, self.text = name, kind, bytes, text
+    def __init__(self, options, folder, name, kind, bodies, most):
+        self.name, self.kind, self.bodies, self.most = name, kind, bodies, most
         self.file, self.record = f"{folder}/{name}.wasm", f"{folder}/{name}.record"
         self.options, self.said = options, []
         with open(self.file, "wb") as file:
-            file.write(self.bytes)
+            file.write(agree_modules.bytes_of(bodies, most))
 
     def ask(self, command, *words):
         return answer([self.options.program, command, self.file, *words])
@@ -104,19 +114,24 @@ def timeouts_in(entries):
     return ended
 
 
+def has_stored(words, reply):
+    return words[0] in ("store", "rmw") or words[0] == "cmpxchg" and reply == words[3]
+
+
 def is_written_over(entries, rows, first, second):
     thread, words, reply = entries[first]
-    if words[0] != "cmpxchg" or reply != words[3]:
+    if words[0] != "cmpxchg" or not has_stored(words, reply) or has_stored(*entries[second][1:]):
         return False
-    return any(first < line < second and other != thread and stored[0] == "store" and stored[1:3] == words[1:3]
-               and rows[line]["words"].startswith("atomic store") for line, (other, stored, _) in entries.items())
+    between = ((line, *entry) for line, entry in entries.items() if first < line < second and entry[0] != thread)
+    return any(stored[0] == "store" and stored[1:3] == words[1:3] and rows[line]["words"].startswith("atomic store")
+               for line, _, stored, _ in between)
 
 
 def kinds_of(module):
     """Of each race of the kept run, in which no race should be, the kind."""
     entries, rows = entries_of(module.record), module.rows()
     for pair in module.pairs():
-        first, second = pair["first"]["line"], pair["second"]["line"]
+        first, second = lines_of(pair)
         if any(first < line < second for line in timeouts_in(entries)):
             yield "timeout"
         elif is_written_over(entries, rows, first, second):
@@ -125,36 +140,11 @@ def kinds_of(module):
             yield "race in a run"
 
 
-def touched(row):
-    """Of a row the first byte, the width, whether it writes and whether it is atomic; None where it touches no bytes."""
-    words = row["words"].split(" ")
-    atomic = words[0] == "atomic"
-    words = words[atomic:]
-    for name, writes in [("load", False), ("store", True)]:
-        if words[0].startswith(name) and "out of bounds" not in row["words"]:
-            return (int(words[1]), int(words[0][len(name):]) // 8, writes, atomic)
-    return None
-
-
-def has_ordered(rows):
-    """Whether two threads touch a byte, one writing, not both atomically."""
-    touches = [(row["thread"], *access) for row in rows.values() if (access := touched(row))]
-    return any(a[0] != b[0] and a[1] < b[1] + b[2] and b[1] < a[1] + a[2] and (a[3] or b[3]) and not (a[4] and b[4])
-               for a in touches for b in touches)
-
-
-def is_worth_it(module):
-    """Whether one of twelve drawn runs has such a pair: none races with another, so something orders it."""
-    for number in range(1, 13):
-        if os.path.exists(module.record):
-            os.remove(module.record)
-        module.search("--from", str(number), "--runs", "1", "--seed", "1", "--expect", "i32:123456789", "--record", module.record)
-        if has_ordered(module.rows()):
-            return True
-    return False
-
-
 # What both say.
+
+
+def lines_of(pair):
+    return pair["first"]["line"], pair["second"]["line"]
 
 
 def ask_all(module, counts):
@@ -166,49 +156,61 @@ def ask_all(module, counts):
     told = said["race"]
     if "first" not in told:
         report(module, counts, "race without a run")
-    elif (told["first"]["line"], told["second"]["line"]) not in {(p["first"]["line"], p["second"]["line"]) for p in module.pairs()}:
+    elif lines_of(told) not in [lines_of(pair) for pair in module.pairs()]:
         report(module, counts, "race that its run hasn't")
     return said
 
 
+def enumerate_runs(module, counts):
+    """What all runs come to by an enumeration, or None where they are too many."""
+    runs = agree_runs.Runs(module.bodies, module.most, MOST_ENUMERATED)
+    try:
+        runs.go()
+    except agree_runs.TooMany:
+        counts["not enumerated"] += 1
+        return None
+    counts["states, enumerated"] += runs.states
+    return runs
+
+
 def look_on(module, counts):
-    """Goes through the drawn runs of a module of which no run has a race; how many endings they have that --all hasn't."""
-    first, kinds, met = 1, collections.Counter(), 0
+    """Goes through the drawn runs of a module of which no run has a race: the kinds of races that they have all the
+    same, and how many endings the last of them had."""
+    first, kinds, met = 1, set(), 0
     for _ in range(MOST_FOUND):
         said = module.in_drawn_runs(first, module.options.runs + 1 - first)
         counts["runs"] += said["runs"]["made"]
-        met = max(met, len(said["endings"]))
+        met = len(said["endings"])
         if said["races"] != "found":
             break
-        kinds.update(set(kinds_of(module)))
+        kinds |= set(kinds_of(module))
         if "race in a run" in kinds:
             report(module, counts, "race in a run")
-            return None
+            break
         first = said["found"]["run"] + 1
         if first > module.options.runs:
             break
-    for kind in kinds:
-        counts[f"known: {kind}"] += 1
-    return "known" if kinds else met
+    return kinds, met
 
 
 def report(module, counts, kind):
     counts[f"FOUND: {kind}"] += 1
-    kept = os.path.basename(module.name)
-    for path in [module.file, module.record]:
-        if os.path.exists(path):
-            with open(path, "rb") as read, open(f"{kept}.{path.rsplit('.', 1)[1]}", "wb") as write:
-                write.write(read.read())
-    program = module.options.program
-    print(f"\n{module.name} ({module.kind}): {kind}", module.text, f"{program} search {kept}.wasm --invoke f --all",
-          f"{program} search {kept}.wasm --invoke f --races --runs {module.options.runs} --limit {LIMIT}",
-          f"{program} races {kept}.wasm {kept}.record", sep="\n", flush=True)
+    print(f"\n{module.name} ({module.kind}): {kind}")
+    print(agree_modules.wat_of(module.bodies, module.most))
+    program, kept = module.options.program, module.name
+    shutil.copy(module.file, f"{kept}.wasm")
+    print(f"{program} search {kept}.wasm --invoke f --all")
+    print(f"{program} search {kept}.wasm --invoke f --races --runs {module.options.runs} --limit {LIMIT}", flush=True)
     if os.path.exists(module.record):
-        print(subprocess.run([program, "races", module.file, module.record], capture_output=True, text=True).stdout)
+        shutil.copy(module.record, f"{kept}.record")
+        print(f"{program} races {kept}.wasm {kept}.record", flush=True)
+        subprocess.run([program, "races", module.file, module.record])
 
 
 def judge(module, counts):
-    said = ask_all(module, counts)
+    said, own = ask_all(module, counts), enumerate_runs(module, counts)
+    if said["races"] != "unknown" and own and own.meet != (said["races"] == "found"):
+        report(module, counts, f"races of all runs: {said['races']}, enumerated {own.meet}")
     if said["races"] == "unknown":
         counts["left out"] += 1
     elif said["races"] == "found":
@@ -216,17 +218,24 @@ def judge(module, counts):
         counts["runs"] += drawn["runs"]["made"]
         counts["race by both" if drawn["races"] == "found" else "race by --all and its run, and none drawn"] += 1
     else:
-        judge_free(module, counts, len(said["endings"]))
+        judge_free(module, counts, len(said["endings"]), own)
 
 
-def judge_free(module, counts, endings):
-    met = look_on(module, counts)
-    if met in (None, "known"):
+def judge_free(module, counts, endings, own):
+    kinds, met = look_on(module, counts)
+    if own and "race" in own.kinds:
+        report(module, counts, "race in a run that was enumerated")
+    if own and kinds - {"race in a run"} - own.kinds:
+        report(module, counts, f"{kinds} in drawn runs, and not enumerated")
+    for kind in kinds & set(KNOWN):
+        counts[f"known: {kind}"] += 1
+    if kinds:
         return
     counts["none by both"] += 1
     counts[f"none by both, {module.kind}"] += 1
+    counts["none drawn, and a known one enumerated"] += bool(own and own.kinds)
     counts["each ending drawn"] += met == endings
-    counts["ordered by something"] += is_worth_it(module)
+    counts["none by both, though two threads touch a byte"] += bool(own and own.ordered)
 
 
 def told(race):
@@ -239,18 +248,18 @@ def try_channels(options):
     with tempfile.TemporaryDirectory() as folder:
         for name, expected, *bodies in agree_channels.CHANNELS:
             bodies = agree_channels.bodies_of(bodies[0], bodies[1:])
-            module = Module(options, folder, "channel", name, agree_modules.bytes_of(bodies, 3), agree_modules.wat_of(bodies, 3))
+            module = Module(options, folder, "channel", name, bodies, 3)
             said = (told(module.in_all_runs().get("race")), told(module.in_drawn_runs(1, options.runs).get("race")))
             print(f"{'' if said == expected else 'OTHER '}{name}: --all {said[0]}, drawn runs {said[1]}", flush=True)
             if said != expected:
                 wrong += 1
-                print(module.text)
+                print(agree_modules.wat_of(bodies, 3))
     return int(wrong > 0)
 
 
 def main():
     words = argparse.ArgumentParser(description=__doc__, formatter_class=argparse.RawDescriptionHelpFormatter)
-    for name, default in [("--modules", 2000), ("--seed", 1), ("--runs", 2000), ("--states", 30000), ("--from", 0)]:
+    for name, default in [("--modules", 2000), ("--seed", 1), ("--runs", 1000), ("--states", 30000), ("--from", 0)]:
         words.add_argument(name, type=int, default=default, dest=name.strip("-") + "_" * (name == "--from"))
     words.add_argument("--program", default=BUILT)
     words.add_argument("--channels", action="store_true")

@@ -1,6 +1,6 @@
-"""Modules made by hand for agree.py: each channel by which a thread may learn that another one has made something, with and
-without the order that it gives. `CHANNELS` has of each what it is, the bodies, and what `search --all` and `search
---races` are to say of races: `-` for none, `race`, `mixed`.
+"""Modules made by hand for agree.py: each way in which a thread may learn that another one has made something, with the
+order that it gives and without. `CHANNELS` has of each what it is; what `search --all` and `search --races` are to say,
+`-` for no race, `race` or `mixed`; and the operations of the threads.
 
 Mostly thread 1 stores into the word D and hands something on, and thread 0 loads D where it has seen that.
 """
@@ -10,8 +10,9 @@ D, F, G, LIST = 8, 16, 20, 48
 store, load = Op("store", D, 4, False), Op("load", D, 4, False)
 set_flag, set_other = Op("store", F), Op("store", G)
 grow, size = Op("grow"), Op("size", test=2, then=(load,))
-asleep, notify = Op("wait", LIST), Op("notify", LIST)
-NONE, RACE, MIXED = ("-", "-"), ("race", "race"), ("mixed", "mixed")
+asleep, notify, notify_two = Op("wait", LIST), Op("notify", LIST), Op("notify", LIST, value=2)
+for_5 = asleep._replace(timeout=5)
+NONE, RACE, MIXED, KNOWN = ("-", "-"), ("race", "race"), ("mixed", "mixed"), ("-", "race")
 
 
 def where(op, test, *then):
@@ -30,17 +31,18 @@ def spawn(threads):
     return Op("spawn", value=threads)
 
 
-far = at("load", PAGE, atomic=True)
+both, far = at("load", D, 8), at("load", PAGE, atomic=True)
 over_pages, over_words = at("load", PAGE - 4, 8), at("store", 4, 8)
 first_asleep, second_asleep = [at("store", D, 4), asleep], [at("store", D + 4, 4), asleep]
-exchange, over = at("cas", F, atomic=True), at("store", F, atomic=True, value=2)
+exchange, other_exchange = Op("cas", F), Op("cas", F, expected=7)
+over, let = Op("store", F, value=2), Op("store", F, value=0)
 
-# The name, what is said, thread 0 behind its spawns, and the others. A thread more of no operations is there to be spawned.
+# The name, what is said, thread 0 behind its spawns, and the others.
 CHANNELS = [
     ("a word: plain flag", RACE, [where(at("load", F), 1, load)], [store, at("store", F)]),
     ("a word: atomic flag", NONE, [seen(load)], [store, set_flag]),
     ("a word: flag before the data", RACE, [seen(load)], [set_flag, store]),
-    ("a word: two flags, handed on by a third thread", NONE, [seen(load, flag=G)], [store, set_flag], [seen(set_other)]),
+    ("a word: two flags, of two threads", NONE, [seen(load, flag=G)], [store, set_flag], [seen(set_other)]),
     ("a word: flag stored by a third thread, which saw nothing", RACE, [seen(load)], [store, set_flag], [set_flag]),
     ("size: growth behind the data", NONE, [size], [store, grow]),
     ("size: growth before the data", RACE, [size], [grow, store]),
@@ -64,38 +66,37 @@ CHANNELS = [
     ("notify: it counted a sleeper behind the data", NONE, [where(notify, 1, load)], [store, asleep]),
     ("notify: it counted a sleeper before the data", RACE, [where(notify, 1, load)], [asleep, store]),
     ("notify: it counted none", RACE, [where(notify, 0, load)], [store, asleep]),
-    ("notify: two were counted", NONE, [where(notify._replace(value=2), 2, at("load", D, 8))], first_asleep, second_asleep),
-    ("notify: one of two was counted", RACE, [where(notify._replace(value=2), 1, at("load", D, 8))], first_asleep, second_asleep),
+    ("notify: two were counted", NONE, [where(notify_two, 2, both)], first_asleep, second_asleep),
+    ("notify: one of two was counted", RACE, [where(notify_two, 1, both)], first_asleep, second_asleep),
     ("wait: woken behind the data", NONE, [where(asleep, 0, load)], [store, notify]),
     ("wait: woken before the data", RACE, [where(asleep, 0, load)], [notify, store]),
     ("wait: found another value", NONE, [where(Op("wait", F), 1, load)], [store, set_flag]),
-    ("wait: found the value, with no time", NONE, [where(Op("wait", F, expected=1, timeout=0), 2, load)], [store, set_flag]),
+    ("wait: found the value, with no time", NONE, [where(Op("wait", F, expected=1, timeout=0), 2, load)],
+     [store, set_flag]),
     ("wait: no time, and no value that was stored", RACE, [where(asleep._replace(timeout=0), 2, load)], [store]),
-    ("timeout: as a sleep until the other has ended", ("-", "race"), [where(asleep._replace(timeout=5), 2, load)], [store]),
-    ("timeout: the longer of two", ("-", "race"), [where(asleep._replace(timeout=9), 2, load)],
-     [where(asleep._replace(timeout=5), 2, store)]),
-    ("timeout: then an atomic flag", NONE, [asleep._replace(timeout=5), seen(load)], [store, set_flag]),
+    ("timeout: as a sleep until the other has ended", KNOWN, [where(for_5, 2, load)], [store]),
+    ("timeout: the longer of two", KNOWN, [where(asleep._replace(timeout=9), 2, load)], [where(for_5, 2, store)]),
+    ("timeout: then an atomic flag", NONE, [for_5, seen(load)], [store, set_flag]),
     ("narrow: neighbours, plain", NONE, [at("store", 9, 1)], [at("store", 8, 1), at("store", 10, 2)]),
     ("narrow: a byte in common, plain", RACE, [at("store", 9, 1)], [at("store", 8, 2)]),
     ("narrow: neighbours, atomic", NONE, [at("store", 9, 1, True)], [at("store", 8, 1, True)]),
     ("mixed: a byte of a half word, atomic", MIXED, [at("store", 9, 1, True)], [at("store", 8, 2, True)]),
-    ("mixed: word and eight bytes, atomic", MIXED, [at("load", 24, 8, True)], [at("add", 24, 4, True)]),
-    ("mixed: the same behind an atomic flag", NONE, [seen(at("load", 24, 8, True))], [at("add", 24, 4, True), set_flag]),
-    ("mixed: an atomic flag that is read more widely", MIXED, [where(at("load", F, 8, True), 1, load)], [store, set_flag]),
+    ("mixed: word and eight bytes, atomic", MIXED, [at("load", 24, 8, True)], [Op("add", 24)]),
+    ("mixed: the same behind an atomic flag", NONE, [seen(at("load", 24, 8, True))], [Op("add", 24), set_flag]),
+    ("mixed: a flag that is read more widely", MIXED, [where(at("load", F, 8, True), 1, load)], [store, set_flag]),
     ("two words: its second part", RACE, [load], [over_words]),
     ("two words: behind it", NONE, [at("load", 12)], [over_words]),
     ("two words: its second part behind an atomic flag", NONE, [seen(load)], [over_words, set_flag]),
     ("two words: flag before it", RACE, [seen(load)], [set_flag, over_words]),
-    ("exchange: one that fails, beside a plain load", NONE, [at("load", F)], [at("cas", F, atomic=True, expected=7)]),
+    ("exchange: one that fails, beside a plain load", NONE, [at("load", F)], [other_exchange]),
     ("exchange: one that stores, beside a plain load", RACE, [at("load", F)], [exchange]),
     ("exchange: one that stores, behind the data", NONE, [seen(load)], [store, exchange]),
-    ("exchange: one that fails, behind the data", RACE, [where(at("cas", F, atomic=True, value=2), 2, load)],
-     [store, at("cas", F, atomic=True, expected=3)], [over]),
-    ("exchange: a lock", NONE, [where(exchange, 0, store, at("store", F, atomic=True, value=0))],
-     [where(exchange, 0, load, at("store", F, atomic=True, value=0))]),
-    ("exchange: written over", ("-", "race"), [seen(at("load", F), flag=G)], [exchange], [over, set_other]),
+    ("exchange: one that fails, behind the data", RACE, [where(Op("load", F), 2, load)],
+     [store, other_exchange], [over]),
+    ("exchange: a lock", NONE, [where(exchange, 0, store, let)], [where(exchange, 0, load, let)]),
+    ("exchange: written over", KNOWN, [seen(at("load", F), flag=G)], [exchange], [over, set_other]),
     ("exchange: written over by an exchange", NONE, [seen(at("load", F), flag=G)], [exchange],
-     [at("xchg", F, atomic=True, value=2), set_other]),
+     [Op("xchg", F, value=2), set_other]),
     ("exchange: written over where it was seen", NONE, [seen(at("load", F), flag=G)], [exchange],
      [seen(over, set_other)]),
 ]

@@ -1,9 +1,10 @@
-"""Drawn modules of two to four threads for agree.py, as bytes and as text: `draw_module(SEED)`.
+"""Drawn modules of two to four threads for agree.py, and what makes bytes and text of them.
 
-Thread 0 is the export `f`, and spawns the others, the exports b1, b2 and so on. Each makes one to some eight operations
-on few addresses, mostly below an `if` on what an earlier one gave. Three of four modules are made of a pattern: data are
-touched by one thread, something is handed on, and another thread touches them where it has seen that. What is handed on
-is a word, the number of pages, a list of waiters, or the count of threads. Then some of the patterns are spoiled.
+Thread 0 is the export `f`, and spawns the others, the exports b1, b2 and so on. Each makes one to some eight
+operations on few addresses, mostly below an `if` on what an earlier one gave. Three of four modules are made of a
+pattern: data are touched by one thread, something is handed on, and another thread touches them where it has seen that.
+What is handed on is a word, the number of pages, a list of waiters, or the count of threads. Some of the patterns are
+spoiled then.
 """
 import collections
 import random
@@ -12,17 +13,20 @@ from endings import leb_of, signed_leb
 
 PAGE = 65536
 
-# `kind` is load, store, add, xchg, cas, size, grow, wait, notify, spawn or fence. What it gives is put into the thread's
-# one local, r; where `test` isn't None, `then` is made if that is `test`, else `other`; with `spin` it is made until so.
-# `value` is what is stored or added, or the count; the letter r stands for the local.
-Op = collections.namedtuple("Op", "kind addr width atomic value expected timeout test then other spin",
-                            defaults=(0, 4, True, 1, 0, -1, None, (), (), False))
+# `kind` is load, store, add, xchg, cas, size, grow, wait, notify, spawn or fence. What it gives is put into the one
+# local of the thread, r; where `test` isn't None, `then` is made if that is `test`, else `other`; with `spin` the
+# operation is made until it is. `value` is what is stored or added, or the count; the letter r stands for the local.
+Op = collections.namedtuple("Op", "kind addr width atomic value expected timeout test then other spin", defaults=
+    (0, 4, True, 1, 0, -1, None, (), (), False))
 
 PLAIN = {"load": {1: 0x2D, 2: 0x2F, 4: 0x28, 8: 0x29}, "store": {1: 0x3A, 2: 0x3B, 4: 0x36, 8: 0x37}}
 ATOMIC = {"load": 0x10, "store": 0x17, "add": 0x1E, "xchg": 0x41, "cas": 0x48}
 PLACE = {4: 0, 8: 1, 1: 2, 2: 3}
-MEMORY = {"size": ("memory.size", b"\x3f\0"), "grow": ("memory.grow", b"\x40\0"), "fence": ("atomic.fence", b"\xfe\3\0"),
-          "spawn": ("call $spawn", b"\x10\0"), "notify": ("memory.atomic.notify", b"\xfe\0\2\0")}
+MEMORY = {"size": ("memory.size", b"\x3f\0"), "grow": ("memory.grow", b"\x40\0"), "spawn": ("call $spawn", b"\x10\0"),
+          "fence": ("atomic.fence", b"\xfe\3\0"), "notify": ("memory.atomic.notify", b"\xfe\0\2\0")}
+EQUAL, UNEQUAL = [("i32.eq", b"\x46")], [("i32.ne", b"\x47")]
+IF, ELSE, END = ("if", b"\x04\x40"), ("else", b"\x05"), ("end", b"\x0b")
+LOOP, AGAIN = ("loop", b"\x03\x40"), ("br_if 0", b"\x0d\0")
 
 
 # Instructions: each a text and its bytes. Code is a list of lines, each of some instructions.
@@ -75,23 +79,19 @@ def question(op, local):
 def code_of(ops, local):
     lines = []
     for op in ops:
-        asked, is_k = question(op, local), [const(op.test or 0), ("i32.eq", b"\x46")]
+        asked, k = question(op, local), [const(op.test or 0)]
         kept = [(f"local.tee {local}", b"\x22" + leb_of(local))]
         if op.kind in ("store", "fence"):
             lines += [asked]
         elif op.test is None:
             lines += [asked + [(f"local.set {local}", b"\x21" + leb_of(local))]]
         elif op.spin:
-            lines += [[("loop", b"\x03\x40")], asked + kept + is_k + [("i32.eqz", b"\x45"), ("br_if 0", b"\x0d\0")], [END]]
-            lines += code_of(op.then, local)
+            lines += [[LOOP], asked + kept + k + UNEQUAL + [AGAIN], [END]] + code_of(op.then, local)
         else:
-            lines += [asked + kept + is_k + [("if", b"\x04\x40")]] + code_of(op.then, local)
-            lines += [[("else", b"\x05")]] + code_of(op.other, local) if op.other else []
+            lines += [asked + kept + k + EQUAL + [IF]] + code_of(op.then, local)
+            lines += [[ELSE]] + code_of(op.other, local) if op.other else []
             lines += [[END]]
     return lines
-
-
-END = ("end", b"\x0b")
 
 
 def text_of(lines):
@@ -118,7 +118,7 @@ def start_of(bodies):
     """`wasi_thread_start`: the body whose number the argument is."""
     lines = []
     for number in range(1, len(bodies)):
-        lines += [[("local.get 1", b"\x20\1"), const(number), ("i32.eq", b"\x46"), ("if", b"\x04\x40"),
+        lines += [[("local.get 1", b"\x20\1"), const(number), *EQUAL, IF,
                    (f"call $b{number}", b"\x10" + leb_of(number + 1)), ("drop", b"\x1a"), END]]
     return lines
 
@@ -145,7 +145,8 @@ def bytes_of(bodies, most):
 
 
 def wat_of(bodies, most):
-    out = ["(module", '  (import "wasi" "thread-spawn" (func $spawn (param i32) (result i32)))', f"  (memory 1 {most} shared)"]
+    spawn = '(import "wasi" "thread-spawn" (func $spawn (param i32) (result i32)))'
+    out = ["(module", f"  {spawn}", f"  (memory 1 {most} shared)"]
     for number, ops in enumerate(bodies):
         out.append(f'  (func $b{number} (export "{f"b{number}" if number else "f"}") (result i32) (local i32)')
         out.append(text_of(code_of(ops, 0) + [[("local.get 0", b"")]]) + ")")
@@ -158,8 +159,9 @@ def wat_of(bodies, most):
 
 def widened(draw, base):
     """Some bytes at or beside a word: itself mostly, or a part, or its aligned eight bytes, or eight over two words."""
-    return draw.choice([(base, 4)] * 6 + [(base, 1), (base + 1, 1), (base + 3, 1), (base + 2, 2), (base, 2), (base & ~7, 8),
-                                          (base | 4, 8), (base + 1, 4), (base + 2, 4), (base + 4, 4)])
+    parts = [(base, 1), (base + 1, 1), (base + 3, 1), (base + 2, 2), (base, 2)]
+    wide = [(base & ~7, 8), (base | 4, 8), (base + 1, 4), (base + 2, 4), (base + 4, 4)]
+    return draw.choice([(base, 4)] * 6 + parts + wide)
 
 
 def data_op(draw, base, writes=None):
@@ -191,8 +193,8 @@ def by_word(draw):
 
 
 def by_pages(draw):
-    seen = draw.choice([Op("size", test=2)] * 2 + [Op("grow", value=0, test=2), Op("grow", value=1, test=2), Op("size", spin=True, test=2)])
-    return [Op("grow", value=1)], seen
+    seen = [Op("size", test=2), Op("size", test=2), Op("size", test=2, spin=True)]
+    return [Op("grow", value=1)], draw.choice(seen + [Op("grow", value=0, test=2), Op("grow", value=1, test=2)])
 
 
 def by_bounds(draw):
@@ -210,7 +212,7 @@ def by_notify(draw):
     """A notify that counted a sleeper; or the sleeper, which was woken."""
     addr, width = draw.choice([(48, 4), (48, 4), (56, 8)])
     asleep = Op("wait", addr, width, timeout=draw.choice([-1, -1, 7]))
-    notified = Op("notify", addr, value=draw.choice([1, 1, 2]))
+    notified = Op("notify", addr, value=draw.choice([1, 1, 2, -1]))
     if draw.random() < 0.5:
         return [asleep], notified._replace(test=1)
     return [notified], asleep._replace(test=0)
@@ -281,24 +283,28 @@ def last_one(draw, threads, idle):
 def written_over(draw, threads, idle):
     """A compare-exchange, a store of another thread behind it, and a third that has seen that one alone."""
     at, g = {"addr": 16, "width": 4}, 20
-    looked = draw.choice([Op("load", 16, 4, False), Op("load", 16, 1, False), Op("store", 16, 4, False), Op("load", 16, 8, True)])
+    looks = [("load", 16, 4, False), ("load", 16, 1, False), ("store", 16, 4, False), ("load", 16, 8, True)]
+    looked = Op(*draw.choice(looks))
     then = (data_op(draw, 8, True),) if draw.random() < 0.3 else ()
-    bodies = [[Op("load", g, test=1, then=(looked,))], [Op("cas", value=1, test=0, then=then, **at)],
-              [draw.choice([Op("store", value=2, **at)] * 3 + [Op("xchg", value=2, **at)]), Op("store", g, value=1)]]
-    return bodies
+    over = draw.choice([Op("store", value=2, **at)] * 3 + [Op("xchg", value=2, **at)])
+    exchange = Op("cas", value=1, test=0, then=then, **at)
+    return [[Op("load", g, test=1, then=(looked,))], [exchange], [over, Op("store", g)]]
+
+
+ANY = ["load"] * 5 + ["store"] * 5 + ["add", "xchg", "cas", "cas", "size", "grow", "wait", "notify", "spawn", "fence"]
+WORDS = [(16, 4)] * 4 + [(20, 4)] * 3 + [(16, 8), (16, 1), (18, 2), (24, 8), (PAGE - 4, 4), (PAGE, 4), (48, 4)]
+LISTS = [(48, 4), (48, 4), (56, 8), (16, 4), (PAGE, 4)]
 
 
 def noise_op(draw, idle, depth=1):
     """Any operation, at few addresses."""
-    kind = draw.choice(["load"] * 5 + ["store"] * 5 + ["add", "xchg", "cas", "cas", "size", "grow", "wait", "notify", "spawn",
-                                                       "fence"])
+    kind = draw.choice(ANY)
     atomic = kind not in ("load", "store") or draw.random() < 0.6
-    addr, width = draw.choice([(16, 4)] * 4 + [(20, 4)] * 3 + [(16, 8), (16, 1), (18, 2), (24, 8), (PAGE - 4, 4), (PAGE, 4), (48, 4)])
+    addr, width = draw.choice(LISTS if kind in ("wait", "notify") else WORDS)
     if not atomic:
         addr, width = draw.choice([(addr, width), widened(draw, 8), (PAGE - 4, 8), (PAGE, 4), (20, 8)])
-    if kind in ("wait", "notify"):
-        addr, width = draw.choice([(48, 4), (48, 4), (56, 8), (16, 4), (PAGE, 4)])
-    value = idle if kind == "spawn" else draw.choice([0, 1, 1, 2, "r"]) if kind in ("store", "xchg", "cas") else draw.choice([0, 1, 1])
+    values = [0, 1, 1, 2, "r"] if kind in ("store", "xchg", "cas") else [0, 1, 1]
+    value = idle if kind == "spawn" else draw.choice(values)
     op = Op(kind, addr, width, atomic, value, draw.choice([0, 0, 1]), draw.choice([-1, -1, 0, 5, 9]))
     if depth and kind not in ("store", "fence") and draw.random() < 0.5:
         then = tuple(noise_op(draw, idle, depth - 1) for _ in range(draw.choice([1, 1, 2])))
@@ -369,7 +375,7 @@ PATTERNS = [(chain, 46), (lock, 10), (begun, 8), (last_one, 6), (written_over, 5
 
 
 def draw_module(seed):
-    """A name of how it was drawn, the bytes and the text."""
+    """The pattern's name, the bodies, and how many pages the memory may have."""
     draw = random.Random(seed)
     pattern = draw.choices([pattern for pattern, _ in PATTERNS], [weight for _, weight in PATTERNS])[0]
     threads = 3 if pattern is written_over else draw.choice([2, 2, 3, 3, 4] if pattern is begun else [2, 2, 3])
@@ -382,5 +388,4 @@ def draw_module(seed):
         place = 1 if bodies[0] and draw.random() < 0.1 else 0
         bodies[0] = bodies[0][:place] + spawns(threads) + bodies[0][place:]
     bodies.append([data_op(draw, 8)] if draw.random() < 0.2 else [])
-    most = draw.choice([2, 3, 3])
-    return pattern.__name__, bytes_of(bodies, most), wat_of(bodies, most)
+    return pattern.__name__, bodies, draw.choice([2, 3, 3])
