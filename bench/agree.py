@@ -233,7 +233,7 @@ def judge_free(module, counts, endings, own):
         return
     counts["none by both"] += 1
     counts[f"none by both, {module.kind}"] += 1
-    counts["none drawn, and a known one enumerated"] += bool(own and own.kinds)
+    counts["none drawn, and a known one enumerated"] += bool(own and own.kinds and "race" not in own.kinds)
     counts["each ending drawn"] += met == endings
     counts["none by both, though two threads touch a byte"] += bool(own and own.ordered)
 
