@@ -1,6 +1,6 @@
 #!/usr/bin/env python3
-"""agree.py [--modules N] [--seed S] [--from I] [--runs R] [--states N] [--program PATH] [--channels]: whether races of
-all runs and of one run agree.
+"""agree.py [--modules N] [--seed S] [--from I] [--runs R] [--states N] [--program PATH] [--channels|--alone]: whether
+races of all runs and of one run agree.
 
 `search --all` says `no race` by races of neighbours, and `races` tells those of a run by what happens before what. This
 draws N modules of few threads (2,000 where it isn't said; agree_modules.py), from the I-th of seed S on, and asks both:
@@ -20,7 +20,8 @@ A module with more states than --states (30,000) is left out where nothing is kn
 counts: of modules by what both say, of disagreements by kind, of states and runs; of those without a race how many have
 a run in which two threads touch a byte, not both atomically, one writing, in an order that something gives; and of how
 many the drawn runs met each ending. The status is 1 where a disagreement is of no known kind. With --channels it asks
-the same of modules made by hand (agree_channels.py), and prints what both say.
+the same of modules made by hand (agree_channels.py), and prints what both say. With --alone it asks the enumeration
+alone, which has both definitions, and needs no program.
 """
 import argparse
 import collections
@@ -161,9 +162,9 @@ def ask_all(module, counts):
     return said
 
 
-def enumerate_runs(module, counts):
+def enumerate_runs(bodies, most, counts):
     """What all runs come to by an enumeration, or None where they are too many."""
-    runs = agree_runs.Runs(module.bodies, module.most, MOST_ENUMERATED)
+    runs = agree_runs.Runs(bodies, most, MOST_ENUMERATED)
     try:
         runs.go()
     except agree_runs.TooMany:
@@ -208,7 +209,7 @@ def report(module, counts, kind):
 
 
 def judge(module, counts):
-    said, own = ask_all(module, counts), enumerate_runs(module, counts)
+    said, own = ask_all(module, counts), enumerate_runs(module.bodies, module.most, counts)
     if said["races"] != "unknown" and own and own.meet != (said["races"] == "found"):
         report(module, counts, f"races of all runs: {said['races']}, enumerated {own.meet}")
     if said["races"] == "unknown":
@@ -257,24 +258,46 @@ def try_channels(options):
     return int(wrong > 0)
 
 
+def enumerate_alone(drawn, counts):
+    kind, bodies, most = drawn
+    own = enumerate_runs(bodies, most, counts)
+    if own is None:
+        return
+    if own.meet != ("race" in own.kinds):
+        counts["FOUND: race by one definition"] += 1
+        print(f"{kind}: threads meet: {own.meet}, races: {own.kinds}", agree_modules.wat_of(bodies, most), sep="\n")
+    elif own.meet:
+        counts["race by both"] += 1
+    else:
+        counts["none by both" if not own.kinds else f"known: {' and '.join(sorted(own.kinds))}"] += 1
+        counts["none by both, though two threads touch a byte"] += own.ordered and not own.kinds
+
+
+def judge_drawn(options, counts, folder, number):
+    drawn = agree_modules.draw_module(f"{options.seed} {number}")
+    counts[f"drawn, {drawn[0]}"] += 1
+    if options.alone:
+        return enumerate_alone(drawn, counts)
+    module = Module(options, folder, f"agree-{options.seed}-{number}", *drawn)
+    judge(module, counts)
+    for path in [module.file, module.record]:
+        if os.path.exists(path):
+            os.remove(path)
+
+
 def main():
     words = argparse.ArgumentParser(description=__doc__, formatter_class=argparse.RawDescriptionHelpFormatter)
     for name, default in [("--modules", 2000), ("--seed", 1), ("--runs", 1000), ("--states", 30000), ("--from", 0)]:
         words.add_argument(name, type=int, default=default, dest=name.strip("-") + "_" * (name == "--from"))
     words.add_argument("--program", default=BUILT)
     words.add_argument("--channels", action="store_true")
+    words.add_argument("--alone", action="store_true")
     options, counts = words.parse_args(), collections.Counter()
     if options.channels:
         return try_channels(options)
     with tempfile.TemporaryDirectory() as folder:
         for number in range(options.from_, options.from_ + options.modules):
-            drawn = agree_modules.draw_module(f"{options.seed} {number}")
-            module = Module(options, folder, f"agree-{options.seed}-{number}", *drawn)
-            counts[f"drawn, {module.kind}"] += 1
-            judge(module, counts)
-            for path in [module.file, module.record]:
-                if os.path.exists(path):
-                    os.remove(path)
+            judge_drawn(options, counts, folder, number)
     print(f"{options.modules} modules from {options.from_} on, seed {options.seed}")
     print(*(f"  {counts[name]:,} {name}" for name in sorted(counts)), sep="\n")
     return int(any(name.startswith("FOUND") for name in counts))

@@ -6,13 +6,14 @@ Mostly thread 1 stores into the word D and hands something on, and thread 0 load
 """
 from agree_modules import PAGE, Op, spawns
 
-D, F, G, LIST = 8, 16, 20, 48
+D, F, G, FAR, LIST = 8, 16, 20, 32, 48
 store, load = Op("store", D, 4, False), Op("load", D, 4, False)
 set_flag, set_other = Op("store", F), Op("store", G)
 grow, size = Op("grow"), Op("size", test=2, then=(load,))
 asleep, notify, notify_two = Op("wait", LIST), Op("notify", LIST), Op("notify", LIST, value=2)
 for_5 = asleep._replace(timeout=5)
-NONE, RACE, MIXED, KNOWN = ("-", "-"), ("race", "race"), ("mixed", "mixed"), ("-", "race")
+NONE, RACE, MIXED = ("-", "-"), ("race", "race"), ("mixed", "mixed")
+KNOWN, MIXED_KNOWN = ("-", "race"), ("-", "mixed")
 
 
 def where(op, test, *then):
@@ -95,6 +96,13 @@ CHANNELS = [
      [store, other_exchange], [over]),
     ("exchange: a lock", NONE, [where(exchange, 0, store, let)], [where(exchange, 0, load, let)]),
     ("exchange: written over", KNOWN, [seen(at("load", F), flag=G)], [exchange], [over, set_other]),
+    ("exchange: written over, and read more widely", MIXED_KNOWN, [seen(at("load", F, 8, True), flag=FAR)], [exchange],
+     [over, Op("store", FAR)]),
+    ("exchange: written over, and a wait that reads more widely", MIXED_KNOWN,
+     [seen(Op("wait", F, 8, expected=9), flag=FAR)], [exchange], [over, Op("store", FAR)]),
+    ("exchange: written over by who reads it then", KNOWN, [over, at("load", F)], [exchange]),
+    ("exchange: written over, and written plainly", RACE, [seen(at("store", F), flag=G)], [exchange],
+     [over, set_other]),
     ("exchange: written over by an exchange", NONE, [seen(at("load", F), flag=G)], [exchange],
      [Op("xchg", F, value=2), set_other]),
     ("exchange: written over where it was seen", NONE, [seen(at("load", F), flag=G)], [exchange],
