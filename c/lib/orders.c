@@ -1,0 +1,628 @@
+/* C11's memory orders, simulated by the words of the program: docs/ORDERS.md says which rules.
+
+   The compiler makes a call of each access (-fsanitize=thread), and these are the functions that it calls. Each atomic
+   place has messages in modification order; a view says of each place how old a message may still be read, and what
+   happens before; each thread has a view, and each message carries one. The memory itself has the newest value of each
+   place, so that plain accesses, waits and `show` find it there. An operation is one step: between its gate's two events
+   it makes plain accesses alone, which cost a search no states. */
+#include <stdatomic.h>
+#include <stdint.h>
+#include <stddef.h>
+#include <string.h>
+#include <wathread.h>
+#include "orders.h"
+#include "orders_gate.h"
+#include "orders_tables.h"
+#include "orders_plain.h"
+
+enum { RELAXED, CONSUME, ACQUIRE, RELEASE, ACQ_REL, SEQ_CST }; /* the compiler's numbers */
+INLINE int acquires(int order) { return order != RELAXED && order != RELEASE; }
+INLINE int releases(int order) { return order >= RELEASE; }
+
+/* ---- Atomic places ---- */
+
+/* Places that others left here and all know don't count. */
+static int overlaps(u32 at, int log) {
+    int l = find(at);
+    return l < orders.count && orders.places[l].at < at + (1u << log);
+}
+
+/* The place of an atomic access, which it makes where there is none. */
+static int place_of(u32 at, int log) {
+    int l = find(at);
+    if (l < orders.count && orders.places[l].at == at && orders.places[l].log == log)
+        return l;
+    while (l < orders.count && orders.places[l].at <= at && orders.places[l].log > log && !orders.places[l].count) {
+        split(l); /* it was initialised by a larger store */
+        l = find(at);
+    }
+    if (overlaps(at, log) && (orders.places[l].at != at || orders.places[l].log != log)) {
+        remove_known();
+        if (overlaps(at, log))
+            atomics_of_mixed_sizes();
+    }
+    return overlaps(at, log) ? l : new_place(at, log, -1);
+}
+
+static int atomic_place(int t, u32 at, int log, int writes) {
+    if (at & ((1u << log) - 1))
+        atomics_of_mixed_sizes();
+    int l = place_of(at, log);
+    place *p = &orders.places[l];
+    if (!knows(&orders.current[t], l, WRITE_KNOWN))
+        data_race(at);
+    if (writes && p->readers)
+        check_readers(t, l);
+    if (!p->count) {
+        orders.messages[l][0].value = load_real(at, log);
+        p->count = 1;
+    }
+    return l;
+}
+
+/* The oldest message that a thread may read, or store behind. */
+static int least_of(int t, int l, int order) {
+    int least = position(&orders.current[t], l), sc = order == SEQ_CST ? position(&orders.psc, l) : 0;
+    return least > sc ? least : sc;
+}
+
+/* ---- Messages are read and written ---- */
+
+static void read_message(int t, int l, int p, int order) {
+    set_position(&orders.current[t], l, p);
+    if (acquires(order))
+        add(&orders.current[t], &orders.messages[l][p].view);
+    else if (fences)
+        add(&orders.acquirable[t], &orders.messages[l][p].view);
+}
+
+/* What a message carries, beside what the one that a read-modify-write read does. */
+static void release_view(int t, int l, view *v, int order) {
+    if (releases(order))
+        add(v, &orders.current[t]);
+    else if (fences)
+        add(v, &orders.released[t]);
+#if ORDERS_C11_SEQUENCES
+    if (releases(order))
+        add(&orders.sequences[t][l], &orders.current[t]);
+    add(v, &orders.sequences[t][l]);
+#else
+    (void)l;
+#endif
+}
+
+/* A new message at position P; those from there on go up. Its value is put in by who calls, whose row in a trace has
+   the line of source. */
+static void write_message(int t, int l, int p, int order, int glued) {
+    place *at = &orders.places[l];
+    message *messages = orders.messages[l];
+    if (at->count == MESSAGES)
+        orders_full_of_messages__use_DORDERS_MESSAGES();
+    if (p < at->count) {
+        change_all(RAISE, l, p);
+        for (int m = at->count; m > p; m--)
+            copy_message(&messages[m], &messages[m - 1]);
+    }
+    at->count++;
+    messages[p].glued = glued;
+    if (glued)
+        copy(&messages[p].view, &messages[p - 1].view);
+    else
+        clear(&messages[p].view);
+    set_position(&orders.current[t], l, p);
+    release_view(t, l, &messages[p].view, order);
+    if (order == SEQ_CST && p > position(&orders.psc, l))
+        set_position(&orders.psc, l, p);
+}
+
+/* ---- Patience: stores are seen in time (C11 7.17.3p16), so that a loop that waits for one ends in each fair run ---- */
+
+INLINE int is_patient(int t, int l) {
+    cell c = orders.reads[t].at[l];
+    return !ORDERS_PATIENCE || (c & 255) != position(&orders.current[t], l) || c >> 8 < ORDERS_PATIENCE;
+}
+
+static void count_read(int t, int l, int p) {
+    view *reads = &orders.reads[t];
+    cell many = position(reads, l) == p ? reads->at[l] >> 8 : 0;
+    if (ORDERS_PATIENCE)
+        put_cell(reads, l, (cell)p | (many < ORDERS_PATIENCE ? many + 1 : many) << 8);
+}
+
+/* What was counted of a message that the thread can't read any more is nothing. */
+static void forget_counts(int t) {
+    view *reads = &orders.reads[t], *current = &orders.current[t];
+    for (int w = words_used(); w--;)
+        if (reads->words[w] && (reads->words[w] ^ current->words[w]) & POSITIONS)
+            for (int l = w * PER_WORD; l < (w + 1) * PER_WORD; l++)
+                if (position(reads, l) != position(current, l))
+                    put_cell(reads, l, 0);
+}
+
+static void end_access(int t) {
+    forget_counts(t);
+    end_operation();
+}
+
+/* ---- Loads and stores. The value itself is read or written in the function that the compiler calls: a row of `show`
+   has the user's line behind those alone. ---- */
+
+/* A message in one number, since a struct would be on the stack. */
+enum { PLACE_SHIFT = 8, FAILED = 1 << 24 };
+INLINE message *message_of(int found) { return &orders.messages[(found & ~FAILED) >> PLACE_SHIFT][found & 255]; }
+INLINE int is_newest(int found) { return (found & 255) == orders.places[(found & ~FAILED) >> PLACE_SHIFT].count - 1; }
+
+static int begin_load(u32 at, int log, int order) {
+    begin_operation(at, LOADS);
+    int t = me(), l = atomic_place(t, at, log, 0), newest = orders.places[l].count - 1, p = newest;
+    int least = least_of(t, l, order);
+    if (least < newest) {
+        if (least == position(&orders.current[t], l) && !is_patient(t, l))
+            least++;
+        p -= choose(newest - least + 1);
+    }
+    read_message(t, l, p, order);
+    count_read(t, l, p);
+    return l << PLACE_SHIFT | p;
+}
+
+INLINE u64 load(u32 at, int log, int order) {
+    if (!parallel)
+        return load_real(at, log);
+    int found = begin_load(at, log, order);
+    u64 value = message_of(found)->value;
+    if (!is_newest(found))
+        load_real(at, log); /* a row with the newest one */
+    end_access(me());
+    return value;
+}
+
+/* Where in modification order a store comes: not between a read-modify-write and what it read. */
+static int position_of_store(int t, int l, int order) {
+    int count = orders.places[l].count, p = count, least = least_of(t, l, order), many = 1;
+    for (int q = least + 1; q < count; q++)
+        many += !orders.messages[l][q].glued;
+    for (int skip = many > 1 ? choose(many) : 0; skip; skip--)
+        while (orders.messages[l][--p].glued)
+            ;
+    return p;
+}
+
+static int begin_store(u32 at, int log, int order) {
+    begin_operation(at, STORES);
+    int t = me(), l = atomic_place(t, at, log, 1), p = position_of_store(t, l, order);
+    write_message(t, l, p, order, 0);
+    return l << PLACE_SHIFT | p;
+}
+
+INLINE void store(u32 at, int log, u64 value, int order) {
+    if (!parallel) {
+        store_real(at, log, value);
+        return;
+    }
+    int found = begin_store(at, log, order);
+    message_of(found)->value = value;
+    if (is_newest(found))
+        store_real(at, log, value);
+    end_access(me());
+}
+
+/* ---- Read-modify-writes ---- */
+
+enum kind { SWAP, ADD, SUB, AND, OR, XOR, NAND, COMPARE, COMPARE_WEAK };
+
+static u64 result(enum kind kind, u64 had, u64 x) {
+    switch (kind) {
+    case ADD: return had + x;
+    case SUB: return had - x;
+    case AND: return had & x;
+    case OR: return had | x;
+    case XOR: return had ^ x;
+    case NAND: return ~(had & x);
+    default: return x;
+    }
+}
+
+/* Whether a message may be read by one that succeeds: no other may have read it. */
+static int can_change(int t, int l, int q, enum kind kind, u64 expected, int order) {
+    const message *m = orders.messages[l];
+    return q >= least_of(t, l, order) && (kind < COMPARE || m[q].value == expected) &&
+           (q == orders.places[l].count - 1 || !m[q + 1].glued);
+}
+
+/* The same of one that fails, which is a load: of another value, or for nothing where it's weak. */
+static int can_fail(int t, int l, int q, enum kind kind, u64 expected, int order) {
+    int newest = orders.places[l].count - 1, oldest = position(&orders.current[t], l);
+    if (kind < COMPARE || q < least_of(t, l, order))
+        return 0;
+    if (orders.messages[l][q].value == expected)
+        return kind == COMPARE_WEAK && (q != oldest || is_patient(t, l)) && !over;
+    return q == newest || q != oldest || is_patient(t, l);
+}
+
+/* Which message is read, and FAILED where nothing is written. */
+static int choose_change(int t, int l, enum kind kind, u64 expected, int order, int failing) {
+    int newest = orders.places[l].count - 1, oldest = position(&orders.current[t], l), many = 0;
+    for (int q = newest; q >= oldest; q--)
+        many += can_change(t, l, q, kind, expected, order) + can_fail(t, l, q, kind, expected, failing);
+    int skip = many > 1 ? choose(many) : 0;
+    for (int q = newest;; q--) {
+        if (can_change(t, l, q, kind, expected, order) && !skip--)
+            return q;
+        if (can_fail(t, l, q, kind, expected, failing) && !skip--)
+            return q | FAILED;
+    }
+}
+
+/* The message that was read; the one behind it is that of the change. */
+static int begin_change(u32 at, int log, enum kind kind, u64 expected, int order, int failing) {
+    begin_operation(at, CHANGES);
+    int t = me(), l = atomic_place(t, at, log, 1), p = choose_change(t, l, kind, expected, order, failing);
+    int fails = p & FAILED;
+    p &= ~FAILED;
+    read_message(t, l, p, fails ? failing : order);
+    if (fails)
+        count_read(t, l, p);
+    else
+        write_message(t, l, p + 1, order, 1);
+    return l << PLACE_SHIFT | p | fails;
+}
+
+static _Thread_local int last_failed; /* the last compare-exchange, for nothing */
+
+INLINE u64 change_alone(u32 at, int log, enum kind kind, u64 x, u64 expected, u64 mask) {
+    u64 had = load_real(at, log);
+    if (kind < COMPARE || had == expected)
+        store_real(at, log, result(kind, had, x) & mask);
+    return had;
+}
+
+INLINE u64 change_value(u32 at, int log, enum kind kind, u64 x, u64 expected, int order, int failing) {
+    u64 mask = log == 3 ? ~0ull : (1ull << (8 << log)) - 1;
+    if (!parallel) {
+        last_failed = 0;
+        return change_alone(at, log, kind, x, expected, mask);
+    }
+    int found = begin_change(at, log, kind, expected, order, failing);
+    message *m = message_of(found);
+    u64 had = m->value, value = result(kind, had, x) & mask;
+    if (found & FAILED) {
+        if (!is_newest(found))
+            load_real(at, log);
+    } else {
+        m[1].value = value;
+        if (is_newest(found + 1))
+            store_real(at, log, value);
+    }
+    last_failed = found & FAILED && had == expected;
+    end_access(me());
+    return had;
+}
+
+/* ---- Fences: C11 7.17.4.1 ---- */
+
+/* What all fences before this one had seen, it has seen. It orders places, and nothing happens before by it. */
+static void join_psc(int t) {
+    for (int w = words_used(); w--;) {
+        u64 mine = orders.current[t].words[w];
+        u64 both = greater(mine & POSITIONS, orders.psc.words[w]);
+        put(&orders.current[t].words[w], (mine & ~POSITIONS) | both);
+        put(&orders.psc.words[w], both);
+    }
+}
+
+void __tsan_atomic_thread_fence(int order) {
+    if (!parallel || order == RELAXED)
+        return;
+    begin_operation(0, FENCES);
+    int t = me();
+    if (acquires(order)) {
+        add(&orders.current[t], &orders.acquirable[t]);
+        clear(&orders.acquirable[t]);
+    }
+    if (order == SEQ_CST)
+        join_psc(t);
+    if (releases(order))
+        copy(&orders.released[t], &orders.current[t]);
+    end_access(t);
+}
+
+void __tsan_atomic_signal_fence(int order) { (void)order; } /* a thread and its own handler: no order between threads */
+
+/* ---- Threads ---- */
+
+static u32 detached;        /* bits by slots */
+static u8 joiner[THREADS];  /* who waits for a thread's end: its slot, plus 1 */
+static u32 results[NUMBERS];
+static int chosen;          /* the slot of the thread that is started */
+static int will_end;        /* `main` was invoked, so orders_ends is called at its end */
+
+void orders_main(void) { will_end = 1; }
+
+int __wathread_fences(void); /* start.s */
+
+void orders_start_begins(void) {
+    if (!parallel) {
+        enter(0, 0); /* who was joined last may be about to leave */
+        parallel = running = 1;
+        slots[thread_self()] = slot = 0;
+        fences = __wathread_fences();
+    } else
+        begin_operation(0, OTHERS);
+    for (chosen = 0; (running | ended) >> chosen & 1; chosen++)
+        ;
+    if (chosen >= THREADS)
+        orders_full_of_threads__use_DORDERS_THREADS();
+}
+
+int orders_spawn(int place) {
+    if (place >= __wathread_most()) /* one is the helper's */
+        return -1;
+    slots_of_starts[place] = chosen;
+    int made = helper;
+    if (!made)
+        return __wathread_spawn(place);
+    tell_helper(BECOMES + place);
+    helper = 0;
+    return made;
+}
+
+void orders_start_ends(int thread) {
+    if (thread > 0) {
+        slots[thread] = chosen;
+        running |= 1u << chosen;
+        copy(&orders.current[chosen], &orders.current[me()]);
+    }
+    stays = 1;
+}
+
+static void forget_views(int t) {
+    clear(&orders.current[t]);
+    clear(&orders.acquirable[t]);
+    clear(&orders.released[t]);
+    clear(&orders.reads[t]);
+#if ORDERS_C11_SEQUENCES
+    for (int l = 0; l < PLACES; l++)
+        clear(&orders.sequences[t][l]);
+#endif
+}
+
+static void take_end(int t, int of) {
+    add(&orders.current[t], &orders.current[of]);
+    ended &= ~(1u << of);
+    forget_views(of);
+}
+
+/* Once a thread is alone and knows all, nothing has to be simulated any more. */
+static void end_parallel(int t) {
+    if (running != 1u << t || ended)
+        return;
+    for (int l = 0; l < orders.count; l++)
+        if (!is_known_to_all(l))
+            return;
+    while (orders.count)
+        remove_place(orders.count - 1);
+    forget_views(t);
+    clear(&orders.psc);
+    parallel = 0;
+    tell_helper(will_end ? RESTS : OVER);
+    if (!will_end)
+        helper = 0;
+}
+
+void orders_ends(int thread, unsigned result) {
+    if (!parallel) {
+        tell_helper(OVER);
+        return;
+    }
+    begin_operation(0, OTHERS);
+    int t = slots[thread], by = joiner[t] - 1;
+    results[thread] = result;
+    ended |= 1u << t;
+    if (by >= 0)
+        sleeping &= ~(1u << by);
+    is_gone(t);
+    clear(&orders.acquirable[t]);
+    clear(&orders.released[t]);
+    clear(&orders.reads[t]);
+    if (by >= 0) {
+        joiner[t] = 0;
+        joining &= ~(1u << by);
+        take_end(by, t);
+        end_parallel(by);
+    } else if (detached >> t & 1) {
+        detached &= ~(1u << t);
+        ended &= ~(1u << t);
+        forget_views(t);
+    }
+    if (by >= 0)
+        wakes(by);
+    end_operation();
+}
+
+unsigned orders_joins(int thread) {
+    begin_operation(0, OTHERS);
+    int t = me(), of = slots[thread];
+    if (ended >> of & 1) {
+        take_end(t, of);
+        end_parallel(t);
+        end_access(t);
+    } else {
+        joiner[of] = t + 1;
+        joining |= 1u << t;
+        falls_asleep(t, thread);
+        end_access(t);
+        sleeps(t, thread, -1);
+    }
+    return results[thread];
+}
+
+void orders_detached(int thread) {
+    begin_operation(0, OTHERS);
+    int t = slots[thread];
+    if (ended >> t & 1) {
+        ended &= ~(1u << t);
+        forget_views(t);
+    } else
+        detached |= 1u << t;
+    end_operation();
+}
+
+/* ---- Waits: the newest value is compared, under the gate, and nothing happens before by a wait ---- */
+
+static u8 queue[THREADS]; /* who sleeps on a word, plus 1, in order of falling asleep */
+
+static void unqueue(int i) {
+    for (; i < THREADS - 1 && queue[i]; i++)
+        queue[i] = queue[i + 1];
+    queue[i] = 0;
+}
+
+static int ends_by_time(int t) {
+    begin_operation(0, OTHERS);
+    int i = 0;
+    while (i < THREADS && queue[i] != t + 1)
+        i++;
+    if (i < THREADS) {
+        unqueue(i);
+        asleep[t] = 0;
+        sleeping &= ~(1u << t);
+    }
+    leave();
+    return i < THREADS ? 2 : 0;
+}
+
+static int waits(u32 at, int log, u64 value, long long nanoseconds) {
+    begin_operation(at, WAITS);
+    int t = me(), differs = load_real(at, log) != value;
+    if (differs || !nanoseconds) {
+        leave();
+        return differs ? 1 : 2;
+    }
+    int i = 0;
+    while (queue[i])
+        i++;
+    queue[i] = t + 1;
+    falls_asleep(t, at);
+    leave();
+    return sleeps(t, at, nanoseconds) == 2 ? ends_by_time(t) : 0;
+}
+
+int orders_wait32(void *word, int value, long long nanoseconds) {
+    if (!parallel)
+        return __builtin_wasm_memory_atomic_wait32(word, value, nanoseconds);
+    return waits((u32)word, 2, (u32)value, nanoseconds);
+}
+
+int orders_wait64(void *word, long long value, long long nanoseconds) {
+    if (!parallel)
+        return __builtin_wasm_memory_atomic_wait64(word, value, nanoseconds);
+    return waits((u32)word, 3, value, nanoseconds);
+}
+
+unsigned orders_notify(void *word, unsigned most) {
+    if (!parallel)
+        return 0;
+    begin_operation((u32)word, WAITS);
+    unsigned many = 0;
+    for (int i = 0; many < most && i < THREADS && queue[i];)
+        if (asleep[queue[i] - 1] == (u32)word) {
+            int t = queue[i] - 1;
+            unqueue(i);
+            sleeping &= ~(1u << t);
+            wakes(t);
+            many++;
+        } else
+            i++;
+    leave();
+    return many;
+}
+
+/* ---- Blocks that were freed: who still uses one races, or comes too late ---- */
+
+void orders_freed(void *block, unsigned size) {
+    u32 at = (u32)block;
+    if (!parallel)
+        return;
+    begin_operation(0, OTHERS);
+    for (int l = orders.count; l--;)
+        if (orders.places[l].at - at < size) {
+            touch(l, 1);
+            remove_place(l);
+        }
+    int i = 0;
+    while (i < FREED && orders.freed[i].size)
+        i++;
+    if (i == FREED)
+        orders_full_of_freed_blocks__use_DORDERS_FREED();
+    for (; i && orders.freed[i - 1].at > at; i--)
+        orders.freed[i] = orders.freed[i - 1];
+    orders.freed[i].at = at;
+    orders.freed[i].size = size;
+    leave();
+}
+
+void orders_reads(const void *from, unsigned size) { note((u32)from, size, READ); }
+void orders_writes(void *to, unsigned size) { note((u32)to, size, WRITE); }
+
+/* ---- What the compiler calls ---- */
+
+#define CHANGE(bits, log, type, name, kind)                                                                            \
+    type __tsan_atomic##bits##_##name(u32 at, type x, int order) {                                                     \
+        return change_value(at, log, kind, x, 0, order, 0);                                                            \
+    }
+#define COMPARES(bits, log, type, name, kind)                                                                          \
+    int __tsan_atomic##bits##_compare_exchange_##name(u32 at, type *expected, type x, int order, int failing) {        \
+        type had = change_value(at, log, kind, x, *expected, order, failing);                                          \
+        int same = had == *expected && !last_failed;                                                                   \
+        if (!same)                                                                                                     \
+            *expected = had;                                                                                           \
+        return same;                                                                                                   \
+    }
+#define ATOMICS(bits, log, type)                                                                                       \
+    type __tsan_atomic##bits##_load(u32 at, int order) { return load(at, log, order); }                                \
+    void __tsan_atomic##bits##_store(u32 at, type x, int order) { store(at, log, x, order); }                          \
+    CHANGE(bits, log, type, exchange, SWAP)                                                                            \
+    CHANGE(bits, log, type, fetch_add, ADD)                                                                            \
+    CHANGE(bits, log, type, fetch_sub, SUB)                                                                            \
+    CHANGE(bits, log, type, fetch_and, AND)                                                                            \
+    CHANGE(bits, log, type, fetch_or, OR)                                                                              \
+    CHANGE(bits, log, type, fetch_xor, XOR)                                                                            \
+    CHANGE(bits, log, type, fetch_nand, NAND)                                                                          \
+    COMPARES(bits, log, type, strong, COMPARE)                                                                         \
+    COMPARES(bits, log, type, weak, COMPARE_WEAK)                                                                      \
+    type __tsan_atomic##bits##_compare_exchange_val(u32 at, type expected, type x, int order, int failing) {           \
+        return change_value(at, log, COMPARE, x, expected, order, failing);                                            \
+    }
+ATOMICS(8, 0, uint8_t)
+ATOMICS(16, 1, uint16_t)
+ATOMICS(32, 2, uint32_t)
+ATOMICS(64, 3, uint64_t)
+
+/* Volatile is no synchronization: C11 5.1.2.4. */
+#define PLAIN_ONE(name, size, kind)                                                                                    \
+    void __tsan_##name##size(u32 at) { note(at, size, kind); }
+#define PLAIN(size)                                                                                                    \
+    PLAIN_ONE(read, size, READ)                                                                                        \
+    PLAIN_ONE(write, size, WRITE)                                                                                      \
+    PLAIN_ONE(read_write, size, WRITE)                                                                                 \
+    PLAIN_ONE(volatile_read, size, READ)                                                                               \
+    PLAIN_ONE(volatile_write, size, WRITE)                                                                             \
+    PLAIN_ONE(unaligned_read, size, READ)                                                                              \
+    PLAIN_ONE(unaligned_write, size, WRITE)                                                                            \
+    PLAIN_ONE(unaligned_read_write, size, WRITE)                                                                       \
+    PLAIN_ONE(unaligned_volatile_read, size, READ)                                                                     \
+    PLAIN_ONE(unaligned_volatile_write, size, WRITE)
+PLAIN(1)
+PLAIN(2)
+PLAIN(4)
+PLAIN(8)
+PLAIN(16)
+void __tsan_read_range(u32 at, u32 size) { note(at, size, READ); }
+void __tsan_write_range(u32 at, u32 size) { note(at, size, WRITE); }
+
+/* Later versions of clang call these; those of the library note what they touch. */
+void *__tsan_memcpy(void *to, const void *from, size_t n) { return memmove(to, from, n); }
+void *__tsan_memmove(void *to, const void *from, size_t n) { return memmove(to, from, n); }
+void *__tsan_memset(void *to, int byte, size_t n) { return memset(to, byte, n); }
+void __tsan_init(void) {}

@@ -1,0 +1,224 @@
+/* Who may work on the tables, what is chosen, and how a run ends. */
+
+typedef uint64_t u64;
+typedef uint32_t u32;
+typedef uint16_t u16;
+typedef uint8_t u8;
+#define INLINE __attribute__((always_inline)) static inline
+
+/* ---- Limits: each is set by a switch of wathread-cc, as -DORDERS_PLACES=64 ---- */
+
+#ifndef ORDERS_PLACES
+#define ORDERS_PLACES 32      /* places that threads share at a time, a multiple of 4 */
+#endif
+#ifndef ORDERS_MESSAGES
+#define ORDERS_MESSAGES 16    /* of one place that somebody may still read, up to 120 */
+#endif
+#ifndef ORDERS_THREADS
+#define ORDERS_THREADS 7      /* that aren't joined yet, with main; up to 23 */
+#endif
+#ifndef ORDERS_FREED
+#define ORDERS_FREED 16       /* blocks that were freed while threads run */
+#endif
+#ifndef ORDERS_PATIENCE
+#define ORDERS_PATIENCE 2     /* how often in a row a thread is told again what is old; 0: any number */
+#endif
+#ifndef ORDERS_C11_SEQUENCES
+#define ORDERS_C11_SEQUENCES 0 /* 1: a release sequence has later stores of the same thread too, as before C++20 */
+#endif
+#if ORDERS_PLACES % 4 || ORDERS_PLACES < 4
+#error "ORDERS_PLACES is a multiple of 4"
+#endif
+#if ORDERS_MESSAGES < 2 || ORDERS_MESSAGES > 120
+#error "ORDERS_MESSAGES is 2 to 120"
+#endif
+#if ORDERS_THREADS < 2 || ORDERS_THREADS > 23
+#error "ORDERS_THREADS is 2 to 23"
+#endif
+
+enum { PLACES = ORDERS_PLACES, MESSAGES = ORDERS_MESSAGES, THREADS = ORDERS_THREADS, FREED = ORDERS_FREED,
+       NUMBERS = 64 };
+
+/* Numbers of the runtime, used again after a join: a thread's own, by starts, and by the numbers that traces have. */
+static _Thread_local u8 slot;
+static u8 slots_of_starts[NUMBERS], slots[NUMBERS];
+INLINE int me(void) { return slot; }
+
+/* False while `main` is alone: then nothing has to be simulated. */
+static int parallel;
+
+/* Bits by slots: threads that haven't ended, and of these who sleeps. */
+static u32 running, sleeping;
+
+/* ---- The gate: one thread at a time ----
+
+   An operation goes in where the gate is FREE, by one event, and gives it back by another. Who comes while somebody is
+   inside tries again, which is no new state. So that nobody tries for ever in vain, who is inside by something that it
+   did before, as in a loop, leaves the gate OPEN to be asked for: it's then given to those who asked, in turn. */
+
+enum { FREE, HELD, OPEN, TURN = 4, TURN_MASK = 0xFC, ASKS = 0x100 }; /* TURN times slot + 1; ASKS by slots */
+static _Atomic u32 gate;
+static u32 inside; /* what the gate was as the thread that is inside came in, or 0 where it was HELD alone */
+
+/* Who starts a thread stays inside until its next operation, as a start commutes with all that the new thread does. */
+static _Thread_local int stays;
+
+static void enter(int t, int again) {
+    u32 mine = again ? HELD | OPEN : HELD, ask = ASKS << t;
+    if (stays) {
+        stays = 0;
+        return;
+    }
+    for (u32 was = FREE; !atomic_compare_exchange_strong(&gate, &was, mine); was = FREE) {
+        if (was & OPEN && !(was & ask) && (was & TURN_MASK) != TURN * (t + 1u))
+            was = atomic_fetch_or(&gate, ask); /* it may be free by now: then this is what it's held by */
+        if (was == FREE || (was & TURN_MASK) == TURN * (t + 1u)) {
+            mine = was | ask;
+            break;
+        }
+    }
+    if (mine != HELD)
+        inside = mine;
+}
+
+/* What the gate is once T has left: the turn of the next one who asked. */
+static u32 turn_behind(int t, u32 was) {
+    u32 asked = was / ASKS & ~(1u << t);
+    if (!asked)
+        return FREE;
+    do
+        t = (t + 1) % THREADS;
+    while (!(asked >> t & 1));
+    return HELD | OPEN | TURN * (t + 1) | (asked & ~(1u << t)) * ASKS;
+}
+
+static void leave(void) {
+    u32 was = inside;
+    if (!was) {
+        gate = FREE;
+        return;
+    }
+    inside = 0;
+    while (!atomic_compare_exchange_strong(&gate, &was, turn_behind(me(), was)))
+        ;
+}
+
+/* ---- The helper: a thread that makes choices come either way ----
+
+   It sets a bit where somebody asks, sooner or later than the asker looks. It's always the thread with the last number:
+   it becomes the next thread that the program starts, and a new one is started where the next choice is. */
+
+enum { IDLE, ASKED, YES, RESTS, OVER, BECOMES };
+static _Atomic u32 dice[NUMBERS];  /* by the helper's number */
+static int helper;                 /* its number, or 0 */
+static int rests;                  /* it sleeps, or is about to */
+static int over;                   /* a thread has failed: no more choices */
+
+__attribute__((import_module("wasi"), import_name("thread-spawn"))) int __wathread_spawn(int place);
+int __wathread_most(void);
+
+static int helps(int thread) {
+    for (;;) {
+        u32 was = ASKED;
+        atomic_compare_exchange_strong(&dice[thread], &was, YES);
+        if (was >= BECOMES)
+            return was - BECOMES;
+        if (was == OVER)
+            return -1;
+        if (was == RESTS)
+            __builtin_wasm_memory_atomic_wait32((int *)&dice[thread], RESTS, -1);
+    }
+}
+
+int orders_begins(int thread, int place) {
+    if (!place)
+        place = helps(thread);
+    if (place >= 0)
+        slot = slots_of_starts[place];
+    return place;
+}
+
+static void tell_helper(u32 what) {
+    if (!helper)
+        return;
+    dice[helper] = what;
+    if (rests && what != RESTS)
+        __builtin_wasm_memory_atomic_notify((int *)&dice[helper], 1);
+    rests = what == RESTS;
+}
+
+/* A bit that may come either way. */
+static int draw(void) {
+    if (!helper)
+        helper = __wathread_spawn(0);
+    tell_helper(ASKED);
+    return atomic_exchange(&dice[helper], IDLE) == YES;
+}
+
+/* One of so many, 0 the most usual. */
+static int choose(int many) {
+    int i = 0;
+    if (!over)
+        while (i < many - 1 && draw())
+            i++;
+    return i;
+}
+
+/* ---- Sleep: the helper rests where all sleep, so that a deadlock is one ---- */
+
+static u32 asleep[THREADS]; /* by slots: what is waited for, an address or a thread's number */
+
+static void falls_asleep(int t, u32 what) {
+    asleep[t] = what;
+    sleeping |= 1u << t;
+    if (sleeping == running)
+        tell_helper(RESTS);
+}
+
+/* Behind leave(). Who wakes it is inside, so a notify never comes late. */
+static int sleeps(int t, u32 what, long long nanoseconds) {
+    return __builtin_wasm_memory_atomic_wait32((int *)&asleep[t], what, nanoseconds);
+}
+
+static void wakes(int t) {
+    __atomic_store_n(&asleep[t], 0, __ATOMIC_SEQ_CST);
+    __builtin_wasm_memory_atomic_notify((int *)&asleep[t], 1);
+}
+
+/* ---- What ends a run: the name is what a trace says ---- */
+
+static void is_gone(int t) {
+    running &= ~(1u << t);
+    if (!running || over)
+        tell_helper(OVER);
+    else if (sleeping == running)
+        tell_helper(RESTS);
+}
+
+static void fails_inside(void) {
+    over = 1;
+    is_gone(me());
+    helper = 0;
+    leave();
+}
+
+/* In place of a trap that the program asks for. */
+void orders_trap(void) {
+    if (parallel) {
+        enter(me(), 0);
+        fails_inside();
+    } else
+        tell_helper(OVER);
+    __builtin_trap();
+}
+
+#define TRAPS __attribute__((noinline, noreturn)) static void
+#define FAILS { fails_inside(); __builtin_trap(); }
+static u32 raced; /* the address of a data race, for `show --addr` */
+TRAPS data_race(u32 at) { raced = at; fails_inside(); __builtin_trap(); }
+TRAPS use_after_free(void) FAILS
+TRAPS atomics_of_mixed_sizes(void) FAILS
+TRAPS orders_full_of_places__use_DORDERS_PLACES(void) FAILS
+TRAPS orders_full_of_messages__use_DORDERS_MESSAGES(void) FAILS
+TRAPS orders_full_of_threads__use_DORDERS_THREADS(void) FAILS
+TRAPS orders_full_of_freed_blocks__use_DORDERS_FREED(void) FAILS
