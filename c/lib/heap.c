@@ -52,6 +52,8 @@ void *malloc(size_t n) {
         return errno = ENOMEM, (void *)0;
     size_t size = (n + 2 * FRONT - 1) & -FRONT;
     void *block = take_freed(size);
+    if (block)
+        orders_taken(block, size - FRONT);
     if (!block && !(block = take_of_pool(size)))
         return errno = ENOMEM, (void *)0;
     *front_of(block) = MARK | size;
@@ -73,6 +75,7 @@ void free(void *block) {
     int *front = front_of(block), size = *front & ~MARK_BITS;
     if ((*front & MARK_BITS) != MARK)
         __builtin_trap();
+    orders_freed(block, size - FRONT);
     *front = 0;
     memset(block, FREED, size - FRONT);
     keep_freed(block, size);

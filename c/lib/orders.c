@@ -10,6 +10,7 @@
 #include <stddef.h>
 #include <string.h>
 #include <wathread.h>
+#define ORDERS
 #include "orders.h"
 #include "orders_gate.h"
 #include "orders_tables.h"
@@ -18,6 +19,7 @@
 enum { RELAXED, CONSUME, ACQUIRE, RELEASE, ACQ_REL, SEQ_CST }; /* the compiler's numbers */
 INLINE int acquires(int order) { return order != RELAXED && order != RELEASE; }
 INLINE int releases(int order) { return order >= RELEASE; }
+#define MASK(log) (~0ull >> (64 - (8 << (log))))
 
 /* ---- Atomic places ---- */
 
@@ -209,10 +211,19 @@ INLINE void store(u32 at, int log, u64 value, int order) {
 
 /* ---- Read-modify-writes ---- */
 
-enum kind { SWAP, ADD, SUB, AND, OR, XOR, NAND, COMPARE, COMPARE_WEAK };
+enum kind { SWAP, ADD, SUB, AND, OR, XOR, NAND, MAX, MIN, UMAX, UMIN, COMPARE, COMPARE_WEAK };
 
-static u64 result(enum kind kind, u64 had, u64 x) {
+INLINE int64_t as_signed(u64 value, int log) {
+    int unused = 64 - (8 << log);
+    return (int64_t)(value << unused) >> unused;
+}
+
+static u64 result(enum kind kind, u64 had, u64 x, int log) {
     switch (kind) {
+    case MAX: return as_signed(had, log) > as_signed(x, log) ? had : x;
+    case MIN: return as_signed(had, log) < as_signed(x, log) ? had : x;
+    case UMAX: return had > x ? had : x;
+    case UMIN: return had < x ? had : x;
     case ADD: return had + x;
     case SUB: return had - x;
     case AND: return had & x;
@@ -268,24 +279,24 @@ static int begin_change(u32 at, int log, enum kind kind, u64 expected, int order
     return l << PLACE_SHIFT | p | fails;
 }
 
-static _Thread_local int last_failed; /* the last compare-exchange, for nothing */
+static _Thread_local int last_failed; /* the last weak compare-exchange */
 
-INLINE u64 change_alone(u32 at, int log, enum kind kind, u64 x, u64 expected, u64 mask) {
+INLINE u64 change_alone(u32 at, int log, enum kind kind, u64 x, u64 expected) {
     u64 had = load_real(at, log);
     if (kind < COMPARE || had == expected)
-        store_real(at, log, result(kind, had, x) & mask);
+        store_real(at, log, result(kind, had, x, log) & MASK(log));
     return had;
 }
 
 INLINE u64 change_value(u32 at, int log, enum kind kind, u64 x, u64 expected, int order, int failing) {
-    u64 mask = log == 3 ? ~0ull : (1ull << (8 << log)) - 1;
     if (!parallel) {
-        last_failed = 0;
-        return change_alone(at, log, kind, x, expected, mask);
+        if (kind == COMPARE_WEAK)
+            last_failed = load_real(at, log) != expected;
+        return change_alone(at, log, kind, x, expected);
     }
     int found = begin_change(at, log, kind, expected, order, failing);
     message *m = message_of(found);
-    u64 had = m->value, value = result(kind, had, x) & mask;
+    u64 had = m->value, value = result(kind, had, x, log) & MASK(log);
     if (found & FAILED) {
         if (!is_newest(found))
             load_real(at, log);
@@ -294,7 +305,8 @@ INLINE u64 change_value(u32 at, int log, enum kind kind, u64 x, u64 expected, in
         if (is_newest(found + 1))
             store_real(at, log, value);
     }
-    last_failed = found & FAILED && had == expected;
+    if (kind == COMPARE_WEAK && last_failed != !!(found & FAILED))
+        last_failed = !last_failed;
     end_access(me());
     return had;
 }
@@ -311,7 +323,7 @@ static void join_psc(int t) {
     }
 }
 
-void __tsan_atomic_thread_fence(int order) {
+void __wathread_fence(int order) {
     if (!parallel || order == RELAXED)
         return;
     begin_operation(0, FENCES);
@@ -326,8 +338,6 @@ void __tsan_atomic_thread_fence(int order) {
         copy(&orders.released[t], &orders.current[t]);
     end_access(t);
 }
-
-void __tsan_atomic_signal_fence(int order) { (void)order; } /* a thread and its own handler: no order between threads */
 
 /* ---- Threads ---- */
 
@@ -440,7 +450,30 @@ void orders_ends(int thread, unsigned result) {
     end_operation();
 }
 
-unsigned orders_joins(int thread) {
+int orders_has_ended(int thread) {
+    if (!parallel)
+        return 1;
+    begin_operation(0, OTHERS);
+    int is = ended >> slots[thread] & 1;
+    leave();
+    return is;
+}
+
+/* Where the time was over: whether the thread ended meanwhile all the same. */
+static int is_late(int t, int of) {
+    begin_operation(0, OTHERS);
+    int late = joiner[of] == t + 1;
+    if (late) {
+        joiner[of] = 0;
+        joining &= ~(1u << t);
+        asleep[t] = 0;
+        sleeping &= ~(1u << t);
+    }
+    leave();
+    return late;
+}
+
+int orders_joins(int thread, unsigned *result, long long nanoseconds) {
     begin_operation(0, OTHERS);
     int t = me(), of = slots[thread];
     if (ended >> of & 1) {
@@ -452,9 +485,11 @@ unsigned orders_joins(int thread) {
         joining |= 1u << t;
         falls_asleep(t, thread);
         end_access(t);
-        sleeps(t, thread, -1);
+        if (sleeps(t, thread, nanoseconds) == 2 && is_late(t, of))
+            return 2;
     }
-    return results[thread];
+    *result = results[thread];
+    return 0;
 }
 
 void orders_detached(int thread) {
@@ -508,25 +543,25 @@ static int waits(u32 at, int log, u64 value, long long nanoseconds) {
     return sleeps(t, at, nanoseconds) == 2 ? ends_by_time(t) : 0;
 }
 
-int orders_wait32(void *word, int value, long long nanoseconds) {
+int __wathread_wait32(u32 word, int value, long long nanoseconds) {
     if (!parallel)
-        return __builtin_wasm_memory_atomic_wait32(word, value, nanoseconds);
-    return waits((u32)word, 2, (u32)value, nanoseconds);
+        return __builtin_wasm_memory_atomic_wait32((int *)word, value, nanoseconds);
+    return waits(word, 2, (u32)value, nanoseconds);
 }
 
-int orders_wait64(void *word, long long value, long long nanoseconds) {
+int __wathread_wait64(u32 word, long long value, long long nanoseconds) {
     if (!parallel)
-        return __builtin_wasm_memory_atomic_wait64(word, value, nanoseconds);
-    return waits((u32)word, 3, value, nanoseconds);
+        return __builtin_wasm_memory_atomic_wait64((long long *)word, value, nanoseconds);
+    return waits(word, 3, value, nanoseconds);
 }
 
-unsigned orders_notify(void *word, unsigned most) {
+unsigned __wathread_notify(u32 word, unsigned most) {
     if (!parallel)
         return 0;
-    begin_operation((u32)word, WAITS);
+    begin_operation(word, WAITS);
     unsigned many = 0;
     for (int i = 0; many < most && i < THREADS && queue[i];)
-        if (asleep[queue[i] - 1] == (u32)word) {
+        if (asleep[queue[i] - 1] == word) {
             int t = queue[i] - 1;
             unqueue(i);
             sleeping &= ~(1u << t);
@@ -540,89 +575,97 @@ unsigned orders_notify(void *word, unsigned most) {
 
 /* ---- Blocks that were freed: who still uses one races, or comes too late ---- */
 
+static void leave_out_freed(int i) {
+    for (; i < FREED - 1 && orders.freed[i].size; i++) {
+        orders.freed[i].at = orders.freed[i + 1].at;
+        orders.freed[i].size = orders.freed[i + 1].size;
+    }
+    orders.freed[i].at = orders.freed[i].size = 0;
+}
+
+/* Sorted by addresses; blocks that are next to one another in the pool, with a front in between, are one. */
+static void put_in_freed(u32 at, u32 size) {
+    int i = 0, many = 0;
+    while (many < FREED && orders.freed[many].size)
+        many++;
+    while (i < many && orders.freed[i].at < at)
+        i++;
+    if (i && orders.freed[i - 1].at + orders.freed[i - 1].size + FRONT >= at) {
+        i--;
+        size += at - orders.freed[i].at;
+    } else {
+        if (many == FREED)
+            orders_full_of_freed_blocks__use_DORDERS_FREED();
+        for (int k = many; k > i; k--) {
+            orders.freed[k].at = orders.freed[k - 1].at;
+            orders.freed[k].size = orders.freed[k - 1].size;
+        }
+        orders.freed[i].at = at;
+    }
+    orders.freed[i].size = size;
+    if (i + 1 < FREED && orders.freed[i + 1].size && orders.freed[i].at + size + FRONT >= orders.freed[i + 1].at) {
+        orders.freed[i].size = orders.freed[i + 1].at + orders.freed[i + 1].size - orders.freed[i].at;
+        leave_out_freed(i + 1);
+    }
+}
+
+static void forget_places(u32 at, u32 size, int touches) {
+    for (int l = orders.count; l--;)
+        if (orders.places[l].at - at < size) {
+            if (touches)
+                touch(l, 1);
+            remove_place(l);
+        }
+}
+
 void orders_freed(void *block, unsigned size) {
+    if (!parallel)
+        return;
+    begin_operation(0, OTHERS);
+    forget_places((u32)block, size, 1);
+    put_in_freed((u32)block, size);
+    leave();
+}
+
+/* With --reuse: what was freed is a new block, whose bytes nobody has touched. */
+void orders_taken(void *block, unsigned size) {
     u32 at = (u32)block;
     if (!parallel)
         return;
     begin_operation(0, OTHERS);
-    for (int l = orders.count; l--;)
-        if (orders.places[l].at - at < size) {
-            touch(l, 1);
-            remove_place(l);
-        }
-    int i = 0;
-    while (i < FREED && orders.freed[i].size)
-        i++;
-    if (i == FREED)
-        orders_full_of_freed_blocks__use_DORDERS_FREED();
-    for (; i && orders.freed[i - 1].at > at; i--)
-        orders.freed[i] = orders.freed[i - 1];
-    orders.freed[i].at = at;
-    orders.freed[i].size = size;
+    for (int i = 0; i < FREED; i++) {
+        u32 first = orders.freed[i].at, had = orders.freed[i].size;
+        if (at - first >= had)
+            continue;
+        leave_out_freed(i);
+        if (at - first > FRONT)
+            put_in_freed(first, at - first - FRONT);
+        if (first + had > at + size + FRONT)
+            put_in_freed(at + size + FRONT, first + had - at - size - FRONT);
+        break;
+    }
     leave();
 }
 
 void orders_reads(const void *from, unsigned size) { note((u32)from, size, READ); }
 void orders_writes(void *to, unsigned size) { note((u32)to, size, WRITE); }
 
-/* ---- What the compiler calls ---- */
+/* ---- What the compiler's text calls (simulate.py): with numbers below 32 bits in 32, and addresses as numbers ---- */
 
-#define CHANGE(bits, log, type, name, kind)                                                                            \
-    type __tsan_atomic##bits##_##name(u32 at, type x, int order) {                                                     \
-        return change_value(at, log, kind, x, 0, order, 0);                                                            \
-    }
-#define COMPARES(bits, log, type, name, kind)                                                                          \
-    int __tsan_atomic##bits##_compare_exchange_##name(u32 at, type *expected, type x, int order, int failing) {        \
-        type had = change_value(at, log, kind, x, *expected, order, failing);                                          \
-        int same = had == *expected && !last_failed;                                                                   \
-        if (!same)                                                                                                     \
-            *expected = had;                                                                                           \
-        return same;                                                                                                   \
-    }
 #define ATOMICS(bits, log, type)                                                                                       \
-    type __tsan_atomic##bits##_load(u32 at, int order) { return load(at, log, order); }                                \
-    void __tsan_atomic##bits##_store(u32 at, type x, int order) { store(at, log, x, order); }                          \
-    CHANGE(bits, log, type, exchange, SWAP)                                                                            \
-    CHANGE(bits, log, type, fetch_add, ADD)                                                                            \
-    CHANGE(bits, log, type, fetch_sub, SUB)                                                                            \
-    CHANGE(bits, log, type, fetch_and, AND)                                                                            \
-    CHANGE(bits, log, type, fetch_or, OR)                                                                              \
-    CHANGE(bits, log, type, fetch_xor, XOR)                                                                            \
-    CHANGE(bits, log, type, fetch_nand, NAND)                                                                          \
-    COMPARES(bits, log, type, strong, COMPARE)                                                                         \
-    COMPARES(bits, log, type, weak, COMPARE_WEAK)                                                                      \
-    type __tsan_atomic##bits##_compare_exchange_val(u32 at, type expected, type x, int order, int failing) {           \
-        return change_value(at, log, COMPARE, x, expected, order, failing);                                            \
+    type __wathread_load##bits(u32 at, int order) { return load(at, log, order); }                                     \
+    void __wathread_store##bits(u32 at, type x, int order) { store(at, log, x & MASK(log), order); }                   \
+    type __wathread_change##bits(u32 at, int kind, type x, int order) {                                                \
+        return change_value(at, log, kind, x & MASK(log), 0, order, 0);                                                \
+    }                                                                                                                  \
+    type __wathread_compare##bits(u32 at, type expected, type x, int order, int failing, int weak) {                   \
+        return change_value(at, log, weak ? COMPARE_WEAK : COMPARE, x & MASK(log), expected & MASK(log), order, failing); \
     }
-ATOMICS(8, 0, uint8_t)
-ATOMICS(16, 1, uint16_t)
-ATOMICS(32, 2, uint32_t)
-ATOMICS(64, 3, uint64_t)
+ATOMICS(8, 0, u32)
+ATOMICS(16, 1, u32)
+ATOMICS(32, 2, u32)
+ATOMICS(64, 3, u64)
 
-/* Volatile is no synchronization: C11 5.1.2.4. */
-#define PLAIN_ONE(name, size, kind)                                                                                    \
-    void __tsan_##name##size(u32 at) { note(at, size, kind); }
-#define PLAIN(size)                                                                                                    \
-    PLAIN_ONE(read, size, READ)                                                                                        \
-    PLAIN_ONE(write, size, WRITE)                                                                                      \
-    PLAIN_ONE(read_write, size, WRITE)                                                                                 \
-    PLAIN_ONE(volatile_read, size, READ)                                                                               \
-    PLAIN_ONE(volatile_write, size, WRITE)                                                                             \
-    PLAIN_ONE(unaligned_read, size, READ)                                                                              \
-    PLAIN_ONE(unaligned_write, size, WRITE)                                                                            \
-    PLAIN_ONE(unaligned_read_write, size, WRITE)                                                                       \
-    PLAIN_ONE(unaligned_volatile_read, size, READ)                                                                     \
-    PLAIN_ONE(unaligned_volatile_write, size, WRITE)
-PLAIN(1)
-PLAIN(2)
-PLAIN(4)
-PLAIN(8)
-PLAIN(16)
-void __tsan_read_range(u32 at, u32 size) { note(at, size, READ); }
-void __tsan_write_range(u32 at, u32 size) { note(at, size, WRITE); }
-
-/* Later versions of clang call these; those of the library note what they touch. */
-void *__tsan_memcpy(void *to, const void *from, size_t n) { return memmove(to, from, n); }
-void *__tsan_memmove(void *to, const void *from, size_t n) { return memmove(to, from, n); }
-void *__tsan_memset(void *to, int byte, size_t n) { return memset(to, byte, n); }
-void __tsan_init(void) {}
+int __wathread_failed(void) { return last_failed; }
+void __wathread_reads(u32 at, u32 size) { note(at, size, READ); }
+void __wathread_writes(u32 at, u32 size) { note(at, size, WRITE); }

@@ -37,7 +37,7 @@ typedef uint8_t u8;
 #endif
 
 enum { PLACES = ORDERS_PLACES, MESSAGES = ORDERS_MESSAGES, THREADS = ORDERS_THREADS, FREED = ORDERS_FREED,
-       NUMBERS = 64 };
+       NUMBERS = 64, FRONT = 16 /* in front of each block of malloc's */ };
 
 /* Numbers of the runtime, used again after a join: a thread's own, by starts, and by the numbers that traces have. */
 static _Thread_local u8 slot;
@@ -202,14 +202,13 @@ static void fails_inside(void) {
     leave();
 }
 
-/* In place of a trap that the program asks for. */
-void orders_trap(void) {
+/* In front of a trap that the program or the library asks for. */
+void __wathread_traps(void) {
     if (parallel) {
         enter(me(), 0);
         fails_inside();
     } else
         tell_helper(OVER);
-    __builtin_trap();
 }
 
 #define TRAPS __attribute__((noinline, noreturn)) static void

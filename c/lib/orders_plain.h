@@ -6,8 +6,7 @@ enum { PENDING = 16, READ = 1, WRITE = 2 };
 static _Thread_local struct { u32 at, what; } pending[PENDING]; /* what: READ or WRITE, and 4 times the size */
 static _Thread_local int noted;
 
-u32 __wathread_data(void); /* start.s: the thread's own block of thread-local data */
-u32 __wathread_data_size(void);
+int __wathread_is_constant(u32 at); /* start.s */
 
 INLINE u64 load_real(u32 at, int log) {
     switch (log) {
@@ -141,7 +140,7 @@ static int is_noted(u32 at, u32 what) {
 
 static void note(u32 at, u32 size, u32 kind) {
     u32 what = size << 2 | kind;
-    if (!parallel || !size || at - __wathread_data() < __wathread_data_size() || is_noted(at, what))
+    if (!parallel || !size || (kind == READ && __wathread_is_constant(at)) || is_noted(at, what))
         return;
     if (noted == PENDING) {
         begin_operation(0, OTHERS);

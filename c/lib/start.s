@@ -27,6 +27,15 @@ thread_limit:
 	.globaltype	thread_number, i32
 	.globl	thread_number
 thread_number:
+	.globaltype	program_fences, i32
+	.globl	program_fences
+program_fences:
+	.globaltype	constants_first, i32
+	.globl	constants_first
+constants_first:
+	.globaltype	constants_size, i32
+	.globl	constants_size
+constants_size:
 	.globaltype	thread_leaves, i32
 thread_leaves:
 	.globaltype	thread_result, i32
@@ -120,4 +129,25 @@ __cyg_profile_func_enter_bare:
 	if
 	unreachable
 	end_if
+	end_function
+
+# For --orders c11 (orders.c): whether the program has fences, and where constants lie.
+	.section	.text.__wathread_fences,"",@
+	.globl	__wathread_fences
+	.type	__wathread_fences,@function
+__wathread_fences:
+	.functype	__wathread_fences () -> (i32)
+	global.get	program_fences
+	end_function
+
+	.section	.text.__wathread_is_constant,"",@
+	.globl	__wathread_is_constant
+	.type	__wathread_is_constant,@function
+__wathread_is_constant:
+	.functype	__wathread_is_constant (i32) -> (i32)
+	local.get	0
+	global.get	constants_first
+	i32.sub
+	global.get	constants_size
+	i32.lt_u
 	end_function

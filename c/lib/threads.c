@@ -72,18 +72,32 @@ static void forget_threads(void) {
 EXPORT("main") int __wathread_main(void) {
     static char *none;
     forget_threads();
+    orders_main();
     __wasm_call_ctors();
 #ifdef SPURIOUS
-    thread_spawn(change_luck, 0);
+    orders_detached(thread_spawn(change_luck, 0));
 #endif
     int result = __main_void ? __main_void() : __main_argc_argv(0, &none);
     result = __wathread_leaving() ? __wathread_result() : result;
     call_at_end();
+    orders_ends(0, result);
     return result;
 }
 
 /* ---- Threads ---- */
 
+#ifdef ORDERS
+static int start(enum type type, void *function, void *arg) {
+    orders_start_begins();
+    int place = ++last_start, made = -1;
+    if (place <= __wathread_most()) {
+        starts[place] = (uint64_t)((uint32_t)type << TYPE_SHIFT | (uint32_t)function) << 32 | (uint32_t)arg;
+        made = orders_spawn(place);
+    }
+    orders_start_ends(made);
+    return made;
+}
+#else
 static int start(enum type type, void *function, void *arg) {
     int place = ++last_start;
     if (place > __wathread_most())
@@ -91,9 +105,14 @@ static int start(enum type type, void *function, void *arg) {
     starts[place] = (uint64_t)((uint32_t)type << TYPE_SHIFT | (uint32_t)function) << 32 | (uint32_t)arg;
     return __wathread_spawn(place);
 }
+#endif
 
 /* Where a thread begins (start.s). To call a function by another type than its own is a trap. */
 void __wathread_begin(int thread, int place) {
+#ifdef ORDERS
+    if ((place = orders_begins(thread, place)) < 0) /* it was there to choose, and has ended */
+        return;
+#endif
     uint64_t word = starts[place];
     uint32_t function = word >> 32 & ((1u << TYPE_SHIFT) - 1), arg = word, result = 0;
     switch ((enum type)(word >> 32 >> TYPE_SHIFT)) {
@@ -108,8 +127,12 @@ void __wathread_begin(int thread, int place) {
     }
     result = __wathread_leaving() ? (uint32_t)__wathread_result() : result;
     call_at_end();
+#ifdef ORDERS
+    orders_ends(thread, result);
+#else
     ends[thread] = (uint64_t)ENDED << 32 | result;
     notify_all(&ends[thread]);
+#endif
 }
 
 int thread_spawn(void (*body)(int), int arg) { return start(OWN, (void *)body, (void *)arg); }
@@ -123,7 +146,7 @@ int pthread_create(pthread_t *thread, const pthread_attr_t *attr, void *(*functi
     return 0;
 }
 
-int pthread_detach(pthread_t thread) { (void)thread; return 0; }
+int pthread_detach(pthread_t thread) { orders_detached(thread); return 0; }
 pthread_t pthread_self(void) { return thread_self(); }
 int pthread_equal(pthread_t a, pthread_t b) { return a == b; }
 

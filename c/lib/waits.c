@@ -72,12 +72,20 @@ static inline __attribute__((always_inline)) int sleep_while(_Atomic int *word, 
 
 /* ---- Joins ---- */
 
+#ifdef ORDERS
+static uint32_t result_of(int thread) {
+    unsigned result;
+    orders_joins(thread, &result, -1);
+    return result;
+}
+#else
 static uint32_t result_of(int thread) {
     uint64_t end;
     while (!(end = ends[thread]))
         wait_while(&ends[thread], RUNS);
     return end;
 }
+#endif
 
 void thread_join(int thread) { result_of(thread); }
 
@@ -104,17 +112,29 @@ int thrd_join(thrd_t thread, int *result) {
     return thrd_success;
 }
 
+#ifdef ORDERS
+static int runs(int thread) { return !orders_has_ended(thread); }
+
+static int runs_until(int thread, int64_t deadline) {
+    unsigned result;
+    return orders_joins(thread, &result, deadline) == 2;
+}
+#else
+#define runs(thread) (!ends[thread])
+#define runs_until(thread, deadline) (wait_while_for(&ends[thread], RUNS, deadline) == 2)
+#endif
+
 int pthread_tryjoin_np(pthread_t thread, void **result) {
     int wrong = is_no_other(thread);
-    return wrong ? wrong : !ends[thread] ? EBUSY : pthread_join(thread, result);
+    return wrong ? wrong : runs(thread) ? EBUSY : pthread_join(thread, result);
 }
 
 int pthread_timedjoin_np(pthread_t thread, void **result, const struct timespec *until) {
     int wrong = is_no_other(thread);
     if (wrong || is_wrong(until))
         return wrong ? wrong : EINVAL;
-    while (!ends[thread])
-        if (wait_while_for(&ends[thread], RUNS, deadline_of(until)) == 2)
+    while (runs(thread))
+        if (runs_until(thread, deadline_of(until)))
             return ETIMEDOUT;
     return pthread_join(thread, result);
 }

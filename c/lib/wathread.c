@@ -19,14 +19,29 @@
 #include <unistd.h>
 #include <wathread.h>
 
+/* With --orders c11 locks are simulated as the program is (simulate.py), and what is marked so stays as it is: nobody else
+   sees what it touches, or it tells the runtime itself. */
+#include "orders.h"
+#ifdef ORDERS
+#pragma clang attribute push(__attribute__((disable_sanitizer_instrumentation)), apply_to = function)
+#endif
 #include "threads.c"
 #include "waits.c"
+#ifdef ORDERS
+#pragma clang attribute pop
+#endif
 #include "mutex.c"
 #include "condition.c"
 #include "locks.c"
+#ifdef ORDERS
+#pragma clang attribute push(__attribute__((disable_sanitizer_instrumentation)), apply_to = function)
+#endif
 #include "heap.c"
 #include "bytes.c"
 #include "numbers.c"
 #include "text.c"
+#ifdef ORDERS
+#pragma clang attribute pop
+#endif
 #include "cxx.c"
 #include "rust.c"
