@@ -98,6 +98,7 @@ static void release_view(int t, int l, view *v, int order) {
 static void write_message(int t, int l, int p, int order, int glued) {
     place *at = &orders.places[l];
     message *messages = orders.messages[l];
+    news = 1;
     if (at->count == MESSAGES)
         orders_full_of_messages__use_DORDERS_MESSAGES();
     if (p < at->count) {
@@ -127,7 +128,7 @@ INLINE int is_patient(int t, int l) {
 static void count_read(int t, int l, int p) {
     view *reads = &orders.reads[t];
     cell many = position(reads, l) == p ? reads->at[l] >> 8 : 0;
-    if (ORDERS_PATIENCE)
+    if (ORDERS_PATIENCE && p < orders.places[l].count - 1)
         put_cell(reads, l, (cell)p | (many < ORDERS_PATIENCE ? many + 1 : many) << 8);
 }
 
@@ -139,6 +140,45 @@ static void forget_counts(int t) {
             for (int l = w * PER_WORD; l < (w + 1) * PER_WORD; l++)
                 if (position(reads, l) != position(current, l))
                     put_cell(reads, l, 0);
+}
+
+/* ---- The same again: what a thread was told where it had no choice is told it again, as long as nobody has written a
+   message since. Nothing is known by it that wasn't known, so the tables aren't asked ---- */
+
+enum { TOLD = 4 };
+static _Thread_local struct { u32 at, how; u64 value; } told[TOLD]; /* how: the order, 8 times the logarithm of the size, and 64 */
+static _Thread_local u32 tolds;
+
+INLINE int told_how(int log, int order) { return 64 + 8 * log + order; }
+
+/* What is found, from 1 on, or 0. */
+static u32 find_told(u32 at, int how) {
+    u32 i = tolds;
+    while (i && (told[i - 1].at != at || told[i - 1].how != (u32)how))
+        i--;
+    return i;
+}
+
+INLINE int is_same(void) { return (atomic_load(&gate) & SAME(me())) != 0; }
+
+/* Inside. What was told before something was written is nothing. */
+static void tell(int t, u32 at, int how, u64 value) {
+    u32 i = tolds;
+    if (!(inside & SAME(t)) || news) {
+        while (i) {
+            i--;
+            told[i].at = told[i].how = 0;
+            told[i].value = 0;
+        }
+        tolds = 0;
+    }
+    if (news || i == TOLD)
+        return;
+    told[i].at = at;
+    told[i].how = how;
+    told[i].value = value;
+    tolds = i + 1;
+    noting = 1;
 }
 
 static void end_access(int t) {
@@ -154,10 +194,13 @@ enum { PLACE_SHIFT = 8, FAILED = 1 << 24 };
 INLINE message *message_of(int found) { return &orders.messages[(found & ~FAILED) >> PLACE_SHIFT][found & 255]; }
 INLINE int is_newest(int found) { return (found & 255) == orders.places[(found & ~FAILED) >> PLACE_SHIFT].count - 1; }
 
-static int begin_load(u32 at, int log, int order) {
-    begin_operation(at, LOADS);
+static int is_up_to_date; /* of who is inside: it has seen the newest message, and so had no choice */
+
+static int begin_load(u32 at, int log, int order, int in_vain) {
+    begin_operation(at, LOADS, in_vain);
     int t = me(), l = atomic_place(t, at, log, 0), newest = orders.places[l].count - 1, p = newest;
     int least = least_of(t, l, order);
+    is_up_to_date = comes_again && least == newest;
     if (least < newest) {
         if (least == position(&orders.current[t], l) && !is_patient(t, l))
             least++;
@@ -171,10 +214,15 @@ static int begin_load(u32 at, int log, int order) {
 INLINE u64 load(u32 at, int log, int order) {
     if (!parallel)
         return load_real(at, log);
-    int found = begin_load(at, log, order);
+    u32 i = find_told(at, told_how(log, order));
+    if (i && is_same())
+        return told[i - 1].value;
+    int found = begin_load(at, log, order, i != 0);
     u64 value = message_of(found)->value;
     if (!is_newest(found))
         load_real(at, log); /* a row with the newest one */
+    else if (is_up_to_date)
+        tell(me(), at, told_how(log, order), value);
     end_access(me());
     return value;
 }
@@ -191,7 +239,7 @@ static int position_of_store(int t, int l, int order) {
 }
 
 static int begin_store(u32 at, int log, int order) {
-    begin_operation(at, STORES);
+    begin_operation(at, STORES, 0);
     int t = me(), l = atomic_place(t, at, log, 1), p = position_of_store(t, l, order);
     write_message(t, l, p, order, 0);
     return l << PLACE_SHIFT | p;
@@ -267,10 +315,11 @@ static int choose_change(int t, int l, enum kind kind, u64 expected, int order, 
 
 /* The message that was read; the one behind it is that of the change. */
 static int begin_change(u32 at, int log, enum kind kind, u64 expected, int order, int failing) {
-    begin_operation(at, CHANGES);
+    begin_operation(at, CHANGES, 0);
     int t = me(), l = atomic_place(t, at, log, 1), p = choose_change(t, l, kind, expected, order, failing);
     int fails = p & FAILED;
     p &= ~FAILED;
+    is_up_to_date = comes_again && least_of(t, l, failing) == orders.places[l].count - 1;
     read_message(t, l, p, fails ? failing : order);
     if (fails)
         count_read(t, l, p);
@@ -294,12 +343,20 @@ INLINE u64 change_value(u32 at, int log, enum kind kind, u64 x, u64 expected, in
             last_failed = load_real(at, log) != expected;
         return change_alone(at, log, kind, x, expected);
     }
+    u32 i = kind < COMPARE ? 0 : find_told(at, told_how(log, failing));
+    if (i && told[i - 1].value != expected && is_same()) {
+        if (kind == COMPARE_WEAK && !last_failed)
+            last_failed = 1;
+        return told[i - 1].value;
+    }
     int found = begin_change(at, log, kind, expected, order, failing);
     message *m = message_of(found);
     u64 had = m->value, value = result(kind, had, x, log) & MASK(log);
     if (found & FAILED) {
         if (!is_newest(found))
             load_real(at, log);
+        else if (is_up_to_date && had != expected)
+            tell(me(), at, told_how(log, failing), had);
     } else {
         m[1].value = value;
         if (is_newest(found + 1))
@@ -326,7 +383,7 @@ static void join_psc(int t) {
 void __wathread_fence(int order) {
     if (!parallel || order == RELAXED)
         return;
-    begin_operation(0, FENCES);
+    begin_operation(0, FENCES, 0);
     int t = me();
     if (acquires(order)) {
         add(&orders.current[t], &orders.acquirable[t]);
@@ -358,7 +415,7 @@ void orders_start_begins(void) {
         slots[thread_self()] = slot = 0;
         fences = __wathread_fences();
     } else
-        begin_operation(0, OTHERS);
+        begin_operation(0, OTHERS, 0);
     for (chosen = 0; (running | ended) >> chosen & 1; chosen++)
         ;
     if (chosen >= THREADS)
@@ -425,7 +482,7 @@ void orders_ends(int thread, unsigned result) {
         tell_helper(OVER);
         return;
     }
-    begin_operation(0, OTHERS);
+    begin_operation(0, OTHERS, 0);
     int t = slots[thread], by = joiner[t] - 1;
     results[thread] = result;
     ended |= 1u << t;
@@ -453,15 +510,15 @@ void orders_ends(int thread, unsigned result) {
 int orders_has_ended(int thread) {
     if (!parallel)
         return 1;
-    begin_operation(0, OTHERS);
+    begin_operation(0, OTHERS, 0);
     int is = ended >> slots[thread] & 1;
-    leave();
+    leave(me());
     return is;
 }
 
 /* Where the time was over: whether the thread ended meanwhile all the same. */
 static int is_late(int t, int of) {
-    begin_operation(0, OTHERS);
+    begin_operation(0, OTHERS, 0);
     int late = joiner[of] == t + 1;
     if (late) {
         joiner[of] = 0;
@@ -469,12 +526,12 @@ static int is_late(int t, int of) {
         asleep[t] = 0;
         sleeping &= ~(1u << t);
     }
-    leave();
+    leave(me());
     return late;
 }
 
 int orders_joins(int thread, unsigned *result, long long nanoseconds) {
-    begin_operation(0, OTHERS);
+    begin_operation(0, OTHERS, 0);
     int t = me(), of = slots[thread];
     if (ended >> of & 1) {
         take_end(t, of);
@@ -493,7 +550,7 @@ int orders_joins(int thread, unsigned *result, long long nanoseconds) {
 }
 
 void orders_detached(int thread) {
-    begin_operation(0, OTHERS);
+    begin_operation(0, OTHERS, 0);
     int t = slots[thread];
     if (ended >> t & 1) {
         ended &= ~(1u << t);
@@ -514,7 +571,7 @@ static void unqueue(int i) {
 }
 
 static int ends_by_time(int t) {
-    begin_operation(0, OTHERS);
+    begin_operation(0, OTHERS, 0);
     int i = 0;
     while (i < THREADS && queue[i] != t + 1)
         i++;
@@ -523,15 +580,15 @@ static int ends_by_time(int t) {
         asleep[t] = 0;
         sleeping &= ~(1u << t);
     }
-    leave();
+    leave(me());
     return i < THREADS ? 2 : 0;
 }
 
 static int waits(u32 at, int log, u64 value, long long nanoseconds) {
-    begin_operation(at, WAITS);
+    begin_operation(at, WAITS, 0);
     int t = me(), differs = load_real(at, log) != value;
     if (differs || !nanoseconds) {
-        leave();
+        leave(me());
         return differs ? 1 : 2;
     }
     int i = 0;
@@ -539,7 +596,7 @@ static int waits(u32 at, int log, u64 value, long long nanoseconds) {
         i++;
     queue[i] = t + 1;
     falls_asleep(t, at);
-    leave();
+    leave(me());
     return sleeps(t, at, nanoseconds) == 2 ? ends_by_time(t) : 0;
 }
 
@@ -558,7 +615,7 @@ int __wathread_wait64(u32 word, long long value, long long nanoseconds) {
 unsigned __wathread_notify(u32 word, unsigned most) {
     if (!parallel)
         return 0;
-    begin_operation(word, WAITS);
+    begin_operation(word, WAITS, 0);
     unsigned many = 0;
     for (int i = 0; many < most && i < THREADS && queue[i];)
         if (asleep[queue[i] - 1] == word) {
@@ -569,7 +626,7 @@ unsigned __wathread_notify(u32 word, unsigned most) {
             many++;
         } else
             i++;
-    leave();
+    leave(me());
     return many;
 }
 
@@ -610,6 +667,7 @@ static void put_in_freed(u32 at, u32 size) {
 }
 
 static void forget_places(u32 at, u32 size, int touches) {
+    news = 1;
     for (int l = orders.count; l--;)
         if (orders.places[l].at - at < size) {
             if (touches)
@@ -621,10 +679,10 @@ static void forget_places(u32 at, u32 size, int touches) {
 void orders_freed(void *block, unsigned size) {
     if (!parallel)
         return;
-    begin_operation(0, OTHERS);
+    begin_operation(0, OTHERS, 0);
     forget_places((u32)block, size, 1);
     put_in_freed((u32)block, size);
-    leave();
+    leave(me());
 }
 
 /* With --reuse: what was freed is a new block, whose bytes nobody has touched. */
@@ -632,7 +690,7 @@ void orders_taken(void *block, unsigned size) {
     u32 at = (u32)block;
     if (!parallel)
         return;
-    begin_operation(0, OTHERS);
+    begin_operation(0, OTHERS, 0);
     for (int i = 0; i < FREED; i++) {
         u32 first = orders.freed[i].at, had = orders.freed[i].size;
         if (at - first >= had)
@@ -644,7 +702,7 @@ void orders_taken(void *block, unsigned size) {
             put_in_freed(at + size + FRONT, first + had - at - size - FRONT);
         break;
     }
-    leave();
+    leave(me());
 }
 
 void orders_reads(const void *from, unsigned size) { note((u32)from, size, READ); }

@@ -52,55 +52,74 @@ static u32 running, sleeping;
 
 /* ---- The gate: one thread at a time ----
 
-   An operation goes in where the gate is FREE, by one event, and gives it back by another. Who comes while somebody is
+   An operation goes in where the gate isn't HELD, by one event, and gives it back by another. Who comes while somebody is
    inside tries again, which is no new state. So that nobody tries for ever in vain, who is inside by something that it
-   did before, as in a loop, leaves the gate OPEN to be asked for: it's then given to those who asked, in turn. */
+   did before, as in a loop, leaves the gate OPEN to be asked for: it's then given to those who asked, in turn.
 
-enum { FREE, HELD, OPEN, TURN = 4, TURN_MASK = 0xFC, ASKS = 0x100 }; /* TURN times slot + 1; ASKS by slots */
-static _Atomic u32 gate;
-static u32 inside; /* what the gate was as the thread that is inside came in, or 0 where it was HELD alone */
+   The gate also has a bit for each thread that is told the same again where it asks the same again (orders.c): as long as
+   nobody writes a message. So a loop that waits for one is a loop of one event, by which nobody is kept out. */
+
+#define HELD 1ull
+#define OPEN 2ull
+#define TURN(t) (4ull * ((t) + 1)) /* whose turn it is: t plus 1, in five bits */
+#define TURN_MASK TURN(30)
+#define ASKS(t) (0x80ull << (t))
+#define ALL_ASKS (((1ull << THREADS) - 1) << 7)
+#define SAME(t) (0x80ull << (THREADS + (t)))
+#define ALL_SAME (((1ull << THREADS) - 1) << (7 + THREADS))
+static _Atomic u64 gate;
+static u64 inside;       /* what the gate was as the thread that is inside came in, without HELD */
+static int news, noting; /* of that one: there is a message or a place that wasn't; it will be told the same again */
 
 /* Who starts a thread stays inside until its next operation, as a start commutes with all that the new thread does. */
 static _Thread_local int stays;
 
+/* A function of its own, so that nothing of a try in vain is left in the frame: it would make more states. */
+static __attribute__((noinline)) int tries(int t, u64 mine) {
+    u64 was = atomic_fetch_or(&gate, mine);
+    if (!(was & HELD) || (was & TURN_MASK) == TURN(t)) {
+        was = (was | mine) & ~HELD;
+        if (was)
+            inside = was;
+        return 1;
+    }
+    if ((was | mine) & OPEN && !(was & ASKS(t)))
+        atomic_fetch_or(&gate, ASKS(t));
+    return 0;
+}
+
 static void enter(int t, int again) {
-    u32 mine = again ? HELD | OPEN : HELD, ask = ASKS << t;
-    if (stays) {
+    if (stays)
         stays = 0;
-        return;
-    }
-    for (u32 was = FREE; !atomic_compare_exchange_strong(&gate, &was, mine); was = FREE) {
-        if (was & OPEN && !(was & ask) && (was & TURN_MASK) != TURN * (t + 1u))
-            was = atomic_fetch_or(&gate, ask); /* it may be free by now: then this is what it's held by */
-        if (was == FREE || (was & TURN_MASK) == TURN * (t + 1u)) {
-            mine = was | ask;
-            break;
-        }
-    }
-    if (mine != HELD)
-        inside = mine;
+    else
+        while (!tries(t, again ? HELD | OPEN : HELD))
+            ;
 }
 
 /* What the gate is once T has left: the turn of the next one who asked. */
-static u32 turn_behind(int t, u32 was) {
-    u32 asked = was / ASKS & ~(1u << t);
+static u64 turn_behind(int t, u64 was, u64 same) {
+    u64 asked = was & ALL_ASKS & ~ASKS(t);
     if (!asked)
-        return FREE;
+        return same;
     do
         t = (t + 1) % THREADS;
-    while (!(asked >> t & 1));
-    return HELD | OPEN | TURN * (t + 1) | (asked & ~(1u << t)) * ASKS;
+    while (!(asked & ASKS(t)));
+    return HELD | OPEN | TURN(t) | (asked & ~ASKS(t)) | same;
 }
 
-static void leave(void) {
-    u32 was = inside;
-    if (!was) {
-        gate = FREE;
-        return;
-    }
-    inside = 0;
-    while (!atomic_compare_exchange_strong(&gate, &was, turn_behind(me(), was)))
-        ;
+static void leave(int t) {
+    u64 was = inside, same = news ? 0 : was & ALL_SAME;
+    if (noting)
+        same |= SAME(t);
+    if (news | noting)
+        news = noting = 0;
+    if (was)
+        inside = 0;
+    if (was & (OPEN | ALL_ASKS))
+        for (was |= HELD; !atomic_compare_exchange_strong(&gate, &was, turn_behind(t, was, same));)
+            ;
+    else
+        gate = same;
 }
 
 /* ---- The helper: a thread that makes choices come either way ----
@@ -117,22 +136,21 @@ static int over;                   /* a thread has failed: no more choices */
 __attribute__((import_module("wasi"), import_name("thread-spawn"))) int __wathread_spawn(int place);
 int __wathread_most(void);
 
-static int helps(int thread) {
-    for (;;) {
-        u32 was = ASKED;
-        atomic_compare_exchange_strong(&dice[thread], &was, YES);
-        if (was >= BECOMES)
-            return was - BECOMES;
-        if (was == OVER)
-            return -1;
-        if (was == RESTS)
-            __builtin_wasm_memory_atomic_wait32((int *)&dice[thread], RESTS, -1);
-    }
+/* As with the gate, nothing of it is left in the frame. */
+static __attribute__((noinline)) int helps(int thread) {
+    u32 was = ASKED;
+    atomic_compare_exchange_strong(&dice[thread], &was, YES);
+    if (was == RESTS)
+        __builtin_wasm_memory_atomic_wait32((int *)&dice[thread], RESTS, -1);
+    return was < OVER;
 }
 
 int orders_begins(int thread, int place) {
-    if (!place)
-        place = helps(thread);
+    if (!place) {
+        while (helps(thread))
+            ;
+        place = (int)dice[thread] - BECOMES;
+    }
     if (place >= 0)
         slot = slots_of_starts[place];
     return place;
@@ -199,7 +217,7 @@ static void fails_inside(void) {
     over = 1;
     is_gone(me());
     helper = 0;
-    leave();
+    leave(me());
 }
 
 /* In front of a trap that the program or the library asks for. */

@@ -45,6 +45,7 @@ static void touch_reading(int t, int l) {
 /* An atomic that is initialised anew has one message, and all have to know this write. */
 static void begin_anew(int l) {
     place *p = &orders.places[l];
+    news = 1;
     change_all(LOWER, l, 127);
     for (int m = p->count; --m;)
         clear_message(&orders.messages[l][m]);
@@ -122,8 +123,13 @@ static int is_again(u32 at, enum operation what) {
     return 0;
 }
 
-static void begin_operation(u32 at, enum operation what) {
-    enter(me(), what != OTHERS && is_again(at, what));
+static int comes_again; /* of who is inside: it may have done the same before */
+
+/* A load that comes again is one that may be told the same again: it opens the gate only where that was in vain. */
+static void begin_operation(u32 at, enum operation what, int in_vain) {
+    int again = what != OTHERS && is_again(at, what);
+    enter(me(), again && (what != LOADS || in_vain));
+    comes_again = again;
     look_at_noted();
 }
 
@@ -143,8 +149,8 @@ static void note(u32 at, u32 size, u32 kind) {
     if (!parallel || !size || (kind == READ && __wathread_is_constant(at)) || is_noted(at, what))
         return;
     if (noted == PENDING) {
-        begin_operation(0, OTHERS);
-        leave();
+        begin_operation(0, OTHERS, 0);
+        leave(me());
     }
     pending[noted].at = at;
     pending[noted].what = what;

@@ -276,6 +276,7 @@ static int new_place(u32 at, int log, int writer) {
 /* Makes two places of one that is touched in part. */
 static void split(int l) {
     place *p = &orders.places[l];
+    news = 1;
     if (p->count)
         atomics_of_mixed_sizes();
     p->log--;
@@ -312,5 +313,5 @@ static void clean(void) {
 
 static void end_operation(void) {
     clean();
-    leave();
+    leave(me());
 }
