@@ -68,6 +68,13 @@ static int least_of(int t, int l, int order) {
     return least > sc ? least : sc;
 }
 
+/* The same, but for what needs no choice. An SC store can't be moved in front of what others have made meanwhile. */
+static int least_chosen(int t, int l, int order, int stores) {
+    if (has_newer >> t & 1 && orders.newer[t].at[l] && !(stores && order == SEQ_CST))
+        return orders.places[l].count - 1;
+    return least_of(t, l, order);
+}
+
 /* ---- Messages are read and written ---- */
 
 static void read_message(int t, int l, int p, int order) {
@@ -101,7 +108,9 @@ static void write_message(int t, int l, int p, int order, int glued) {
     news = 1;
     if (at->count == MESSAGES)
         orders_full_of_messages__use_DORDERS_MESSAGES();
-    if (p < at->count) {
+    if (p == at->count)
+        mark_newer(t, l);
+    else {
         change_all(RAISE, l, p);
         for (int m = at->count; m > p; m--)
             copy_message(&messages[m], &messages[m - 1]);
@@ -161,17 +170,20 @@ static u32 find_told(u32 at, int how) {
 
 INLINE int is_same(void) { return (atomic_load(&gate) & SAME(me())) != 0; }
 
-/* Inside. What was told before something was written is nothing. */
-static void tell(int t, u32 at, int how, u64 value) {
-    u32 i = tolds;
-    if (!(inside & SAME(t)) || news) {
-        while (i) {
-            i--;
-            told[i].at = told[i].how = 0;
-            told[i].value = 0;
-        }
-        tolds = 0;
+/* What was told before something was written is nothing. */
+static void forget_what_was_told(void) {
+    u32 many = tolds;
+    if (!many)
+        return;
+    for (u32 i = 0; i < many; i++) {
+        told[i].at = told[i].how = 0;
+        told[i].value = 0;
     }
+    tolds = 0;
+}
+
+static void tell(u32 at, int how, u64 value) {
+    u32 i = tolds;
     if (news || i == TOLD)
         return;
     told[i].at = at;
@@ -182,6 +194,8 @@ static void tell(int t, u32 at, int how, u64 value) {
 }
 
 static void end_access(int t) {
+    if (news)
+        forget_what_was_told();
     forget_counts(t);
     end_operation();
 }
@@ -190,17 +204,16 @@ static void end_access(int t) {
    has the user's line behind those alone. ---- */
 
 /* A message in one number, since a struct would be on the stack. */
-enum { PLACE_SHIFT = 8, FAILED = 1 << 24 };
-INLINE message *message_of(int found) { return &orders.messages[(found & ~FAILED) >> PLACE_SHIFT][found & 255]; }
-INLINE int is_newest(int found) { return (found & 255) == orders.places[(found & ~FAILED) >> PLACE_SHIFT].count - 1; }
+enum { PLACE_SHIFT = 8, PLACE_MASK = 0xFFFF, FAILED = 1 << 24, TELLS = 1 << 25 };
+INLINE int place_in(int found) { return found >> PLACE_SHIFT & PLACE_MASK; }
+INLINE message *message_of(int found) { return &orders.messages[place_in(found)][found & 255]; }
+INLINE int is_newest(int found) { return (found & 255) == orders.places[place_in(found)].count - 1; }
 
-static int is_up_to_date; /* of who is inside: it has seen the newest message, and so had no choice */
-
+/* TELLS where the thread was here before, and had no choice. */
 static int begin_load(u32 at, int log, int order, int in_vain) {
-    begin_operation(at, LOADS, in_vain);
+    int again = begin_operation(at, LOADS, in_vain);
     int t = me(), l = atomic_place(t, at, log, 0), newest = orders.places[l].count - 1, p = newest;
-    int least = least_of(t, l, order);
-    is_up_to_date = comes_again && least == newest;
+    int least = least_chosen(t, l, order, 0);
     if (least < newest) {
         if (least == position(&orders.current[t], l) && !is_patient(t, l))
             least++;
@@ -208,7 +221,7 @@ static int begin_load(u32 at, int log, int order, int in_vain) {
     }
     read_message(t, l, p, order);
     count_read(t, l, p);
-    return l << PLACE_SHIFT | p;
+    return l << PLACE_SHIFT | p | (again && least == newest ? TELLS : 0);
 }
 
 INLINE u64 load(u32 at, int log, int order) {
@@ -221,15 +234,15 @@ INLINE u64 load(u32 at, int log, int order) {
     u64 value = message_of(found)->value;
     if (!is_newest(found))
         load_real(at, log); /* a row with the newest one */
-    else if (is_up_to_date)
-        tell(me(), at, told_how(log, order), value);
+    else if (found & TELLS)
+        tell(at, told_how(log, order), value);
     end_access(me());
     return value;
 }
 
 /* Where in modification order a store comes: not between a read-modify-write and what it read. */
 static int position_of_store(int t, int l, int order) {
-    int count = orders.places[l].count, p = count, least = least_of(t, l, order), many = 1;
+    int count = orders.places[l].count, p = count, least = least_chosen(t, l, order, 1), many = 1;
     for (int q = least + 1; q < count; q++)
         many += !orders.messages[l][q].glued;
     for (int skip = many > 1 ? choose(many) : 0; skip; skip--)
@@ -285,14 +298,14 @@ static u64 result(enum kind kind, u64 had, u64 x, int log) {
 /* Whether a message may be read by one that succeeds: no other may have read it. */
 static int can_change(int t, int l, int q, enum kind kind, u64 expected, int order) {
     const message *m = orders.messages[l];
-    return q >= least_of(t, l, order) && (kind < COMPARE || m[q].value == expected) &&
+    return q >= least_chosen(t, l, order, 1) && (kind < COMPARE || m[q].value == expected) &&
            (q == orders.places[l].count - 1 || !m[q + 1].glued);
 }
 
 /* The same of one that fails, which is a load: of another value, or for nothing where it's weak. */
 static int can_fail(int t, int l, int q, enum kind kind, u64 expected, int order) {
     int newest = orders.places[l].count - 1, oldest = position(&orders.current[t], l);
-    if (kind < COMPARE || q < least_of(t, l, order))
+    if (kind < COMPARE || q < least_chosen(t, l, order, 0))
         return 0;
     if (orders.messages[l][q].value == expected)
         return kind == COMPARE_WEAK && (q != oldest || is_patient(t, l)) && !over;
@@ -315,20 +328,21 @@ static int choose_change(int t, int l, enum kind kind, u64 expected, int order, 
 
 /* The message that was read; the one behind it is that of the change. */
 static int begin_change(u32 at, int log, enum kind kind, u64 expected, int order, int failing) {
-    begin_operation(at, CHANGES, 0);
+    int again = begin_operation(at, CHANGES, 0);
     int t = me(), l = atomic_place(t, at, log, 1), p = choose_change(t, l, kind, expected, order, failing);
     int fails = p & FAILED;
     p &= ~FAILED;
-    is_up_to_date = comes_again && least_of(t, l, failing) == orders.places[l].count - 1;
+    if (fails && again && least_of(t, l, failing) == orders.places[l].count - 1)
+        fails |= TELLS;
     read_message(t, l, p, fails ? failing : order);
     if (fails)
         count_read(t, l, p);
     else
         write_message(t, l, p + 1, order, 1);
-    return l << PLACE_SHIFT | p | fails;
+    return l << PLACE_SHIFT | p | fails; /* fails: FAILED and TELLS */
 }
 
-static _Thread_local int last_failed; /* the last weak compare-exchange */
+static _Thread_local int last_failed; /* the last weak compare-exchange, until that is asked for */
 
 INLINE u64 change_alone(u32 at, int log, enum kind kind, u64 x, u64 expected) {
     u64 had = load_real(at, log);
@@ -339,13 +353,13 @@ INLINE u64 change_alone(u32 at, int log, enum kind kind, u64 x, u64 expected) {
 
 INLINE u64 change_value(u32 at, int log, enum kind kind, u64 x, u64 expected, int order, int failing) {
     if (!parallel) {
-        if (kind == COMPARE_WEAK)
-            last_failed = load_real(at, log) != expected;
+        if (kind == COMPARE_WEAK && load_real(at, log) != expected)
+            last_failed = 1;
         return change_alone(at, log, kind, x, expected);
     }
     u32 i = kind < COMPARE ? 0 : find_told(at, told_how(log, failing));
     if (i && told[i - 1].value != expected && is_same()) {
-        if (kind == COMPARE_WEAK && !last_failed)
+        if (kind == COMPARE_WEAK)
             last_failed = 1;
         return told[i - 1].value;
     }
@@ -355,15 +369,15 @@ INLINE u64 change_value(u32 at, int log, enum kind kind, u64 x, u64 expected, in
     if (found & FAILED) {
         if (!is_newest(found))
             load_real(at, log);
-        else if (is_up_to_date && had != expected)
-            tell(me(), at, told_how(log, failing), had);
+        else if (found & TELLS && had != expected)
+            tell(at, told_how(log, failing), had);
     } else {
         m[1].value = value;
         if (is_newest(found + 1))
             store_real(at, log, value);
     }
-    if (kind == COMPARE_WEAK && last_failed != !!(found & FAILED))
-        last_failed = !last_failed;
+    if (kind == COMPARE_WEAK && found & FAILED)
+        last_failed = 1;
     end_access(me());
     return had;
 }
@@ -448,6 +462,7 @@ static void forget_views(int t) {
     clear(&orders.acquirable[t]);
     clear(&orders.released[t]);
     clear(&orders.reads[t]);
+    unmark_newer(t);
 #if ORDERS_C11_SEQUENCES
     for (int l = 0; l < PLACES; l++)
         clear(&orders.sequences[t][l]);
@@ -724,6 +739,11 @@ ATOMICS(16, 1, u32)
 ATOMICS(32, 2, u32)
 ATOMICS(64, 3, u64)
 
-int __wathread_failed(void) { return last_failed; }
+int __wathread_failed(void) {
+    int failed = last_failed;
+    if (failed)
+        last_failed = 0;
+    return failed;
+}
 void __wathread_reads(u32 at, u32 size) { note(at, size, READ); }
 void __wathread_writes(u32 at, u32 size) { note(at, size, WRITE); }

@@ -123,14 +123,17 @@ static int is_again(u32 at, enum operation what) {
     return 0;
 }
 
-static int comes_again; /* of who is inside: it may have done the same before */
+static void forget_what_was_told(void);
 
-/* A load that comes again is one that may be told the same again: it opens the gate only where that was in vain. */
-static void begin_operation(u32 at, enum operation what, int in_vain) {
-    int again = what != OTHERS && is_again(at, what);
-    enter(me(), again && (what != LOADS || in_vain));
-    comes_again = again;
+/* Answers whether the thread may have done the same before. A load that comes again is one that may be told the same again:
+   it opens the gate only where that was in vain. */
+static int begin_operation(u32 at, enum operation what, int in_vain) {
+    int t = me(), again = what != OTHERS && is_again(at, what);
+    enter(t, again && (what != LOADS || in_vain));
+    if (!(inside & SAME(t)))
+        forget_what_was_told();
     look_at_noted();
+    return again;
 }
 
 /* Whether it's said already, or by more: a write says more than a read. */

@@ -35,11 +35,15 @@ static struct {
     view acquirable[THREADS], released[THREADS]; /* by its next acquire fence; since its last release fence */
     view psc;                                  /* positions alone: where sequentially consistent ones have come to */
     view reads[THREADS];                       /* how often a thread read the oldest message it may: above its position */
+    view newer[THREADS];                       /* NEWER: all that it hasn't seen came since its last operation */
     struct { u32 at, size; } freed[FREED];
 #if ORDERS_C11_SEQUENCES
     view sequences[THREADS][PLACES];           /* what a thread's later stores to a place release */
 #endif
 } orders;
+
+#define NEWER ((cell)0x100)
+static u32 has_newer; /* who has such marks: bits by slots */
 
 static u32 ended;   /* and not joined: bits by slots */
 static u32 joining; /* who waits for a thread's end, and will know what that knows */
@@ -135,6 +139,8 @@ static void change_all(enum change what, int l, int n) {
             change(&orders.current[t], what, l, n);
             if (what != FORGET)
                 change(&orders.reads[t], what, l, n);
+            if (what > FORGET && has_newer >> t & 1)
+                change(&orders.newer[t], what, l, n);
             if (fences) {
                 change(&orders.acquirable[t], what, l, n);
                 change(&orders.released[t], what, l, n);
@@ -282,6 +288,27 @@ static void split(int l) {
     p->log--;
     put_in(l + 1, end_of(p), p->log, p->readers);
     change_all(SAME_AS_BEFORE, l + 1, 0);
+}
+
+/* ---- Messages that came since a thread's last operation. To read an older one now, or to store in front of one, is what
+   the thread could have done before that came: so that needs no choice, since a search goes through that order too ---- */
+
+static void mark_newer(int by, int l) {
+    u32 others = running & ~sleeping & ~(1u << by);
+    for (int t = 0; others >> t; t++)
+        if (others >> t & 1 && position(&orders.current[t], l) == orders.places[l].count - 1) {
+            put_cell(&orders.newer[t], l, NEWER);
+            if (!(has_newer >> t & 1))
+                has_newer |= 1u << t;
+        }
+}
+
+static void unmark_newer(int t) {
+    if (!(has_newer >> t & 1))
+        return;
+    has_newer &= ~(1u << t);
+    for (int w = words_used(); w--;)
+        put(&orders.newer[t].words[w], 0);
 }
 
 /* ---- Messages that nobody can read any more ---- */
