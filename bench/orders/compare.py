@@ -13,7 +13,7 @@ import subprocess
 import sys
 import tempfile
 from axioms import outcomes, places_of
-from tests import classic, random_test
+from tests import KNOWN, classic, random_test
 
 HERE = os.path.dirname(os.path.abspath(__file__))
 ROOT = os.path.dirname(os.path.dirname(HERE))

@@ -70,7 +70,7 @@ static int least_of(int t, int l, int order) {
 
 /* The same, but for what needs no choice. An SC store can't be moved in front of what others have made meanwhile. */
 static int least_chosen(int t, int l, int order, int stores) {
-    if (has_newer >> t & 1 && orders.newer[t].at[l] && !(stores && order == SEQ_CST))
+    if (marked >> t & 1 && orders.newer[t].at[l] && !(stores && order == SEQ_CST))
         return orders.places[l].count - 1;
     return least_of(t, l, order);
 }
@@ -210,8 +210,8 @@ INLINE message *message_of(int found) { return &orders.messages[place_in(found)]
 INLINE int is_newest(int found) { return (found & 255) == orders.places[place_in(found)].count - 1; }
 
 /* TELLS where the thread was here before, and had no choice. */
-static int begin_load(u32 at, int log, int order, int in_vain) {
-    int again = begin_operation(at, LOADS, in_vain);
+static int begin_load(u32 at, int log, int order) {
+    int again = begin_operation(at, LOADS);
     int t = me(), l = atomic_place(t, at, log, 0), newest = orders.places[l].count - 1, p = newest;
     int least = least_chosen(t, l, order, 0);
     if (least < newest) {
@@ -230,7 +230,7 @@ INLINE u64 load(u32 at, int log, int order) {
     u32 i = find_told(at, told_how(log, order));
     if (i && is_same())
         return told[i - 1].value;
-    int found = begin_load(at, log, order, i != 0);
+    int found = begin_load(at, log, order);
     u64 value = message_of(found)->value;
     if (!is_newest(found))
         load_real(at, log); /* a row with the newest one */
@@ -252,7 +252,7 @@ static int position_of_store(int t, int l, int order) {
 }
 
 static int begin_store(u32 at, int log, int order) {
-    begin_operation(at, STORES, 0);
+    begin_operation(at, STORES);
     int t = me(), l = atomic_place(t, at, log, 1), p = position_of_store(t, l, order);
     write_message(t, l, p, order, 0);
     return l << PLACE_SHIFT | p;
@@ -328,7 +328,7 @@ static int choose_change(int t, int l, enum kind kind, u64 expected, int order, 
 
 /* The message that was read; the one behind it is that of the change. */
 static int begin_change(u32 at, int log, enum kind kind, u64 expected, int order, int failing) {
-    int again = begin_operation(at, CHANGES, 0);
+    int again = begin_operation(at, CHANGES);
     int t = me(), l = atomic_place(t, at, log, 1), p = choose_change(t, l, kind, expected, order, failing);
     int fails = p & FAILED;
     p &= ~FAILED;
@@ -397,7 +397,7 @@ static void join_psc(int t) {
 void __wathread_fence(int order) {
     if (!parallel || order == RELAXED)
         return;
-    begin_operation(0, FENCES, 0);
+    begin_operation(0, FENCES);
     int t = me();
     if (acquires(order)) {
         add(&orders.current[t], &orders.acquirable[t]);
@@ -429,7 +429,7 @@ void orders_start_begins(void) {
         slots[thread_self()] = slot = 0;
         fences = __wathread_fences();
     } else
-        begin_operation(0, OTHERS, 0);
+        begin_operation(0, OTHERS);
     for (chosen = 0; (running | ended) >> chosen & 1; chosen++)
         ;
     if (chosen >= THREADS)
@@ -462,7 +462,7 @@ static void forget_views(int t) {
     clear(&orders.acquirable[t]);
     clear(&orders.released[t]);
     clear(&orders.reads[t]);
-    unmark_newer(t);
+    unmark(t);
 #if ORDERS_C11_SEQUENCES
     for (int l = 0; l < PLACES; l++)
         clear(&orders.sequences[t][l]);
@@ -497,7 +497,7 @@ void orders_ends(int thread, unsigned result) {
         tell_helper(OVER);
         return;
     }
-    begin_operation(0, OTHERS, 0);
+    begin_operation(0, OTHERS);
     int t = slots[thread], by = joiner[t] - 1;
     results[thread] = result;
     ended |= 1u << t;
@@ -525,7 +525,7 @@ void orders_ends(int thread, unsigned result) {
 int orders_has_ended(int thread) {
     if (!parallel)
         return 1;
-    begin_operation(0, OTHERS, 0);
+    begin_operation(0, OTHERS);
     int is = ended >> slots[thread] & 1;
     leave(me());
     return is;
@@ -533,7 +533,7 @@ int orders_has_ended(int thread) {
 
 /* Where the time was over: whether the thread ended meanwhile all the same. */
 static int is_late(int t, int of) {
-    begin_operation(0, OTHERS, 0);
+    begin_operation(0, OTHERS);
     int late = joiner[of] == t + 1;
     if (late) {
         joiner[of] = 0;
@@ -546,7 +546,7 @@ static int is_late(int t, int of) {
 }
 
 int orders_joins(int thread, unsigned *result, long long nanoseconds) {
-    begin_operation(0, OTHERS, 0);
+    begin_operation(0, OTHERS);
     int t = me(), of = slots[thread];
     if (ended >> of & 1) {
         take_end(t, of);
@@ -565,7 +565,7 @@ int orders_joins(int thread, unsigned *result, long long nanoseconds) {
 }
 
 void orders_detached(int thread) {
-    begin_operation(0, OTHERS, 0);
+    begin_operation(0, OTHERS);
     int t = slots[thread];
     if (ended >> t & 1) {
         ended &= ~(1u << t);
@@ -586,7 +586,7 @@ static void unqueue(int i) {
 }
 
 static int ends_by_time(int t) {
-    begin_operation(0, OTHERS, 0);
+    begin_operation(0, OTHERS);
     int i = 0;
     while (i < THREADS && queue[i] != t + 1)
         i++;
@@ -600,7 +600,7 @@ static int ends_by_time(int t) {
 }
 
 static int waits(u32 at, int log, u64 value, long long nanoseconds) {
-    begin_operation(at, WAITS, 0);
+    begin_operation(at, WAITS);
     int t = me(), differs = load_real(at, log) != value;
     if (differs || !nanoseconds) {
         leave(me());
@@ -630,7 +630,7 @@ int __wathread_wait64(u32 word, long long value, long long nanoseconds) {
 unsigned __wathread_notify(u32 word, unsigned most) {
     if (!parallel)
         return 0;
-    begin_operation(word, WAITS, 0);
+    begin_operation(word, WAITS);
     unsigned many = 0;
     for (int i = 0; many < most && i < THREADS && queue[i];)
         if (asleep[queue[i] - 1] == word) {
@@ -694,7 +694,7 @@ static void forget_places(u32 at, u32 size, int touches) {
 void orders_freed(void *block, unsigned size) {
     if (!parallel)
         return;
-    begin_operation(0, OTHERS, 0);
+    begin_operation(0, OTHERS);
     forget_places((u32)block, size, 1);
     put_in_freed((u32)block, size);
     leave(me());
@@ -705,7 +705,7 @@ void orders_taken(void *block, unsigned size) {
     u32 at = (u32)block;
     if (!parallel)
         return;
-    begin_operation(0, OTHERS, 0);
+    begin_operation(0, OTHERS);
     for (int i = 0; i < FREED; i++) {
         u32 first = orders.freed[i].at, had = orders.freed[i].size;
         if (at - first >= had)

@@ -107,11 +107,11 @@ static u64 turn_behind(int t, u64 was, u64 same) {
     return HELD | OPEN | TURN(t) | (asked & ~ASKS(t)) | same;
 }
 
-static void unmark_newer(int t); /* orders_tables.h */
+static void unmark(int t); /* orders_tables.h */
 
 static void leave(int t) {
-    unmark_newer(t);
     u64 was = inside, same = news ? 0 : was & ALL_SAME;
+    unmark(t);
     if (noting)
         same |= SAME(t);
     if (news | noting)
@@ -202,7 +202,7 @@ static int sleeps(int t, u32 what, long long nanoseconds) {
 }
 
 static void wakes(int t) {
-    unmark_newer(t);
+    unmark(t);
     __atomic_store_n(&asleep[t], 0, __ATOMIC_SEQ_CST);
     __builtin_wasm_memory_atomic_notify((int *)&asleep[t], 1);
 }

@@ -125,11 +125,11 @@ static int is_again(u32 at, enum operation what) {
 
 static void forget_what_was_told(void);
 
-/* Answers whether the thread may have done the same before. A load that comes again is one that may be told the same again:
-   it opens the gate only where that was in vain. */
-static int begin_operation(u32 at, enum operation what, int in_vain) {
+/* Answers whether the thread may have done the same before. A load that comes again opens the gate to nobody: it may be told
+   the same again, and then keeps nobody out. */
+static int begin_operation(u32 at, enum operation what) {
     int t = me(), again = what != OTHERS && is_again(at, what);
-    enter(t, again && (what != LOADS || in_vain));
+    enter(t, again && what != LOADS);
     if (!(inside & SAME(t)))
         forget_what_was_told();
     look_at_noted();
@@ -152,7 +152,7 @@ static void note(u32 at, u32 size, u32 kind) {
     if (!parallel || !size || (kind == READ && __wathread_is_constant(at)) || is_noted(at, what))
         return;
     if (noted == PENDING) {
-        begin_operation(0, OTHERS, 0);
+        begin_operation(0, OTHERS);
         leave(me());
     }
     pending[noted].at = at;

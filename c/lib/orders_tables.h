@@ -42,8 +42,8 @@ static struct {
 #endif
 } orders;
 
-#define NEWER ((cell)0x100)
-static u32 has_newer; /* who has such marks: bits by slots */
+enum { NEWER = 0x100 };
+static u32 marked; /* who has such marks: bits by slots */
 
 static u32 ended;   /* and not joined: bits by slots */
 static u32 joining; /* who waits for a thread's end, and will know what that knows */
@@ -139,7 +139,7 @@ static void change_all(enum change what, int l, int n) {
             change(&orders.current[t], what, l, n);
             if (what != FORGET)
                 change(&orders.reads[t], what, l, n);
-            if (what > FORGET && has_newer >> t & 1)
+            if (what > FORGET && marked >> t & 1)
                 change(&orders.newer[t], what, l, n);
             if (fences) {
                 change(&orders.acquirable[t], what, l, n);
@@ -298,15 +298,15 @@ static void mark_newer(int by, int l) {
     for (int t = 0; others >> t; t++)
         if (others >> t & 1 && position(&orders.current[t], l) == orders.places[l].count - 1) {
             put_cell(&orders.newer[t], l, NEWER);
-            if (!(has_newer >> t & 1))
-                has_newer |= 1u << t;
+            if (!(marked >> t & 1))
+                marked |= 1u << t;
         }
 }
 
-static void unmark_newer(int t) {
-    if (!(has_newer >> t & 1))
+static void unmark(int t) {
+    if (!(marked >> t & 1))
         return;
-    has_newer &= ~(1u << t);
+    marked &= ~(1u << t);
     for (int w = words_used(); w--;)
         put(&orders.newer[t].words[w], 0);
 }

@@ -41,6 +41,7 @@ thread_leaves:
 	.globaltype	thread_result, i32
 thread_result:
 	.functype	__wathread_begin (i32, i32) -> ()
+	.functype	__wathread_traps () -> ()
 
 	.section	.text.wasi_thread_start,"",@
 	.globl	wasi_thread_start
@@ -117,7 +118,8 @@ __wathread_result:
 	end_function
 
 # What -finstrument-function-entry-bare calls in each function once that has its frame: a trap where the stack is too
-# small. It makes no event, and costs six units. In traces it is called `stack_overflow`.
+# small. It makes no event, and costs six units. In traces it is called `stack_overflow`. With --orders c11 the line that
+# begins so is code.
 	.section	.text.__cyg_profile_func_enter_bare,"",@
 	.globl	__cyg_profile_func_enter_bare
 	.type	__cyg_profile_func_enter_bare,@function
@@ -127,6 +129,7 @@ __cyg_profile_func_enter_bare:
 	global.get	thread_limit
 	i32.lt_s
 	if
+#orders	call	__wathread_traps
 	unreachable
 	end_if
 	end_function
