@@ -69,6 +69,7 @@ SINGLE = {
     'MP+rs+store': [[W('x', 1, 'rlx'), W('y', 1, 'rel'), W('y', 2, 'rlx')], [R('y', 'acq'), R('x', 'rlx')]],
     'MP+rs+frel+rmw': [[W('x', 1, 'rlx'), F('rel'), W('y', 1, 'rlx')], [A('y', 'rlx')], [R('y', 'acq'), R('x', 'rlx')]],
     'CoRR2+rlx': [[W('x', 1, 'rlx')], [W('x', 2, 'rlx')], [R('x', 'rlx'), R('x', 'rlx')], [R('x', 'rlx'), R('x', 'rlx')]],
+    'CoRR3+rlx': [[W('x', 1, 'rlx')], [R('x', 'rlx'), R('x', 'rlx'), R('x', 'rlx')]],
     'WRC+all+rel+acq': [[W('x', 1, 'rel')], [R('x', 'acq'), W('y', 1, 'rel')], [R('y', 'acq'), R('x', 'rlx')]],
     # Lahav and others, 2017, 1.1
     'Z6+sc+rel+rlx': [[W('x', 1, 'sc'), W('y', 1, 'rel')], [A('y', 'sc'), R('y', 'rlx')], [W('y', 3, 'sc'), R('x', 'sc')]],

@@ -224,6 +224,15 @@ static int begin_load(u32 at, int log, int order) {
     return l << PLACE_SHIFT | p | (again && least == newest ? TELLS : 0);
 }
 
+/* What was read where a newer message is there: a row of `show` has it, and the next one the newest. */
+static volatile u64 reads_old;
+
+INLINE void show_old(u32 at, int log, u64 value) {
+    reads_old = value;
+    load_real(at, log);
+    reads_old = 0;
+}
+
 INLINE u64 load(u32 at, int log, int order) {
     if (!parallel)
         return load_real(at, log);
@@ -233,7 +242,7 @@ INLINE u64 load(u32 at, int log, int order) {
     int found = begin_load(at, log, order);
     u64 value = message_of(found)->value;
     if (!is_newest(found))
-        load_real(at, log); /* a row with the newest one */
+        show_old(at, log, value);
     else if (found & TELLS)
         tell(at, told_how(log, order), value);
     end_access(me());
@@ -368,7 +377,7 @@ INLINE u64 change_value(u32 at, int log, enum kind kind, u64 x, u64 expected, in
     u64 had = m->value, value = result(kind, had, x, log) & MASK(log);
     if (found & FAILED) {
         if (!is_newest(found))
-            load_real(at, log);
+            show_old(at, log, had);
         else if (found & TELLS && had != expected)
             tell(at, told_how(log, failing), had);
     } else {

@@ -235,8 +235,8 @@ void __wathread_traps(void) {
 
 #define TRAPS __attribute__((noinline, noreturn)) static void
 #define FAILS { fails_inside(); __builtin_trap(); }
-static u32 raced; /* the address of a data race, for `show --addr` */
-TRAPS data_race(u32 at) { raced = at; fails_inside(); __builtin_trap(); }
+/* The load is a row that has the name of the data. */
+TRAPS data_race(u32 at) { (void)*(volatile u8 *)at; fails_inside(); __builtin_trap(); }
 TRAPS use_after_free(void) FAILS
 TRAPS atomics_of_mixed_sizes(void) FAILS
 TRAPS orders_full_of_places__use_DORDERS_PLACES(void) FAILS
