@@ -105,7 +105,7 @@ def found_by_wathread(wasm, name, test, how):
     text = subprocess.run(words, capture_output=True, text=True).stdout
     many = sum(i[0] not in 'WF' for t in test for i in t) + len(places_of(test))
     found = {digits(int(v), many) for v in re.findall(r'thread 0: ok i32:(\d+)', text)}
-    if 'trap' in text:
+    if 'trap' in text or re.search(r'(?m)^race: ', text):
         found.add('race')
     whole = re.search(r'(?m)^all: .*?(\d+) states', text)
     odd = [line for line in text.split('\n') if 'stop' in line and 'trap' not in line]
