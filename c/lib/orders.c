@@ -201,7 +201,7 @@ static void end_access(int t) {
 }
 
 /* ---- Loads and stores. The value itself is read or written in the function that the compiler calls: a row of `show`
-   has the user's line behind those alone. ---- */
+   has the user's line behind those alone. The newest one is read at the variable's own place ---- */
 
 /* A message in one number, since a struct would be on the stack. */
 enum { PLACE_SHIFT = 8, PLACE_MASK = 0xFFFF, FAILED = 1 << 24, TELLS = 1 << 25 };
@@ -239,9 +239,9 @@ INLINE u64 load(u32 at, int log, int order) {
     u32 i = find_told(at, told_how(log, order));
     if (i && is_same())
         return told[i - 1].value;
-    int found = begin_load(at, log, order);
-    u64 value = message_of(found)->value;
-    if (!is_newest(found))
+    int found = begin_load(at, log, order), newest = is_newest(found);
+    u64 value = newest ? load_real(at, log) : message_of(found)->value;
+    if (!newest)
         show_old(at, log, value);
     else if (found & TELLS)
         tell(at, told_how(log, order), value);
@@ -374,7 +374,7 @@ INLINE u64 change_value(u32 at, int log, enum kind kind, u64 x, u64 expected, in
     }
     int found = begin_change(at, log, kind, expected, order, failing);
     message *m = message_of(found);
-    u64 had = m->value, value = result(kind, had, x, log) & MASK(log);
+    u64 had = found & FAILED && is_newest(found) ? load_real(at, log) : m->value, value = result(kind, had, x, log) & MASK(log);
     if (found & FAILED) {
         if (!is_newest(found))
             show_old(at, log, had);

@@ -18,7 +18,7 @@ ending() {
     grep -q 'found in run' "$work/out" || { echo ok && return; }
     "$WATHREAD" show "$work/m.wasm" "$work/r" --at trap 2>/dev/null |
         grep -oE 'data_race|use_after_free|atomics_of_mixed_sizes|orders_full_of_[a-z]+' | head -1 | grep . && return
-    grep -oE 'trap|asleep' "$work/out" | head -1
+    sed '1,/^found in/d' "$work/out" | grep -oE 'trap|asleep' | sort -r | head -1
 }
 
 build() { "$1/wathread-cc" --orders c11 -w --threads 6 --pool 1024 "${@:2}" -o "$work/m.wasm" || wrong=1; }
