@@ -83,6 +83,10 @@ int pthread_mutex_lock(pthread_mutex_t *m);
 int pthread_mutex_trylock(pthread_mutex_t *m);
 int pthread_mutex_timedlock(pthread_mutex_t *m, const struct timespec *until);
 int pthread_mutex_unlock(pthread_mutex_t *m);
+static inline int pthread_mutex_clocklock(pthread_mutex_t *m, clockid_t clock, const struct timespec *until) {
+    (void)clock; /* all clocks are one */
+    return pthread_mutex_timedlock(m, until);
+}
 int pthread_mutexattr_init(pthread_mutexattr_t *a);
 int pthread_mutexattr_destroy(pthread_mutexattr_t *a);
 int pthread_mutexattr_settype(pthread_mutexattr_t *a, int kind);
@@ -94,6 +98,11 @@ int pthread_cond_init(pthread_cond_t *c, const pthread_condattr_t *attr);
 int pthread_cond_destroy(pthread_cond_t *c);
 int pthread_cond_wait(pthread_cond_t *c, pthread_mutex_t *m);
 int pthread_cond_timedwait(pthread_cond_t *c, pthread_mutex_t *m, const struct timespec *until);
+static inline int pthread_cond_clockwait(pthread_cond_t *c, pthread_mutex_t *m, clockid_t clock,
+                                         const struct timespec *until) {
+    (void)clock;
+    return pthread_cond_timedwait(c, m, until);
+}
 int pthread_cond_signal(pthread_cond_t *c);
 int pthread_cond_broadcast(pthread_cond_t *c);
 static inline int pthread_condattr_init(pthread_condattr_t *a) { a->clock = CLOCK_REALTIME; return 0; }
@@ -109,6 +118,14 @@ int pthread_rwlock_timedrdlock(pthread_rwlock_t *l, const struct timespec *until
 int pthread_rwlock_wrlock(pthread_rwlock_t *l);
 int pthread_rwlock_trywrlock(pthread_rwlock_t *l);
 int pthread_rwlock_timedwrlock(pthread_rwlock_t *l, const struct timespec *until);
+static inline int pthread_rwlock_clockrdlock(pthread_rwlock_t *l, clockid_t clock, const struct timespec *until) {
+    (void)clock;
+    return pthread_rwlock_timedrdlock(l, until);
+}
+static inline int pthread_rwlock_clockwrlock(pthread_rwlock_t *l, clockid_t clock, const struct timespec *until) {
+    (void)clock;
+    return pthread_rwlock_timedwrlock(l, until);
+}
 int pthread_rwlock_unlock(pthread_rwlock_t *l);
 static inline int pthread_rwlockattr_init(pthread_rwlockattr_t *a) { a->unused = 0; return 0; }
 static inline int pthread_rwlockattr_destroy(pthread_rwlockattr_t *a) { (void)a; return 0; }

@@ -8,14 +8,23 @@ void *_Znwm(unsigned long n) {
     return block;
 }
 
+void *_ZnwmSt11align_val_t(unsigned long n, unsigned long alignment) {
+    void *block = aligned_alloc(alignment, n);
+    if (!block)
+        __builtin_trap();
+    return block;
+}
+
 void *_Znam(unsigned long n) { return _Znwm(n); }
-void *_ZnwmSt11align_val_t(unsigned long n, unsigned long alignment) { (void)alignment; return _Znwm(n); }
+void *_ZnamSt11align_val_t(unsigned long n, unsigned long alignment) { return _ZnwmSt11align_val_t(n, alignment); }
 void _ZdlPv(void *block) { free(block); }
 void _ZdaPv(void *block) { free(block); }
 void _ZdlPvm(void *block, unsigned long n) { (void)n, free(block); }
 void _ZdaPvm(void *block, unsigned long n) { (void)n, free(block); }
 void _ZdlPvSt11align_val_t(void *block, unsigned long alignment) { (void)alignment, free(block); }
+void _ZdaPvSt11align_val_t(void *block, unsigned long alignment) { (void)alignment, free(block); }
 void _ZdlPvmSt11align_val_t(void *block, unsigned long n, unsigned long alignment) { (void)n, (void)alignment, free(block); }
+void _ZdaPvmSt11align_val_t(void *block, unsigned long n, unsigned long alignment) { (void)n, (void)alignment, free(block); }
 
 _Noreturn void __cxa_pure_virtual(void) { __builtin_trap(); }
 
