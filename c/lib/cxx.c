@@ -70,11 +70,41 @@ static void call_destroys(void) {
     }
 }
 
+static __attribute__((noinline)) _Noreturn void too_many_destructors(void) { __builtin_trap(); }
+
 int __cxa_atexit(void (*function)(void *), void *arg, void *handle) {
     (void)handle;
-    if (thread_self() || destroys_left == MOST_AT_EXIT || (!destroys_left && atexit(call_destroys)))
+    if (thread_self() || (!destroys_left && atexit(call_destroys)))
         return -1;
+    if (destroys_left == MOST_AT_EXIT)
+        too_many_destructors();
     destroys[destroys_left].function = function;
     destroys[destroys_left++].arg = arg;
+    return 0;
+}
+
+/* Those of thread-local variables at the end of their thread, before what keys and atexit have called. */
+static _Thread_local struct { void (*function)(void *); void *arg; } own_destroys[MOST_AT_EXIT];
+static _Thread_local int own_destroys_left;
+
+static void call_own_destroys(void) {
+    while (own_destroys_left) {
+        int last = --own_destroys_left;
+        own_destroys[last].function(own_destroys[last].arg);
+    }
+    if (behind_its_end)
+        behind_its_end();
+}
+
+int __cxa_thread_atexit(void (*function)(void *), void *arg, void *handle) {
+    (void)handle;
+    if (own_destroys_left == MOST_AT_EXIT)
+        too_many_destructors();
+    if (at_its_end != call_own_destroys) {
+        behind_its_end = at_its_end;
+        at_its_end = call_own_destroys;
+    }
+    own_destroys[own_destroys_left].function = function;
+    own_destroys[own_destroys_left++].arg = arg;
     return 0;
 }

@@ -23,8 +23,8 @@ static _Atomic int last_start;
 static _Atomic uint64_t ends[MOST_THREADS];
 enum { RUNS, ENDED };
 
-/* What keys and atexit have called at the end: nothing is linked of them where nobody asks for it. */
-static _Thread_local void (*at_its_end)(void);
+/* What keys and atexit have called at the end, and behind it: nothing is linked of them where nobody asks for it. */
+static _Thread_local void (*at_its_end)(void), (*behind_its_end)(void);
 
 /* ---- Null pointers: nothing lies in the first bytes of the memory, so that they are zero in a right program. They are
    read by plain loads, which cost a search nothing ---- */
@@ -39,6 +39,14 @@ static void test_null(void) {
     for (int i = 0; i < NULL_BYTES / 8; i++)
         if (word[i])
             null_pointer_was_written();
+}
+
+/* Behind what C++ has there already. */
+static void call_then(void (*function)(void)) {
+    if (!at_its_end)
+        at_its_end = function;
+    else if (at_its_end != function)
+        behind_its_end = function;
 }
 
 /* What is called last may leave too. */
@@ -199,7 +207,7 @@ int pthread_setspecific(pthread_key_t key, const void *value) {
         return EINVAL;
     values[key] = (void *)value;
     if (thread_self())
-        at_its_end = call_destructors; /* main's end is that of the program, which calls none */
+        call_then(call_destructors); /* main's end is that of the program, which calls none */
     return 0;
 }
 
@@ -259,7 +267,7 @@ static void call_normal(void) { call_at_exit(&normal); }
 int atexit(void (*function)(void)) {
     if (add_at_exit(&normal, function))
         return -1;
-    at_its_end = call_normal;
+    call_then(call_normal);
     return 0;
 }
 

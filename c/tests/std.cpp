@@ -1,10 +1,9 @@
-// The threads of C++'s library: what one thread does under a std::mutex, or before it notifies, the other ones see; what is
-// called once is called once; a wait for a time ends; a future has what was promised.
+// The threads of C++'s library: what is done under a std::mutex the others see, who waits is woken, what is called once is
+// called once, and a wait for a time ends.
 #include <atomic>
 #include <cassert>
 #include <chrono>
 #include <condition_variable>
-#include <future>
 #include <mutex>
 #include <thread>
 #include <vector>
@@ -24,12 +23,12 @@ static int sum, made;
 static void work(int number) {
     std::call_once(once, [] { made++; });
     come++;
-#ifdef BUG /* the sum is changed without the lock */
-    std::unique_lock<std::mutex> lock(mutex, std::defer_lock);
-#else
-    std::unique_lock<std::mutex> lock(mutex);
+    {
+#ifndef BUG /* the sum is changed without the lock */
+        std::lock_guard<std::mutex> lock(mutex);
 #endif
-    sum += number;
+        sum += number;
+    }
     changed.notify_one();
 }
 
