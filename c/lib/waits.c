@@ -109,6 +109,8 @@ static uint32_t result_of(int thread) {
     uint64_t end;
     while (!(end = ends[thread]))
         wait_while(&ends[thread], RUNS);
+    if (stays(thread))
+        joined |= 1ull << thread;
     return end;
 }
 
