@@ -69,7 +69,8 @@ int main() {
     std::weak_ptr<std::string> weak = shared;
     shared.reset();
     assert(weak.expired());
-    assert(!new (std::nothrow) char[1 << 20]);
+    volatile size_t large = 1 << 20; // of a constant clang says of itself that it isn't null
+    assert(!new (std::nothrow) char[large]);
     std::promise<int> promise;
     promise.set_value(5);
     assert(promise.get_future().get() == 5);
