@@ -115,6 +115,13 @@ char *strncat(char *restrict to, const char *restrict from, size_t n) {
     return to;
 }
 
+size_t strxfrm(char *restrict to, const char *restrict from, size_t n) {
+    size_t length = strlen(from);
+    if (length < n)
+        strcpy(to, from);
+    return length;
+}
+
 char *strchr(const char *s, int c) {
     for (;; s++)
         if (*s == (char)c)

@@ -60,6 +60,31 @@ void *malloc(size_t n) {
     return block;
 }
 
+/* What lies in front of a block that has to be at a greater alignment is lost. */
+void *aligned_alloc(size_t alignment, size_t n) {
+    if (!alignment || alignment & (alignment - 1))
+        return errno = EINVAL, (void *)0;
+    if (alignment <= FRONT)
+        return malloc(n);
+    size_t size = (n + 2 * FRONT - 1) & -FRONT;
+    char *block = n > POOL || alignment > POOL || fails_for_nothing() ? 0 : take_of_pool(size + alignment - FRONT);
+    if (!block)
+        return errno = ENOMEM, (void *)0;
+    block = (char *)(((size_t)block + alignment - 1) & -alignment);
+    *front_of(block) = MARK | size;
+    return block;
+}
+
+int posix_memalign(void **block, size_t alignment, size_t n) {
+    int before = errno, wrong;
+    void *made = alignment % sizeof(void *) ? 0 : aligned_alloc(alignment, n);
+    wrong = made ? 0 : alignment % sizeof(void *) ? EINVAL : errno;
+    errno = before;
+    if (made)
+        *block = made;
+    return wrong;
+}
+
 void *calloc(size_t count, size_t n) { /* the pool is zero at first */
     void *block = n && count > POOL / n ? 0 : malloc(count * n);
 #ifdef REUSE
@@ -90,5 +115,3 @@ void *realloc(void *block, size_t n) {
     }
     return made;
 }
-
-void *aligned_alloc(size_t alignment, size_t n) { return alignment <= FRONT ? malloc(n) : 0; }

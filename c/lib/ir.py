@@ -8,6 +8,7 @@ source has.
 - Accesses of what other threads may see are `volatile`, which LLVM neither adds nor moves nor leaves out: the two marks
   above don't keep it from reading both of what `c ? &a : &b` may be. Not those of constants, of thread-local variables by
   their name, and of local variables whose address goes nowhere.
+- A `new` is no more than a call of what is called so: to LLVM it never fails, and may be left out with its `delete`.
 - Where it is asked for, accesses that are volatile in the source become atomic ones, relaxed.
 - Functions of the library are weak, so that the program's come before them. Its plain accesses stay as they are.
 - Two edits more need further blocks (blocks.py).
@@ -169,6 +170,7 @@ def edit(text, edits):
         done = end
     out = declared(out + lines[done:], leaving, 'spurious' in edits)
     marked = re.compile(r'attributes #(\d+) = \{')
+    out = [line.replace(' builtin ', ' ', 1) if marked.match(line) else line for line in out]
     text = '\n'.join(f'{line[:-1]}sanitize_thread }}' if (found := marked.match(line)) and found.group(1) in groups else line
                      for line in out)
     return simulate.declared(text) if simulated else text, left

@@ -86,6 +86,35 @@ __wathread_most:
 	global.get	thread_count
 	end_function
 
+# Where the thread-local data of a started thread lie, how many bytes they have, and its stack.
+	.section	.text.__wathread_values,"",@
+	.globl	__wathread_values
+	.type	__wathread_values,@function
+__wathread_values:
+	.functype	__wathread_values () -> (i32)
+	global.get	thread_limit
+	global.get	thread_stack
+	i32.add
+	end_function
+
+	.section	.text.__wathread_values_size,"",@
+	.globl	__wathread_values_size
+	.type	__wathread_values_size,@function
+__wathread_values_size:
+	.functype	__wathread_values_size () -> (i32)
+	global.get	thread_size
+	global.get	thread_stack
+	i32.sub
+	end_function
+
+	.section	.text.__wathread_stack,"",@
+	.globl	__wathread_stack
+	.type	__wathread_stack,@function
+__wathread_stack:
+	.functype	__wathread_stack () -> (i32)
+	global.get	thread_stack
+	end_function
+
 # A thread that leaves returns from all its functions, each of which looks whether it does (blocks.py): these make no event.
 # What it leaves with is its result, and it leaves no more once that was asked for.
 	.section	.text.__wathread_leave,"",@

@@ -4,6 +4,7 @@
 #define WATHREAD_LIBRARY
 #include <ctype.h>
 #include <errno.h>
+#include <linux/futex.h>
 #include <pthread.h>
 #include <semaphore.h>
 #include <stdarg.h>
@@ -13,6 +14,7 @@
 #include <stdio.h>
 #include <stdlib.h>
 #include <string.h>
+#include <sys/syscall.h>
 #include <sys/time.h>
 #include <threads.h>
 #include <time.h>
@@ -44,4 +46,5 @@
 #pragma clang attribute pop
 #endif
 #include "cxx.c"
+#include "cxx_std.c"
 #include "rust.c"

@@ -88,6 +88,8 @@ echo 'static int x = 3 int main(void) { return x; }' >wrong.c
 echo 'int ftok(const char *, int); int main(void) { return ftok("a", 1); }' >missing.c
 echo '#include <poll.h>
 int main(void) { return 0; }' >header.c
+echo '#include <iostream>
+int main() { std::cout << 1; }' >stream.cpp
 echo 'static volatile float f = 1; __attribute__((noinline)) static int average(void) { return f * 2; } int main(void) { return average(); }' >float.c
 echo '_Atomic signed char lock = -1; int take(void) { signed char free = -1; return __c11_atomic_compare_exchange_strong(&lock, &free, 0, 5, 5); }' >byte.c
 echo 'int take(void); int main(void) { return take(); }' >taker.c
@@ -188,6 +190,7 @@ passes 'error: expected' "$cc_" wrong.c -o m.wasm
 passes 'undefined symbol: ftok' "$cc_" missing.c -o m.wasm
 passes 'statement.c:1:' "$cc_" statement.c -o m.wasm
 passes "'poll.h' file not found" "$cc_" header.c -o m.wasm
+passes 'undefined symbol: std::cout' "$cc_" -std=c++17 -fno-exceptions -fno-rtti stream.cpp -o m.wasm
 for level in 0 1 2 3; do
     refuses 'in average: a float' "$cc_" -O$level float.c -o m.wasm
     refuses 'in main: a float' "$cc_" -O$level float_pointer.c -o m.wasm
