@@ -134,10 +134,10 @@ INLINE int is_patient(int t, int l) {
     return !ORDERS_PATIENCE || (c & 255) != position(&orders.current[t], l) || c >> 8 < ORDERS_PATIENCE;
 }
 
-static void count_read(int t, int l, int p) {
+static void count_read(int t, int l, int p, int for_nothing) {
     view *reads = &orders.reads[t];
     cell many = position(reads, l) == p ? reads->at[l] >> 8 : 0;
-    if (ORDERS_PATIENCE && p < orders.places[l].count - 1)
+    if (ORDERS_PATIENCE && (for_nothing || p < orders.places[l].count - 1))
         put_cell(reads, l, (cell)p | (many < ORDERS_PATIENCE ? many + 1 : many) << 8);
 }
 
@@ -220,7 +220,7 @@ static int begin_load(u32 at, int log, int order) {
         p -= choose(newest - least + 1);
     }
     read_message(t, l, p, order);
-    count_read(t, l, p);
+    count_read(t, l, p, 0);
     return l << PLACE_SHIFT | p | (again && least == newest ? TELLS : 0);
 }
 
@@ -345,7 +345,7 @@ static int begin_change(u32 at, int log, enum kind kind, u64 expected, int order
         fails |= TELLS;
     read_message(t, l, p, fails ? failing : order);
     if (fails)
-        count_read(t, l, p);
+        count_read(t, l, p, orders.messages[l][p].value == expected);
     else
         write_message(t, l, p + 1, order, 1);
     return l << PLACE_SHIFT | p | fails; /* fails: FAILED and TELLS */

@@ -93,16 +93,46 @@ static void copy(view *to, const view *from) {
         put(&to->words[w], from->words[w]);
 }
 
-static void clear(view *v) {
-    for (int w = WORDS; w--;)
+static void clear(view *v) { /* behind the places that are there all is zero */
+    for (int w = words_used(); w--;)
         put(&v->words[w], 0);
 }
 
 /* ---- What is done to all views ---- */
 
-enum change { RAISE, LOWER, FORGET, PUT_IN, TAKE_OUT, SAME_AS_BEFORE };
+enum change { RAISE, LOWER, FORGET, PUT_IN, TAKE_OUT, SAME_AS_BEFORE }; /* a place comes in at L, or goes */
+
+/* By words, since each access is an entry of a record. The cells of the word in front of the one that comes stay. */
+INLINE u64 mask_below(int l) { return (1ull << CELL_BITS * (l % PER_WORD)) - 1; }
+
+static void put_in_cell(view *v, int l) {
+    u64 stay = mask_below(l), over = 0;
+    for (int w = l / PER_WORD, end = words_used(); w < end; w++) {
+        u64 had = v->words[w], now = (had & stay) | (had & ~stay) << CELL_BITS | over;
+        if (had != now)
+            v->words[w] = now;
+        over = had >> (64 - CELL_BITS);
+        stay = 0;
+    }
+}
+
+static void take_out_cell(view *v, int l) {
+    u64 stay = mask_below(l);
+    int w = l / PER_WORD, end = words_used();
+    for (u64 had = v->words[w]; w < end; w++) {
+        u64 next = w + 1 < end ? v->words[w + 1] : 0, now = (had & stay) | (had >> CELL_BITS & ~stay) | next << (64 - CELL_BITS);
+        if (had != now)
+            v->words[w] = now;
+        had = next;
+        stay = 0;
+    }
+}
 
 static void change(view *v, enum change what, int l, int n) {
+    if (what == PUT_IN || what == TAKE_OUT) {
+        what == PUT_IN ? put_in_cell(v, l) : take_out_cell(v, l);
+        return;
+    }
     cell had = v->at[l];
     int p = had & 255;
     switch (what) {
@@ -118,17 +148,11 @@ static void change(view *v, enum change what, int l, int n) {
         if (had & n)
             v->at[l] = had & ~(cell)n;
         break;
-    case PUT_IN: /* a place comes in at L */
-        for (int k = orders.count - 1; k > l; k--)
-            put_cell(v, k, v->at[k - 1]);
-        put_cell(v, l, 0);
-        break;
-    case TAKE_OUT:
-        for (int k = l; k < orders.count; k++)
-            put_cell(v, k, k + 1 < PLACES ? v->at[k + 1] : 0);
-        break;
     case SAME_AS_BEFORE: /* the place at L is known as the one in front of it is */
         put_cell(v, l, v->at[l - 1]);
+        break;
+    default:
+        break;
     }
 }
 
