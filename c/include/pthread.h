@@ -44,7 +44,8 @@ enum { PTHREAD_MUTEX_NORMAL, PTHREAD_MUTEX_RECURSIVE, PTHREAD_MUTEX_ERRORCHECK, 
 #define WATHREAD_NO(what) __attribute__((unavailable("wathread has no " what)))
 
 /* EAGAIN where as many were started as --threads of wathread-cc says, but for those of the last quarter that the caller has
-   joined: these begin anew, with their numbers. A thread that traps ends alone, and who joins it sleeps for good; a return from main ends that thread alone. */
+   joined: these begin anew, with their numbers. A thread that traps ends alone, and who joins it sleeps for good; a return
+   from main ends that thread alone. */
 int pthread_create(pthread_t *thread, const pthread_attr_t *attr, void *(*function)(void *), void *arg);
 int pthread_join(pthread_t thread, void **result); /* EDEADLK for itself, ESRCH for what is no thread's number */
 int pthread_tryjoin_np(pthread_t thread, void **result); /* EBUSY */
@@ -207,7 +208,8 @@ WATHREAD_PROCESS int pthread_rwlockattr_setpshared(pthread_rwlockattr_t *a, int 
 WATHREAD_PROCESS int pthread_rwlockattr_getpshared(const pthread_rwlockattr_t *a, int *shared);
 WATHREAD_PROCESS int pthread_barrierattr_setpshared(pthread_barrierattr_t *a, int shared);
 WATHREAD_PROCESS int pthread_barrierattr_getpshared(const pthread_barrierattr_t *a, int *shared);
-#define WATHREAD_OWNER WATHREAD_NO("robust mutexes: who waits for one whose owner has ended sleeps for good, and a search says so")
+#define WATHREAD_OWNER \
+    WATHREAD_NO("robust mutexes: who waits for one whose owner has ended sleeps for good, and a search says so")
 WATHREAD_OWNER int pthread_mutexattr_setrobust(pthread_mutexattr_t *a, int robust);
 WATHREAD_OWNER int pthread_mutexattr_getrobust(const pthread_mutexattr_t *a, int *robust);
 WATHREAD_OWNER int pthread_mutex_consistent(pthread_mutex_t *m);

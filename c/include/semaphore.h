@@ -21,7 +21,8 @@ static inline int sem_clockwait(sem_t *s, clockid_t clock, const struct timespec
 int sem_post(sem_t *s); /* EOVERFLOW where there are SEM_VALUE_MAX */
 int sem_getvalue(sem_t *s, int *value);
 
-#define WATHREAD_NO __attribute__((unavailable("wathread has no semaphores with a name, since there is one process: use sem_init")))
+#define WATHREAD_NO \
+    __attribute__((unavailable("wathread has no semaphores with a name, since there is one process: use sem_init")))
 WATHREAD_NO sem_t *sem_open(const char *name, int flags, ...);
 WATHREAD_NO int sem_close(sem_t *s);
 WATHREAD_NO int sem_unlink(const char *name);

@@ -160,7 +160,7 @@ static int start(enum type type, void *function, void *arg) {
 
 /* What a thread is started for. Its name begins so that it goes on where the thread leaves (blocks.py). To call a function by
    another type than its own is a trap. */
-static void __wathread_call(int thread, uint64_t word) {
+static inline __attribute__((always_inline)) void __wathread_call(int thread, uint64_t word) {
     uint32_t function = word >> 32 & ((1u << TYPE_SHIFT) - 1), arg = word, result = 0;
     switch ((enum type)(word >> 32 >> TYPE_SHIFT)) {
     case POSIX:

@@ -62,7 +62,8 @@ int main() {
     try_lists();
     std::string text = "a text of more than fifteen letters";
     text += std::to_string(-45);
-    assert(text.size() == 38 && std::stoi(text.substr(35)) == -45 && std::hash<std::string>()("a") != std::hash<std::string>()("b"));
+    std::hash<std::string> hash;
+    assert(text.size() == 38 && std::stoi(text.substr(35)) == -45 && hash("a") != hash("b"));
     auto line = std::make_unique<Line>();
     assert((size_t)line.get() % 64 == 0);
     auto shared = std::make_shared<std::string>("x");

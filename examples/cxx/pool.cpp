@@ -1,5 +1,5 @@
-// Two threads that take what is to be done from a list, until it is closed. With -DONE only one of them is woken then, and the
-// other one sleeps for good.
+// Two threads that take what is to be done from a list, until it is closed. With -DONE only one of them is woken then, and
+// the other one may sleep for good.
 #include <atomic>
 #include <cassert>
 #include <condition_variable>
