@@ -8,7 +8,7 @@
 WATHREAD_BEGIN
 
 typedef int pthread_t; /* the number that traces have: t1, t2 .. */
-typedef struct { int detached; size_t stack; } pthread_attr_t;
+typedef struct { int detached; size_t stack, guard; } pthread_attr_t;
 typedef struct { int kind; } pthread_mutexattr_t;
 typedef struct { int clock; } pthread_condattr_t;
 typedef struct { int unused; } pthread_rwlockattr_t, pthread_barrierattr_t;
@@ -31,6 +31,10 @@ enum { PTHREAD_MUTEX_NORMAL, PTHREAD_MUTEX_RECURSIVE, PTHREAD_MUTEX_ERRORCHECK, 
 #define PTHREAD_ONCE_INIT 0
 #define PTHREAD_BARRIER_SERIAL_THREAD (-1)
 #define PTHREAD_PROCESS_PRIVATE 0
+#define PTHREAD_PROCESS_SHARED 1
+#define PTHREAD_SCOPE_SYSTEM 0
+#define PTHREAD_SCOPE_PROCESS 1
+#define PTHREAD_CANCELED ((void *)-1)
 #define PTHREAD_CREATE_JOINABLE 0
 #define PTHREAD_CREATE_DETACHED 1
 #define PTHREAD_STACK_MIN 64
@@ -39,8 +43,9 @@ enum { PTHREAD_MUTEX_NORMAL, PTHREAD_MUTEX_RECURSIVE, PTHREAD_MUTEX_ERRORCHECK, 
 
 #define WATHREAD_NO(what) __attribute__((unavailable("wathread has no " what)))
 
-/* EAGAIN where as many were started as --threads of wathread-cc says: no number is used again, behind a join either. A
-   thread that traps ends alone, and who joins it sleeps for good; a return from main ends that thread alone. */
+/* EAGAIN where as many were started as --threads of wathread-cc says, but for those of the last quarter that the caller has
+   joined: these begin anew, with their numbers. A thread that traps ends alone, and who joins it sleeps for good; a return
+   from main ends that thread alone. */
 int pthread_create(pthread_t *thread, const pthread_attr_t *attr, void *(*function)(void *), void *arg);
 int pthread_join(pthread_t thread, void **result); /* EDEADLK for itself, ESRCH for what is no thread's number */
 int pthread_tryjoin_np(pthread_t thread, void **result); /* EBUSY */
@@ -74,6 +79,11 @@ int pthread_attr_setdetachstate(pthread_attr_t *a, int state);
 int pthread_attr_getdetachstate(const pthread_attr_t *a, int *state);
 int pthread_attr_setstacksize(pthread_attr_t *a, size_t size);
 int pthread_attr_getstacksize(const pthread_attr_t *a, size_t *size);
+int pthread_attr_setguardsize(pthread_attr_t *a, size_t size);
+int pthread_attr_getguardsize(const pthread_attr_t *a, size_t *size);
+int pthread_attr_setscope(pthread_attr_t *a, int scope); /* ENOTSUP for another one than PTHREAD_SCOPE_SYSTEM */
+int pthread_attr_getscope(const pthread_attr_t *a, int *scope);
+static inline int pthread_setname_np(pthread_t thread, const char *name) { (void)thread, (void)name; return 0; }
 
 /* EBUSY where it is held, also to who destroys it. Unlocking traps where it isn't. One that is recursive, or looks for
    errors, answers EPERM to who unlocks what is another's, and the latter one EDEADLK to who has it already. */
@@ -83,6 +93,10 @@ int pthread_mutex_lock(pthread_mutex_t *m);
 int pthread_mutex_trylock(pthread_mutex_t *m);
 int pthread_mutex_timedlock(pthread_mutex_t *m, const struct timespec *until);
 int pthread_mutex_unlock(pthread_mutex_t *m);
+static inline int pthread_mutex_clocklock(pthread_mutex_t *m, clockid_t clock, const struct timespec *until) {
+    (void)clock; /* all clocks are one */
+    return pthread_mutex_timedlock(m, until);
+}
 int pthread_mutexattr_init(pthread_mutexattr_t *a);
 int pthread_mutexattr_destroy(pthread_mutexattr_t *a);
 int pthread_mutexattr_settype(pthread_mutexattr_t *a, int kind);
@@ -94,10 +108,16 @@ int pthread_cond_init(pthread_cond_t *c, const pthread_condattr_t *attr);
 int pthread_cond_destroy(pthread_cond_t *c);
 int pthread_cond_wait(pthread_cond_t *c, pthread_mutex_t *m);
 int pthread_cond_timedwait(pthread_cond_t *c, pthread_mutex_t *m, const struct timespec *until);
+static inline int pthread_cond_clockwait(pthread_cond_t *c, pthread_mutex_t *m, clockid_t clock,
+                                         const struct timespec *until) {
+    (void)clock;
+    return pthread_cond_timedwait(c, m, until);
+}
 int pthread_cond_signal(pthread_cond_t *c);
 int pthread_cond_broadcast(pthread_cond_t *c);
 static inline int pthread_condattr_init(pthread_condattr_t *a) { a->clock = CLOCK_REALTIME; return 0; }
 static inline int pthread_condattr_destroy(pthread_condattr_t *a) { (void)a; return 0; }
+static inline int pthread_condattr_getclock(const pthread_condattr_t *a, clockid_t *clock) { *clock = a->clock; return 0; }
 static inline int pthread_condattr_setclock(pthread_condattr_t *a, clockid_t clock) { a->clock = clock; return 0; }
 
 /* EBUSY where it is held. Unlocking traps where it isn't. Readers that come one after the other can keep a writer out. */
@@ -109,6 +129,14 @@ int pthread_rwlock_timedrdlock(pthread_rwlock_t *l, const struct timespec *until
 int pthread_rwlock_wrlock(pthread_rwlock_t *l);
 int pthread_rwlock_trywrlock(pthread_rwlock_t *l);
 int pthread_rwlock_timedwrlock(pthread_rwlock_t *l, const struct timespec *until);
+static inline int pthread_rwlock_clockrdlock(pthread_rwlock_t *l, clockid_t clock, const struct timespec *until) {
+    (void)clock;
+    return pthread_rwlock_timedrdlock(l, until);
+}
+static inline int pthread_rwlock_clockwrlock(pthread_rwlock_t *l, clockid_t clock, const struct timespec *until) {
+    (void)clock;
+    return pthread_rwlock_timedwrlock(l, until);
+}
 int pthread_rwlock_unlock(pthread_rwlock_t *l);
 static inline int pthread_rwlockattr_init(pthread_rwlockattr_t *a) { a->unused = 0; return 0; }
 static inline int pthread_rwlockattr_destroy(pthread_rwlockattr_t *a) { (void)a; return 0; }
@@ -135,30 +163,66 @@ int pthread_key_delete(pthread_key_t key);
 int pthread_setspecific(pthread_key_t key, const void *value);
 void *pthread_getspecific(pthread_key_t key);
 
-/* What isn't there, by nature. */
+/* What isn't there, by nature. The names that such calls are given are there, so that the message is of the call. */
+#define PTHREAD_CANCEL_ENABLE 0
+#define PTHREAD_CANCEL_DISABLE 1
+#define PTHREAD_CANCEL_DEFERRED 0
+#define PTHREAD_CANCEL_ASYNCHRONOUS 1
 #define WATHREAD_CANCEL WATHREAD_NO("cancellation: let the thread look at a flag, and return from its function")
 WATHREAD_CANCEL int pthread_cancel(pthread_t thread);
 WATHREAD_CANCEL int pthread_setcancelstate(int state, int *before);
 WATHREAD_CANCEL int pthread_setcanceltype(int type, int *before);
 WATHREAD_CANCEL void pthread_testcancel(void);
+#define PTHREAD_INHERIT_SCHED 0
+#define PTHREAD_EXPLICIT_SCHED 1
+#define PTHREAD_PRIO_NONE 0
+#define PTHREAD_PRIO_INHERIT 1
+#define PTHREAD_PRIO_PROTECT 2
 #define WATHREAD_RANK WATHREAD_NO("priorities: any thread may come next at any time")
 WATHREAD_RANK int pthread_setschedparam(pthread_t thread, int policy, const struct sched_param *param);
 WATHREAD_RANK int pthread_getschedparam(pthread_t thread, int *policy, struct sched_param *param);
+WATHREAD_RANK int pthread_setschedprio(pthread_t thread, int priority);
 WATHREAD_RANK int pthread_attr_setschedparam(pthread_attr_t *a, const struct sched_param *param);
+WATHREAD_RANK int pthread_attr_getschedparam(const pthread_attr_t *a, struct sched_param *param);
 WATHREAD_RANK int pthread_attr_setschedpolicy(pthread_attr_t *a, int policy);
+WATHREAD_RANK int pthread_attr_getschedpolicy(const pthread_attr_t *a, int *policy);
 WATHREAD_RANK int pthread_attr_setinheritsched(pthread_attr_t *a, int inherits);
+WATHREAD_RANK int pthread_attr_getinheritsched(const pthread_attr_t *a, int *inherits);
 WATHREAD_RANK int pthread_mutexattr_setprotocol(pthread_mutexattr_t *a, int protocol);
+WATHREAD_RANK int pthread_mutexattr_getprotocol(const pthread_mutexattr_t *a, int *protocol);
 WATHREAD_RANK int pthread_mutexattr_setprioceiling(pthread_mutexattr_t *a, int ceiling);
+WATHREAD_RANK int pthread_mutexattr_getprioceiling(const pthread_mutexattr_t *a, int *ceiling);
+WATHREAD_RANK int pthread_mutex_setprioceiling(pthread_mutex_t *m, int ceiling, int *before);
+WATHREAD_RANK int pthread_mutex_getprioceiling(const pthread_mutex_t *m, int *ceiling);
+WATHREAD_RANK int pthread_setconcurrency(int level);
+WATHREAD_RANK int pthread_getconcurrency(void);
+#define PTHREAD_MUTEX_STALLED 0
+#define PTHREAD_MUTEX_ROBUST 1
 #define WATHREAD_PROCESS WATHREAD_NO("processes: a module is one program, alone")
 WATHREAD_PROCESS int pthread_atfork(void (*prepare)(void), void (*parent)(void), void (*child)(void));
 WATHREAD_PROCESS int pthread_mutexattr_setpshared(pthread_mutexattr_t *a, int shared);
-WATHREAD_PROCESS int pthread_mutexattr_setrobust(pthread_mutexattr_t *a, int robust);
+WATHREAD_PROCESS int pthread_mutexattr_getpshared(const pthread_mutexattr_t *a, int *shared);
 WATHREAD_PROCESS int pthread_condattr_setpshared(pthread_condattr_t *a, int shared);
+WATHREAD_PROCESS int pthread_condattr_getpshared(const pthread_condattr_t *a, int *shared);
+WATHREAD_PROCESS int pthread_rwlockattr_setpshared(pthread_rwlockattr_t *a, int shared);
+WATHREAD_PROCESS int pthread_rwlockattr_getpshared(const pthread_rwlockattr_t *a, int *shared);
 WATHREAD_PROCESS int pthread_barrierattr_setpshared(pthread_barrierattr_t *a, int shared);
+WATHREAD_PROCESS int pthread_barrierattr_getpshared(const pthread_barrierattr_t *a, int *shared);
+#define WATHREAD_OWNER \
+    WATHREAD_NO("robust mutexes: who waits for one whose owner has ended sleeps for good, and a search says so")
+WATHREAD_OWNER int pthread_mutexattr_setrobust(pthread_mutexattr_t *a, int robust);
+WATHREAD_OWNER int pthread_mutexattr_getrobust(const pthread_mutexattr_t *a, int *robust);
+WATHREAD_OWNER int pthread_mutex_consistent(pthread_mutex_t *m);
+#define WATHREAD_STACK WATHREAD_NO("stacks of a program's own: --stack of wathread-cc says how large each one is")
+WATHREAD_STACK int pthread_attr_setstack(pthread_attr_t *a, void *from, size_t size);
+WATHREAD_STACK int pthread_attr_getstack(const pthread_attr_t *a, void **from, size_t *size);
+WATHREAD_NO("clocks of threads: there is one clock") int pthread_getcpuclockid(pthread_t thread, clockid_t *clock);
 #undef WATHREAD_NO
 #undef WATHREAD_CANCEL
 #undef WATHREAD_RANK
 #undef WATHREAD_PROCESS
+#undef WATHREAD_OWNER
+#undef WATHREAD_STACK
 WATHREAD_END
 
 #endif

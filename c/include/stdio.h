@@ -12,10 +12,14 @@ WATHREAD_BEGIN
 extern volatile _Thread_local uint64_t wathread_text;
 
 typedef struct wathread_file FILE;
+typedef off_t fpos_t;
 #define stdout ((FILE *)1)
 #define stderr ((FILE *)2)
 #define EOF (-1)
 #define BUFSIZ 256
+#define SEEK_SET 0
+#define SEEK_CUR 1
+#define SEEK_END 2
 #define _IOFBF 0
 #define _IOLBF 1
 #define _IONBF 2
@@ -40,19 +44,39 @@ int fputc(int c, FILE *file);
 size_t fwrite(const void *__restrict from, size_t size, size_t count, FILE *__restrict file);
 void perror(const char *text);
 int fflush(FILE *file);
+static inline int feof(FILE *file) { (void)file; return 0; }
+static inline int ferror(FILE *file) { (void)file; return 0; }
+static inline void clearerr(FILE *file) { (void)file; }
 int setvbuf(FILE *__restrict file, char *__restrict to, int kind, size_t n);
 void setbuf(FILE *__restrict file, char *__restrict to);
 
 #define WATHREAD_NO __attribute__((unavailable("wathread has no files and no input: give what a program reads as constants")))
 WATHREAD_NO FILE *fopen(const char *__restrict path, const char *__restrict how);
+WATHREAD_NO FILE *freopen(const char *__restrict path, const char *__restrict how, FILE *__restrict file);
+WATHREAD_NO FILE *tmpfile(void);
+WATHREAD_NO char *tmpnam(char *path);
+WATHREAD_NO int remove(const char *path);
+WATHREAD_NO int rename(const char *before, const char *path);
 WATHREAD_NO int fclose(FILE *file);
 WATHREAD_NO size_t fread(void *__restrict to, size_t size, size_t count, FILE *__restrict file);
 WATHREAD_NO char *fgets(char *__restrict to, int n, FILE *__restrict file);
 WATHREAD_NO int fgetc(FILE *file);
 WATHREAD_NO int getc(FILE *file);
 WATHREAD_NO int getchar(void);
+WATHREAD_NO int ungetc(int c, FILE *file);
 WATHREAD_NO int scanf(const char *__restrict text, ...);
 WATHREAD_NO int fscanf(FILE *__restrict file, const char *__restrict text, ...);
+WATHREAD_NO int vscanf(const char *__restrict text, va_list list);
+WATHREAD_NO int vfscanf(FILE *__restrict file, const char *__restrict text, va_list list);
+WATHREAD_NO int fseek(FILE *file, long to, int from);
+WATHREAD_NO long ftell(FILE *file);
+WATHREAD_NO void rewind(FILE *file);
+WATHREAD_NO int fgetpos(FILE *__restrict file, fpos_t *__restrict place);
+WATHREAD_NO int fsetpos(FILE *file, const fpos_t *place);
+#undef WATHREAD_NO
+#define WATHREAD_NO __attribute__((unavailable("wathread has no sscanf: strtol and the like read numbers")))
+WATHREAD_NO int sscanf(const char *__restrict from, const char *__restrict text, ...);
+WATHREAD_NO int vsscanf(const char *__restrict from, const char *__restrict text, va_list list);
 #undef WATHREAD_NO
 WATHREAD_END
 

@@ -13,7 +13,8 @@ WATHREAD_BEGIN
 void *malloc(size_t n);
 void *calloc(size_t count, size_t n);
 void *realloc(void *block, size_t n);
-void *aligned_alloc(size_t alignment, size_t n); /* to 16 bytes at most */
+void *aligned_alloc(size_t alignment, size_t n); /* what is above 16 costs so much more of the pool */
+int posix_memalign(void **block, size_t alignment, size_t n);
 void free(void *block); /* traps where the block was freed, or is none of malloc's; writes over it */
 
 /* exit(0) by main's thread is a return from main, in which the others go on. No thread can end another one: so exit(0) by
@@ -52,7 +53,26 @@ void qsort(void *items, size_t count, size_t size, int (*compare)(const void *, 
 void *bsearch(const void *key, const void *items, size_t count, size_t size, int (*compare)(const void *, const void *));
 char *getenv(const char *name); /* null */
 
-__attribute__((unavailable("wathread has no processes: a module is one program, alone"))) int system(const char *words);
+#define WATHREAD_NO(what) __attribute__((unavailable("wathread has no " what)))
+WATHREAD_NO("processes: a module is one program, alone") int system(const char *words);
+#ifdef __cplusplus /* <string> names them */
+#define WATHREAD_FLOAT
+#else
+#define WATHREAD_FLOAT WATHREAD_NO("floats")
+#endif
+WATHREAD_FLOAT double atof(const char *s);
+WATHREAD_FLOAT double strtod(const char *__restrict s, char **__restrict end);
+WATHREAD_FLOAT float strtof(const char *__restrict s, char **__restrict end);
+WATHREAD_FLOAT long double strtold(const char *__restrict s, char **__restrict end);
+#undef WATHREAD_FLOAT
+#define WATHREAD_WIDE WATHREAD_NO("letters of several bytes")
+WATHREAD_WIDE int mblen(const char *s, size_t n);
+WATHREAD_WIDE int mbtowc(wchar_t *__restrict to, const char *__restrict s, size_t n);
+WATHREAD_WIDE int wctomb(char *to, wchar_t letter);
+WATHREAD_WIDE size_t mbstowcs(wchar_t *__restrict to, const char *__restrict from, size_t n);
+WATHREAD_WIDE size_t wcstombs(char *__restrict to, const wchar_t *__restrict from, size_t n);
+#undef WATHREAD_WIDE
+#undef WATHREAD_NO
 WATHREAD_END
 
 #endif

@@ -11,6 +11,10 @@ struct timespec {
     long tv_nsec;
 };
 
+struct tm {
+    int tm_sec, tm_min, tm_hour, tm_mday, tm_mon, tm_year, tm_wday, tm_yday, tm_isdst;
+};
+
 #define CLOCK_REALTIME 0
 #define CLOCK_MONOTONIC 1
 #define CLOCK_PROCESS_CPUTIME_ID 2
@@ -25,6 +29,18 @@ int clock_getres(clockid_t clock, struct timespec *t);
 int timespec_get(struct timespec *t, int base);
 time_t time(time_t *t);
 clock_t clock(void);
+
+#define WATHREAD_NO __attribute__((unavailable("wathread has no calendar: print what time() says, in seconds")))
+WATHREAD_NO time_t mktime(struct tm *t);
+WATHREAD_NO struct tm *gmtime(const time_t *t);
+WATHREAD_NO struct tm *localtime(const time_t *t);
+WATHREAD_NO struct tm *gmtime_r(const time_t *__restrict t, struct tm *__restrict to);
+WATHREAD_NO struct tm *localtime_r(const time_t *__restrict t, struct tm *__restrict to);
+WATHREAD_NO char *asctime(const struct tm *t);
+WATHREAD_NO char *ctime(const time_t *t);
+WATHREAD_NO size_t strftime(char *__restrict to, size_t n, const char *__restrict text, const struct tm *__restrict t);
+WATHREAD_NO double difftime(time_t a, time_t b);
+#undef WATHREAD_NO
 
 /* They return at once: any thread may come next behind a sleep, as at any time, and no sleep is long enough. */
 int nanosleep(const struct timespec *time, struct timespec *left);

@@ -17,6 +17,10 @@ WATHREAD_LEAVES void _exit(int status);                /* stdlib.h */
 ssize_t write(int file, const void *from, size_t n);   /* stays in the memory (stdio.h) */
 long sysconf(int name);                                /* processors: as many as --threads says */
 
+/* Linux's futex alone, as SYS_futex of sys/syscall.h: its waits, for a time or until one, and its wakes; of all who wait, so
+   that the set is FUTEX_BITSET_MATCH_ANY. What else is asked for traps. */
+long syscall(long number, ...);
+
 /* By single letters. main has no words, so that it is -1 there. */
 extern char *optarg;
 extern int optind, opterr, optopt;

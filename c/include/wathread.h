@@ -7,8 +7,8 @@
 #include <wathread_c.h>
 WATHREAD_BEGIN
 
-/* Starts a thread that calls body(arg), and answers its number, from 1 on, or -1 where --threads of wathread-cc, or 63,
-   are there already. Threads have the same numbers in traces: t1, t2 .. */
+/* Starts a thread that calls body(arg), and answers its number, from 1 on, or -1 where pthread_create (pthread.h) would
+   answer EAGAIN. Threads have the same numbers in traces: t1, t2 .. */
 int thread_spawn(void (*body)(int), int arg);
 
 /* Waits until a thread has ended. */

@@ -1,4 +1,5 @@
-/* Bytes and strings: whole words where they can be, since each access is an entry. */
+/* Bytes and strings: whole words where they can be, since each access is an entry. With --orders the first three are told
+   where they are called (simulate.py), and the others tell of what they touch. */
 
 void *memmove(void *to, const void *from, size_t n) {
     char *p = to;
@@ -41,6 +42,8 @@ void __wathread_copy(void *to, const void *from, size_t n) { memmove(to, from, n
 void __wathread_fill(void *to, int byte, size_t n) { memset(to, byte, n); }
 
 int memcmp(const void *a, const void *b, size_t n) {
+    orders_reads(a, n);
+    orders_reads(b, n);
     const unsigned char *p = a, *q = b;
     for (; n; n--, p++, q++)
         if (*p != *q)
@@ -52,13 +55,17 @@ size_t strlen(const char *s) {
     size_t n = 0;
     while (s[n])
         n++;
+    orders_reads(s, n + 1);
     return n;
 }
 
 int strncmp(const char *a, const char *b, size_t n) {
-    for (; n; n--, a++, b++)
+    for (; n; n--, a++, b++) {
+        orders_reads(a, 1);
+        orders_reads(b, 1);
         if (*a != *b || !*a)
             return (unsigned char)*a - (unsigned char)*b;
+    }
     return 0;
 }
 
@@ -66,9 +73,11 @@ int strcmp(const char *a, const char *b) { return strncmp(a, b, SIZE_MAX); }
 int strcoll(const char *a, const char *b) { return strcmp(a, b); }
 
 void *memchr(const void *from, int byte, size_t n) {
-    for (const unsigned char *p = from; n; n--, p++)
+    for (const unsigned char *p = from; n; n--, p++) {
+        orders_reads(p, 1);
         if (*p == (unsigned char)byte)
             return (void *)p;
+    }
     return 0;
 }
 
@@ -79,6 +88,7 @@ size_t strnlen(const char *s, size_t n) {
 
 char *stpcpy(char *restrict to, const char *restrict from) {
     size_t n = strlen(from);
+    orders_writes(to, n + 1);
     memmove(to, from, n + 1);
     return to + n;
 }
@@ -88,6 +98,7 @@ char *strcpy(char *restrict to, const char *restrict from) { stpcpy(to, from); r
 /* The rest is filled with zeros. */
 char *strncpy(char *restrict to, const char *restrict from, size_t n) {
     size_t length = strnlen(from, n);
+    orders_writes(to, n);
     memmove(to, from, length);
     memset(to + length, 0, n - length);
     return to;
@@ -98,9 +109,17 @@ char *strcat(char *restrict to, const char *restrict from) { strcpy(to + strlen(
 char *strncat(char *restrict to, const char *restrict from, size_t n) {
     size_t length = strnlen(from, n);
     char *end = to + strlen(to);
+    orders_writes(end, length + 1);
     memmove(end, from, length);
     end[length] = 0;
     return to;
+}
+
+size_t strxfrm(char *restrict to, const char *restrict from, size_t n) {
+    size_t length = strlen(from);
+    if (length < n)
+        strcpy(to, from);
+    return length;
 }
 
 char *strchr(const char *s, int c) {

@@ -1,7 +1,7 @@
 #!/usr/bin/env python3
 """compile.py WORK EDITS CLANG.. -- WORDS..: does what clang would do for WORDS, for wathread-cc, and edits what it makes
-in between. WORK is a folder for what is made on the way; EDITS are of `atomic`, `library`, `spurious` and `typed` (ir.py),
-with commas between.
+in between. WORK is a folder for what is made on the way; EDITS are of `atomic`, `library`, `orders`, `spurious` and `typed`
+(ir.py), and `strong` where orders that are weaker than seq_cst are told, with commas between.
 
 clang says by -### what it would run. Of a source the front alone is run, its LLVM text edited (ir.py), assembly made
 of that and edited (masks.py), and an object of that. What is linked is linked as it says; wasm-opt behind that, which
@@ -16,6 +16,7 @@ sys.dont_write_bytecode = True
 from files import Refused, write  # noqa: E402
 from ir import edit  # noqa: E402
 from masks import declared, mask  # noqa: E402
+from simulate import is_weaker  # noqa: E402
 
 SAID = re.compile(r'.*?: (?:fatal )?(?:error|warning|note): ')
 EXCHANGES = re.compile(r' atomicrmw (?:volatile )?(?:nand|u?min|u?max) |cmpxchg_u')     # see masks.py
@@ -91,7 +92,9 @@ class Compiler:
         if not run([*front[:2], '-disable-llvm-passes', *front[2:]]):
             return False
         with open(text, encoding='utf-8', errors='surrogateescape') as file:
-            edited, left = edit(file.read(), self.edits)
+            made = file.read()
+        self.tell_orders(made, words[-1])
+        edited, left = edit(made, self.edits)
         with open(text, 'w', encoding='utf-8', errors='surrogateescape') as file:
             file.write(edited)
         for name in left:
@@ -113,6 +116,13 @@ class Compiler:
         with open(assembly if mode == '-emit-obj' else out, 'w', encoding='utf-8', errors='surrogateescape') as file:
             file.write(declared(masked))
         return mode == '-S' or self.assemble(words, assembly, out, names)
+
+    def tell_orders(self, text, source):
+        """Tells once of memory orders that come to nothing."""
+        if 'strong' in self.edits and is_weaker(text):
+            self.edits.remove('strong')
+            print(f'wathread-cc: {source}: memory orders are all compiled as seq_cst, so one that is too weak is not found: '
+                  '--orders c11 simulates them, --orders sc is as it is', file=sys.stderr)
 
     def finish(self, words, last):
         """Runs a step behind the front. A fault there, as in an assembly statement, clang says by lines of the source

@@ -8,14 +8,23 @@ void *_Znwm(unsigned long n) {
     return block;
 }
 
+void *_ZnwmSt11align_val_t(unsigned long n, unsigned long alignment) {
+    void *block = aligned_alloc(alignment, n);
+    if (!block)
+        __builtin_trap();
+    return block;
+}
+
 void *_Znam(unsigned long n) { return _Znwm(n); }
-void *_ZnwmSt11align_val_t(unsigned long n, unsigned long alignment) { (void)alignment; return _Znwm(n); }
+void *_ZnamSt11align_val_t(unsigned long n, unsigned long alignment) { return _ZnwmSt11align_val_t(n, alignment); }
 void _ZdlPv(void *block) { free(block); }
 void _ZdaPv(void *block) { free(block); }
 void _ZdlPvm(void *block, unsigned long n) { (void)n, free(block); }
 void _ZdaPvm(void *block, unsigned long n) { (void)n, free(block); }
 void _ZdlPvSt11align_val_t(void *block, unsigned long alignment) { (void)alignment, free(block); }
+void _ZdaPvSt11align_val_t(void *block, unsigned long alignment) { (void)alignment, free(block); }
 void _ZdlPvmSt11align_val_t(void *block, unsigned long n, unsigned long alignment) { (void)n, (void)alignment, free(block); }
+void _ZdaPvmSt11align_val_t(void *block, unsigned long n, unsigned long alignment) { (void)n, (void)alignment, free(block); }
 
 _Noreturn void __cxa_pure_virtual(void) { __builtin_trap(); }
 
@@ -61,11 +70,41 @@ static void call_destroys(void) {
     }
 }
 
+static __attribute__((noinline)) _Noreturn void too_many_destructors(void) { __builtin_trap(); }
+
 int __cxa_atexit(void (*function)(void *), void *arg, void *handle) {
     (void)handle;
-    if (thread_self() || destroys_left == MOST_AT_EXIT || (!destroys_left && atexit(call_destroys)))
+    if (thread_self() || (!destroys_left && atexit(call_destroys)))
         return -1;
+    if (destroys_left == MOST_AT_EXIT)
+        too_many_destructors();
     destroys[destroys_left].function = function;
     destroys[destroys_left++].arg = arg;
+    return 0;
+}
+
+/* Those of thread-local variables at the end of their thread, before what keys and atexit have called. */
+static _Thread_local struct { void (*function)(void *); void *arg; } own_destroys[MOST_AT_EXIT];
+static _Thread_local int own_destroys_left;
+
+static void call_own_destroys(void) {
+    while (own_destroys_left) {
+        int last = --own_destroys_left;
+        own_destroys[last].function(own_destroys[last].arg);
+    }
+    if (behind_its_end)
+        behind_its_end();
+}
+
+int __cxa_thread_atexit(void (*function)(void *), void *arg, void *handle) {
+    (void)handle;
+    if (own_destroys_left == MOST_AT_EXIT)
+        too_many_destructors();
+    if (at_its_end != call_own_destroys) {
+        behind_its_end = at_its_end;
+        at_its_end = call_own_destroys;
+    }
+    own_destroys[own_destroys_left].function = function;
+    own_destroys[own_destroys_left++].arg = arg;
     return 0;
 }

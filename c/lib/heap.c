@@ -52,10 +52,37 @@ void *malloc(size_t n) {
         return errno = ENOMEM, (void *)0;
     size_t size = (n + 2 * FRONT - 1) & -FRONT;
     void *block = take_freed(size);
+    if (block)
+        orders_taken(block, size - FRONT);
     if (!block && !(block = take_of_pool(size)))
         return errno = ENOMEM, (void *)0;
     *front_of(block) = MARK | size;
     return block;
+}
+
+/* What lies in front of a block that has to be at a greater alignment is lost. */
+void *aligned_alloc(size_t alignment, size_t n) {
+    if (!alignment || alignment & (alignment - 1))
+        return errno = EINVAL, (void *)0;
+    if (alignment <= FRONT)
+        return malloc(n);
+    size_t size = (n + 2 * FRONT - 1) & -FRONT;
+    char *block = n > POOL || alignment > POOL || fails_for_nothing() ? 0 : take_of_pool(size + alignment - FRONT);
+    if (!block)
+        return errno = ENOMEM, (void *)0;
+    block = (char *)(((size_t)block + alignment - 1) & -alignment);
+    *front_of(block) = MARK | size;
+    return block;
+}
+
+int posix_memalign(void **block, size_t alignment, size_t n) {
+    int before = errno, wrong;
+    void *made = alignment % sizeof(void *) ? 0 : aligned_alloc(alignment, n);
+    wrong = made ? 0 : alignment % sizeof(void *) ? EINVAL : errno;
+    errno = before;
+    if (made)
+        *block = made;
+    return wrong;
 }
 
 void *calloc(size_t count, size_t n) { /* the pool is zero at first */
@@ -73,6 +100,7 @@ void free(void *block) {
     int *front = front_of(block), size = *front & ~MARK_BITS;
     if ((*front & MARK_BITS) != MARK)
         __builtin_trap();
+    orders_freed(block, size - FRONT);
     *front = 0;
     memset(block, FREED, size - FRONT);
     keep_freed(block, size);
@@ -87,5 +115,3 @@ void *realloc(void *block, size_t n) {
     }
     return made;
 }
-
-void *aligned_alloc(size_t alignment, size_t n) { return alignment <= FRONT ? malloc(n) : 0; }

@@ -8,12 +8,15 @@ source has.
 - Accesses of what other threads may see are `volatile`, which LLVM neither adds nor moves nor leaves out: the two marks
   above don't keep it from reading both of what `c ? &a : &b` may be. Not those of constants, of thread-local variables by
   their name, and of local variables whose address goes nowhere.
+- A `new` is no more than a call of what is called so: to LLVM it never fails, and may be left out with its `delete`.
 - Where it is asked for, accesses that are volatile in the source become atomic ones, relaxed.
 - Functions of the library are weak, so that the program's come before them. Its plain accesses stay as they are.
 - Two edits more need further blocks (blocks.py).
+- Where memory orders are simulated, accesses are calls of the runtime, or are told to it (simulate.py).
 """
 import re
 
+import simulate
 from blocks import NAME, Blocks, Leaving, declared, end_of_type, split
 
 GLOBAL = re.compile(rf'(@{NAME}) = ((?:[^"\s]+ |"[^"]*" )*?)(global|constant) ')
@@ -27,13 +30,14 @@ LOCAL = re.compile(rf'%{NAME}')
 PRIVATE_CALL = re.compile(r'  (?:tail )?call void @llvm\.(?:lifetime|dbg|memcpy|memmove|memset)\b|    #dbg_')
 STRONG = re.compile(r'define (?!internal |private |weak|linkonce|available)')
 KEPT = '@llvm.compiler.used'
+AS_IT_IS = re.compile(r'attributes #(\d+) = \{.*\bdisable_sanitizer_instrumentation\b')
 
 
 class Globals:
     """The variables of a text."""
 
     def __init__(self, lines):
-        self.types, self.private = {}, set()
+        self.types, self.private, self.constants = {}, set(), set()
         for line in lines:
             found = GLOBAL.match(line)
             if not found or found.group(1).startswith('@llvm.'):
@@ -41,6 +45,8 @@ class Globals:
             name, words, kind = found.groups()
             if kind == 'constant' or 'thread_local' in words:
                 self.private.add(name)
+            if kind == 'constant':
+                self.constants.add(name)
             if kind == 'global' and ELSEWHERE.isdisjoint(words.split()):
                 self.types[name] = line[found.end():end_of_type(line, found.end())]
 
@@ -127,6 +133,17 @@ def functions_of(lines):
         at += 1
 
 
+def simulations(lines, places, globals_, edits):
+    """What `--orders` does to each function, by where it begins. Parts of the library stay as they are."""
+    if 'orders' not in edits:
+        return {}
+    groups = {found.group(1) for line in lines if (found := AS_IT_IS.match(line))}
+    hidden = simulate.Hidden(lines, [lines[at + 1:end] for at, end in places], globals_.constants)
+    return {at: simulate.Simulation(hidden.shared_in(lines[at + 1:end]), 'library' in edits and
+                                    not groups.isdisjoint(GROUP.findall(lines[at])), 'typed' in edits)
+            for at, end in places}
+
+
 def edit(text, edits):
     """The text with all edits, those that are named where they are asked for, and the names of functions that have volatile
     accesses which can't be atomic."""
@@ -136,13 +153,16 @@ def edit(text, edits):
     places = list(functions_of(lines))
     leaving = Leaving({DEFINE.match(lines[at]).group(1).strip('"'): lines[at + 1:end] for at, end in places},
                       'whole' in edits)
+    simulated = simulations(lines, places, globals_, edits)
     for at, end in places:
         out += lines[done:at]
         function = None if 'library' in edits else Function(lines[at:end], globals_)
         groups.update(GROUP.findall(lines[at]))
         blocks = Blocks(lines[at] if function else STRONG.sub('define weak ', lines[at]), leaving)
         for line, after in zip(lines[at + 1:end], lines[at + 2:end + 1]):
-            blocks.add(function.access(line, 'atomic' in edits) if function else line, 'spurious' in edits)
+            edited = function.access(line, 'atomic' in edits) if function else line
+            for part in simulated[at].lines(edited) if simulated else [edited]:
+                blocks.add(part, 'spurious' in edits)
             if not after.startswith(('  unreachable', '  ret ')):
                 blocks.look(line)
         out += blocks.lines()
@@ -150,5 +170,7 @@ def edit(text, edits):
         done = end
     out = declared(out + lines[done:], leaving, 'spurious' in edits)
     marked = re.compile(r'attributes #(\d+) = \{')
-    return '\n'.join(f'{line[:-1]}sanitize_thread }}' if (found := marked.match(line)) and found.group(1) in groups else line
-                     for line in out), left
+    out = [line.replace(' builtin ', ' ', 1) if marked.match(line) else line for line in out]
+    text = '\n'.join(f'{line[:-1]}sanitize_thread }}' if (found := marked.match(line)) and found.group(1) in groups else line
+                     for line in out)
+    return simulate.declared(text) if simulated else text, left

@@ -27,11 +27,21 @@ thread_limit:
 	.globaltype	thread_number, i32
 	.globl	thread_number
 thread_number:
+	.globaltype	program_fences, i32
+	.globl	program_fences
+program_fences:
+	.globaltype	constants_first, i32
+	.globl	constants_first
+constants_first:
+	.globaltype	constants_size, i32
+	.globl	constants_size
+constants_size:
 	.globaltype	thread_leaves, i32
 thread_leaves:
 	.globaltype	thread_result, i32
 thread_result:
 	.functype	__wathread_begin (i32, i32) -> ()
+	.functype	__wathread_traps () -> ()
 
 	.section	.text.wasi_thread_start,"",@
 	.globl	wasi_thread_start
@@ -76,6 +86,35 @@ __wathread_most:
 	global.get	thread_count
 	end_function
 
+# Where the thread-local data of a started thread lie, how many bytes they have, and its stack.
+	.section	.text.__wathread_values,"",@
+	.globl	__wathread_values
+	.type	__wathread_values,@function
+__wathread_values:
+	.functype	__wathread_values () -> (i32)
+	global.get	thread_limit
+	global.get	thread_stack
+	i32.add
+	end_function
+
+	.section	.text.__wathread_values_size,"",@
+	.globl	__wathread_values_size
+	.type	__wathread_values_size,@function
+__wathread_values_size:
+	.functype	__wathread_values_size () -> (i32)
+	global.get	thread_size
+	global.get	thread_stack
+	i32.sub
+	end_function
+
+	.section	.text.__wathread_stack,"",@
+	.globl	__wathread_stack
+	.type	__wathread_stack,@function
+__wathread_stack:
+	.functype	__wathread_stack () -> (i32)
+	global.get	thread_stack
+	end_function
+
 # A thread that leaves returns from all its functions, each of which looks whether it does (blocks.py): these make no event.
 # What it leaves with is its result, and it leaves no more once that was asked for.
 	.section	.text.__wathread_leave,"",@
@@ -108,7 +147,8 @@ __wathread_result:
 	end_function
 
 # What -finstrument-function-entry-bare calls in each function once that has its frame: a trap where the stack is too
-# small. It makes no event, and costs six units. In traces it is called `stack_overflow`.
+# small. It makes no event, and costs six units. In traces it is called `stack_overflow`. With --orders c11 the line that
+# begins so is code.
 	.section	.text.__cyg_profile_func_enter_bare,"",@
 	.globl	__cyg_profile_func_enter_bare
 	.type	__cyg_profile_func_enter_bare,@function
@@ -118,6 +158,28 @@ __cyg_profile_func_enter_bare:
 	global.get	thread_limit
 	i32.lt_s
 	if
+#orders	call	__wathread_traps
 	unreachable
 	end_if
+	end_function
+
+# For --orders c11 (orders.c): whether the program has fences, and where constants lie.
+	.section	.text.__wathread_fences,"",@
+	.globl	__wathread_fences
+	.type	__wathread_fences,@function
+__wathread_fences:
+	.functype	__wathread_fences () -> (i32)
+	global.get	program_fences
+	end_function
+
+	.section	.text.__wathread_is_constant,"",@
+	.globl	__wathread_is_constant
+	.type	__wathread_is_constant,@function
+__wathread_is_constant:
+	.functype	__wathread_is_constant (i32) -> (i32)
+	local.get	0
+	global.get	constants_first
+	i32.sub
+	global.get	constants_size
+	i32.lt_u
 	end_function

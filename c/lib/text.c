@@ -212,6 +212,7 @@ int vsnprintf(char *restrict to, size_t n, const char *restrict text, va_list li
     char none;
     struct out out = {n ? to : &none, n ? n - 1 : 0, 0};
     int count = format(&out, text, list);
+    orders_writes(to, n ? (out.count < n ? out.count + 1 : n) : 0);
     if (n)
         to[out.count < n ? out.count : n - 1] = 0;
     return count;
@@ -242,6 +243,7 @@ int dprintf(int file, const char *restrict text, ...) { (void)file; WITH_LIST(vp
 
 static void print(const char *from, size_t n, int line) {
     struct out out = {0};
+    orders_reads(from, n);
     put_text(&out, from, n);
     if (line)
         put(&out, '\n');

@@ -9,8 +9,11 @@ int __wathread_most(void);
 int __wathread_leaving(void);
 int __wathread_result(void);
 void __wathread_leave(int result);
+char *__wathread_values(void);
+int __wathread_values_size(void);
+int __wathread_stack(void);
 
-enum { MOST_THREADS = 64 };
+enum { MOST_THREADS = 64, MOST_THAT_STAY = MOST_THREADS / 4 };
 
 /* What a thread calls: the place in the table of functions, and in the two bits above what type is there. */
 enum type { POSIX, C11, OWN, TYPE_SHIFT = 30 };
@@ -19,12 +22,15 @@ enum type { POSIX, C11, OWN, TYPE_SHIFT = 30 };
 static uint64_t starts[MOST_THREADS];
 static _Atomic int last_start;
 
-/* By the numbers of threads: 0 as long as a thread runs, and then 1 in the upper half and its result in the lower. */
+/* By the numbers of threads: 0 as long as a thread runs, and then 1 in the upper half and its result in the lower; 2 in the
+   upper half where it stayed, and went. */
 static _Atomic uint64_t ends[MOST_THREADS];
-enum { RUNS, ENDED };
+enum { RUNS, ENDED, WENT };
 
-/* What keys and atexit have called at the end: nothing is linked of them where nobody asks for it. */
-static _Thread_local void (*at_its_end)(void);
+static _Thread_local uint64_t joined; /* a bit for each that stays */
+
+/* What keys and atexit have called at the end, and behind it: nothing is linked of them where nobody asks for it. */
+static _Thread_local void (*at_its_end)(void), (*behind_its_end)(void);
 
 /* ---- Null pointers: nothing lies in the first bytes of the memory, so that they are zero in a right program. They are
    read by plain loads, which cost a search nothing ---- */
@@ -39,6 +45,14 @@ static void test_null(void) {
     for (int i = 0; i < NULL_BYTES / 8; i++)
         if (word[i])
             null_pointer_was_written();
+}
+
+/* Behind what C++ has there already. */
+static void call_then(void (*function)(void)) {
+    if (!at_its_end)
+        at_its_end = function;
+    else if (at_its_end != function)
+        behind_its_end = function;
 }
 
 /* What is called last may leave too. */
@@ -63,6 +77,7 @@ static void forget_threads(void) {
     if (!*last)
         return;
     *last = 0;
+    joined = 0;
     for (int i = 0; i < MOST_THREADS; i++)
         ended[i] = RUNS;
 }
@@ -72,29 +87,80 @@ static void forget_threads(void) {
 EXPORT("main") int __wathread_main(void) {
     static char *none;
     forget_threads();
+    orders_main();
     __wasm_call_ctors();
 #ifdef SPURIOUS
-    thread_spawn(change_luck, 0);
+    orders_detached(thread_spawn(change_luck, 0));
 #endif
     int result = __main_void ? __main_void() : __main_argc_argv(0, &none);
     result = __wathread_leaving() ? __wathread_result() : result;
     call_at_end();
+    orders_ends(0, result);
     return result;
 }
 
 /* ---- Threads ---- */
 
+#ifdef ORDERS
 static int start(enum type type, void *function, void *arg) {
-    int place = ++last_start;
-    if (place > __wathread_most())
-        return -1;
-    starts[place] = (uint64_t)((uint32_t)type << TYPE_SHIFT | (uint32_t)function) << 32 | (uint32_t)arg;
-    return __wathread_spawn(place);
+    orders_start_begins();
+    int place = ++last_start, made = -1;
+    if (place <= __wathread_most()) {
+        starts[place] = (uint64_t)((uint32_t)type << TYPE_SHIFT | (uint32_t)function) << 32 | (uint32_t)arg;
+        made = orders_spawn(place);
+    }
+    orders_start_ends(made);
+    return made;
+}
+#else
+/* A thread starts once, and there are only so many. So the last quarter of them stay when they have ended, and where no other
+   is left, who joined such a one has it begin anew: then nothing has an order by that but what the join gave one. It goes
+   where all are asleep, which is when nobody is left who could ask for it. Its stack has its thread-local data as they were
+   at first. */
+static int stays(int thread) {
+    return thread > __wathread_most() - __wathread_most() / 4 && __wathread_values_size() < __wathread_stack() / 2;
 }
 
-/* Where a thread begins (start.s). To call a function by another type than its own is a trap. */
-void __wathread_begin(int thread, int place) {
-    uint64_t word = starts[place];
+static uint64_t starts_anew[MOST_THAT_STAY];
+
+static __attribute__((noinline)) int start_anew(uint64_t word) {
+    for (; joined; joined &= joined - 1) {
+        int thread = __builtin_ctzll(joined);
+        uint64_t end = ends[thread];
+        starts_anew[thread % MOST_THAT_STAY] = word;
+        if (end >> 32 != ENDED || !atomic_compare_exchange_strong(&ends[thread], &end, RUNS))
+            continue;
+        notify_all(&ends[thread]);
+        joined &= joined - 1;
+        return thread;
+    }
+    return -1;
+}
+
+/* What to call next, or 0 where the thread is to go. Its thread-local data are then as they were at first. */
+static __attribute__((noinline)) uint64_t stay(int thread, const char *values) {
+    uint64_t end;
+    while ((end = ends[thread]) != RUNS)
+        if (wait_while_for(&ends[thread], end, INT64_MAX) == 2 &&
+            atomic_compare_exchange_strong(&ends[thread], &end, (uint64_t)WENT << 32 | (uint32_t)end))
+            return 0;
+    memcpy(__wathread_values(), values, __wathread_values_size());
+    return starts_anew[thread % MOST_THAT_STAY];
+}
+
+static int start(enum type type, void *function, void *arg) {
+    int place = ++last_start;
+    uint64_t word = (uint64_t)((uint32_t)type << TYPE_SHIFT | (uint32_t)function) << 32 | (uint32_t)arg;
+    if (place > __wathread_most())
+        return start_anew(word);
+    starts[place] = word;
+    return __wathread_spawn(place);
+}
+#endif
+
+/* What a thread is started for. Its name begins so that it goes on where the thread leaves (blocks.py). To call a function by
+   another type than its own is a trap. */
+static inline __attribute__((always_inline)) void __wathread_call(int thread, uint64_t word) {
     uint32_t function = word >> 32 & ((1u << TYPE_SHIFT) - 1), arg = word, result = 0;
     switch ((enum type)(word >> 32 >> TYPE_SHIFT)) {
     case POSIX:
@@ -108,9 +174,37 @@ void __wathread_begin(int thread, int place) {
     }
     result = __wathread_leaving() ? (uint32_t)__wathread_result() : result;
     call_at_end();
+#ifdef ORDERS
+    orders_ends(thread, result);
+#else
     ends[thread] = (uint64_t)ENDED << 32 | result;
     notify_all(&ends[thread]);
+#endif
 }
+
+#ifdef ORDERS
+/* Where a thread begins (start.s). */
+void __wathread_begin(int thread, int place) {
+    if ((place = orders_begins(thread, place)) >= 0) /* else it was there to choose, and has ended */
+        __wathread_call(thread, starts[place]);
+}
+#else
+static __attribute__((noinline)) void __wathread_call_often(int thread, uint64_t word) {
+    char values[__wathread_values_size()];
+    memcpy(values, __wathread_values(), sizeof values);
+    do
+        __wathread_call(thread, word);
+    while ((word = stay(thread, values)));
+}
+
+/* Where a thread begins (start.s). */
+void __wathread_begin(int thread, int place) {
+    if (stays(thread))
+        __wathread_call_often(thread, starts[place]);
+    else
+        __wathread_call(thread, starts[place]);
+}
+#endif
 
 int thread_spawn(void (*body)(int), int arg) { return start(OWN, (void *)body, (void *)arg); }
 
@@ -123,7 +217,7 @@ int pthread_create(pthread_t *thread, const pthread_attr_t *attr, void *(*functi
     return 0;
 }
 
-int pthread_detach(pthread_t thread) { (void)thread; return 0; }
+int pthread_detach(pthread_t thread) { orders_detached(thread); return 0; }
 pthread_t pthread_self(void) { return thread_self(); }
 int pthread_equal(pthread_t a, pthread_t b) { return a == b; }
 
@@ -140,12 +234,18 @@ int thrd_create(thrd_t *thread, thrd_start_t function, void *arg) {
 int pthread_attr_init(pthread_attr_t *a) {
     a->detached = PTHREAD_CREATE_JOINABLE;
     a->stack = 4096;
+    a->guard = 0;
     return 0;
 }
 
 int pthread_attr_destroy(pthread_attr_t *a) { a->stack = 0; return 0; }
 int pthread_attr_getdetachstate(const pthread_attr_t *a, int *state) { *state = a->detached; return 0; }
 int pthread_attr_getstacksize(const pthread_attr_t *a, size_t *size) { *size = a->stack; return 0; }
+
+int pthread_attr_getguardsize(const pthread_attr_t *a, size_t *size) { *size = a->guard; return 0; }
+int pthread_attr_setguardsize(pthread_attr_t *a, size_t size) { a->guard = size; return 0; }
+int pthread_attr_getscope(const pthread_attr_t *a, int *scope) { (void)a; *scope = PTHREAD_SCOPE_SYSTEM; return 0; }
+int pthread_attr_setscope(pthread_attr_t *a, int scope) { (void)a; return scope == PTHREAD_SCOPE_SYSTEM ? 0 : ENOTSUP; }
 
 int pthread_attr_setdetachstate(pthread_attr_t *a, int state) {
     if (state != PTHREAD_CREATE_JOINABLE && state != PTHREAD_CREATE_DETACHED)
@@ -199,7 +299,7 @@ int pthread_setspecific(pthread_key_t key, const void *value) {
         return EINVAL;
     values[key] = (void *)value;
     if (thread_self())
-        at_its_end = call_destructors; /* main's end is that of the program, which calls none */
+        call_then(call_destructors); /* main's end is that of the program, which calls none */
     return 0;
 }
 
@@ -259,7 +359,7 @@ static void call_normal(void) { call_at_exit(&normal); }
 int atexit(void (*function)(void)) {
     if (add_at_exit(&normal, function))
         return -1;
-    at_its_end = call_normal;
+    call_then(call_normal);
     return 0;
 }
 

@@ -70,14 +70,57 @@ static inline __attribute__((always_inline)) int sleep_while(_Atomic int *word, 
     return 1;
 }
 
+/* ---- Linux's futex ---- */
+
+static long wait_by_futex(_Atomic int *word, int value, int64_t deadline) {
+    if (fails_for_nothing())
+        return errno = EINTR, -1;
+    if (deadline < 0)
+        return wait_while(word, value) == 1 ? errno = EAGAIN, -1 : 0;
+    return sleep_while(word, value, deadline) ? errno = ETIMEDOUT, -1 : 0;
+}
+
+static __attribute__((noinline)) _Noreturn void no_such_syscall(void) { __builtin_trap(); }
+
+/* FUTEX_WAIT has how long to wait, and FUTEX_WAIT_BITSET until when. */
+long syscall(long number, ...) {
+    va_list list;
+    va_start(list, number);
+    _Atomic int *word = va_arg(list, _Atomic int *);
+    unsigned does = va_arg(list, unsigned) & ~(FUTEX_PRIVATE_FLAG | FUTEX_CLOCK_REALTIME), value = va_arg(list, unsigned);
+    if (number != SYS_futex)
+        no_such_syscall();
+    if (does == FUTEX_WAKE || does == FUTEX_WAKE_BITSET) {
+        va_end(list);
+        return notify_some(word, (int)value);
+    }
+    const struct timespec *time = va_arg(list, const struct timespec *);
+    va_end(list);
+    if (does != FUTEX_WAIT && does != FUTEX_WAIT_BITSET)
+        no_such_syscall();
+    if (time && is_wrong(time))
+        return errno = EINVAL, -1;
+    return wait_by_futex(word, value, !time ? FOR_EVER : does == FUTEX_WAIT ? now + as_nanoseconds(time) : deadline_of(time));
+}
+
 /* ---- Joins ---- */
 
+#ifdef ORDERS
+static uint32_t result_of(int thread) {
+    unsigned result;
+    orders_joins(thread, &result, -1);
+    return result;
+}
+#else
 static uint32_t result_of(int thread) {
     uint64_t end;
     while (!(end = ends[thread]))
         wait_while(&ends[thread], RUNS);
+    if (stays(thread))
+        joined |= 1ull << thread;
     return end;
 }
+#endif
 
 void thread_join(int thread) { result_of(thread); }
 
@@ -104,17 +147,29 @@ int thrd_join(thrd_t thread, int *result) {
     return thrd_success;
 }
 
+#ifdef ORDERS
+static int runs(int thread) { return !orders_has_ended(thread); }
+
+static int runs_until(int thread, int64_t deadline) {
+    unsigned result;
+    return orders_joins(thread, &result, deadline) == 2;
+}
+#else
+#define runs(thread) (!ends[thread])
+#define runs_until(thread, deadline) (wait_while_for(&ends[thread], RUNS, deadline) == 2)
+#endif
+
 int pthread_tryjoin_np(pthread_t thread, void **result) {
     int wrong = is_no_other(thread);
-    return wrong ? wrong : !ends[thread] ? EBUSY : pthread_join(thread, result);
+    return wrong ? wrong : runs(thread) ? EBUSY : pthread_join(thread, result);
 }
 
 int pthread_timedjoin_np(pthread_t thread, void **result, const struct timespec *until) {
     int wrong = is_no_other(thread);
     if (wrong || is_wrong(until))
         return wrong ? wrong : EINVAL;
-    while (!ends[thread])
-        if (wait_while_for(&ends[thread], RUNS, deadline_of(until)) == 2)
+    while (runs(thread))
+        if (runs_until(thread, deadline_of(until)))
             return ETIMEDOUT;
     return pthread_join(thread, result);
 }

@@ -1,5 +1,5 @@
 // What C++ wants of the library: a static variable of a function, which one thread makes while the others wait, virtual
-// functions, blocks, and destructors at the end of main and of what a thread leaves.
+// functions, blocks, and destructors at the end of main, of a thread, and of what a thread leaves.
 #include <assert.h>
 #include <pthread.h>
 #include <stdlib.h>
@@ -33,6 +33,19 @@ static Thing &one() {
 #endif
 }
 
+static int ends;
+
+struct Local { // of each thread
+    int value = 3;
+    ~Local() { ends += value; }
+};
+static thread_local Local local;
+
+static void *first(void *) { // alone
+    assert(local.value == 3 && ends == 0);
+    return nullptr;
+}
+
 static void *body(void *) {
     Thing *found = &one();
     if (found->get() != 7)
@@ -46,6 +59,9 @@ int main() {
     pthread_t threads[N];
     void *found[N];
     atexit(last);
+    pthread_create(&threads[0], nullptr, first, nullptr);
+    pthread_join(threads[0], nullptr);
+    assert(ends == 3);
     for (pthread_t &thread : threads)
         assert(pthread_create(&thread, nullptr, body, nullptr) == 0);
     for (int i = 0; i < N; i++)

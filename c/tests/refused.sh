@@ -88,6 +88,8 @@ echo 'static int x = 3 int main(void) { return x; }' >wrong.c
 echo 'int ftok(const char *, int); int main(void) { return ftok("a", 1); }' >missing.c
 echo '#include <poll.h>
 int main(void) { return 0; }' >header.c
+echo '#include <iostream>
+int main() { std::cout << 1; }' >stream.cpp
 echo 'static volatile float f = 1; __attribute__((noinline)) static int average(void) { return f * 2; } int main(void) { return average(); }' >float.c
 echo '_Atomic signed char lock = -1; int take(void) { signed char free = -1; return __c11_atomic_compare_exchange_strong(&lock, &free, 0, 5, 5); }' >byte.c
 echo 'int take(void); int main(void) { return take(); }' >taker.c
@@ -99,6 +101,8 @@ echo 'static char big[20 << 20]; int main(int n, char **a) { (void)a; big[n] = 1
 echo 'extern _Thread_local int x; _Atomic int y; _Thread_local int x; int h(void) { y++; return x++; }' >object.c
 echo '#include <stdlib.h>
 int main(void) { return !malloc(5); }' >pool.c
+echo '#include <stdatomic.h>
+int take(_Atomic int *p) { return atomic_load_explicit(p, memory_order_acquire); }' >weaker.c
 echo '#include <wathread.h>
 __attribute__((import_module("env"), import_name("log"))) void log_it(int);
 int main(void) { log_it(1); return 0; }' >import.c
@@ -122,6 +126,8 @@ refuses '--threads wants a value' "$cc_" good.c -o m.wasm --threads
 for value in 0 64 -1 many '' 07 99999999999999999999; do
     refuses "--threads $value: it takes 1 to 63" "$cc_" good.c -o m.wasm --threads "$value"
 done
+refuses '--orders tso: it takes c11 or sc' "$cc_" good.c -o m.wasm --orders tso
+refuses '--threads 63: with --orders c11 it takes 1 to 62' "$cc_" good.c -o m.wasm --orders=c11 --threads 63
 for option in stack pool; do
     for value in 0 63 16777217 99999999999999999999 -64 4k; do
         refuses "--$option $value: it takes 64 to 16777216" "$cc_" good.c -o m.wasm --$option "$value"
@@ -184,6 +190,7 @@ passes 'error: expected' "$cc_" wrong.c -o m.wasm
 passes 'undefined symbol: ftok' "$cc_" missing.c -o m.wasm
 passes 'statement.c:1:' "$cc_" statement.c -o m.wasm
 passes "'poll.h' file not found" "$cc_" header.c -o m.wasm
+passes 'undefined symbol: std::cout' "$cc_" -std=c++17 -fno-exceptions -fno-rtti stream.cpp -o m.wasm
 for level in 0 1 2 3; do
     refuses 'in average: a float' "$cc_" -O$level float.c -o m.wasm
     refuses 'in main: a float' "$cc_" -O$level float_pointer.c -o m.wasm
@@ -215,7 +222,15 @@ refuses 'in take: a compare-exchange of 8 bits by an expected value that may be 
     "$cc_" taker.c byte.o -o m.wasm
 "$cc_" -c byte.c -o byte.o || say "-c byte.c"
 makes m.wasm "$cc_" taker.c byte.o -o m.wasm
-for option in --spurious --reuse --volatile-atomic; do makes m.wasm "$cc_" $option good.c -o m.wasm; done
+for option in --spurious --reuse --volatile-atomic '--orders c11'; do makes m.wasm "$cc_" $option good.c -o m.wasm; done
+"$cc_" --orders c11 -c object.c -o orders.o || say "--orders c11 -c"
+makes m.wasm "$cc_" --orders c11 good.c orders.o -o m.wasm
+refuses 'orders.o was made with --orders c11' "$cc_" good.c orders.o -o m.wasm
+refuses 'object.o was made without --orders c11' "$cc_" --orders c11 good.c object.o -o m.wasm
+tells=$("$cc_" weaker.c good.c -o m.wasm 2>&1)
+[ "${tells%% all compiled*}" = 'wathread-cc: weaker.c: memory orders are' ] || say "of weaker orders: '$tells'"
+[ -z "$("$cc_" --orders sc weaker.c good.c -o m.wasm 2>&1)" ] || say "of weaker orders with --orders sc"
+[ -z "$("$cc_" --orders c11 weaker.c good.c -o m.wasm 2>&1)" ] || say "of weaker orders with --orders c11"
 "$cc_" -flto -c object.c -o object.o || say "-flto -c"
 refuses 'object.o is made with -flto' "$cc_" good.c object.o -o m.wasm
 echo "$tried calls, $wrong wrong"

@@ -1,0 +1,245 @@
+/* Who may work on the tables, what is chosen, and how a run ends. */
+
+typedef uint64_t u64;
+typedef uint32_t u32;
+typedef uint16_t u16;
+typedef uint8_t u8;
+#define INLINE __attribute__((always_inline)) static inline
+
+/* ---- Limits: each is set by a switch of wathread-cc, as -DORDERS_PLACES=64 ---- */
+
+#ifndef ORDERS_PLACES
+#define ORDERS_PLACES 32      /* places that threads share at a time, a multiple of 4 */
+#endif
+#ifndef ORDERS_MESSAGES
+#define ORDERS_MESSAGES 16    /* of one place that somebody may still read, up to 120 */
+#endif
+#ifndef ORDERS_THREADS
+#define ORDERS_THREADS 7      /* that aren't joined yet, with main; up to 23 */
+#endif
+#ifndef ORDERS_FREED
+#define ORDERS_FREED 16       /* blocks that were freed while threads run */
+#endif
+#ifndef ORDERS_PATIENCE
+#define ORDERS_PATIENCE 2     /* how often in a row a thread is told again what is old; 0: any number */
+#endif
+#ifndef ORDERS_C11_SEQUENCES
+#define ORDERS_C11_SEQUENCES 0 /* 1: a release sequence has later stores of the same thread too, as before C++20 */
+#endif
+#if ORDERS_PLACES % 4 || ORDERS_PLACES < 4
+#error "ORDERS_PLACES is a multiple of 4"
+#endif
+#if ORDERS_MESSAGES < 2 || ORDERS_MESSAGES > 120
+#error "ORDERS_MESSAGES is 2 to 120"
+#endif
+#if ORDERS_THREADS < 2 || ORDERS_THREADS > 23
+#error "ORDERS_THREADS is 2 to 23"
+#endif
+
+enum { PLACES = ORDERS_PLACES, MESSAGES = ORDERS_MESSAGES, THREADS = ORDERS_THREADS, FREED = ORDERS_FREED,
+       NUMBERS = 64, FRONT = 16 /* in front of each block of malloc's */ };
+
+/* Numbers of the runtime, used again after a join: a thread's own, by starts, and by the numbers that traces have. */
+static _Thread_local u8 slot;
+static u8 slots_of_starts[NUMBERS], slots[NUMBERS];
+INLINE int me(void) { return slot; }
+
+/* False while `main` is alone: then nothing has to be simulated. */
+static int parallel;
+
+/* Bits by slots: threads that haven't ended, and of these who sleeps. */
+static u32 running, sleeping;
+
+/* ---- The gate: one thread at a time ----
+
+   An operation goes in where the gate isn't HELD, by one event, and gives it back by another. Who comes while somebody is
+   inside tries again, which is no new state. So that nobody tries for ever in vain, who is inside by something that it
+   did before, as in a loop, leaves the gate OPEN to be asked for: it's then given to those who asked, in turn.
+
+   The gate also has a bit for each thread that is told the same again where it asks the same again (orders.c): as long as
+   nobody writes a message. So a loop that waits for one is a loop of one event, by which nobody is kept out. */
+
+#define HELD 1ull
+#define OPEN 2ull
+#define TURN(t) (4ull * ((t) + 1)) /* whose turn it is: t plus 1, in five bits */
+#define TURN_MASK TURN(30)
+#define ASKS(t) (0x80ull << (t))
+#define ALL_ASKS (((1ull << THREADS) - 1) << 7)
+#define SAME(t) (0x80ull << (THREADS + (t)))
+#define ALL_SAME (((1ull << THREADS) - 1) << (7 + THREADS))
+static _Atomic u64 gate;
+static u64 inside;       /* what the gate was as the thread that is inside came in, without HELD */
+static int news, noting; /* of that one: there is a message or a place that wasn't; it will be told the same again */
+
+/* Who starts a thread stays inside until its next operation, as a start commutes with all that the new thread does. */
+static _Thread_local int stays;
+
+/* A function of its own, so that nothing of a try in vain is left in the frame: it would make more states. */
+static __attribute__((noinline)) int tries(int t, u64 mine) {
+    u64 was = atomic_fetch_or(&gate, mine);
+    if (!(was & HELD) || (was & TURN_MASK) == TURN(t)) {
+        was = (was | mine) & ~HELD;
+        if (was)
+            inside = was;
+        return 1;
+    }
+    if ((was | mine) & OPEN && !(was & ASKS(t)))
+        atomic_fetch_or(&gate, ASKS(t));
+    return 0;
+}
+
+static void enter(int t, int again) {
+    if (stays)
+        stays = 0;
+    else
+        while (!tries(t, again ? HELD | OPEN : HELD))
+            ;
+}
+
+/* What the gate is once T has left: the turn of the next one who asked. */
+static u64 turn_behind(int t, u64 was, u64 same) {
+    u64 asked = was & ALL_ASKS & ~ASKS(t);
+    if (!asked)
+        return same;
+    do
+        t = (t + 1) % THREADS;
+    while (!(asked & ASKS(t)));
+    return HELD | OPEN | TURN(t) | (asked & ~ASKS(t)) | same;
+}
+
+static void unmark(int t); /* orders_tables.h */
+
+static void leave(int t) {
+    u64 was = inside, same = news ? 0 : was & ALL_SAME;
+    unmark(t);
+    if (noting)
+        same |= SAME(t);
+    if (news | noting)
+        news = noting = 0;
+    if (was)
+        inside = 0;
+    if (was & (OPEN | ALL_ASKS))
+        for (was |= HELD; !atomic_compare_exchange_strong(&gate, &was, turn_behind(t, was, same));)
+            ;
+    else
+        gate = same;
+}
+
+/* ---- The helper: a thread that makes choices come either way ----
+
+   It sets a bit where somebody asks, sooner or later than the asker looks. It's always the thread with the last number:
+   it becomes the next thread that the program starts, and a new one is started where the next choice is. */
+
+enum { IDLE, ASKED, YES, RESTS, OVER, BECOMES };
+static _Atomic u32 dice[NUMBERS];  /* by the helper's number */
+static int helper;                 /* its number, or 0 */
+static int rests;                  /* it sleeps, or is about to */
+static int over;                   /* a thread has failed: no more choices */
+
+__attribute__((import_module("wasi"), import_name("thread-spawn"))) int __wathread_spawn(int place);
+int __wathread_most(void);
+
+/* As with the gate, nothing of it is left in the frame. */
+static __attribute__((noinline)) int helps(int thread) {
+    u32 was = ASKED;
+    atomic_compare_exchange_strong(&dice[thread], &was, YES);
+    if (was == RESTS)
+        __builtin_wasm_memory_atomic_wait32((int *)&dice[thread], RESTS, -1);
+    return was < OVER;
+}
+
+int orders_begins(int thread, int place) {
+    if (!place) {
+        while (helps(thread))
+            ;
+        place = (int)dice[thread] - BECOMES;
+    }
+    if (place >= 0)
+        slot = slots_of_starts[place];
+    return place;
+}
+
+static void tell_helper(u32 what) {
+    if (!helper)
+        return;
+    dice[helper] = what;
+    if (rests && what != RESTS)
+        __builtin_wasm_memory_atomic_notify((int *)&dice[helper], 1);
+    rests = what == RESTS;
+}
+
+/* A bit that may come either way. */
+static int draw(void) {
+    if (!helper)
+        helper = __wathread_spawn(0);
+    tell_helper(ASKED);
+    return atomic_exchange(&dice[helper], IDLE) == YES;
+}
+
+/* One of so many, 0 the most usual. */
+static int choose(int many) {
+    int i = 0;
+    if (!over)
+        while (i < many - 1 && draw())
+            i++;
+    return i;
+}
+
+/* ---- Sleep: the helper rests where all sleep, so that a deadlock is one ---- */
+
+static u32 asleep[THREADS]; /* by slots: what is waited for, an address or a thread's number */
+
+static void falls_asleep(int t, u32 what) {
+    asleep[t] = what;
+    sleeping |= 1u << t;
+    if (sleeping == running)
+        tell_helper(RESTS);
+}
+
+/* Behind leave(). Who wakes it is inside, so a notify never comes late. */
+static int sleeps(int t, u32 what, long long nanoseconds) {
+    return __builtin_wasm_memory_atomic_wait32((int *)&asleep[t], what, nanoseconds);
+}
+
+static void wakes(int t) {
+    unmark(t);
+    __atomic_store_n(&asleep[t], 0, __ATOMIC_SEQ_CST);
+    __builtin_wasm_memory_atomic_notify((int *)&asleep[t], 1);
+}
+
+/* ---- What ends a run: the name is what a trace says ---- */
+
+static void is_gone(int t) {
+    running &= ~(1u << t);
+    if (!running || over)
+        tell_helper(OVER);
+    else if (sleeping == running)
+        tell_helper(RESTS);
+}
+
+static void fails_inside(void) {
+    over = 1;
+    is_gone(me());
+    helper = 0;
+    leave(me());
+}
+
+/* In front of a trap that the program or the library asks for. */
+void __wathread_traps(void) {
+    if (parallel) {
+        enter(me(), 0);
+        fails_inside();
+    } else
+        tell_helper(OVER);
+}
+
+#define TRAPS __attribute__((noinline, noreturn)) static void
+#define FAILS { fails_inside(); __builtin_trap(); }
+/* The load is a row that has the name of the data. */
+TRAPS data_race(u32 at) { (void)*(volatile u8 *)at; fails_inside(); __builtin_trap(); }
+TRAPS use_after_free(void) FAILS
+TRAPS atomics_of_mixed_sizes(void) FAILS
+TRAPS orders_full_of_places__use_DORDERS_PLACES(void) FAILS
+TRAPS orders_full_of_messages__use_DORDERS_MESSAGES(void) FAILS
+TRAPS orders_full_of_threads__use_DORDERS_THREADS(void) FAILS
+TRAPS orders_full_of_freed_blocks__use_DORDERS_FREED(void) FAILS

@@ -1,0 +1,368 @@
+/* Places, messages and views. All tables are sorted by address, and cleaned of what nobody can read any more, so that
+   what comes to the same is the same state of a search. */
+
+/* What is known of a place, in a view: in the low byte how old a message may be, by its position in modification order;
+   above it bits for what happens before, of the last plain write and of each thread's last plain read. */
+#if ORDERS_THREADS <= 7
+typedef u16 cell;
+#define ONES 0x0001000100010001u
+#else
+typedef u32 cell;
+#define ONES 0x0000000100000001u
+#endif
+enum { PER_WORD = 8 / sizeof(cell), WORDS = PLACES / PER_WORD, CELL_BITS = 8 * sizeof(cell) };
+#define POSITIONS (ONES * 255)
+#define WRITE_KNOWN ((cell)0x100)
+#define READ_KNOWN(thread) ((cell)(0x200u << (thread)))
+
+typedef union { cell at[PLACES]; u64 words[WORDS]; } view;
+
+/* GLUED: a read-modify-write put it there, and nothing comes between it and what that read. */
+typedef struct { u64 value; u32 glued; view view; } message;
+
+typedef struct {
+    u32 at;
+    u8 log;      /* 1 << log bytes */
+    u8 count;    /* of messages; 0: no atomic access yet */
+    u32 readers; /* a bit by each slot: plain reads since the last plain write */
+} place;
+
+static struct {
+    int count; /* of places */
+    place places[PLACES];
+    message messages[PLACES][MESSAGES];
+    view current[THREADS];                     /* what each thread knows */
+    view acquirable[THREADS], released[THREADS]; /* by its next acquire fence; since its last release fence */
+    view psc;                                  /* positions alone: where sequentially consistent ones have come to */
+    view reads[THREADS];                       /* how often a thread read the oldest message it may: above its position */
+    view newer[THREADS];                       /* NEWER: all that it hasn't seen came since its last operation */
+    struct { u32 at, size; } freed[FREED];
+#if ORDERS_C11_SEQUENCES
+    view sequences[THREADS][PLACES];           /* what a thread's later stores to a place release */
+#endif
+} orders;
+
+enum { NEWER = 0x100 };
+static u32 marked; /* who has such marks: bits by slots */
+
+static u32 ended;   /* and not joined: bits by slots */
+static u32 joining; /* who waits for a thread's end, and will know what that knows */
+static int fences;  /* whether the program has any */
+
+/* ---- Views ---- */
+
+INLINE int words_used(void) { return (orders.count + PER_WORD - 1) / PER_WORD; }
+INLINE int position(const view *v, int l) { return v->at[l] & 255; }
+INLINE int knows(const view *v, int l, cell what) { return (v->at[l] & what) == what; }
+
+/* A word is written only where it changes: each write is an entry of a record. */
+INLINE void put(u64 *word, u64 value) {
+    if (*word != value)
+        *word = value;
+}
+INLINE void put_cell(view *v, int l, cell value) {
+    if (v->at[l] != value)
+        v->at[l] = value;
+}
+INLINE void set_position(view *v, int l, int p) { put_cell(v, l, (v->at[l] & ~(cell)255) | p); }
+
+/* The positions of two words, lane by lane: each is below 128. */
+INLINE u64 greater(u64 a, u64 b) {
+    u64 mask = (((a | ONES << 7) - b) >> 7 & ONES) * 255;
+    return (a & mask) | (b & ~mask);
+}
+INLINE u64 lesser(u64 a, u64 b) { return a + b - greater(a, b); }
+
+INLINE u64 join(u64 a, u64 b) {
+    return greater(a & POSITIONS, b & POSITIONS) | ((a | b) & ~POSITIONS);
+}
+
+/* Adds what is in another view. */
+static void add(view *to, const view *from) {
+    for (int w = words_used(); w--;) {
+        u64 b = from->words[w];
+        if (b) {
+            u64 a = to->words[w];
+            put(&to->words[w], a == b ? a : join(a, b));
+        }
+    }
+}
+
+static void copy(view *to, const view *from) {
+    for (int w = words_used(); w--;)
+        put(&to->words[w], from->words[w]);
+}
+
+static void clear(view *v) { /* behind the places that are there all is zero */
+    for (int w = words_used(); w--;)
+        put(&v->words[w], 0);
+}
+
+/* ---- What is done to all views ---- */
+
+enum change { RAISE, LOWER, FORGET, PUT_IN, TAKE_OUT, SAME_AS_BEFORE }; /* a place comes in at L, or goes */
+
+/* By words, since each access is an entry of a record. The cells of the word in front of the one that comes stay. */
+INLINE u64 mask_below(int l) { return (1ull << CELL_BITS * (l % PER_WORD)) - 1; }
+
+static void put_in_cell(view *v, int l) {
+    u64 stay = mask_below(l), over = 0;
+    for (int w = l / PER_WORD, end = words_used(); w < end; w++) {
+        u64 had = v->words[w], now = (had & stay) | (had & ~stay) << CELL_BITS | over;
+        if (had != now)
+            v->words[w] = now;
+        over = had >> (64 - CELL_BITS);
+        stay = 0;
+    }
+}
+
+static void take_out_cell(view *v, int l) {
+    u64 stay = mask_below(l);
+    int w = l / PER_WORD, end = words_used();
+    for (u64 had = v->words[w]; w < end; w++) {
+        u64 next = w + 1 < end ? v->words[w + 1] : 0, now = (had & stay) | (had >> CELL_BITS & ~stay) | next << (64 - CELL_BITS);
+        if (had != now)
+            v->words[w] = now;
+        had = next;
+        stay = 0;
+    }
+}
+
+static void change(view *v, enum change what, int l, int n) {
+    if (what == PUT_IN || what == TAKE_OUT) {
+        what == PUT_IN ? put_in_cell(v, l) : take_out_cell(v, l);
+        return;
+    }
+    cell had = v->at[l];
+    int p = had & 255;
+    switch (what) {
+    case RAISE: /* a message comes in at position N */
+        if (p && p >= n)
+            v->at[l] = had + 1;
+        break;
+    case LOWER: /* the N oldest ones go */
+        if (p)
+            v->at[l] = had - (p > n ? n : p);
+        break;
+    case FORGET: /* what the bits N say isn't so any more */
+        if (had & n)
+            v->at[l] = had & ~(cell)n;
+        break;
+    case SAME_AS_BEFORE: /* the place at L is known as the one in front of it is */
+        put_cell(v, l, v->at[l - 1]);
+        break;
+    default:
+        break;
+    }
+}
+
+static void change_all(enum change what, int l, int n) {
+    u32 alive = running | ended;
+    for (int t = 0; alive >> t; t++)
+        if (alive >> t & 1) {
+            change(&orders.current[t], what, l, n);
+            if (what != FORGET)
+                change(&orders.reads[t], what, l, n);
+            if (what > FORGET && marked >> t & 1)
+                change(&orders.newer[t], what, l, n);
+            if (fences) {
+                change(&orders.acquirable[t], what, l, n);
+                change(&orders.released[t], what, l, n);
+            }
+#if ORDERS_C11_SEQUENCES
+            for (int k = 0; k < orders.count; k++)
+                change(&orders.sequences[t][k], what, l, n);
+#endif
+        }
+    for (int k = 0; k < orders.count; k++)
+        for (int m = orders.places[k].count; m--;)
+            change(&orders.messages[k][m].view, what, l, n);
+    change(&orders.psc, what, l, n);
+}
+
+/* ---- Places ---- */
+
+INLINE u32 end_of(const place *p) { return p->at + (1u << p->log); }
+
+/* The first place that ends behind this address. */
+static int find(u32 at) {
+    int low = 0, high = orders.count;
+    while (low < high) {
+        int mid = (low + high) / 2;
+        if (end_of(&orders.places[mid]) > at)
+            high = mid;
+        else
+            low = mid + 1;
+    }
+    return low;
+}
+
+static void clear_message(message *m) {
+    m->value = m->glued = 0;
+    clear(&m->view);
+}
+
+static void copy_message(message *to, const message *from) {
+    to->value = from->value;
+    to->glued = from->glued;
+    copy(&to->view, &from->view);
+}
+
+/* By words alone: what lies on a stack would be left there, and make more states. */
+static void set_place(int l, u32 at, int log, u32 readers) {
+    orders.places[l].at = at;
+    orders.places[l].log = log;
+    orders.places[l].count = 0;
+    orders.places[l].readers = readers;
+}
+
+static void move_place(int from, int to) {
+    set_place(to, orders.places[from].at, orders.places[from].log, orders.places[from].readers);
+    orders.places[to].count = orders.places[from].count;
+    orders.places[from].count = 0;
+    for (int m = 0; m < orders.places[to].count; m++) {
+        copy_message(&orders.messages[to][m], &orders.messages[from][m]);
+        clear_message(&orders.messages[from][m]);
+    }
+#if ORDERS_C11_SEQUENCES
+    for (int t = 0; t < THREADS; t++) {
+        copy(&orders.sequences[t][to], &orders.sequences[t][from]);
+        clear(&orders.sequences[t][from]);
+    }
+#endif
+}
+
+static void remove_place(int l) {
+    for (int m = orders.places[l].count; m--;)
+        clear_message(&orders.messages[l][m]);
+    orders.places[l].count = 0;
+    change_all(TAKE_OUT, l, 0);
+    for (int k = l; k < orders.count - 1; k++)
+        move_place(k + 1, k);
+    orders.count--;
+    set_place(orders.count, 0, 0, 0);
+}
+
+static void put_in(int l, u32 at, int log, u32 readers) {
+    if (orders.count == PLACES)
+        orders_full_of_places__use_DORDERS_PLACES();
+    for (int k = orders.count; k > l; k--)
+        move_place(k - 1, k);
+    set_place(l, at, log, readers);
+    orders.count++;
+    change_all(PUT_IN, l, 0);
+}
+
+/* Whether all that there is to know of a place is in this view. */
+static int is_known(const view *v, int l) {
+    const place *p = &orders.places[l];
+    cell want = WRITE_KNOWN;
+    for (int t = 0; p->readers >> t; t++)
+        if (p->readers >> t & 1)
+            want |= READ_KNOWN(t);
+    return knows(v, l, want) && (!p->count || position(v, l) == p->count - 1);
+}
+
+static int is_in(const view *a, const view *b) {
+    for (int w = words_used(); w--;)
+        if (a->words[w] && join(a->words[w], b->words[w]) != b->words[w])
+            return 0;
+    return 1;
+}
+
+/* Whether all threads know all of a place: then it's as one that nobody ever touched. */
+static int is_known_to_all(int l) {
+    const place *p = &orders.places[l];
+    u32 readers = running & ~joining;
+    for (int t = 0; readers >> t; t++)
+        if (readers >> t & 1 && (!is_known(&orders.current[t], l) ||
+                                 (p->count && !is_in(&orders.messages[l][p->count - 1].view, &orders.current[t]))))
+            return 0;
+    return 1;
+}
+
+static void remove_known(void) {
+    for (int l = orders.count; l--;)
+        if (orders.places[l].count < 2 && is_known_to_all(l))
+            remove_place(l);
+}
+
+/* A place that nobody touched since threads run: what is there is known to all, or to who writes it now. */
+static int new_place(u32 at, int log, int writer) {
+    if (orders.count == PLACES)
+        remove_known();
+    for (int i = 0; i < FREED && orders.freed[i].size; i++)
+        if (at - orders.freed[i].at < orders.freed[i].size)
+            use_after_free();
+    int l = find(at);
+    put_in(l, at, log, 0);
+    u32 alive = running | ended;
+    for (int t = 0; alive >> t; t++)
+        if (alive >> t & 1 && (writer < 0 || writer == t))
+            orders.current[t].at[l] |= WRITE_KNOWN;
+    return l;
+}
+
+/* Makes two places of one that is touched in part. */
+static void split(int l) {
+    place *p = &orders.places[l];
+    news = 1;
+    if (p->count)
+        atomics_of_mixed_sizes();
+    p->log--;
+    put_in(l + 1, end_of(p), p->log, p->readers);
+    change_all(SAME_AS_BEFORE, l + 1, 0);
+}
+
+/* ---- Messages that came since a thread's last operation. To read an older one now, or to store in front of one, is what
+   the thread could have done before that came: so that needs no choice, since a search goes through that order too ---- */
+
+static void mark_newer(int by, int l) {
+    u32 others = running & ~sleeping & ~(1u << by);
+    for (int t = 0; others >> t; t++)
+        if (others >> t & 1 && position(&orders.current[t], l) == orders.places[l].count - 1) {
+            put_cell(&orders.newer[t], l, NEWER);
+            if (!(marked >> t & 1))
+                marked |= 1u << t;
+        }
+}
+
+static void unmark(int t) {
+    if (!(marked >> t & 1))
+        return;
+    marked &= ~(1u << t);
+    for (int w = words_used(); w--;)
+        put(&orders.newer[t].words[w], 0);
+}
+
+/* ---- Messages that nobody can read any more ---- */
+
+static void drop(int l, int many) {
+    int count = orders.places[l].count - many;
+    for (int m = 0; m < count; m++)
+        copy_message(&orders.messages[l][m], &orders.messages[l][m + many]);
+    for (int m = count; m < count + many; m++)
+        clear_message(&orders.messages[l][m]);
+    if (orders.messages[l][0].glued)
+        orders.messages[l][0].glued = 0;
+    orders.places[l].count = count;
+    change_all(LOWER, l, many);
+}
+
+static void clean(void) {
+    u32 readers = running & ~joining;
+    for (int w = words_used(); w-- && readers;) {
+        u64 least = ONES * 127;
+        for (int t = 0; readers >> t && least; t++)
+            if (readers >> t & 1)
+                least = lesser(least, orders.current[t].words[w] & POSITIONS);
+        for (int k = 0; least; k++, least >>= CELL_BITS)
+            if (least & 255)
+                drop(w * PER_WORD + k, least & 255);
+    }
+}
+
+static void end_operation(void) {
+    clean();
+    leave(me());
+}

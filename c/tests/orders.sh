@@ -1,0 +1,78 @@
+#!/bin/bash
+# tests/orders.sh [WATHREAD]: what `wathread-cc --orders c11` finds. The programs of tests/orders/accesses in drawn runs, at
+# -O1 and -O0, each with what it is to end as on its first line (`EXPECT ok`, `trap`, `asleep`, or a name in a trace); then
+# those of tests/orders/algorithms, which are right, and bugs planted in the runtime, each found by a litmus test of
+# bench/orders. Prints a table. WATHREAD is the program, or ../wathread. CC names the clang; RUNS is how many are drawn.
+set -u
+here=$(cd "$(dirname "$0")/.." && pwd)
+export WATHREAD=${1:-$here/../wathread}
+work=$(mktemp -d)
+trap 'rm -rf "$work"' EXIT
+wrong=0
+
+say() { printf '%-22s %-4s %-34s %s\n' "$@"; }
+
+# What drawn runs of a module end as: `ok`, or the name of a trap of the runtime, `trap` or `asleep`.
+ending() {
+    "$WATHREAD" search "$work/m.wasm" --invoke main --runs "${RUNS:-1000}" --limit 60000 --record "$work/r" >"$work/out" 2>&1
+    grep -q 'found in run' "$work/out" || { echo ok && return; }
+    "$WATHREAD" show "$work/m.wasm" "$work/r" --at trap 2>/dev/null |
+        grep -oE 'data_race|use_after_free|atomics_of_mixed_sizes|orders_full_of_[a-z]+' | head -1 | grep . && return
+    sed '1,/^found in/d' "$work/out" | grep -oE 'trap|asleep' | sort -r | head -1
+}
+
+build() { "$1/wathread-cc" --orders c11 -w --threads 6 --pool 1024 "${@:2}" -o "$work/m.wasm" || wrong=1; }
+
+accesses() {
+    local file level want got
+    for file in "$here"/tests/orders/accesses/*.c; do
+        want=$(sed -nE '1s/.*EXPECT ([a-z_]+).*/\1/p' "$file")
+        for level in 1 0; do
+            build "$here" -O$level "$file"
+            got=$(ending)
+            [ "$got" = "$want" ] || wrong=1 got="WRONG: $got"
+            say "$(basename "$file" .c)" -O$level "$want" "$got"
+        done
+    done
+}
+
+algorithms() {
+    local file got
+    for file in "$here"/tests/orders/algorithms/*.c; do
+        build "$here" -O1 "$file"
+        got=$(ending)
+        [ "$got" = ok ] || wrong=1 got="WRONG: $got"
+        say "$(basename "$file" .c)" -O1 right "$got"
+    done
+}
+
+# A bug in the runtime, an edit by sed, has to change the outcomes of one of the litmus tests.
+planted() { # what, file, edit, tests
+    rm -rf "$work/c" && mkdir -p "$work/c" "$work/bench"
+    cp -R "$here/wathread-cc" "$here/wathread-link" "$here/include" "$here/lib" "$work/c"
+    cp -R "$here/../bench/orders" "$work/bench"
+    sed -E "$3" "$here/lib/$2" >"$work/c/lib/$2"
+    ! cmp -s "$here/lib/$2" "$work/c/lib/$2" || { wrong=1 && say "$1" "" "no change" "$3" && return; }
+    local out
+    out=$(python3 "$work/bench/orders/compare.py" --all 100000 $4 2>&1)
+    if [ $? = 0 ]; then wrong=1 out='NOT FOUND'; else out=$(echo "$out" | grep -E 'WEAKER|stronger' | cut -c1-80); fi
+    say "planted" "" "$1" "$out"
+}
+
+accesses
+algorithms
+planted "an acquire joins no view" orders.c 's/^    if \(acquires\(order\)\)$/    if (0)/' MP+rel+acq
+planted "a release leaves no view" orders.c 's/^    if \(releases\(order\)\)$/    if (0)/' MP+rel+acq
+planted "no old message is read" orders.c 's/^        p -= choose\(newest - least \+ 1\);/        p -= 0;/' SB+rlx+rlx
+planted "a message is passed by" orders.c 's/^    int least = position\(.*sc = order/    int least = 0, sc = order/' CoRR+rlx+rlx
+planted "a store comes in between" orders.c 's/^    messages\[p\].glued = glued;/    messages[p].glued = 0;/' RMW+store
+planted "a fence that releases nothing" orders.c 's/copy\(&orders.released\[t\], &orders.current\[t\]\);/;/' MP+frel+acq
+planted "a fence that acquires nothing" orders.c 's/add\(&orders.current\[t\], &orders.acquirable\[t\]\);/;/' MP+rel+facq
+planted "a fence out of order" orders.c 's/^        join_psc\(t\);/        ;/' SB+fsc
+planted "an SC load of what is old" orders.c 's/sc = order == SEQ_CST \?/sc = 0 ?/' SB+sc+sc
+planted "told the same behind a store" orders_gate.h 's/same = news \? 0 : was/same = was/' CoRR3+rlx
+planted "a choice that isn't made" orders_tables.h 's/^    marked &= ~\(1u << t\);/    return;/' SB+rlx+rlx
+planted "no release sequence" orders.c 's/^        copy\(&messages\[p\].view, &messages\[p - 1\].view\);/        clear(\&messages[p].view);/' MP+rs+rmw
+
+[ $wrong = 0 ] && echo "all as wanted" || echo "WRONG"
+exit $wrong
