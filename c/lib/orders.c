@@ -424,6 +424,7 @@ void __wathread_fence(int order) {
 static u32 detached;        /* bits by slots */
 static u8 joiner[THREADS];  /* who waits for a thread's end: its slot, plus 1 */
 static u32 results[NUMBERS];
+static u64 joined;          /* bits by numbers: its end was taken, and may be asked for again */
 static int chosen;          /* the slot of the thread that is started */
 static int will_end;        /* `main` was invoked, so orders_ends is called at its end */
 
@@ -519,6 +520,7 @@ void orders_ends(int thread, unsigned result) {
     if (by >= 0) {
         joiner[t] = 0;
         joining &= ~(1u << by);
+        joined |= 1ull << thread;
         take_end(by, t);
         end_parallel(by);
     } else if (detached >> t & 1) {
@@ -535,7 +537,7 @@ int orders_has_ended(int thread) {
     if (!parallel)
         return 1;
     begin_operation(0, OTHERS);
-    int is = ended >> slots[thread] & 1;
+    int is = (joined >> thread & 1) || (ended >> slots[thread] & 1);
     leave(me());
     return is;
 }
@@ -557,7 +559,10 @@ static int is_late(int t, int of) {
 int orders_joins(int thread, unsigned *result, long long nanoseconds) {
     begin_operation(0, OTHERS);
     int t = me(), of = slots[thread];
-    if (ended >> of & 1) {
+    if (joined >> thread & 1)
+        leave(t);
+    else if (ended >> of & 1) {
+        joined |= 1ull << thread;
         take_end(t, of);
         end_parallel(t);
         end_access(t);
