@@ -31,7 +31,7 @@ use Rattle.search_race_free.specs.Reduced.{StandsBefore, KeepsTouches}
 use Rattle.search_race_free.specs.Met.{held, parted, held_eq, HasOwning, IsHeldRow, AreHeldRows, IsCopy}
 
 -- an element is at its place
-at-of : {A : Type 0} (xs : List A) (x : A) → (c : Contains xs x) → slice_get xs c.0 ≡ Some x
+pub at-of : {A : Type 0} (xs : List A) (x : A) → (c : Contains xs x) → slice_get xs c.0 ≡ Some x
 at-of xs x c = slice_get-get_or xs c.0 x c.1 ∙ ap (λ y. Some y) c.2
 
 module _ {G H : Type 0} where

@@ -22,6 +22,7 @@ use Rattle.search_race_free.specs.declared.owning.Owning.{Owning}
 use Rattle.search_race_free.specs.Orders.{times, StepsWithout}
 use Rattle.search_race_free.specs.Wanted.{ArePlain}
 use Rattle.search_race_free.specs.Races.{CanRace, MeetInRace, IsWrittenOver, HasRace, NoneRace}
+use Rattle.search_race_free.specs.Owned.{Within}
 use Rattle.search_race_free.specs.Same.{owning_eq}
 use Rattle.search_race_free.specs.Reduced.{wanted_in, next_in, StandsBefore, KeepsTouches, reduced_steps}
 use Rattle.search_race_free.specs.Search.{NoneBeyond}
@@ -63,8 +64,8 @@ module _ {X T E V A G H M O : Type 0} (k : ThreadSystem X T E V A G H M) (ends :
       wanted_in k w n ≡ Some a → (IsPlain a → ⊥) → times n st.order ≡ 0
   none-left s w left n st a wants atomic = elim (cases_lt 0 (times n st.order)) [
     | inl some ↦
-        (let m = wanted-along (wanted_in k) (next_in k) (IsReached k.system k.first) (plain-laws k.system k.accesses k.first k.most tame plain) _
-        (own-apart k ends stuck tame plain beyond s w left st) n st.order w st.settled st.reached st.makes some in
+        (let m = wanted-along (wanted_in k) (next_in k) (IsReached k.system k.first) (plain-laws k.system k.accesses k.first k.most tame plain)
+        (Within s.owned.items) (own-apart k ends stuck tame plain beyond s w left st) n st.order w st.settled st.reached st.makes some in
         absurd (atomic (subst IsPlain (same_Some m.access a (sym m.wanted ∙ wants)) m.plain)))
     | inr few ↦ omega (arith, few)
   ]

@@ -16,11 +16,15 @@ pub if-none-at : {B : Type 0} (P : Type 0) (o : Option B) → o ≡ None → IfN
 if-none-at P o is h = subst (λ p. IfNone p P) is h
 
 module _ (wanted : List (Option NextAccess)) (n : ℕ) (a : NextAccess) (before : List Touch) where
+  -- It was there, or something is written over.
+  abbrev IsThere : Touch → Type 0
+  IsThere x = Contains before x ⊎ IsOver wanted n a x × StrikesNobody before x.thread x.access
+
   -- Those of the threads so far.
   pub record OverSoFar (i : ℕ) (now : List Touch) : Type 0 where
     pub kept : (x : Touch) → Contains before x → Contains now x
     pub all : (x : Touch) → x.thread < i → IsOver wanted n a x → Contains now x
-    pub each : (x : Touch) → Contains now x → Contains before x ⊎ IsOver wanted n a x × StrikesNobody before x.thread x.access
+    pub each : (x : Touch) → Contains now x → IsThere x
 
   pub over-none : OverSoFar 0 before
   over-none = record { kept = λ x c. c; all = λ x low. absurd (omega (arith, low)); each = λ x c. inl c }
@@ -55,7 +59,7 @@ module _ (wanted : List (Option NextAccess)) (n : ℕ) (a : NextAccess) (before 
           let same = same_Some x.access b (sym (subst (λ t. access_at wanted t ≡ Some x.access) e over.wants) ∙ wants) in
           inr (λ j. record { thread = e j; access = same j })
 
-      of : (x : Touch) → Contains now x ⊎ (x ≡ new) → Contains before x ⊎ IsOver wanted n a x × StrikesNobody before x.thread x.access
+      of : (x : Touch) → Contains now x ⊎ (x ≡ new) → IsThere x
       of x (inl c) = so.each x c
       of x (inr e) = inr (subst (λ (v : Touch). IsOver wanted n a v × StrikesNobody before v.thread v.access) (sym e)
           (record { wants = wants; other = other; over = writes }, λ y c d r. nobody y (so.kept y c) d r))
@@ -65,7 +69,7 @@ module _ (wanted : List (Option NextAccess)) (n : ℕ) (a : NextAccess) (before 
       → Strikes now i b one → AreInTheWay wanted before one i
   over-strikes i one now b so wants writes s = by (so.each s.touch s.among)
     where
-      by : Contains before s.touch ⊎ IsOver wanted n a s.touch × StrikesNobody before s.touch.thread s.touch.access → AreInTheWay wanted before one i
+      by : IsThere s.touch → AreInTheWay wanted before one i
       by (inl c) = record {
         access = b;
         wants = wants;
@@ -91,9 +95,6 @@ module _ (wanted : List (Option NextAccess)) (n : ℕ) (a : NextAccess) (before 
       → ArePutOver wanted n a before after → (x y : Touch) → Contains after x → Contains after y → x.thread ≢ y.thread → Race x.access y.access → ⊥
   over-apart after apart put x y in_x in_y = by (put.each x in_x) (put.each y in_y)
     where
-      abbrev IsThere : Touch → Type 0
-      IsThere v = Contains before v ⊎ IsOver wanted n a v × StrikesNobody before v.thread v.access
-
       by : IsThere x → IsThere y → x.thread ≢ y.thread → Race x.access y.access → ⊥
       by (inl c) (inl e) d r = apart x y c e d r
       by (inl c) (inr o) d r = o.1 x c d (race-swap x.access y.access r)

@@ -62,7 +62,7 @@ returns g c =
     (record { flat = c.in-Some-3.flat; owned = c.put.new.touches }) c.args.m c.in-Some-2.access c.requires
     (λ z at. sym (c.in_ok-access.ensures z (thread-at k c.args.from.flat z at c.args.m c.in-Some.thread.now there)) ∙ c.in-Some-2.is)
     (not_false c.in-Some-2.access.plain c.if-not-access.false)
-    (subst (λ l. ArePlainOf l c.args.m) c.as_slice.ensures.value (c.are_plain.ensures (not_false c.are_plain.result c.if-not-are_plain.false)))
+    (subst (λ l. ArePlainOf l c.args.m) c.as_slice.ensures.value (c.are_plain.ensures c.if-not-are_plain.false))
     (subst (λ l. StrikesNobody l c.args.m c.in-Some-2.access) c.as_slice-2.ensures.value c.in_default-struck.ensures.none)
     (if-some-at _ _ _ c.in-Some-3.is c.in_ok-flat.ensures.next)
     c.in_ok-put.ensures

@@ -1,8 +1,9 @@
 use Rattle.std.proofs.Common.{subst}
 use Rattle.search_settled.proofs.Threads.{if-some-at}
 use Rattle.search_race_free.specs.Search.{IsCame, ComesOnward, IsAfterEvent}
-use Rattle.search_race_free.specs.Touches.{AreOfOthers, AreInTheWay}
+use Rattle.search_race_free.specs.Touches.{AreOfOthers, ArePutOver, AreInTheWay}
 use Rattle.search_race_free.specs.declared.race.ThreadRace.{ThreadRace}
+use Rattle.search_race_free.proofs.Overwriting.{if-none-at}
 use Rattle.search_race_free.proofs.Continuing.{onward-first, others-race}
 use Rattle.search_race_free.proofs.onward.turn_onward.Goals as goal
 
@@ -31,7 +32,8 @@ loop-m-init g c =
           c.requires.owned c.requires.before c.requires.wants
           (if-some-at (IsAfterEvent k c.args.from.now.flat c.args.n) c.in_ok-flat.field-0 c.in-Some.flat c.in-Some.is c.in_ok-flat.ensures.next)
           (subst (λ l. AreOfOthers l c.args.n c.in_ok-owned.owned.items) c.as_slice.ensures.value c.in_ok-owned.ensures)
-          (c.in_ok-race.ensures.none c.in_default-2.is);
+          (if-none-at (ArePutOver c.args.before.now c.args.n c.args.access c.in_ok-owned.owned.items c.put_over.new.touches.items) c.in_ok-race.field-0
+          c.in_default-2.is c.in_ok-race.ensures.none);
     }
 
 pub run_free-requires : goal.run_free-requires
