@@ -19,6 +19,6 @@ returns g c =
     (if-some-at (IsAfterEvent k from.flat c.args.n) c.in_ok-flat.field-0 c.in-Some-2.flat c.in-Some-2.is c.in_ok-flat.ensures.next)
     (subst (λ l. AreOfOthers l c.args.n c.in_ok-owned.owned.items) c.as_slice-3.ensures.value c.in_ok-owned.ensures)
     (subst (λ l. ArePutOver l c.args.n c.in-Some.access c.in_ok-owned.owned.items c.put_over.new.touches.items) c.as_slice-4.ensures.value
-    (if-none-at (ArePutOver c.as_slice-4.result.now c.args.n c.in-Some.access c.in_ok-owned.owned.items c.put_over.new.touches.items) c.in_ok-race.field-0
-    c.in_default-3.is c.in_ok-race.ensures.none)) in
+    (if-none-at (ArePutOver c.as_slice-4.result.now c.args.n c.in-Some.access c.in_ok-owned.owned.items c.put_over.new.touches.items) c.in_ok-_race.field-0
+    c.in_default-3.is c.in_ok-_race.ensures.none)) in
     one.owned
