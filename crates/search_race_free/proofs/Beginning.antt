@@ -1,5 +1,5 @@
 -- Where all come to rest in the beginning, and what is asked of the search beside next states.
-use Rattle.std.proofs.Common.{◌≡◌, inl, inr, refl, sym, subst, arith, ℕ, Bool, List, [], ◌∷◌, Contains, Option, Some, None}
+use Rattle.std.proofs.Common.{◌≡◌, inl, inr, refl, sym, subst, arith, ℕ, List, [], ◌∷◌, Contains, Option}
 use Rattle.schedule.specs.System.{State}
 use Rattle.search_reach.specs.Search.{StepSystem, IsFirst, IsMet, IsEnding, IsAll, AllGetStuck, CanGetStuck}
 use Rattle.search_reach.proofs.Paths.{stays, onward}

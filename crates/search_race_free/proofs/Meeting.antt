@@ -5,7 +5,6 @@ use Rattle.search_settled.specs.Settled.{IsReached}
 use Rattle.search_settled.specs.Accesses.{Race}
 use Rattle.search_settled.specs.declared.access.NextAccess.{NextAccess}
 use Rattle.search_race_free.specs.Wanted.{next_access, after_next}
-use Rattle.search_race_free.specs.Races.{MeetInRace}
 use Rattle.search_race_free.specs.Laws.{RacesMeet}
 use Rattle.search_race_free.proofs.Racing.{none-race}
 use Rattle.search_race_free.proofs.Turning.{plain-laws}

@@ -1,15 +1,14 @@
 -- Where all states were met, no thread races with what was written over.
-use Rattle.std.proofs.Common.{◌≡◌, ◌≢◌, ◌<◌, ◌⊎◌, inl, inr, ℕ, zero, suc, Bool, true, true≢false, refl, sym, ◌∙◌, subst, arith}
-use Rattle.std.proofs.Common.{List, Contains, length, Option, Some}
-use Rattle.std.specs.List.{slice_get}
+use Rattle.std.proofs.Common.{◌≡◌, ◌≢◌, inl, inr, ℕ, zero, suc, Bool, true, true≢false, refl, sym, ◌∙◌, subst, arith}
+use Rattle.std.proofs.Common.{List, Contains, length, Some}
 use Rattle.std.proofs.lemmas.Bool.{cases_lt}
 use Rattle.std.proofs.lemmas.Option.{same_Some}
 use Rattle.schedule.specs.System.{State}
 use Rattle.search_graph.specs.declared.graph.Move.{Move}
 use Rattle.search_graph.specs.Paths.{Goes}
 use Rattle.search_reach.specs.declared.explores.NextState.{NextState}
-use Rattle.search_reach.specs.Search.{StepSystem, HasEqual, StaysIn, LeadsOn, AreNext, IsAll}
-use Rattle.search_reach.specs.Explored.{IsNoted, AreNoted, moves_from, ExploredTo}
+use Rattle.search_reach.specs.Search.{StepSystem, HasEqual, AreNext, IsAll}
+use Rattle.search_reach.specs.Explored.{IsNoted, moves_from, ExploredTo}
 use Rattle.search_reach.proofs.Searching.{here}
 use Rattle.search_settled.specs.Settled.{IsReached, AreTame}
 use Rattle.search_settled.specs.Accesses.{IsPlain, Race, WritesOver}
@@ -21,7 +20,7 @@ use Rattle.search_race_free.specs.declared.owning.Touch.{Touch}
 use Rattle.search_race_free.specs.declared.owning.Owning.{Owning}
 use Rattle.search_race_free.specs.Orders.{times, StepsWithout}
 use Rattle.search_race_free.specs.Wanted.{ArePlain}
-use Rattle.search_race_free.specs.Races.{CanRace, MeetInRace, IsWrittenOver, HasRace, NoneRace}
+use Rattle.search_race_free.specs.Races.{MeetInRace, IsWrittenOver, HasRace, NoneRace}
 use Rattle.search_race_free.specs.Owned.{Within}
 use Rattle.search_race_free.specs.Same.{owning_eq}
 use Rattle.search_race_free.specs.Reduced.{wanted_in, next_in, StandsBefore, KeepsTouches, reduced_steps}

@@ -354,7 +354,14 @@ pub fn race_choices<M: Accesses>(
         None => None,
     };
     all.clear();
-    if let Some(behind) = note_way(alloc, system, most_plain, steps.as_slice(), sooner, &mut all)? {
+    if let Some(behind) = note_way(
+        alloc,
+        system,
+        most_plain,
+        steps.as_slice(),
+        sooner,
+        &mut all,
+    )? {
         note_meeting(alloc, system, &behind, &mut all)?;
     }
     Ok(all)
