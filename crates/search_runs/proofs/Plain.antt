@@ -42,7 +42,8 @@ both-true : (s t : Bool) → (s && t) ≡ true → (s ≡ true) × (t ≡ true)
 both-true true t h = (refl, h)
 both-true false t h = absurd (true≢false (sym h))
 
-in-fits : (m : Memory) (plain reads writes : Bool) (addr width reach : ℕ) → (in_bounds m plain reads writes addr width reach).plain ≡ true → FitsIn m addr width reach
+in-fits : (m : Memory) (plain reads writes : Bool) (addr width reach : ℕ) → (in_bounds m plain reads writes addr width reach).plain ≡ true
+    → FitsIn m addr width reach
 in-fits m plain reads writes addr width reach h = by (nat_le reach (length m.bytes)) refl h
   where
     by : (t : Bool) → nat_le reach (length m.bytes) ≡ t
@@ -268,8 +269,8 @@ module _ (m : Memory) (p : Bool) (b v k : ℕ) (within : b + v ≤ length m.byte
   meet-back : (x y : NextAccess) → Meet x y → Meet y x
   meet-back x y h = (h.0, (h.1.1, h.1.0))
 
-  store-apart : (t reads writes : Bool) (a w r : ℕ) → nat_le r (length m.bytes) ≡ true → (Meet (in_bounds m t reads writes a w r) (inside true false true b v) → ⊥) →
-      Apart b v a w
+  store-apart : (t reads writes : Bool) (a w r : ℕ) → nat_le r (length m.bytes) ≡ true → (Meet (in_bounds m t reads writes a w r) (inside true false true b v) → ⊥)
+      → Apart b v a w
   store-apart t reads writes a w r e never =
       apart-of (inside true false true b v) (inside (t && nat_le (a + w) r) reads writes a w)
       (λ meet. never (subst (λ x. Meet x (inside true false true b v)) (sym (in-is m t reads writes a w r e))
@@ -283,7 +284,8 @@ module _ (m : Memory) (p : Bool) (b v k : ℕ) (within : b + v ≤ length m.byte
     where
       by : (s : Bool) → nat_le end (length m.bytes) ≡ s
           → (if s then Value (loaded (written m b v k) a w) else OutOfBounds) ≡ (if s then Value (loaded m a w) else OutOfBounds)
-      by true e = ap Value (loaded-apart m b v k a w (store-apart t reads writes a w r (subst (λ x. nat_le x (length m.bytes) ≡ true) same e) never) (inr within))
+      by true e = ap Value (loaded-apart m b v k a w
+          (store-apart t reads writes a w r (subst (λ x. nat_le x (length m.bytes) ≡ true) same e) never) (inr within))
       by false e = refl
 
   pub other-found : (opening : ℕ) (f : Event) → (Meet (access_by opening m p f) (inside true false true b v) → ⊥) → reply_of (written m b v k) f ≡ reply_of m f
@@ -414,12 +416,14 @@ as-much-most m (Told answer) is = absurd is
 -- what an event does with a memory depends on its length, and a compare-exchange's on what is there
 in-same : (m z : Memory) (plain reads writes : Bool) (addr width reach : ℕ) → length z.bytes ≡ length m.bytes
     → in_bounds z plain reads writes addr width reach ≡ in_bounds m plain reads writes addr width reach
-in-same m z plain reads writes addr width reach h = ap (λ l. if nat_le reach l then inside (plain && nat_le (addr + width) reach) reads writes addr width else look) h
+in-same m z plain reads writes addr width reach h =
+    ap (λ l. if nat_le reach l then inside (plain && nat_le (addr + width) reach) reads writes addr width else look) h
 
 -- in the memory after a store that it doesn't meet
 module _ (m : Memory) (p : Bool) (b v k : ℕ) (within : b + v ≤ length m.bytes) where
   found-same : (a w expected : ℕ) → (Meet (in_bounds m false true (loaded m a w == expected) a w (a + w)) (inside true false true b v) → ⊥)
-      → in_bounds (written m b v k) false true (loaded (written m b v k) a w == expected) a w (a + w) ≡ in_bounds m false true (loaded m a w == expected) a w (a + w)
+      → in_bounds (written m b v k) false true (loaded (written m b v k) a w == expected) a w (a + w)
+      ≡ in_bounds m false true (loaded m a w == expected) a w (a + w)
   found-same a w expected never =
       in-same m (written m b v k) false true (loaded (written m b v k) a w == expected) a w (a + w) (long m p b v k within) ∙
       by (nat_le (a + w) (length m.bytes)) refl
@@ -441,7 +445,8 @@ module _ (m : Memory) (p : Bool) (b v k : ℕ) (within : b + v ≤ length m.byte
   written-same opening (Store addr width reach value) h = in-same m (written m b v k) p false true addr width reach (long m p b v k within)
   written-same opening (Rmw op addr width value) h = in-same m (written m b v k) false true true addr width (addr + width) (long m p b v k within)
   written-same opening (Cmpxchg addr width expected replacement) h = found-same addr width expected h
-  written-same opening (Ask (Wait addr width expected timeout)) h = in-same m (written m b v k) false true false addr width (addr + width) (long m p b v k within)
+  written-same opening (Ask (Wait addr width expected timeout)) h =
+      in-same m (written m b v k) false true false addr width (addr + width) (long m p b v k within)
   written-same opening (Ask (Notify addr count)) h = refl
   written-same opening (Ask (Spawn arg)) h = refl
   written-same opening (Ask Leave) h = refl

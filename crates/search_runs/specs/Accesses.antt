@@ -66,9 +66,10 @@ in_bounds m plain reads writes addr width reach =
     then record { plain = plain && nat_le (addr + width) reach; reads = reads; writes = writes; addr = addr; width = width }
     else look
 
--- A read-modify-write writes, a compare-exchange exactly where what it expects is there, and a wait reads; all three are
--- atomic. A notify touches no byte, and looks where its four bytes pass the opening ones. (All calls at one list of
--- waiters are in its order, growths and sizes in theirs, and spawns in theirs: none of these races.)
+-- A load reads, and a store writes. A read-modify-write does both; a compare-exchange reads, and writes exactly where what it
+-- expects is there; and a wait reads. These three are atomic. A notify touches no byte, and looks where its four bytes pass
+-- the opening ones. (All calls at one list of waiters are in its order, growths and sizes in theirs, and spawns in theirs:
+-- none of these races.)
 abbrev pub access_by : ℕ → Memory → Bool → Event → NextAccess
 access_by opening m plain Size = no_bytes
 access_by opening m plain (Grow more) = if can_grow m more then growth opening else no_bytes

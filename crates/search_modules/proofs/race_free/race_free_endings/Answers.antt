@@ -41,7 +41,8 @@ returns-clause-count g c =
 
 pub returns-clause-live : goal.returns-clause-live
 returns-clause-live g c =
-    IfOk-weaker c.search_race_free.result _ _ (λ free live. says_by is_same_owned (λ s. StandsBefore (threads s)) (λ s. KeepsTouches (threads s)) (λ s w. IsStuck s w ⊎ SomeRace (threads s))
+    IfOk-weaker c.search_race_free.result _ _ (λ free live. says_by is_same_owned (λ s. StandsBefore (threads s)) (λ s. KeepsTouches (threads s))
+    (λ s w. IsStuck s w ⊎ SomeRace (threads s))
     c.in_ok-searched.searched c.args.request.now c.in_ok-searched.ensures.call c.args.dump
     c.in_ok-searched.ensures.dump free.ended.states free.ended.verdict free.ended.liveness live)
     c.search_race_free.ensures.live
