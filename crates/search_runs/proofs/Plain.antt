@@ -331,7 +331,7 @@ module _ (m : Memory) (p : Bool) (b v k : ℕ) (within : b + v ≤ length m.byte
           → (if s then written (written m b v k) a w (combined op w (loaded m a w) value) else written m b v k)
           ≡ (if s then written (written m b v k) a w (combined op w (loaded (written m b v k) a w) value) else written m b v k)
       by true e = ap (λ o. written (written m b v k) a w (combined op w o value))
-          (sym (loaded-apart m b v k a w (store-apart false true a w (a + w) e h) (inr within)))
+          (sym (loaded-apart m b v k a w (store-apart false true true a w (a + w) e h) (inr within)))
       by false e = refl
   other-leaves opening (Cmpxchg a w expected replacement) h =
       by (nat_le (a + w) (length m.bytes)) refl
@@ -340,7 +340,7 @@ module _ (m : Memory) (p : Bool) (b v k : ℕ) (within : b + v ≤ length m.byte
     where
       swapped : nat_le (a + w) (length m.bytes) ≡ true → (s : Bool)
           → written (if s then written m a w replacement else m) b v k ≡ (if s then written (written m b v k) a w replacement else written m b v k)
-      swapped e true = swap-writes m a w replacement b v k (apart-back b v a w (store-apart false (loaded m a w == expected) a w (a + w) e h)) within
+      swapped e true = swap-writes m a w replacement b v k (apart-back b v a w (store-apart false true (loaded m a w == expected) a w (a + w) e h)) within
       swapped e false = refl
 
       by : (s : Bool) → nat_le (a + w) (length m.bytes) ≡ s
@@ -349,7 +349,7 @@ module _ (m : Memory) (p : Bool) (b v k : ℕ) (within : b + v ≤ length m.byte
       by true e =
           swapped e (loaded m a w == expected)
           ∙ ap (λ o. if o == expected then written (written m b v k) a w replacement else written m b v k)
-          (sym (loaded-apart m b v k a w (store-apart false (loaded m a w == expected) a w (a + w) e h) (inr within)))
+          (sym (loaded-apart m b v k a w (store-apart false true (loaded m a w == expected) a w (a + w) e h) (inr within)))
       by false e = refl
   other-leaves opening (Ask question) h = refl
   other-leaves opening (Told answer) h = refl
