@@ -28,11 +28,12 @@ by-none b opening x t Gone h rests = refl
 
 -- out of bounds it doesn't matter what is there
 pub found-there : (m : Memory) (found : Bool) (addr width : ℕ)
-    → in_bounds m false (nat_le (addr + width) (length m.bytes) && found) addr width (addr + width) ≡ in_bounds m false found addr width (addr + width)
+    → in_bounds m false true (nat_le (addr + width) (length m.bytes) && found) addr width (addr + width)
+    ≡ in_bounds m false true found addr width (addr + width)
 found-there m found addr width = by (nat_le (addr + width) (length m.bytes))
   where
     by : (t : Bool)
-        → (if t then record { plain = false && nat_le (addr + width) (addr + width); writes = t && found; addr = addr; width = width } else look)
-        ≡ (if t then record { plain = false && nat_le (addr + width) (addr + width); writes = found; addr = addr; width = width } else look)
+        → (if t then record { plain = false && nat_le (addr + width) (addr + width); reads = true; writes = t && found; addr = addr; width = width } else look)
+        ≡ (if t then record { plain = false && nat_le (addr + width) (addr + width); reads = true; writes = found; addr = addr; width = width } else look)
     by true = refl
     by false = refl

@@ -1,6 +1,6 @@
 //! What a thread does with the memory next.
 
-ghost use Rattle.std.specs.Prelude.{◌≡◌, ◌≤◌, ◌+◌, ◌==◌, length, nat_le, Bool, false, IfOk};
+ghost use Rattle.std.specs.Prelude.{◌≡◌, ◌≤◌, ◌+◌, ◌==◌, length, nat_le, Bool, true, false, not, IfOk};
 ghost use Rattle.types.specs.declared.event.Event.TheVariants.{Ask, Grow};
 ghost use Rattle.shared_memory.specs.Events.{IsEvent};
 ghost use Rattle.shared_memory.specs.Memory.{Memory, can_grow, loaded};
@@ -23,6 +23,7 @@ fn no_bytes() -> NextAccess
 {
     NextAccess {
         plain: false,
+        reads: false,
         writes: false,
         addr: 0,
         width: 0,
@@ -38,6 +39,7 @@ fn look() -> NextAccess
 {
     NextAccess {
         plain: false,
+        reads: true,
         writes: false,
         addr: NO_MEMORY_HAS,
         width: 1,
@@ -51,6 +53,7 @@ fn growth(opening: &[u8], memory: &Changes, more: u32) -> NextAccess
     if can_grow(opening, memory, more) {
         NextAccess {
             plain: false,
+            reads: true,
             writes: true,
             addr: opening.len() as u64,
             width: NO_MEMORY_HAS + 1,
@@ -67,7 +70,7 @@ fn ends_by(addr: u64, width: u8, end: u64) -> bool
     addr <= end && u64::from(width) <= end - addr
 }
 
-/// A load or a store, whose whole access ends at `reach`, in a memory of so many bytes.
+/// A load or a store, whose whole access ends at `reach`, in a memory of so many bytes: a store reads nothing.
 fn load_or_store(
     len: u64,
     plain: bool,
@@ -76,11 +79,12 @@ fn load_or_store(
     width: u8,
     reach: u64,
 ) -> NextAccess
-    ensures { (m : Memory) → length m.bytes ≡ len → result ≡ in_bounds m plain writes addr width reach }
+    ensures { (m : Memory) → length m.bytes ≡ len → result ≡ in_bounds m plain (not writes) writes addr width reach }
 {
     if reach <= len {
         NextAccess {
             plain: plain && ends_by(addr, width, reach),
+            reads: !writes,
             writes,
             addr,
             width: u64::from(width),
@@ -90,13 +94,14 @@ fn load_or_store(
     }
 }
 
-/// An atomic access in a memory of so many bytes.
+/// An atomic access that reads, in a memory of so many bytes.
 fn atomic(len: u64, writes: bool, addr: u64, width: u8) -> NextAccess
-    ensures { (m : Memory) → length m.bytes ≡ len → result ≡ in_bounds m false writes addr width (addr + width) }
+    ensures { (m : Memory) → length m.bytes ≡ len → result ≡ in_bounds m false true writes addr width (addr + width) }
 {
     if ends_by(addr, width, len) {
         NextAccess {
             plain: false,
+            reads: true,
             writes,
             addr,
             width: u64::from(width),
@@ -109,7 +114,7 @@ fn atomic(len: u64, writes: bool, addr: u64, width: u8) -> NextAccess
 /// A compare-exchange: it writes where what it expects is there.
 fn exchange(opening: &[u8], memory: &Changes, addr: u64, width: u8, expected: u64) -> NextAccess
     requires { width ≤ 8 }
-    ensures { result ≡ in_bounds (memory_of opening.now memory.now) false
+    ensures { result ≡ in_bounds (memory_of opening.now memory.now) false true
         (loaded (memory_of opening.now memory.now) addr width == expected) addr width (addr + width) }
 {
     let writes = holds(opening, memory, addr, width, expected);

@@ -29,3 +29,12 @@ pub record AreMatched (a b : NextAccess) : Type 0 where
 pub record Race (a b : NextAccess) : Type 0 where
   pub conflict : Conflict a b
   pub unmatched : AreMatched a b → ⊥
+
+-- Neither is plain, and they are of exactly the same bytes. The one writes there and reads nothing; the other one reads
+-- what is there, and would write.
+pub record WritesOver (over access : NextAccess) : Type 0 where
+  pub matched : AreMatched access over
+  pub reads : access.reads ≡ true
+  pub writes : access.writes ≡ true
+  pub over_writes : over.writes ≡ true
+  pub blind : over.reads ≡ false

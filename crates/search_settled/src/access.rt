@@ -7,6 +7,8 @@ pub struct NextAccess {
     /// Whether nobody else can tell when it is made: it is a turn of its own, or an access within bounds that isn't
     /// atomic.
     pub plain: bool,
+    /// Whether what it does depends on what is there.
+    pub reads: bool,
     /// Whether it writes, or may write.
     pub writes: bool,
     pub addr: u64,
