@@ -146,7 +146,8 @@ module _ {X T E V A G H M O : Type 0} (k : ThreadSystem X T E V A G H M) (ends :
               (let x = leads.next in
               let keeps = subst (λ t. KeepsTouches k s t x.state) leads.by (are.follow x leads.among) in
               has-next y (next_in k w n) s x.state (on.there x leads.among) leads.after leads.is
-              (keeps.over st.settled (resting k ends stuck tame plain beyond s w left st) a (same-then k ends stuck tame plain beyond s w left n st none a wants)
+              (keeps.over st.settled (resting k ends stuck tame plain beyond s w left st) a
+              (same-then k ends stuck tame plain beyond s w left n st none a wants)
               y (λ e. d (sym e)) (same-then k ends stuck tame plain beyond s w left y.thread st still y.access wanted) over))
         ]
 

@@ -269,7 +269,8 @@ module _ (m : Memory) (p : Bool) (b v k : ℕ) (within : b + v ≤ length m.byte
   meet-back : (x y : NextAccess) → Meet x y → Meet y x
   meet-back x y h = (h.0, (h.1.1, h.1.0))
 
-  store-apart : (t reads writes : Bool) (a w r : ℕ) → nat_le r (length m.bytes) ≡ true → (Meet (in_bounds m t reads writes a w r) (inside true false true b v) → ⊥)
+  store-apart : (t reads writes : Bool) (a w r : ℕ) → nat_le r (length m.bytes) ≡ true
+      → (Meet (in_bounds m t reads writes a w r) (inside true false true b v) → ⊥)
       → Apart b v a w
   store-apart t reads writes a w r e never =
       apart-of (inside true false true b v) (inside (t && nat_le (a + w) r) reads writes a w)

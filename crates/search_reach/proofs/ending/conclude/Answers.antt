@@ -7,7 +7,8 @@ use Rattle.search_reach.specs.Moved.{ArePathsTo}
 use Rattle.search_reach.specs.Ways.{AreNumbered}
 use Rattle.search_reach.proofs.Leading.{ways-are}
 use Rattle.search_reach.proofs.Gathering.{endings-of_all}
-use Rattle.search_reach.proofs.Living.{moves-within, live, found-after, live-after, leads-endless, leads-round, numbered-before, all-back, sought-back, sought-forth}
+use Rattle.search_reach.proofs.Living.{moves-within, live, found-after, live-after, leads-endless, leads-round}
+use Rattle.search_reach.proofs.Living.{numbered-before, all-back, sought-back, sought-forth}
 use Rattle.search_reach.proofs.Leveling.{gone-within}
 use Rattle.search_reach.proofs.Passing.{seeks-in}
 use Rattle.search_reach.specs.Told.{Obeys}
