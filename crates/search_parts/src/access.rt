@@ -25,6 +25,7 @@ fn no_bytes() -> NextAccess
         plain: false,
         reads: false,
         writes: false,
+        is_conditional: false,
         addr: 0,
         width: 0,
     }
@@ -41,6 +42,7 @@ fn look() -> NextAccess
         plain: false,
         reads: true,
         writes: false,
+        is_conditional: false,
         addr: NO_MEMORY_HAS,
         width: 1,
     }
@@ -55,6 +57,7 @@ fn growth(opening: &[u8], memory: &Changes, more: u32) -> NextAccess
             plain: false,
             reads: true,
             writes: true,
+            is_conditional: false,
             addr: opening.len() as u64,
             width: NO_MEMORY_HAS + 1,
         }
@@ -79,13 +82,14 @@ fn load_or_store(
     width: u8,
     reach: u64,
 ) -> NextAccess
-    ensures { (m : Memory) → length m.bytes ≡ len → result ≡ in_bounds m plain (not writes) writes addr width reach }
+    ensures { (m : Memory) → length m.bytes ≡ len → result ≡ in_bounds m plain (not writes) writes false addr width reach }
 {
     if reach <= len {
         NextAccess {
             plain: plain && ends_by(addr, width, reach),
             reads: !writes,
             writes,
+            is_conditional: false,
             addr,
             width: u64::from(width),
         }
@@ -94,15 +98,17 @@ fn load_or_store(
     }
 }
 
-/// An atomic access that reads, in a memory of so many bytes.
-fn atomic(len: u64, writes: bool, addr: u64, width: u8) -> NextAccess
-    ensures { (m : Memory) → length m.bytes ≡ len → result ≡ in_bounds m false true writes addr width (addr + width) }
+/// An atomic access that reads, in a memory of so many bytes; and whether its writing hangs on what it finds.
+fn atomic(len: u64, writes: bool, is_conditional: bool, addr: u64, width: u8) -> NextAccess
+    ensures { (m : Memory) → length m.bytes ≡ len
+        → result ≡ in_bounds m false true writes is_conditional addr width (addr + width) }
 {
     if ends_by(addr, width, len) {
         NextAccess {
             plain: false,
             reads: true,
             writes,
+            is_conditional,
             addr,
             width: u64::from(width),
         }
@@ -111,14 +117,14 @@ fn atomic(len: u64, writes: bool, addr: u64, width: u8) -> NextAccess
     }
 }
 
-/// A compare-exchange: it writes where what it expects is there.
+/// A compare-exchange: it writes where what it expects is there, and not otherwise.
 fn exchange(opening: &[u8], memory: &Changes, addr: u64, width: u8, expected: u64) -> NextAccess
     requires { width ≤ 8 }
     ensures { result ≡ in_bounds (memory_of opening.now memory.now) false true
-        (loaded (memory_of opening.now memory.now) addr width == expected) addr width (addr + width) }
+        (loaded (memory_of opening.now memory.now) addr width == expected) true addr width (addr + width) }
 {
     let writes = holds(opening, memory, addr, width, expected);
-    atomic(memory.len as u64, writes, addr, width)
+    atomic(memory.len as u64, writes, true, addr, width)
 }
 
 /// What a question does with a memory of so many bytes that opened with so many: a wait reads, and a notify may look.
@@ -126,7 +132,7 @@ fn asked(opening: u64, len: u64, question: Question) -> NextAccess
     ensures { (m : Memory) (plain : Bool) → length m.bytes ≡ len → result ≡ access_by opening m plain (Ask question) }
 {
     match question {
-        Question::Wait { addr, width, .. } => atomic(len, false, addr, width),
+        Question::Wait { addr, width, .. } => atomic(len, false, false, addr, width),
         Question::Notify { addr, .. } => {
             if ends_by(addr, 4, opening) {
                 no_bytes()
@@ -152,7 +158,7 @@ fn access_by(opening: &[u8], memory: &Changes, plain: bool, event: &Event) -> Ne
             reach,
             ..
         } => load_or_store(len, plain, true, addr, width, reach),
-        Event::Rmw { addr, width, .. } => atomic(len, true, addr, width),
+        Event::Rmw { addr, width, .. } => atomic(len, true, false, addr, width),
         Event::Cmpxchg {
             addr,
             width,

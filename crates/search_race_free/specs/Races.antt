@@ -52,8 +52,8 @@ module _ {X T E V A : Type 0} (s : System X T E V A) (first : State X T) (access
     pub writes : WritesOver over access
     pub since : Reaches (StepsWithout (next_access s accesses) (after_next s) one) (after_next s before by) z
 
-  -- What one thread would write by an atomic access that reads is written over, and later, when it has made no turn since,
-  -- another wants an access that races with it.
+  -- What one thread would write, by an access that may not where it finds something else, is written over, and later, when
+  -- it has made no turn since, another wants an access that races with it.
   pub record IsWrittenOver (one other : ℕ) : Type 0 where
     pub differ : other ≢ one
     pub state : State X T

@@ -2,8 +2,8 @@
 //!
 //! A turn of a thread is plain where it is one of its own, or an access within bounds that isn't atomic. Such turns a
 //! thread makes at once, alone, and owns what it touched until its next turn after that; threads take turns at all else.
-//! Who wants an access that conflicts with what another thread owns, or with another one's next access, races. An atomic
-//! access that reads and would write may be written over before it is made, and do something else then: so a thread owns it
+//! Who wants an access that conflicts with what another thread owns, or with another one's next access, races. A
+//! compare-exchange that would write may be written over before it is made, and do something else then: so a thread owns it
 //! too, as it would have been made, until its next turn.
 //!
 //! Proved: where `search_race_free` says `Verdict::All`, its list has the ending of every run of turns, in any order, and

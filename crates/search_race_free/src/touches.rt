@@ -172,11 +172,15 @@ pub(crate) fn are_plain(owned: &[Touch], thread: usize) -> bool
     true
 }
 
-/// Whether the one writes over what the other would write, which reads.
+/// Whether the one writes over what the other would write, and may not where it finds something else.
 fn writes_over(over: NextAccess, access: NextAccess) -> bool
     ensures { IsTrue result ↔ WritesOver over access }
 {
-    are_matched(access, over) && access.reads && access.writes && over.writes && !over.reads
+    are_matched(access, over)
+        && access.writes
+        && access.is_conditional
+        && over.writes
+        && !over.reads
 }
 
 /// What another thread does next, if this access of thread n writes over that.

@@ -30,11 +30,11 @@ pub record Race (a b : NextAccess) : Type 0 where
   pub conflict : Conflict a b
   pub unmatched : AreMatched a b → ⊥
 
--- Neither is plain, and they are of exactly the same bytes. The one writes there and reads nothing; the other one reads
--- what is there, and would write.
+-- Neither is plain, and they are of exactly the same bytes. The one writes there and reads nothing; the other one would
+-- write, and may not where it finds something else. (One that writes whatever it finds still does, when it comes later.)
 pub record WritesOver (over access : NextAccess) : Type 0 where
   pub matched : AreMatched access over
-  pub reads : access.reads ≡ true
   pub writes : access.writes ≡ true
+  pub conditional : access.is_conditional ≡ true
   pub over_writes : over.writes ≡ true
   pub blind : over.reads ≡ false

@@ -11,6 +11,8 @@ pub struct NextAccess {
     pub reads: bool,
     /// Whether it writes, or may write.
     pub writes: bool,
+    /// Whether it writes hangs on what it finds.
+    pub is_conditional: bool,
     pub addr: u64,
     pub width: u64,
 }
