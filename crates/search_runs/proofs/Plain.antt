@@ -216,7 +216,7 @@ loaded-still opening m p (Rmw op addr width value) b v within h = by (nat_le (ad
     by false e = refl
 loaded-still opening m p (Cmpxchg addr width expected replacement) b v within h = by (nat_le (addr + width) (length m.bytes)) refl
   where
-    swapped : nat_le (addr + width) (length m.bytes) ≡ true → (t : Bool) → Spares (in_bounds m false true t addr width (addr + width)) b v
+    swapped : nat_le (addr + width) (length m.bytes) ≡ true → (t : Bool) → Spares (in_bounds m false true t true addr width (addr + width)) b v
         → loaded (if t then written m addr width replacement else m) b v ≡ loaded m b v
     swapped e true g = loaded-apart m addr width replacement b v (spares-apart m false true true addr width (addr + width) b v e g) (inl within)
     swapped e false g = refl
