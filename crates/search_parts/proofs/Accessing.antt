@@ -39,6 +39,7 @@ found-there m found addr width = by (nat_le (addr + width) (length m.bytes))
       reads = true;
       writes = writes;
       is_conditional = true;
+      is_timed = false;
       addr = addr;
       width = width;
     }

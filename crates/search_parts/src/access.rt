@@ -5,7 +5,7 @@ ghost use Rattle.types.specs.declared.event.Event.TheVariants.{Ask, Grow};
 ghost use Rattle.shared_memory.specs.Events.{IsEvent};
 ghost use Rattle.shared_memory.specs.Memory.{Memory, can_grow, loaded};
 ghost use Rattle.search_memory.specs.Memories.{memory_of};
-ghost use Rattle.search_runs.specs.Accesses.{no_bytes, look, growth, in_bounds, access_by};
+ghost use Rattle.search_runs.specs.Accesses.{no_bytes, look, growth, in_bounds, with_timeout, access_by};
 ghost use Rattle.search_parts.specs.Threads.{IsInCall, IsAccessIn};
 
 use crate::plain::is_plain;
@@ -26,6 +26,7 @@ fn no_bytes() -> NextAccess
         reads: false,
         writes: false,
         is_conditional: false,
+        is_timed: false,
         addr: 0,
         width: 0,
     }
@@ -43,6 +44,7 @@ fn look() -> NextAccess
         reads: true,
         writes: false,
         is_conditional: false,
+        is_timed: false,
         addr: NO_MEMORY_HAS,
         width: 1,
     }
@@ -58,6 +60,7 @@ fn growth(opening: &[u8], memory: &Changes, more: u32) -> NextAccess
             reads: true,
             writes: true,
             is_conditional: false,
+            is_timed: false,
             addr: opening.len() as u64,
             width: NO_MEMORY_HAS + 1,
         }
@@ -90,6 +93,7 @@ fn load_or_store(
             reads: !writes,
             writes,
             is_conditional: false,
+            is_timed: false,
             addr,
             width: u64::from(width),
         }
@@ -109,6 +113,7 @@ fn atomic(len: u64, writes: bool, is_conditional: bool, addr: u64, width: u8) ->
             reads: true,
             writes,
             is_conditional,
+            is_timed: false,
             addr,
             width: u64::from(width),
         }
@@ -127,12 +132,27 @@ fn exchange(opening: &[u8], memory: &Changes, addr: u64, width: u8, expected: u6
     atomic(memory.len as u64, writes, true, addr, width)
 }
 
+/// A wait, which reads, in a memory of so many bytes.
+fn wait(len: u64, addr: u64, width: u8, timeout: i64) -> NextAccess
+    ensures { (m : Memory) → length m.bytes ≡ len
+        → result ≡ with_timeout timeout (in_bounds m false true false false addr width (addr + width)) }
+{
+    let mut access = atomic(len, false, false, addr, width);
+    access.is_timed = timeout > 0;
+    access
+}
+
 /// What a question does with a memory of so many bytes that opened with so many: a wait reads, and a notify may look.
 fn asked(opening: u64, len: u64, question: Question) -> NextAccess
     ensures { (m : Memory) (plain : Bool) → length m.bytes ≡ len → result ≡ access_by opening m plain (Ask question) }
 {
     match question {
-        Question::Wait { addr, width, .. } => atomic(len, false, false, addr, width),
+        Question::Wait {
+            addr,
+            width,
+            timeout,
+            ..
+        } => wait(len, addr, width, timeout),
         Question::Notify { addr, .. } => {
             if ends_by(addr, 4, opening) {
                 no_bytes()

@@ -27,7 +27,7 @@ use Rattle.search_race_free.specs.declared.met.Held.{Held}
 use Rattle.search_race_free.specs.declared.met.StateTable.{StateTable}
 use Rattle.search_race_free.specs.contracts.owning.TouchPartialEq.TheImpl as touches
 use Rattle.search_race_free.specs.Same.{owning_eq, same_touches, stands-there}
-use Rattle.search_race_free.specs.Reduced.{StandsBefore, KeepsTouches}
+use Rattle.search_race_free.specs.Reduced.{IsResting, StandsBefore, KeepsTouches}
 use Rattle.search_race_free.specs.Met.{held, parted, held_eq, HasOwning, IsHeldRow, AreHeldRows, IsCopy}
 
 -- an element is at its place
@@ -293,6 +293,10 @@ module _ {X T E V A G H M : Type 0} (k : ThreadSystem X T E V A G H M) where
   pub stands-copy : (s copy : Owning (RestingState G H)) → IsCopy k s copy → (w : State X T) (left : ℕ → ℕ) → StandsBefore k copy w left →
       StandsBefore k s w left
   stands-copy s copy is = stands-there k copy s (flat-back s copy is) (flat-copy s copy is) is.owned
+
+  -- It rests where its state does.
+  pub resting-copy : (s copy : Owning (RestingState G H)) → IsCopy k s copy → (z : State X T) → IsResting k s.flat z → IsResting k copy.flat z
+  resting-copy s copy is z at = record { reached = at.reached; rests = at.rests; settled_is = flat-copy s copy is z at.settled_is }
 
   -- The same follows it.
   pub followed-copy : (s copy : Owning (RestingState G H)) → IsCopy k s copy → (n : ℕ) (x : Owning (RestingState G H)) → KeepsTouches k copy n x →

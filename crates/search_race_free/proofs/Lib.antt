@@ -16,6 +16,7 @@ pub mod Following
 pub mod Beginning
 mod Held
 mod Missing
+pub mod Timing
 mod Keeping
 mod Pieces
 pub mod Crossing

@@ -59,7 +59,7 @@ module _ {X T E V A G H M O : Type 0} (k : ThreadSystem X T E V A G H M) (ends :
   Reduced = reduced_steps k ends stuck
 
   -- Who wants what isn't plain has no turn left before it rests.
-  none-left : (s : Owning (RestingState G H)) (w : State X T) (left : ℕ → ℕ) (n : ℕ) (st : StandsBefore k s w left) (a : NextAccess) →
+  pub none-left : (s : Owning (RestingState G H)) (w : State X T) (left : ℕ → ℕ) (n : ℕ) (st : StandsBefore k s w left) (a : NextAccess) →
       wanted_in k w n ≡ Some a → (IsPlain a → ⊥) → times n st.order ≡ 0
   none-left s w left n st a wants atomic = elim (cases_lt 0 (times n st.order)) [
     | inl some ↦

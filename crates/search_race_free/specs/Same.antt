@@ -28,13 +28,23 @@ same_access x y e =
     let c = second_so _ _ b in
     let d = second_so _ _ c in
     let f = second_so _ _ d in
+    let g = second_so _ _ f in
     let plain = (booleans_Decides x.plain y.plain).0 (first_so _ _ e) in
     let reads = (booleans_Decides x.reads y.reads).0 (first_so _ _ b) in
     let writes = (booleans_Decides x.writes y.writes).0 (first_so _ _ c) in
     let is_conditional = (booleans_Decides x.is_conditional y.is_conditional).0 (first_so _ _ d) in
-    let addr = eqb-true x.addr y.addr (first_so _ _ f) in
-    let width = eqb-true x.width y.width (second_so _ _ f) in
-    λ i. record { plain = plain i; reads = reads i; writes = writes i; is_conditional = is_conditional i; addr = addr i; width = width i }
+    let is_timed = (booleans_Decides x.is_timed y.is_timed).0 (first_so _ _ f) in
+    let addr = eqb-true x.addr y.addr (first_so _ _ g) in
+    let width = eqb-true x.width y.width (second_so _ _ g) in
+    λ i. record {
+      plain = plain i;
+      reads = reads i;
+      writes = writes i;
+      is_conditional = is_conditional i;
+      is_timed = is_timed i;
+      addr = addr i;
+      width = width i;
+    }
 
 same_touch : (x y : Touch) → touches.eq-value.it x y ≡ true → x ≡ y
 same_touch x y e =

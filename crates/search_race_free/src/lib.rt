@@ -38,6 +38,7 @@ mod onward;
 mod owning;
 mod race;
 mod states;
+mod timeouts;
 mod touches;
 mod trace;
 

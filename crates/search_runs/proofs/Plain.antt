@@ -16,7 +16,7 @@ use Rattle.shared_memory.specs.Memory.{Memory, pages, loaded, written, combined,
 use Rattle.shared_memory.proofs.Numbers.{length-le_bytes}
 use Rattle.search_settled.specs.declared.access.NextAccess.{NextAccess}
 use Rattle.search_settled.specs.Accesses.{HasByte, Meet, Conflict}
-use Rattle.search_runs.specs.Accesses.{no_bytes, look, growth, in_bounds, access_by}
+use Rattle.search_runs.specs.Accesses.{no_bytes, look, growth, in_bounds, with_timeout, access_by}
 use Rattle.search_runs.proofs.Bytes as bytes
 
 -- within a memory
@@ -36,7 +36,7 @@ IsAccess m (Ask question) = ⊥
 IsAccess m (Told answer) = ⊥
 
 abbrev inside : Bool → Bool → Bool → Bool → ℕ → ℕ → NextAccess
-inside plain reads writes hangs addr width = record { plain = plain; reads = reads; writes = writes; is_conditional = hangs; addr = addr; width = width }
+inside plain reads writes hangs addr width = record { plain = plain; reads = reads; writes = writes; is_conditional = hangs; is_timed = false; addr = addr; width = width }
 
 both-true : (s t : Bool) → (s && t) ≡ true → (s ≡ true) × (t ≡ true)
 both-true true t h = (refl, h)
@@ -451,7 +451,7 @@ module _ (m : Memory) (p : Bool) (b v k : ℕ) (within : b + v ≤ length m.byte
   written-same opening (Rmw op addr width value) h = in-same m (written m b v k) false true true false addr width (addr + width) (long m p b v k within)
   written-same opening (Cmpxchg addr width expected replacement) h = found-same addr width expected h
   written-same opening (Ask (Wait addr width expected timeout)) h =
-      in-same m (written m b v k) false true false false addr width (addr + width) (long m p b v k within)
+      ap (with_timeout timeout) (in-same m (written m b v k) false true false false addr width (addr + width) (long m p b v k within))
   written-same opening (Ask (Notify addr count)) h = refl
   written-same opening (Ask (Spawn arg)) h = refl
   written-same opening (Ask Leave) h = refl

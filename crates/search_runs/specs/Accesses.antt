@@ -1,5 +1,5 @@
 -- What a thread of a module does with the memory by its event.
-use Rattle.std.specs.Prelude.{ℕ, ◌+◌, ◌^◌, ◌==◌, ◌&&◌, Bool, true, false, nat_le, length, if◌then◌else◌}
+use Rattle.std.specs.Prelude.{ℕ, ℤ, pos, ◌+◌, ◌^◌, ◌==◌, ◌&&◌, Bool, true, false, nat_le, int_lt, length, if◌then◌else◌}
 use Rattle.types.specs.declared.event.Event.{Event}
 use Rattle.types.specs.declared.event.Event.TheVariants.{Size, Grow, Load, Store, Rmw, Cmpxchg, Ask, Told}
 use Rattle.types.specs.declared.event.Question.TheVariants.{Wait, Notify, Spawn, Leave}
@@ -46,12 +46,28 @@ is_plain (Away o) = false
 
 -- It touches no byte.
 abbrev pub no_bytes : NextAccess
-no_bytes = record { plain = false; reads = false; writes = false; is_conditional = false; addr = 0; width = 0 }
+no_bytes = record {
+  plain = false;
+  reads = false;
+  writes = false;
+  is_conditional = false;
+  is_timed = false;
+  addr = 0;
+  width = 0;
+}
 
 -- What looks how many pages there are, and may find more behind a growth: it reads a byte that no memory has. (The length
 -- of a memory is a location, which a test of bounds reads without any order: threads proposal, "Memory model".)
 abbrev pub look : NextAccess
-look = record { plain = false; reads = true; writes = false; is_conditional = false; addr = 2 ^ 32; width = 1 }
+look = record {
+  plain = false;
+  reads = true;
+  writes = false;
+  is_conditional = false;
+  is_timed = false;
+  addr = 2 ^ 32;
+  width = 1;
+}
 
 -- A growth that succeeds writes all that lies behind the opening pages, that byte among it: so it conflicts with each
 -- access that passes them, and with each look. Growths of one memory are atomic, of the same bytes.
@@ -61,6 +77,7 @@ growth opening = record {
   reads = true;
   writes = true;
   is_conditional = false;
+  is_timed = false;
   addr = opening;
   width = 2 ^ 32 + 1;
 }
@@ -75,10 +92,15 @@ in_bounds m plain reads writes is_conditional addr width reach =
       reads = reads;
       writes = writes;
       is_conditional = is_conditional;
+      is_timed = false;
       addr = addr;
       width = width;
     }
     else look
+
+-- A wait whose timeout is positive has one: it may end by its time. One of 0 ends at once, and a negative one never.
+abbrev pub with_timeout : ℤ → NextAccess → NextAccess
+with_timeout timeout a = record a { is_timed = int_lt (pos 0) timeout }
 
 -- A load reads, and a store writes. A read-modify-write does both; a compare-exchange reads, and writes exactly where
 -- what it expects is there: its writing hangs on what it finds, as that of no other event. A wait reads. These three are
@@ -93,7 +115,7 @@ access_by opening m plain (Rmw op addr width value) = in_bounds m false true tru
 access_by opening m plain (Cmpxchg addr width expected replacement) =
     in_bounds m false true (loaded m addr width == expected) true addr width (addr + width)
 access_by opening m plain (Ask (Wait addr width expected timeout)) =
-    in_bounds m false true false false addr width (addr + width)
+    with_timeout timeout (in_bounds m false true false false addr width (addr + width))
 access_by opening m plain (Ask (Notify addr count)) = if nat_le (addr + 4) opening then no_bytes else look
 access_by opening m plain (Ask (Spawn arg)) = no_bytes
 access_by opening m plain (Ask Leave) = no_bytes

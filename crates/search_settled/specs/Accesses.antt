@@ -25,6 +25,11 @@ pub record AreMatched (a b : NextAccess) : Type 0 where
   pub addr : a.addr ≡ b.addr
   pub width : a.width ≡ b.width
 
+-- It isn't plain, and is a wait with a timeout.
+pub record IsTimed (a : NextAccess) : Type 0 where
+  pub atomic : a.plain ≡ false
+  pub timed : a.is_timed ≡ true
+
 -- They conflict, and aren't both atomic of exactly the same bytes.
 pub record Race (a b : NextAccess) : Type 0 where
   pub conflict : Conflict a b

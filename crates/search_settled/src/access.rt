@@ -13,6 +13,8 @@ pub struct NextAccess {
     pub writes: bool,
     /// Whether it writes hangs on what it finds.
     pub is_conditional: bool,
+    /// Whether it is a wait with a timeout.
+    pub is_timed: bool,
     pub addr: u64,
     pub width: u64,
 }

@@ -52,6 +52,12 @@ returns-clause-none g c =
     IfOk-weaker c.search_race_free.result _ _ (λ free none all. (called c.in_ok-searched.searched, c.in_ok-searched.ensures.call, none all))
     c.search_race_free.ensures.none
 
+pub returns-clause-untimed : goal.returns-clause-untimed
+returns-clause-untimed g c =
+    IfOk-weaker c.search_race_free.result _ _
+    (λ free untimed all none. (called c.in_ok-searched.searched, c.in_ok-searched.ensures.call, untimed all none))
+    c.search_race_free.ensures.untimed
+
 pub returns-clause-race : goal.returns-clause-race
 returns-clause-race g c =
     let r = c.args.request.now in

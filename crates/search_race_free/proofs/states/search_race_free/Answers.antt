@@ -6,6 +6,7 @@ use Rattle.search_race_free.specs.declared.states.RaceBehind.{RaceBehind}
 use Rattle.search_race_free.specs.Same.{owning_eq, owning_alike}
 use Rattle.search_race_free.specs.Reduced.{reduced_steps}
 use Rattle.search_race_free.proofs.Missing.{goes-on-within, none-race}
+use Rattle.search_race_free.proofs.Timing.{none-timed}
 use Rattle.search_race_free.proofs.states.search_race_free.Goals as goal
 
 race_of : (Is : ThreadRace → Type 0) (o : Option RaceBehind) → IfSome o (λ r. Is r.race) → IfSome (option_map (λ b. b.race) o) Is
@@ -30,6 +31,17 @@ returns-clause-none g c all =
     r.states (r.found.all met)
     (goes-on-within (reduced_steps k (g.M.Moves.ends m) (g.M.Moves.stuck m)) (owning_eq g.M.Shared.PartialEq.eq g.M.Thread.PartialEq.eq) r.states
     c.in_ok-reached.reached.moves.items (r.whole met))
+
+pub returns-clause-untimed : goal.returns-clause-untimed
+returns-clause-untimed g c all none =
+    let m = c.args.system.now in
+    let r = c.in_ok-reached.ensures.reached in
+    none-timed (g.M.Moves.threads m) (g.M.Moves.ends m) (g.M.Moves.stuck m) (g.met.M.Moves.tame m) (g.met.M.Accesses.plain m)
+    (g.met.M.Accesses.beyond m) r.states (r.found.all (c.in_ok-ended.ensures.all all))
+    (λ s among. c.in_ok-timed.ensures none r.states (r.held).owning s among)
+
+pub waits_timed-requires : goal.waits_timed-requires
+waits_timed-requires g c = let r = c.in_ok-reached.ensures.reached in (r.states, (r.held).owning, r.found.sound)
 
 pub race_in-requires : goal.race_in-requires
 race_in-requires g c = let r = c.in_ok-reached.ensures.reached in (r.states, (r.held).owning, r.found.sound)
