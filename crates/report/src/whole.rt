@@ -177,6 +177,7 @@ pub(crate) fn first_look<R: Threads + Sync, F: Follows>(
         mut ended,
         race,
         way,
+        ..
     } = free;
     if let Some(race) = race {
         return Ok(FirstLook::Open {

@@ -23,13 +23,13 @@ use Rattle.search_modules.specs.Ways.{gone_by}
 use Rattle.search_modules.specs.Liveness.{CanStillEnd, SaysOfRuns, AreStatesBy, IsOfCall, CountsStatesBy, SaysBy, SaysWhereAllBy}
 use Rattle.search_modules.specs.declared.called.Searched.{Searched}
 
-module _ {S : Type 0} (eq : S → S → Bool) (stands : Searched → S → State Shared Thread → (ℕ → ℕ) → Type 0) (stuck : Searched → State Shared Thread → Type 0)
-    (s : Searched) where
+module _ {S : Type 0} (eq : S → S → Bool) (stands : Searched → S → State Shared Thread → (ℕ → ℕ) → Type 0) (follows : Searched → S → ℕ → S → Type 0)
+    (stuck : Searched → State Shared Thread → Type 0) (s : Searched) where
   abbrev b : Called
   b = called s
 
   abbrev Gone : StepSystem S (State Shared Thread) Ending
-  Gone = gone_by stands stuck s
+  Gone = gone_by stands follows stuck s
 
   abbrev rests : Searched → S → State Shared Thread → Type 0
   rests r c w = (turns : ℕ → ℕ) × stands r c w turns

@@ -9,6 +9,7 @@ use Rattle.search_reach.specs.Found.{Claims}
 use Rattle.schedule_threads.specs.Shared.{Shared}
 use Rattle.search_settled.specs.declared.access.NextAccess.{NextAccess}
 use Rattle.search_race_free.specs.Races.{HasRace, NoneRace}
+use Rattle.search_race_free.specs.Timeouts.{NoneWaitsTimed}
 use Rattle.search_race_free.specs.declared.race.ThreadRace.{ThreadRace}
 use Rattle.search_runs.specs.Accesses.{access_of}
 use Rattle.search_runs.specs.Called.{Called, Walker, system_of, first_state}
@@ -27,6 +28,11 @@ CanRaceSo m entry args r =
 -- By this call no threads without budgets race, in any run.
 abbrev pub NeverRaces : Parts → List ℕ → List Value → Type 0
 NeverRaces m entry args = (b : Called) × IsCall m entry args b × NoneRace (system_of b) (first_state b) (access_in b)
+
+-- By this call no thread without a budget waits with a timeout, in any run.
+abbrev pub NeverWaitsTimed : Parts → List ℕ → List Value → Type 0
+NeverWaitsTimed m entry args =
+    (b : Called) × IsCall m entry args b × NoneWaitsTimed (system_of b) (first_state b) (access_in b)
 
 -- What a search through the orders of what isn't plain claims: it gives up where there is a race, too.
 abbrev pub race_free_claims_of : Requested → ℕ → Claims Ending

@@ -10,7 +10,7 @@ use Rattle.search_reach.specs.Liveness.{HasWays}
 use Rattle.search_reach.specs.declared.ending.Ended as endings
 use Rattle.search_settled.specs.Settled.{turning}
 use Rattle.search_settled.specs.Next.{StandsForState, IsFirstOf}
-use Rattle.search_race_free.specs.Reduced.{StandsBefore, SomeRace}
+use Rattle.search_race_free.specs.Reduced.{StandsBefore, KeepsTouches, SomeRace}
 use Rattle.search_runs.specs.Called.{Walker as Thread, system_of, first_state}
 use Rattle.search_runs.specs.Ends.{HasEndedSo}
 use Rattle.search_modules.specs.Liveness.{IsOfCall, Searching, is_same_state, Owned, is_same_owned}
@@ -18,12 +18,13 @@ use Rattle.search_modules.specs.Moved.{called, threads, IsStuck}
 use Rattle.search_modules.specs.declared.called.Searched.{Searched}
 
 -- What is gone through by such states: the turns of the threads of the call, from where it begins.
-abbrev pub gone_by : {S : Type 0} → (Searched → S → State Shared Thread → (ℕ → ℕ) → Type 0) → (Searched → State Shared Thread → Type 0)
-    → Searched → StepSystem S (State Shared Thread) Ending
-gone_by stands stuck s = record {
+abbrev pub gone_by : {S : Type 0} → (Searched → S → State Shared Thread → (ℕ → ℕ) → Type 0) → (Searched → S → ℕ → S → Type 0)
+    → (Searched → State Shared Thread → Type 0) → Searched → StepSystem S (State Shared Thread) Ending
+gone_by stands follows stuck s = record {
   worlds = turning (system_of (called s));
   most = MOST_THREADS;
   stands = stands s;
+  follows = follows s;
   begins = IsFirstOf (first_state (called s));
   ends = HasEndedSo s.dump;
   stuck = stuck s;
@@ -31,10 +32,10 @@ gone_by stands stuck s = record {
 
 -- By states of either kind.
 abbrev pub by_states : Searched → StepSystem Searching (State Shared Thread) Ending
-by_states = gone_by (λ s. StandsForState (threads s)) IsStuck
+by_states = gone_by (λ s. StandsForState (threads s)) (λ s c n x. Unit {0}) IsStuck
 
 abbrev pub by_owned : Searched → StepSystem Owned (State Shared Thread) Ending
-by_owned = gone_by (λ s. StandsBefore (threads s)) (λ s w. IsStuck s w ⊎ SomeRace (threads s))
+by_owned = gone_by (λ s. StandsBefore (threads s)) (λ s. KeepsTouches (threads s)) (λ s w. IsStuck s w ⊎ SomeRace (threads s))
 
 -- The choices of a search by this call, whose endings have so many first bytes, lead where they are said to lead, from
 -- state to state of the call.

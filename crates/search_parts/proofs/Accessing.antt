@@ -6,6 +6,7 @@ use Rattle.shared_memory.specs.Memory.{Memory}
 use Rattle.schedule.specs.System.{Want, Want.Turns, Want.Calls, Want.Awaits, Want.Gone}
 use Rattle.schedule_threads.specs.Shared.{Shared}
 use Rattle.schedule_machine.specs.Threads.{called}
+use Rattle.search_settled.specs.declared.access.NextAccess.{NextAccess}
 use Rattle.search_race_free.specs.Wanted.{access_by}
 use Rattle.search_runs.specs.Accesses.{in_bounds, look, access_of}
 use Rattle.search_runs.specs.Called.{Called, Walker, system_of}
@@ -28,11 +29,21 @@ by-none b opening x t Gone h rests = refl
 
 -- out of bounds it doesn't matter what is there
 pub found-there : (m : Memory) (found : Bool) (addr width : ℕ)
-    → in_bounds m false (nat_le (addr + width) (length m.bytes) && found) addr width (addr + width) ≡ in_bounds m false found addr width (addr + width)
+    → in_bounds m false true (nat_le (addr + width) (length m.bytes) && found) true addr width (addr + width)
+    ≡ in_bounds m false true found true addr width (addr + width)
 found-there m found addr width = by (nat_le (addr + width) (length m.bytes))
   where
-    by : (t : Bool)
-        → (if t then record { plain = false && nat_le (addr + width) (addr + width); writes = t && found; addr = addr; width = width } else look)
-        ≡ (if t then record { plain = false && nat_le (addr + width) (addr + width); writes = found; addr = addr; width = width } else look)
+    here : Bool → NextAccess
+    here writes = record {
+      plain = false && nat_le (addr + width) (addr + width);
+      reads = true;
+      writes = writes;
+      is_conditional = true;
+      is_timed = false;
+      addr = addr;
+      width = width;
+    }
+
+    by : (t : Bool) → (if t then here (t && found) else look) ≡ (if t then here found else look)
     by true = refl
     by false = refl

@@ -1,11 +1,11 @@
 //! What a thread does with the memory next.
 
-ghost use Rattle.std.specs.Prelude.{◌≡◌, ◌≤◌, ◌+◌, ◌==◌, length, nat_le, Bool, false, IfOk};
+ghost use Rattle.std.specs.Prelude.{◌≡◌, ◌≤◌, ◌+◌, ◌==◌, length, nat_le, Bool, true, false, not, IfOk};
 ghost use Rattle.types.specs.declared.event.Event.TheVariants.{Ask, Grow};
 ghost use Rattle.shared_memory.specs.Events.{IsEvent};
 ghost use Rattle.shared_memory.specs.Memory.{Memory, can_grow, loaded};
 ghost use Rattle.search_memory.specs.Memories.{memory_of};
-ghost use Rattle.search_runs.specs.Accesses.{no_bytes, look, growth, in_bounds, access_by};
+ghost use Rattle.search_runs.specs.Accesses.{no_bytes, look, growth, in_bounds, with_timeout, access_by};
 ghost use Rattle.search_parts.specs.Threads.{IsInCall, IsAccessIn};
 
 use crate::plain::is_plain;
@@ -23,7 +23,10 @@ fn no_bytes() -> NextAccess
 {
     NextAccess {
         plain: false,
+        reads: false,
         writes: false,
+        is_conditional: false,
+        is_timed: false,
         addr: 0,
         width: 0,
     }
@@ -38,7 +41,10 @@ fn look() -> NextAccess
 {
     NextAccess {
         plain: false,
+        reads: true,
         writes: false,
+        is_conditional: false,
+        is_timed: false,
         addr: NO_MEMORY_HAS,
         width: 1,
     }
@@ -51,7 +57,10 @@ fn growth(opening: &[u8], memory: &Changes, more: u32) -> NextAccess
     if can_grow(opening, memory, more) {
         NextAccess {
             plain: false,
+            reads: true,
             writes: true,
+            is_conditional: false,
+            is_timed: false,
             addr: opening.len() as u64,
             width: NO_MEMORY_HAS + 1,
         }
@@ -67,7 +76,7 @@ fn ends_by(addr: u64, width: u8, end: u64) -> bool
     addr <= end && u64::from(width) <= end - addr
 }
 
-/// A load or a store, whose whole access ends at `reach`, in a memory of so many bytes.
+/// A load or a store, whose whole access ends at `reach`, in a memory of so many bytes: a store reads nothing.
 fn load_or_store(
     len: u64,
     plain: bool,
@@ -76,12 +85,15 @@ fn load_or_store(
     width: u8,
     reach: u64,
 ) -> NextAccess
-    ensures { (m : Memory) → length m.bytes ≡ len → result ≡ in_bounds m plain writes addr width reach }
+    ensures { (m : Memory) → length m.bytes ≡ len → result ≡ in_bounds m plain (not writes) writes false addr width reach }
 {
     if reach <= len {
         NextAccess {
             plain: plain && ends_by(addr, width, reach),
+            reads: !writes,
             writes,
+            is_conditional: false,
+            is_timed: false,
             addr,
             width: u64::from(width),
         }
@@ -90,14 +102,18 @@ fn load_or_store(
     }
 }
 
-/// An atomic access in a memory of so many bytes.
-fn atomic(len: u64, writes: bool, addr: u64, width: u8) -> NextAccess
-    ensures { (m : Memory) → length m.bytes ≡ len → result ≡ in_bounds m false writes addr width (addr + width) }
+/// An atomic access that reads, in a memory of so many bytes; and whether its writing hangs on what it finds.
+fn atomic(len: u64, writes: bool, is_conditional: bool, addr: u64, width: u8) -> NextAccess
+    ensures { (m : Memory) → length m.bytes ≡ len
+        → result ≡ in_bounds m false true writes is_conditional addr width (addr + width) }
 {
     if ends_by(addr, width, len) {
         NextAccess {
             plain: false,
+            reads: true,
             writes,
+            is_conditional,
+            is_timed: false,
             addr,
             width: u64::from(width),
         }
@@ -106,14 +122,24 @@ fn atomic(len: u64, writes: bool, addr: u64, width: u8) -> NextAccess
     }
 }
 
-/// A compare-exchange: it writes where what it expects is there.
+/// A compare-exchange: it writes where what it expects is there, and not otherwise.
 fn exchange(opening: &[u8], memory: &Changes, addr: u64, width: u8, expected: u64) -> NextAccess
     requires { width ≤ 8 }
-    ensures { result ≡ in_bounds (memory_of opening.now memory.now) false
-        (loaded (memory_of opening.now memory.now) addr width == expected) addr width (addr + width) }
+    ensures { result ≡ in_bounds (memory_of opening.now memory.now) false true
+        (loaded (memory_of opening.now memory.now) addr width == expected) true addr width (addr + width) }
 {
     let writes = holds(opening, memory, addr, width, expected);
-    atomic(memory.len as u64, writes, addr, width)
+    atomic(memory.len as u64, writes, true, addr, width)
+}
+
+/// A wait, which reads, in a memory of so many bytes.
+fn wait(len: u64, addr: u64, width: u8, timeout: i64) -> NextAccess
+    ensures { (m : Memory) → length m.bytes ≡ len
+        → result ≡ with_timeout timeout (in_bounds m false true false false addr width (addr + width)) }
+{
+    let mut access = atomic(len, false, false, addr, width);
+    access.is_timed = timeout > 0;
+    access
 }
 
 /// What a question does with a memory of so many bytes that opened with so many: a wait reads, and a notify may look.
@@ -121,7 +147,12 @@ fn asked(opening: u64, len: u64, question: Question) -> NextAccess
     ensures { (m : Memory) (plain : Bool) → length m.bytes ≡ len → result ≡ access_by opening m plain (Ask question) }
 {
     match question {
-        Question::Wait { addr, width, .. } => atomic(len, false, addr, width),
+        Question::Wait {
+            addr,
+            width,
+            timeout,
+            ..
+        } => wait(len, addr, width, timeout),
         Question::Notify { addr, .. } => {
             if ends_by(addr, 4, opening) {
                 no_bytes()
@@ -147,7 +178,7 @@ fn access_by(opening: &[u8], memory: &Changes, plain: bool, event: &Event) -> Ne
             reach,
             ..
         } => load_or_store(len, plain, true, addr, width, reach),
-        Event::Rmw { addr, width, .. } => atomic(len, true, addr, width),
+        Event::Rmw { addr, width, .. } => atomic(len, true, false, addr, width),
         Event::Cmpxchg {
             addr,
             width,

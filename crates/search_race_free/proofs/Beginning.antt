@@ -1,11 +1,7 @@
 -- Where all come to rest in the beginning, and what is asked of the search beside next states.
-use Rattle.std.proofs.Common.{◌≡◌, inl, inr, refl, sym, subst, arith, ℕ, Bool, List, [], ◌∷◌, Contains, Option, Some, None}
+use Rattle.std.proofs.Common.{◌≡◌, inl, inr, refl, sym, subst, arith, ℕ, List, [], ◌∷◌, Contains, Option}
 use Rattle.schedule.specs.System.{State}
 use Rattle.search_reach.specs.Search.{StepSystem, IsFirst, IsMet, IsEnding, IsAll, AllGetStuck, CanGetStuck}
-use Rattle.search_reach.specs.Liveness.{IsLiveWhereAll}
-use Rattle.search_reach.specs.declared.liveness.Liveness.{Liveness}
-use Rattle.search_reach.specs.declared.search.Verdict.{Verdict}
-use Rattle.search_reach.specs.declared.search.Verdict.TheVariants as verdicts
 use Rattle.search_reach.proofs.Paths.{stays, onward}
 use Rattle.search_settled.specs.Settled.{IsReached, StepsBy, AreTame}
 use Rattle.search_settled.specs.declared.access.NextAccess.{NextAccess}
@@ -17,7 +13,7 @@ use Rattle.search_race_free.specs.declared.owning.Owning.{Owning}
 use Rattle.search_race_free.specs.declared.race.ThreadRace.{ThreadRace}
 use Rattle.search_race_free.specs.Orders.{times}
 use Rattle.search_race_free.specs.Wanted.{ArePlain}
-use Rattle.search_race_free.specs.Races.{MeetInRace, HasRace, NoneRace}
+use Rattle.search_race_free.specs.Races.{MeetInRace, HasRace}
 use Rattle.search_race_free.specs.Owned.{Within}
 use Rattle.search_race_free.specs.Touches.{AreClear, AreInTheWay}
 use Rattle.search_race_free.specs.Reduced.{wanted_in, next_in, Rest, RestsSomewhere, StandsBefore, reduced_steps}
@@ -26,7 +22,6 @@ use Rattle.search_race_free.proofs.Moving.{reached-along}
 use Rattle.search_race_free.proofs.Turning.{plain-laws}
 use Rattle.search_race_free.proofs.Striking.{own-within}
 use Rattle.search_race_free.proofs.Resting.{RestsBy, to_rest}
-use Rattle.search_race_free.proofs.Meeting.{races-meet}
 use Rattle.search_race_free.proofs.Continuing.{clear-kept, way-races}
 use Rattle.search_race_free.proofs.Reducing.{path-steps, resting, somewhere, kept-of, free-at}
 
@@ -55,7 +50,7 @@ module _ {X T E V A G H M : Type 0} (k : ThreadSystem X T E V A G H M)
   pub begun-owned : (x : Owning (RestingState G H)) → x.owned.items ≡ [] → IsBeginning k x.flat → IsOwned k x
   begun-owned x none b = record {
     somewhere = beginning-rests x.flat b;
-    made = λ t among byte has. absurd (no-touch t among);
+    made = λ t among. absurd (no-touch t among);
     apart = λ t u in_t in_u d c. no-touch t in_t;
   }
     where
@@ -185,17 +180,10 @@ module _ {X T E V A G H M : Type 0} (k : ThreadSystem X T E V A G H M)
       pub ended-somewhere : (s : Owning (RestingState G H)) → IsMet Reduced s → IsSomewhere k s.flat
       ended-somewhere s met = let at = somewhere k ends stuck tame plain beyond s met in (at.0, record { reached = at.1.reached; settled_is = at.1.settled_is })
 
-      -- where all that can be reached is stood for, no threads race
-      pub none-race : (keys : List (Owning (RestingState G H))) → IsAll Reduced keys → NoneRace k.system k.first k.accesses
-      none-race keys all = races-meet X T E V A k.system k.first k.accesses k.most tame plain none
-        where
-          none : (one other : ℕ) → MeetInRace k.system k.first k.accesses one other → ⊥
-          none one other m =
-              let c = all k.first m.state refl m.reached in
-              let stands = c.is in
-              free-at k ends stuck tame plain beyond c.state m.state stands.0 stands.1 one other m.access m.next m.differ m.wanted m.wanted_next m.race
-
-      pub free-where-all : (eq : Owning (RestingState G H) → Owning (RestingState G H) → Bool) (states : ℕ) (verdict : Verdict) (o : Option Liveness)
-          → IsLiveWhereAll Reduced eq states verdict o → verdict ≡ verdicts.All → NoneRace k.system k.first k.accesses
-      free-where-all eq states verdict None said all = absurd (said all)
-      free-where-all eq states verdict (Some l) said all = none-race said.1.keys said.1.all
+      -- where all that can be reached is stood for, nowhere two next accesses race
+      pub none-meet : (keys : List (Owning (RestingState G H))) → IsAll Reduced keys → (one other : ℕ)
+          → MeetInRace k.system k.first k.accesses one other → ⊥
+      none-meet keys all one other m =
+          let c = all k.first m.state refl m.reached in
+          let stands = c.is in
+          free-at k ends stuck tame plain beyond c.state m.state stands.0 stands.1 one other m.access m.next m.differ m.wanted m.wanted_next m.race

@@ -1,19 +1,21 @@
 -- The turn of a thread, and plain turns of it and of those that could not go on before.
-use Rattle.std.proofs.Common.{◌≡◌, ◌≢◌, ◌⊎◌, inl, inr, ℕ, refl, sym, ◌∙◌, ap, subst, arith, List, [], ◌∷◌, ◌++◌, Option, Some, None}
-use Rattle.std.proofs.lemmas.Option.{none-some}
+use Rattle.std.proofs.Common.{◌≡◌, ◌≢◌, ◌⊎◌, inl, inr, ℕ, refl, sym, ◌∙◌, ap, subst, arith, List, [], ◌∷◌, ◌++◌, Contains, Option, Some, None}
+use Rattle.std.proofs.lemmas.Option.{same_Some, none-some}
 use Rattle.schedule.specs.System.{State}
 use Rattle.search_graph.specs.Paths.{Reaches}
 use Rattle.search_reach.proofs.Paths.{stays, one_step, onward}
 use Rattle.search_settled.specs.Settled.{IsReached, StepsBy, AreTame}
+use Rattle.search_settled.specs.Accesses.{WritesOver}
 use Rattle.search_settled.specs.Threads.{ThreadSystem}
 use Rattle.search_settled.specs.declared.access.NextAccess.{NextAccess}
 use Rattle.search_settled.specs.declared.flat.RestingState.{RestingState}
+use Rattle.search_race_free.specs.declared.owning.Touch.{Touch}
 use Rattle.search_race_free.specs.declared.owning.Owning.{Owning}
 use Rattle.search_race_free.specs.Wanted.{ArePlain}
 use Rattle.search_race_free.specs.Races.{HasRace}
 use Rattle.search_race_free.specs.Owned.{Within}
-use Rattle.search_race_free.specs.Touches.{access_at, AreOfOthers, AreClear, Strikes, Meets, AreInTheWay}
-use Rattle.search_race_free.specs.Reduced.{wanted_in, next_in, Rest, IsResting, IsKept, IsAfterTurn, ComesOf}
+use Rattle.search_race_free.specs.Touches.{access_at, AreOfOthers, IsOver, ArePutOver, AreClear, StrikesNobody, Strikes, Meets, AreInTheWay}
+use Rattle.search_race_free.specs.Reduced.{wanted_in, next_in, Rest, IsResting, WasMade, IsKept, IsAfterTurn, ComesOf}
 use Rattle.search_race_free.specs.Search.{AreWanted, WantsSome, IsAfterEvent, GetsLost, IsOwned, ComesAlone, ComesOnward, IsCame}
 use Rattle.search_race_free.specs.declared.alone.Arrival.{Arrival}
 use Rattle.search_race_free.specs.declared.alone.Arrival.TheVariants as came
@@ -21,24 +23,30 @@ use Rattle.search_race_free.proofs.Moving.{times-append, along-both, goes-along}
 use Rattle.search_race_free.proofs.Racing.{race-swap}
 use Rattle.search_race_free.proofs.Turning.{event_access, reaches_next, leaves, plain-laws}
 use Rattle.search_race_free.proofs.Eventing.{calls-at}
-use Rattle.search_race_free.proofs.Going.{rest-more, comes-to-rest, touched-on, rests-there, strikes-race}
+use Rattle.search_race_free.proofs.Striking.{within-more}
+use Rattle.search_race_free.proofs.Overwriting.{over-apart}
+use Rattle.search_race_free.proofs.Going.{rest-more, comes-to-rest, made-on, missed-now, rests-there, strikes-race}
 
 module _ {X T E V A G H M : Type 0} (k : ThreadSystem X T E V A G H M)
     (tame : AreTame k.system k.first k.most) (plain : ArePlain k.system k.accesses k.first) where
   -- Right after the turn, where the thread has given up what it owned.
-  pub onward-first : (s x : Owning (RestingState G H)) (n : ℕ) (a : NextAccess) → IsOwned k s → WantsSome k s.flat n a → IsAfterEvent k s.flat n x.flat
-      → AreOfOthers s.owned.items n x.owned.items → ComesOnward k n s x
-  onward-first s x n a owned wants come others = record {
+  pub onward-first : (s x : Owning (RestingState G H)) (n : ℕ) (a : NextAccess) (wanted : List (Option NextAccess)) (theirs : List Touch) → IsOwned k s
+      → AreWanted k s.flat wanted → WantsSome k s.flat n a → IsAfterEvent k s.flat n x.flat
+      → AreOfOthers s.owned.items n theirs → ArePutOver wanted n a theirs x.owned.items → ComesOnward k n s x
+  onward-first s x n a wanted theirs owned are wants come others put = record {
     owned = record {
       somewhere = rests-there k tame plain x.owned.items s.flat n x.flat owned.somewhere come;
-      made = λ t among byte has.
-          let old = (others t).0 among in
-          touched-on k tame plain x.owned.items s.flat n x.flat a come wants t byte (λ e. absurd (old.1 (sym e))) (owned.made t old.0 byte has);
-      apart = λ t u in_t in_u d c. owned.apart t u ((others t).0 in_t).0 ((others u).0 in_u).0 d c;
+      made = λ t among. made t (put.each t among);
+      apart = over-apart wanted n a theirs x.owned.items (λ t u in_t in_u. owned.apart t u ((others t).0 in_t).0 ((others u).0 in_u).0) put;
     };
-    keeps = λ t b d h byte has.
-        let o = h byte has in
-        record { touch = o.touch; among = (others o.touch).1 (o.among, λ e. d (sym o.is ∙ e)); is = o.is; has = o.has; writes = o.writes };
+    touches = record {
+      kept = λ t d c. put.kept t ((others t).1 (c, d));
+      over = λ z at b h t d g w. put.all t (record {
+        wants = are z at t.thread ∙ g;
+        other = d;
+        over = subst (λ v. WritesOver v t.access) (same_Some b a (sym h ∙ wants z at)) w;
+      });
+    };
     each = λ z at.
         let r = comes-to-rest k tame plain x.owned.items s.flat n x.flat come z at in
         record {
@@ -52,6 +60,15 @@ module _ {X T E V A G H M : Type 0} (k : ThreadSystem X T E V A G H M)
           others = r.others;
         };
   }
+    where
+      made : (t : Touch) → Contains theirs t ⊎ IsOver wanted n a t × StrikesNobody theirs t.thread t.access → WasMade k x.flat t
+      made t (inl c) =
+          let old = (others t).0 c in
+          made-on k tame plain x.owned.items s.flat n x.flat a come wants t (λ e. absurd (old.1 (sym e))) (owned.made t old.0)
+      made t (inr o) =
+          let over = o.0 in
+          inr (missed-now k tame plain x.owned.items s.flat n x.flat a owned.somewhere come wants t over.other
+          (λ z at. sym (are z at t.thread) ∙ over.wants) over.over)
 
   -- It rests there.
   pub after-rests : (n : ℕ) (x : Owning (RestingState G H)) (z : State X T) → IsReached k.system k.first z → (r : IsAfterTurn k n x z) →
@@ -83,7 +100,10 @@ module _ {X T E V A G H M : Type 0} (k : ThreadSystem X T E V A G H M)
       → ComesOnward k n s x → ComesAlone k m x y → ComesOnward k n s y
   onward-more s x y n m before are free one two = record {
     owned = two.owned;
-    keeps = λ t a d h. two.grows t a (one.keeps t a d h);
+    touches = (let first = one.touches in record {
+      kept = λ t d c. two.grows t (first.kept t d c);
+      over = λ z at a h t d g w. two.grows t (first.over z at a h t d g w);
+    });
     each = λ z at.
         let p = one.each z at in
         let resting : IsResting k x.flat p.settled = record { reached = after-rests n x z at.reached p; rests = p.rests; settled_is = p.settled_is } in
@@ -96,7 +116,8 @@ module _ {X T E V A G H M : Type 0} (k : ThreadSystem X T E V A G H M)
           makes = along-both (wanted_in k) (next_in k) (IsReached k.system k.first) (plain-laws k.system k.accesses k.first k.most tame plain)
               (Within y.owned.items)
               p.order q.order (next_in k z n) p.settled q.settled
-              (rest-more (wanted_in k) (next_in k) (Within x.owned.items) (Within y.owned.items) p.order (next_in k z n) p.settled two.grows p.makes) q.makes;
+              (rest-more (wanted_in k) (next_in k) (Within x.owned.items) (Within y.owned.items) p.order (next_in k z n) p.settled
+              (λ t a. within-more x.owned.items y.owned.items t a (λ v e. two.grows v)) p.makes) q.makes;
           rests = (let rest = q.resting in rest.rests);
           settled_is = (let rest = q.resting in rest.settled_is);
           others = λ u d a h.
@@ -142,7 +163,7 @@ module _ {X T E V A G H M : Type 0} (k : ThreadSystem X T E V A G H M)
   onward-kept s x n wanted one are clear = record {
     kept = clear-kept x wanted one.owned are clear;
     each = one.each;
-    owned = one.keeps;
+    touches = one.touches;
   }
 
   pub way-races : (x : Owning (RestingState G H)) (wanted : List (Option NextAccess)) (one other : ℕ) → IsOwned k x → AreWanted k x.flat wanted →
@@ -154,10 +175,10 @@ module _ {X T E V A G H M : Type 0} (k : ThreadSystem X T E V A G H M)
       wants z at = sym (are z at other) ∙ h.wants
 
       by : Strikes x.owned.items other h.access one ⊎ Meets wanted other h.access one → HasRace k.system k.first k.accesses one other
-      by (inl strikes) = inl (strikes-race k tame plain x other one h.access owned wants strikes)
+      by (inl strikes) = strikes-race k tame plain x other one h.access owned wants strikes
       by (inr meets) =
           let at = owned.somewhere in
-          inr (record {
+          inr (inl (record {
             differ = λ e. meets.differ (sym e);
             state = at.0;
             reached = at.1.reached;
@@ -166,7 +187,17 @@ module _ {X T E V A G H M : Type 0} (k : ThreadSystem X T E V A G H M)
             next = h.access;
             wanted_next = wants at.0 at.1;
             race = race-swap h.access meets.access meets.race;
-          })
+          }))
+
+  -- Of those of others the same.
+  pub others-race : (s : Owning (RestingState G H)) (wanted : List (Option NextAccess)) (theirs : List Touch) (n one other : ℕ) → IsOwned k s
+      → AreWanted k s.flat wanted → AreOfOthers s.owned.items n theirs → AreInTheWay wanted theirs one other → HasRace k.system k.first k.accesses one other
+  others-race s wanted theirs n one other owned are others h =
+      way-races s wanted one other owned are (record { access = h.access; wants = h.wants; way = by h.way })
+    where
+      by : Strikes theirs other h.access one ⊎ Meets wanted other h.access one → Strikes s.owned.items other h.access one ⊎ Meets wanted other h.access one
+      by (inl x) = inl (record { touch = x.touch; among = ((others x.touch).0 x.among).0; is = x.is; other = x.other; race = x.race })
+      by (inr x) = inr x
 
   pub came-more : (stuck : State X T → Type 0) (s x : Owning (RestingState G H)) (n m : ℕ) (before : List (Option NextAccess)) → AreWanted k s.flat before →
       (m ≢ n → access_at before m ≡ None)

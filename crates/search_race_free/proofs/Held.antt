@@ -27,11 +27,11 @@ use Rattle.search_race_free.specs.declared.met.Held.{Held}
 use Rattle.search_race_free.specs.declared.met.StateTable.{StateTable}
 use Rattle.search_race_free.specs.contracts.owning.TouchPartialEq.TheImpl as touches
 use Rattle.search_race_free.specs.Same.{owning_eq, same_touches, stands-there}
-use Rattle.search_race_free.specs.Reduced.{StandsBefore}
+use Rattle.search_race_free.specs.Reduced.{IsResting, StandsBefore, KeepsTouches}
 use Rattle.search_race_free.specs.Met.{held, parted, held_eq, HasOwning, IsHeldRow, AreHeldRows, IsCopy}
 
 -- an element is at its place
-at-of : {A : Type 0} (xs : List A) (x : A) → (c : Contains xs x) → slice_get xs c.0 ≡ Some x
+pub at-of : {A : Type 0} (xs : List A) (x : A) → (c : Contains xs x) → slice_get xs c.0 ≡ Some x
 at-of xs x c = slice_get-get_or xs c.0 x c.1 ∙ ap (λ y. Some y) c.2
 
 module _ {G H : Type 0} where
@@ -127,9 +127,14 @@ module _ {S W E : Type 0} (k : StepSystem S W E) where
   abbrev pub StandsAlike : S → S → Type 0
   StandsAlike x y = (w : W) (left : ℕ → ℕ) → k.stands x w left → k.stands y w left
 
+  -- What follows the one follows the other.
+  abbrev pub IsFollowedAlike : S → S → Type 0
+  IsFollowedAlike x y = (n : ℕ) (z : S) → k.follows x n z → k.follows y n z
+
   pub record IsLike (x y : NextState S) : Type 0 where
     pub thread : x.thread ≡ y.thread
     pub state : StandsAlike x.state y.state
+    pub follow : (s : S) (n : ℕ) → k.follows s n x.state → k.follows s n y.state
 
   has-there : (xs ys : List (NextState S)) → AllZip IsLike xs ys → (u : ℕ) → HasOf xs u → HasOf ys u
   has-there xs ys like u h =
@@ -159,9 +164,9 @@ module _ {S W E : Type 0} (k : StepSystem S W E) where
       (record { can = c.can; second = c.second; is = c.is; end = c.end; path = c.path; rest = like.state c.end (λ (n : ℕ). 0) c.rest })
 
   -- of s, which stands for what its copy does
-  pub next-like : (s copy : S) → StandsAlike s copy → StandsAlike copy s → (xs ys : List (NextState S)) → AllZip IsLike xs ys → AreNext k copy xs →
-      AreNext k s ys
-  next-like s copy there back xs ys like next =
+  pub next-like : (s copy : S) → StandsAlike s copy → StandsAlike copy s → IsFollowedAlike copy s → (xs ys : List (NextState S)) → AllZip IsLike xs ys →
+      AreNext k copy xs → AreNext k s ys
+  next-like s copy there back follow xs ys like next =
       let o = next.orderly in
       record {
         orderly = record {
@@ -182,6 +187,9 @@ module _ {S W E : Type 0} (k : StepSystem S W E) where
         comes = λ w rests y c.
             let b = beside-back IsLike xs ys like c.0 y (at-of ys y c) in
             comes-like b.0 y b.2 w (next.comes w (there w (λ (n : ℕ). 0) rests) b.0 (here xs c.0 b.0 b.1));
+        follow = λ y c.
+            let b = beside-back IsLike xs ys like c.0 y (at-of ys y c) in
+            subst (λ n. k.follows s n y.state) (b.2).thread (follow b.0.thread y.state ((b.2).follow copy b.0.thread (next.follow b.0 (here xs c.0 b.0 b.1))));
         ascend = λ i j x y less at-x at-y.
             let a = beside-back IsLike xs ys like i x at-x in
             let b = beside-back IsLike xs ys like j y at-y in
@@ -285,3 +293,30 @@ module _ {X T E V A G H M : Type 0} (k : ThreadSystem X T E V A G H M) where
   pub stands-copy : (s copy : Owning (RestingState G H)) → IsCopy k s copy → (w : State X T) (left : ℕ → ℕ) → StandsBefore k copy w left →
       StandsBefore k s w left
   stands-copy s copy is = stands-there k copy s (flat-back s copy is) (flat-copy s copy is) is.owned
+
+  -- It rests where its state does.
+  pub resting-copy : (s copy : Owning (RestingState G H)) → IsCopy k s copy → (z : State X T) → IsResting k s.flat z → IsResting k copy.flat z
+  resting-copy s copy is z at = record { reached = at.reached; rests = at.rests; settled_is = flat-copy s copy is z at.settled_is }
+
+  -- The same follows it.
+  pub followed-copy : (s copy : Owning (RestingState G H)) → IsCopy k s copy → (n : ℕ) (x : Owning (RestingState G H)) → KeepsTouches k copy n x →
+      KeepsTouches k s n x
+  followed-copy s copy is n x keeps = record {
+    kept = λ t d c. keeps.kept t d (subst (λ l. Contains l t) (sym is.owned) c);
+    over = λ z at. keeps.over z (record { reached = at.reached; rests = at.rests; settled_is = flat-copy s copy is z at.settled_is });
+  }
+
+-- What equals it has the same touches.
+module _ {X T E V A G H M : Type 0} (k : ThreadSystem X T E V A G H M) (eq_shared : G → G → Bool) (eq_thread : H → H → Bool) where
+  pub equal-touches : (x y : Owning (RestingState G H)) → owning_eq eq_shared eq_thread x y ≡ true → x.owned.items ≡ y.owned.items
+  equal-touches x y e = same_touches x.owned.items y.owned.items
+      (second_so (flat_eq eq_shared eq_thread x.flat y.flat) (pointwise touches.eq-value.it x.owned.items y.owned.items) e)
+
+  pub followed-equal : (s : Owning (RestingState G H)) (n : ℕ) (x y : Owning (RestingState G H)) → owning_eq eq_shared eq_thread x y ≡ true →
+      KeepsTouches k s n x → KeepsTouches k s n y
+  followed-equal s n x y e keeps =
+      let same = equal-touches x y e in
+      record {
+        kept = λ t d c. subst (λ l. Contains l t) same (keeps.kept t d c);
+        over = λ z at a h t d g w. subst (λ l. Contains l t) same (keeps.over z at a h t d g w);
+      }

@@ -26,7 +26,7 @@ use Rattle.search_race_free.specs.Reduced.{reduced_steps}
 use Rattle.search_race_free.specs.Search.{NoneBeyond, NobodyGoesOn, IsKnown}
 use Rattle.search_race_free.specs.Met.{held, parted, held_eq, HasOwning, IsHeldRow, AreHeldRows, IsCopy, IsStateAt}
 use Rattle.search_race_free.proofs.Held.{next_parted, held-all, row-state, row-at, gains-held, notes-held, IsLike}
-use Rattle.search_race_free.proofs.Held.{StandsAlike, next-like, copy-stands, stands-copy}
+use Rattle.search_race_free.proofs.Held.{StandsAlike, next-like, copy-stands, stands-copy, followed-copy, followed-equal}
 use Rattle.search_race_free.proofs.Beginning.{known-met, ending-is}
 
 module _ {X T E V A G H M O : Type 0} (k : ThreadSystem X T E V A G H M) (ends : State X T → O → Type 0) (stuck : State X T → Type 0) where
@@ -115,7 +115,14 @@ module _ {X T E V A G H M O : Type 0} (k : ThreadSystem X T E V A G H M) (ends :
   like-all [] [] h = tt
   like-all [] (y ∷ ys) h = absurd h
   like-all (x ∷ xs) [] h = absurd h
-  like-all (x ∷ xs) (y ∷ ys) h = (record { thread = (h.0).0; state = alike x.state (parted y.state) (h.0).1 }, like-all xs ys h.1)
+  like-all (x ∷ xs) (y ∷ ys) h = (
+    record {
+      thread = (h.0).0;
+      state = alike x.state (parted y.state) (h.0).1;
+      follow = λ s n. followed-equal k eq_shared eq_thread s n x.state (parted y.state) (h.0).1;
+    },
+    like-all xs ys h.1,
+  )
 
   pub next-put : (t new : StateTable G H) (at : ℕ) (o : Option (Owning (RestingState G H))) → IsStateAt k t at o → (copy : Owning (RestingState G H)) →
       o ≡ Some copy
@@ -129,7 +136,8 @@ module _ {X T E V A G H M O : Type 0} (k : ThreadSystem X T E V A G H M) (ends :
       let p = puts (map held ks) rows.next (states-grow t.parts new.parts grows t.states (map held ks) has.are) rows.are in
       record {
         next = map next_parted rows.next;
-        are = next-like (reduced_steps k ends stuck) s copy (copy-stands k s copy c) (stands-copy k s copy c) xs (map next_parted rows.next)
+        are = next-like (reduced_steps k ends stuck) s copy (copy-stands k s copy c) (stands-copy k s copy c) (followed-copy k s copy c) xs
+            (map next_parted rows.next)
             (like-all xs rows.next rows.equal) next;
         states = map parted p.0;
         held = record { table = table; are = subst (AreOf new.parts new.states) (sym (held-all p.0)) p.1 };

@@ -1,5 +1,6 @@
 pub mod Moving
 pub mod Racing
+pub mod Overwriting
 pub mod Quiet
 pub mod Turning
 pub mod Striking
@@ -14,6 +15,8 @@ pub mod Reducing
 pub mod Following
 pub mod Beginning
 mod Held
+mod Missing
+pub mod Timing
 mod Keeping
 mod Pieces
 pub mod Crossing

@@ -5,7 +5,7 @@ use Rattle.std.proofs.lemmas.Option.{none-some}
 use Rattle.schedule.proofs.Basics.{same_or_not}
 use Rattle.search_graph.specs.Paths.{Goes, Reaches}
 use Rattle.search_settled.specs.declared.access.NextAccess.{NextAccess}
-use Rattle.search_settled.specs.Accesses.{IsPlain, Conflict, Race}
+use Rattle.search_settled.specs.Accesses.{IsPlain, Conflict, AreMatched, Race, WritesOver}
 use Rattle.search_race_free.specs.Orders.{StepsPlainly}
 use Rattle.search_race_free.proofs.Moving.{PlainLaws}
 
@@ -22,6 +22,19 @@ plain-race a b p c = record { conflict = c; unmatched = λ m. true≢false (sym 
 
 pub plain-race-other : (a b : NextAccess) → IsPlain b → Conflict a b → Race a b
 plain-race-other a b p c = record { conflict = c; unmatched = λ m. true≢false (sym p ∙ m.second) }
+
+pub race-swap : (a b : NextAccess) → Race a b → Race b a
+race-swap a b r = record {
+  conflict = conflict-swap a b r.conflict;
+  unmatched = λ m. r.unmatched (record { first = m.second; second = m.first; addr = sym m.addr; width = sym m.width });
+}
+
+-- Two that are written over by the same are of the same bytes.
+pub over-matched : (k a b : NextAccess) → WritesOver k a → WritesOver k b → AreMatched a b
+over-matched k a b x y =
+    let m = x.matched in
+    let n = y.matched in
+    record { first = m.first; second = n.first; addr = m.addr ∙ sym n.addr; width = m.width ∙ sym n.width }
 
 module _ {W : Type 0} (wants : W → ℕ → Option NextAccess) (next : W → ℕ → W) (R : W → Type 0) (laws : PlainLaws wants next R) where
   -- One thread makes these plain accesses, alone.
@@ -96,9 +109,3 @@ module _ {W : Type 0} (wants : W → ℕ → Option NextAccess) (next : W → �
       → Reaches (StepsPlainly wants next one) (next w one) z → wants z other ≡ Some f → Conflict f e → ⊥
   none-race never one other e f w z d r h p since g c =
       no-race never since.count one other e f [] w (next w one) z d r (h, p, refl) since.path g c
-
-pub race-swap : (a b : NextAccess) → Race a b → Race b a
-race-swap a b r = record {
-  conflict = conflict-swap a b r.conflict;
-  unmatched = λ m. r.unmatched (record { first = m.second; second = m.first; addr = sym m.addr; width = sym m.width });
-}

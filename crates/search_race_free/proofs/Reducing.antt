@@ -24,9 +24,9 @@ use Rattle.search_race_free.specs.Reduced.{wanted_in, next_in, Rest, IsResting, 
 use Rattle.search_race_free.specs.Reduced.{reduced_steps, IsAfterTurn, ComesOf, HasReduced}
 use Rattle.search_race_free.proofs.Moving.{times-here, times-append, AreApart, PlainLaws, reached-along, along-both}
 use Rattle.search_race_free.proofs.Moving.{goes-along, back-along, wanted-along, sooner, past}
-use Rattle.search_race_free.proofs.Racing.{conflict-swap}
+use Rattle.search_race_free.proofs.Racing.{conflict-swap, plain-race-other}
 use Rattle.search_race_free.proofs.Turning.{going_on, turn_access, event_access, reaches_next, plain-laws}
-use Rattle.search_race_free.proofs.Striking.{struck, within-apart}
+use Rattle.search_race_free.proofs.Striking.{struck, within-more, within-apart}
 
 -- no thread's number is there
 none-there : (ts : List ℕ) → ((n : ℕ) → times n ts ≡ 0) → ts ≡ []
@@ -100,7 +100,7 @@ module _ {X T E V A G H M O : Type 0} (k : ThreadSystem X T E V A G H M) (ends :
       settled_is = st.settled_is;
     }
 
-    safe-at : (w : State X T) (left : ℕ → ℕ) (st : StandsBefore k s w left) → IsSafe k.system k.accesses s.owned.items st.settled
+    pub safe-at : (w : State X T) (left : ℕ → ℕ) (st : StandsBefore k s w left) → IsSafe k.system k.accesses s.owned.items st.settled
     safe-at w left st = let kept = st.kept in kept.safe st.settled (resting w left st)
 
     pub somewhere : IsMet Reduced s → RestsSomewhere k s.flat
@@ -129,7 +129,7 @@ module _ {X T E V A G H M O : Type 0} (k : ThreadSystem X T E V A G H M) (ends :
         subst (IsResting k s.flat) (sym same) at
 
     -- what one thread owns is apart from what another one does
-    own-apart : (w : State X T) (left : ℕ → ℕ) (st : StandsBefore k s w left) → AreApart (Within s.owned.items)
+    pub own-apart : (w : State X T) (left : ℕ → ℕ) (st : StandsBefore k s w left) → AreApart (Within s.owned.items)
     own-apart w left st = within-apart k.system k.accesses s.owned.items st.settled (safe-at w left st)
 
     -- what a thread that has no turn left before it rests does then it does next, and the other way round
@@ -140,9 +140,9 @@ module _ {X T E V A G H M O : Type 0} (k : ThreadSystem X T E V A G H M) (ends :
         back-along (wanted_in k) (next_in k) (IsReached k.system k.first) laws (Within s.owned.items) n a st.order w st.settled st.reached st.makes none wants
         (λ t e d own c. (let x = struck s.owned.items a e t c own in
         let safe = safe-at w left st in
-        safe.clear n a x.touch wants x.among (λ q. d (sym q ∙ x.is)) x.conflict))
+        safe.clear n a x.touch wants x.among (λ q. d (sym q ∙ x.is)) (plain-race-other a x.touch.access x.plain x.conflict)))
 
-    same-then : (w : State X T) (left : ℕ → ℕ) (n : ℕ) (st : StandsBefore k s w left) → times n st.order ≡ 0 → (a : NextAccess) → wanted_in k w n ≡ Some a
+    pub same-then : (w : State X T) (left : ℕ → ℕ) (n : ℕ) (st : StandsBefore k s w left) → times n st.order ≡ 0 → (a : NextAccess) → wanted_in k w n ≡ Some a
         → wanted_in k st.settled n ≡ Some a
     same-then w left n st none a wants =
         let g = goes-along (wanted_in k) (next_in k) (IsReached k.system k.first) laws (Within s.owned.items) n a st.order w st.settled st.reached st.makes
@@ -150,7 +150,7 @@ module _ {X T E V A G H M O : Type 0} (k : ThreadSystem X T E V A G H M) (ends :
         g.1 ∙ (sym (then-same w left n st none g.0 g.1) ∙ wants)
 
     -- what a thread that has one left does next it owns
-    owns-then : (w : State X T) (left : ℕ → ℕ) (n : ℕ) (st : StandsBefore k s w left) (a : NextAccess) → 0 < times n st.order → wanted_in k w n ≡ Some a
+    pub owns-then : (w : State X T) (left : ℕ → ℕ) (n : ℕ) (st : StandsBefore k s w left) (a : NextAccess) → 0 < times n st.order → wanted_in k w n ≡ Some a
         → Within s.owned.items n a
     owns-then w left n st a some wants =
         let m = wanted-along (wanted_in k) (next_in k) (IsReached k.system k.first) laws (Within s.owned.items) (own-apart w left st) n st.order w st.settled
@@ -164,7 +164,7 @@ module _ {X T E V A G H M O : Type 0} (k : ThreadSystem X T E V A G H M) (ends :
     clear-then w left st n u a b d none wants own c =
         let x = struck s.owned.items a b u c own in
         let safe = safe-at w left st in
-        safe.clear n a x.touch (same-then w left n st none a wants) x.among (λ q. d (sym q ∙ x.is)) x.conflict
+        safe.clear n a x.touch (same-then w left n st none a wants) x.among (λ q. d (sym q ∙ x.is)) (plain-race-other a x.touch.access x.plain x.conflict)
 
     -- no two next accesses race
     pub free-at : (w : State X T) (left : ℕ → ℕ) (st : StandsBefore k s w left) (one other : ℕ) (a b : NextAccess) → other ≢ one → wanted_in k w one ≡ Some a
@@ -245,7 +245,9 @@ module _ {X T E V A G H M O : Type 0} (k : ThreadSystem X T E V A G H M) (ends :
         others_first : Rest k x.state.owned.items st.order (next_in k w n) (next_in k st.settled n)
         others_first =
             more-within (wanted_in k) (next_in k) (Within s.owned.items) (Within x.state.owned.items) n st.order (next_in k w n) (next_in k st.settled n) none
-            (let c = comes_of in c.owned)
+            (λ t e d. (let c = comes_of in
+            let touches = c.touches in
+            within-more s.owned.items x.state.owned.items t e (λ v is. touches.kept v (λ q. d (sym is ∙ q)))))
             (past (wanted_in k) (next_in k) (IsReached k.system k.first) laws (Within s.owned.items) n a st.order w st.settled st.reached st.makes none
             wants clear)
 
@@ -342,5 +344,6 @@ module _ {X T E V A G H M O : Type 0} (k : ThreadSystem X T E V A G H M) (ends :
         goes_on = going;
         all = all;
         comes = comes;
+        follow = λ x among. (let of = next.each x among in of.touches);
         ascend = next.ascend;
       }

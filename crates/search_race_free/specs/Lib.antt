@@ -2,6 +2,7 @@ pub mod Orders
 pub mod Wanted
 pub mod Races
 pub mod Owned
+pub mod Timeouts
 pub mod Touches
 pub mod Reduced
 pub mod Search

@@ -1,5 +1,5 @@
 -- Threads that make plain accesses, one after another.
-use Rattle.std.specs.Prelude.{ℕ, ◌≡◌, ◌==◌, suc, cond, Option, Some, List, [], ◌∷◌}
+use Rattle.std.specs.Prelude.{ℕ, ◌≡◌, ◌≢◌, ◌==◌, suc, cond, Option, Some, List, [], ◌∷◌}
 use Rattle.search_settled.specs.declared.access.NextAccess.{NextAccess}
 use Rattle.search_settled.specs.Accesses.{IsPlain}
 
@@ -21,6 +21,14 @@ module _ {W : Type 0} (wants : W → ℕ → Option NextAccess) (next : W → �
   abbrev pub MakesPlain : (ℕ → NextAccess → Type 0) → List ℕ → W → W → Type 0
   MakesPlain own [] w z = w ≡ z
   MakesPlain own (t ∷ ts) w z = MakesOwn own w t × MakesPlain own ts (next w t) z
+
+  -- The next turn of some other thread.
+  pub record StepsWithout (one : ℕ) (w z : W) : Type 0 where
+    pub thread : ℕ
+    pub access : NextAccess
+    pub wanted : wants w thread ≡ Some access
+    pub other : thread ≢ one
+    pub leads : z ≡ next w thread
 
   -- The next turn of some thread, which is plain if the thread is this one.
   pub record StepsPlainly (one : ℕ) (w z : W) : Type 0 where

@@ -4,7 +4,7 @@ use Rattle.schedule.specs.System.{Want.Turns, State}
 use Rattle.search_reach.specs.declared.explores.NextState.{NextState}
 use Rattle.search_reach.specs.Search.{StepSystem, Ascend}
 use Rattle.search_settled.specs.Settled.{IsReached, turning}
-use Rattle.search_settled.specs.Accesses.{HasByte}
+use Rattle.search_settled.specs.Accesses.{HasByte, WritesOver}
 use Rattle.search_settled.specs.Threads.{ThreadSystem, IsFlat}
 use Rattle.search_settled.specs.Next.{IsFirstOf}
 use Rattle.search_settled.specs.declared.access.NextAccess.{NextAccess}
@@ -13,7 +13,7 @@ use Rattle.search_race_free.specs.declared.owning.Touch.{Touch}
 use Rattle.search_race_free.specs.declared.owning.Owning.{Owning}
 use Rattle.search_race_free.specs.Orders.{times, MakesPlain}
 use Rattle.search_race_free.specs.Wanted.{next_access, after_next}
-use Rattle.search_race_free.specs.Races.{HasMade, HasRace}
+use Rattle.search_race_free.specs.Races.{HasMade, WasWrittenOver, HasRace}
 use Rattle.search_race_free.specs.Owned.{Within, IsSafe}
 
 module _ {X T E V A G H M : Type 0} (k : ThreadSystem X T E V A G H M) where
@@ -47,10 +47,20 @@ module _ {X T E V A G H M : Type 0} (k : ThreadSystem X T E V A G H M) where
     pub has : HasByte access byte
     pub writes : x.access.writes ≡ true → access.writes ≡ true
 
+  -- On a run that comes to the flat state the access was written over, and the thread has made no turn since.
+  pub record IsMissed (c : RestingState G H) (x : Touch) : Type 0 where
+    pub state : State X T
+    pub is : IsResting c state
+    pub was : WasWrittenOver k.system k.first k.accesses x.thread x.access state
+
+  -- Each byte was touched; or the access was written over.
+  abbrev pub WasMade : RestingState G H → Touch → Type 0
+  WasMade c x = ((byte : ℕ) → HasByte x.access byte → HasTouched c x byte) ⊎ IsMissed c x
+
   -- What is owned is safe, and was made.
   pub record IsKept (s : Owning (RestingState G H)) : Type 0 where
     pub safe : (z : State X T) → IsResting s.flat z → IsSafe k.system k.accesses s.owned.items z
-    pub made : (x : Touch) → Contains s.owned.items x → (byte : ℕ) → HasByte x.access byte → HasTouched s.flat x byte
+    pub made : (x : Touch) → Contains s.owned.items x → WasMade s.flat x
 
   -- It stands for each state that can be reached and from which plain turns within what is owned lead to one that it is;
   -- each thread makes so many.
@@ -68,6 +78,12 @@ module _ {X T E V A G H M : Type 0} (k : ThreadSystem X T E V A G H M) where
   abbrev pub SomeRace : Type 0
   SomeRace = (one : ℕ) × (other : ℕ) × HasRace k.system k.first k.accesses one other
 
+  -- The turn of thread n keeps the touches of others, and where it writes over what another one does next, that is there.
+  pub record KeepsTouches (s : Owning (RestingState G H)) (n : ℕ) (x : Owning (RestingState G H)) : Type 0 where
+    pub kept : (t : Touch) → t.thread ≢ n → Contains s.owned.items t → Contains x.owned.items t
+    pub over : (z : State X T) → IsResting s.flat z → (a : NextAccess) → wanted_in z n ≡ Some a → (t : Touch) → t.thread ≢ n
+        → wanted_in z t.thread ≡ Some t.access → WritesOver a t.access → Contains x.owned.items t
+
   -- What is searched: the turns of threads, by these states. Nothing can be told of any where there is a race.
   abbrev pub reduced_steps : {O : Type 0} → (State X T → O → Type 0) → (State X T → Type 0)
       → StepSystem (Owning (RestingState G H)) (State X T) O
@@ -75,6 +91,7 @@ module _ {X T E V A G H M : Type 0} (k : ThreadSystem X T E V A G H M) where
     worlds = turning k.system;
     most = k.most;
     stands = StandsBefore;
+    follows = KeepsTouches;
     begins = IsFirstOf k.first;
     ends = ends;
     stuck = λ w. stuck w ⊎ SomeRace;
@@ -96,7 +113,7 @@ module _ {X T E V A G H M : Type 0} (k : ThreadSystem X T E V A G H M) where
   pub record ComesOf (s : Owning (RestingState G H)) (n : ℕ) (x : Owning (RestingState G H)) : Type 0 where
     pub kept : IsKept x
     pub each : (z : State X T) → IsResting s.flat z → IsAfterTurn n x z
-    pub owned : (t : ℕ) (a : NextAccess) → t ≢ n → Within s.owned.items t a → Within x.owned.items t a
+    pub touches : KeepsTouches s n x
 
   -- There is one of these of each thread that can go on, and each of these is of such a thread, in their order.
   pub record HasReduced (s : Owning (RestingState G H))

@@ -1,6 +1,6 @@
 -- Equal states with what is owned stand for the same.
 use Rattle.std.specs.Prelude.{ℕ, ◌≡◌, ◌&&◌, Bool, true, List, [], ◌∷◌, Contains, refl}
-use Rattle.std.proofs.Common.{ap, sym, ◌∙◌, subst, true≢false}
+use Rattle.std.proofs.Common.{ap, sym, ◌∙◌, subst, inl, inr, true≢false}
 use Rattle.std.proofs.lemmas.Bool.{eqb-true}
 use Rattle.std.specs.Cmp.{first_so, second_so, booleans_Decides, IsEquivalence}
 use Rattle.std.specs.Cmp.Lexicographic.{pointwise}
@@ -14,7 +14,7 @@ use Rattle.search_race_free.specs.declared.owning.Owning.{Owning}
 use Rattle.search_race_free.specs.declared.owning.Touch.{Touch}
 use Rattle.search_race_free.specs.contracts.owning.TouchPartialEq.TheImpl as touches
 use Rattle.search_race_free.specs.Owned.{IsSafe}
-use Rattle.search_race_free.specs.Reduced.{Rest, IsResting, HasTouched, IsKept, StandsBefore}
+use Rattle.search_race_free.specs.Reduced.{Rest, IsResting, HasTouched, IsMissed, WasMade, IsKept, StandsBefore}
 
 -- The same settled state, and the same touches.
 abbrev pub owning_eq : {G H : Type 0} → (G → G → Bool) → (H → H → Bool) → Owning (RestingState G H)
@@ -26,11 +26,25 @@ same_access : (x y : NextAccess) → accesses.eq-value.it x y ≡ true → x ≡
 same_access x y e =
     let b = second_so _ _ e in
     let c = second_so _ _ b in
+    let d = second_so _ _ c in
+    let f = second_so _ _ d in
+    let g = second_so _ _ f in
     let plain = (booleans_Decides x.plain y.plain).0 (first_so _ _ e) in
-    let writes = (booleans_Decides x.writes y.writes).0 (first_so _ _ b) in
-    let addr = eqb-true x.addr y.addr (first_so _ _ c) in
-    let width = eqb-true x.width y.width (second_so _ _ c) in
-    λ i. record { plain = plain i; writes = writes i; addr = addr i; width = width i }
+    let reads = (booleans_Decides x.reads y.reads).0 (first_so _ _ b) in
+    let writes = (booleans_Decides x.writes y.writes).0 (first_so _ _ c) in
+    let is_conditional = (booleans_Decides x.is_conditional y.is_conditional).0 (first_so _ _ d) in
+    let is_timed = (booleans_Decides x.is_timed y.is_timed).0 (first_so _ _ f) in
+    let addr = eqb-true x.addr y.addr (first_so _ _ g) in
+    let width = eqb-true x.width y.width (second_so _ _ g) in
+    λ i. record {
+      plain = plain i;
+      reads = reads i;
+      writes = writes i;
+      is_conditional = is_conditional i;
+      is_timed = is_timed i;
+      addr = addr i;
+      width = width i;
+    }
 
 same_touch : (x y : Touch) → touches.eq-value.it x y ≡ true → x ≡ y
 same_touch x y e =
@@ -76,10 +90,23 @@ module _ {X T E V A G H M : Type 0} (k : ThreadSystem X T E V A G H M) (x y : Ow
         writes = h.writes;
       }
 
+  missed-there : (t : Touch) → IsMissed k x.flat t → IsMissed k y.flat t
+  missed-there t h =
+      let is = h.is in
+      record {
+        state = h.state;
+        is = record { reached = is.reached; rests = is.rests; settled_is = there h.state is.settled_is };
+        was = h.was;
+      }
+
+  made-there : (t : Touch) → WasMade k x.flat t → WasMade k y.flat t
+  made-there t (inl h) = inl (λ byte has. touched-there t byte (h byte has))
+  made-there t (inr h) = inr (missed-there t h)
+
   kept-there : IsKept k x → IsKept k y
   kept-there kept = record {
     safe = λ z at. subst (λ l. IsSafe k.system k.accesses l z) same (kept.safe z (rests-back z at));
-    made = λ t among byte has. touched-there t byte (kept.made t (subst (λ l. Contains l t) (sym same) among) byte has);
+    made = λ t among. made-there t (kept.made t (subst (λ l. Contains l t) (sym same) among));
   }
 
   pub stands-there : (w : State X T) (turns : ℕ → ℕ) → StandsBefore k x w turns → StandsBefore k y w turns

@@ -5,7 +5,7 @@ use Rattle.search_graph.specs.Paths.{Reaches}
 use Rattle.search_reach.specs.declared.explores.NextState.{NextState}
 use Rattle.search_reach.specs.Search.{AscendBelow}
 use Rattle.search_settled.specs.Settled.{IsReached, StepsBy}
-use Rattle.search_settled.specs.Accesses.{HasByte, Conflict}
+use Rattle.search_settled.specs.Accesses.{Race}
 use Rattle.search_settled.specs.Threads.{ThreadSystem}
 use Rattle.search_settled.specs.Flat.{IsThreadOf}
 use Rattle.search_settled.specs.Next.{IsBeginning, IsNextBy}
@@ -21,9 +21,8 @@ use Rattle.search_race_free.specs.declared.alone.Arrival.TheVariants as came
 use Rattle.search_race_free.specs.Orders.{times}
 use Rattle.search_race_free.specs.Wanted.{next_access}
 use Rattle.search_race_free.specs.Races.{HasRace}
-use Rattle.search_race_free.specs.Owned.{Within}
 use Rattle.search_race_free.specs.Touches.{access_at}
-use Rattle.search_race_free.specs.Reduced.{wanted_in, Rest, IsResting, RestsSomewhere, HasTouched, IsKept, IsAfterTurn, ComesOf}
+use Rattle.search_race_free.specs.Reduced.{wanted_in, Rest, IsResting, RestsSomewhere, WasMade, IsKept, IsAfterTurn, KeepsTouches, ComesOf}
 
 -- No thread from a number on can go on.
 abbrev pub NoneBeyond : {X T E V A : Type 0} → System X T E V A → (X → T → E → NextAccess) → State X T → ℕ → Type 0
@@ -59,9 +58,9 @@ module _ {X T E V A G H M : Type 0} (k : ThreadSystem X T E V A G H M) where
   -- What is owned was made, and is in no other thread's way.
   pub record IsOwned (s : Owning (RestingState G H)) : Type 0 where
     pub somewhere : RestsSomewhere k s.flat
-    pub made : (x : Touch) → Contains s.owned.items x → (byte : ℕ) → HasByte x.access byte → HasTouched k s.flat x byte
+    pub made : (x : Touch) → Contains s.owned.items x → WasMade k s.flat x
     pub apart : (x y : Touch) → Contains s.owned.items x → Contains s.owned.items y → x.thread ≢ y.thread
-        → Conflict x.access y.access → ⊥
+        → Race x.access y.access → ⊥
 
   -- Plain turns lead from z to what x is, none of them of a thread other than this one that can go on at z.
   pub record IsAlongTurns (m : ℕ) (x : Owning (RestingState G H)) (z : State X T) : Type 0 where
@@ -74,13 +73,13 @@ module _ {X T E V A G H M : Type 0} (k : ThreadSystem X T E V A G H M) where
   -- By plain turns of thread m s comes to x.
   pub record ComesAlone (m : ℕ) (s x : Owning (RestingState G H)) : Type 0 where
     pub owned : IsOwned x
-    pub grows : (t : ℕ) (a : NextAccess) → Within s.owned.items t a → Within x.owned.items t a
+    pub grows : (t : Touch) → Contains s.owned.items t → Contains x.owned.items t
     pub each : (z : State X T) → IsResting k s.flat z → IsAlongTurns m x z
 
   -- Of each state that s is, the turn of thread n leads to what x is, by plain turns after it; others own what they owned.
   pub record ComesOnward (n : ℕ) (s x : Owning (RestingState G H)) : Type 0 where
     pub owned : IsOwned x
-    pub keeps : (t : ℕ) (a : NextAccess) → t ≢ n → Within s.owned.items t a → Within x.owned.items t a
+    pub touches : KeepsTouches k s n x
     pub each : (z : State X T) → IsResting k s.flat z → IsAfterTurn k n x z
 
   -- It is so of each state whose turn of thread n leads there so, and in which threads want these accesses next.

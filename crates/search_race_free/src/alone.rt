@@ -4,7 +4,7 @@ ghost use Rattle.search_settled.specs.Next.{IsStuckAfter};
 ghost use Rattle.search_race_free.specs.Reduced.{RestsSomewhere};
 ghost use Rattle.search_race_free.specs.Search.{AreWanted, WantsSome, IsAfterEvent, GetsLost, IsOwned, IsAlone, IsCame, ComesAlone};
 
-use crate::touches::{put, struck};
+use crate::touches::{are_plain, put, struck};
 use crate::{Accesses, Owning, ThreadRace, Touch};
 use search_settled::{NextAccess, RestingState, threads_after};
 use std::alloc::{AllocError, Global};
@@ -84,6 +84,9 @@ pub(crate) fn turn_alone<M: Accesses>(
         return Ok(PlainTurn::Stops(from));
     };
     if !access.plain {
+        return Ok(PlainTurn::Stops(from));
+    }
+    if !are_plain(from.owned.as_slice(), m) {
         return Ok(PlainTurn::Stops(from));
     }
     if let Some(one) = struck(from.owned.as_slice(), m, access) {

@@ -5,7 +5,7 @@ ghost use Rattle.search_race_free.specs.Touches.{access_at};
 ghost use Rattle.search_race_free.specs.Search.{AreWanted, WantsSome, IsOwned, ComesOnward, OfComing, IsCame};
 
 use crate::alone::{Arrival, after_event, run_alone, wanted};
-use crate::touches::{first_race, of_others};
+use crate::touches::{first_race, of_others, put_over};
 use crate::{Accesses, Owning};
 use search_settled::{NextAccess, RestingState};
 use std::alloc::{AllocError, Global};
@@ -67,7 +67,10 @@ fn turn_onward<M: Accesses>(
     let Some(flat) = after_event(alloc, system, &from.flat, n, access)? else {
         return Ok(Arrival::Unknown);
     };
-    let owned = of_others(alloc, from.owned.as_slice(), n)?;
+    let mut owned = of_others(alloc, from.owned.as_slice(), n)?;
+    if let Some(race) = put_over(&mut owned, before, n, access)? {
+        return Ok(Arrival::Races(race));
+    }
     let count = flat.threads.len();
     let mut at = Owning { flat, owned };
     for m in 0..count {

@@ -2,7 +2,7 @@
 
 use search_settled::NextAccess;
 
-/// An access that a thread has made.
+/// An access that a thread has made; or, where it isn't plain, that it would have made, and that was written over.
 #[derive(Clone, Copy, PartialEq, Eq, PartialOrd, Ord, Hash, Debug)]
 pub struct Touch {
     pub thread: usize,
@@ -10,7 +10,7 @@ pub struct Touch {
 }
 
 /// A settled state, and what the threads own there: the plain accesses that each has made since it last made anything
-/// else.
+/// else, and the atomic one that it wants since before another thread wrote over it.
 #[derive(Drop, PartialEq, Eq, Hash)]
 pub struct Owning<F> {
     pub flat: F,

@@ -1,5 +1,5 @@
 //! All endings of threads of which none race, and races of those of which some do.
-ghost use Rattle.std.specs.Prelude.{◌≡◌, IfOk, IfSome, OnOk, option_map, vec_len};
+ghost use Rattle.std.specs.Prelude.{◌≡◌, false, IfOk, IfSome, OnOk, option_map, vec_len};
 ghost use Rattle.indexmap.specs.IndexSet.{index_set_len};
 ghost use Rattle.search_reach.specs.Meeting.{HasMetAt, HasSound};
 ghost use Rattle.search_reach.specs.Found.{AreEndings};
@@ -7,7 +7,7 @@ ghost use Rattle.search_reach.specs.Liveness.{IsCount, IsLiveWhereAll, HasWays};
 ghost use Rattle.search_reach.specs.Sought.{SeeksIn};
 ghost use Rattle.search_reach.specs.Told.{Obeys};
 ghost use Rattle.search_reach.specs.declared.search.Verdict.TheVariants as verdicts;
-ghost use Rattle.search_race_free.specs.Turns.{reduced, IsRaceOf, HasNoRace};
+ghost use Rattle.search_race_free.specs.Turns.{reduced, IsRaceOf, HasNoRace, HasNoTimeout};
 ghost use Rattle.search_race_free.specs.Same.{owning_eq};
 ghost use Rattle.search_race_free.specs.Met.{HasOwning};
 ghost use Rattle.search_race_free.specs.Ahead.{ComesOfPlace, IsAhead};
@@ -16,6 +16,7 @@ use crate::ahead::{Ahead, AheadTables, MakesAhead, MetStates};
 use crate::alone::Arrival;
 use crate::met::{StateTable, held_row, held_rows, state_at};
 use crate::next::{first_state, next_states};
+use crate::timeouts::waits_timed;
 use crate::{Accesses, Owning, ThreadRace};
 use search_graph::Move;
 use search_reach::{
@@ -197,6 +198,8 @@ pub struct RaceFree<E: Eq + Hash> {
     /// The threads whose turns lead to a state from which one more leads to the race. No clause says that they do: they
     /// are a hint for `race_choices`.
     pub way: Vec<usize>,
+    /// Whether a thread may wait with a timeout: where it met all and this is false, none does in any run.
+    pub timed: bool,
 }
 
 /// A race, and the place among the states that were met of the one from which a turn leads to it.
@@ -332,6 +335,8 @@ pub fn search_race_free<M: Accesses, C: MakesAhead<M>, Q: Seeks<M::Ending>, F: F
         Obeys (F.wish follower.old) (F.wish follower.new) (F.told_at follower.new) r.ended.verdict r.ended.states) }
     ensures none { IfOk result (λ r. r.ended.verdict ≡ verdicts.All → HasNoRace M.Moves system.now) }
     ensures race { IfOk result (λ r. IfSome r.race (IsRaceOf M.Moves system.now)) }
+    ensures untimed { IfOk result (λ r. r.ended.verdict ≡ verdicts.All → r.timed ≡ false
+        → HasNoTimeout M.Moves system.now) }
 {
     let turns = RaceFreeTurns {
         system,
@@ -341,10 +346,12 @@ pub fn search_race_free<M: Accesses, C: MakesAhead<M>, Q: Seeks<M::Ending>, F: F
     let reached = reach(alloc, &turns, plan, follower)?;
     let behind = race_in(alloc, system, &reached, most_plain)?;
     let way = way_behind(alloc, reached.moves.as_slice(), behind)?;
+    let timed = waits_timed(alloc, system, &reached)?;
     let ended = conclude(alloc, &turns, plan, reached, follower)?;
     Ok(RaceFree {
         ended,
         race: racing(behind),
         way,
+        timed,
     })
 }

@@ -1,8 +1,8 @@
 //! What threads touch, and where that conflicts.
-ghost use Rattle.std.specs.Prelude.{◌≡◌, ◌≢◌, ◌↔◌, ◌⊎◌, Some, IfOk, OnOk, IfSome, IfNone, IsTrue};
-ghost use Rattle.search_settled.specs.Accesses.{Meet, Conflict, AreMatched, Race as AreRacing};
+ghost use Rattle.std.specs.Prelude.{◌≡◌, ◌≢◌, ◌↔◌, ◌⊎◌, true, false, Some, IfOk, OnOk, IfSome, IfNone, IsTrue};
+ghost use Rattle.search_settled.specs.Accesses.{Meet, Conflict, AreMatched, Race as AreRacing, WritesOver};
 ghost use Rattle.search_race_free.specs.Touches.{StrikesNobody, Strikes, AreOfOthers, MeetsNobody, Meets, IsPut};
-ghost use Rattle.search_race_free.specs.Touches.{AreClear, AreInTheWay};
+ghost use Rattle.search_race_free.specs.Touches.{AreClear, AreInTheWay, ArePlainOf, ArePutOver};
 
 use crate::{ThreadRace, Touch};
 use search_settled::NextAccess;
@@ -40,14 +40,14 @@ fn are_racing(a: NextAccess, b: NextAccess) -> bool
     conflict(a, b) && !are_matched(a, b)
 }
 
-/// Whether this is a touch of another thread with which a thread's access conflicts.
+/// Whether this is a touch of another thread with which a thread's access races.
 fn strikes(touch: Touch, thread: usize, access: NextAccess) -> bool
-    ensures { IsTrue result ↔ (touch.thread ≢ thread) × Conflict access touch.access }
+    ensures { IsTrue result ↔ (touch.thread ≢ thread) × AreRacing access touch.access }
 {
-    touch.thread != thread && conflict(access, touch.access)
+    touch.thread != thread && are_racing(access, touch.access)
 }
 
-/// A thread one of whose touches conflicts with this access of another thread.
+/// A thread one of whose touches races with this access of another thread.
 pub(crate) fn struck(owned: &[Touch], thread: usize, access: NextAccess) -> Option<usize>
     ensures none { IfNone result (StrikesNobody owned.now thread access) }
     ensures some { IfSome result (Strikes owned.now thread access) }
@@ -151,4 +151,78 @@ pub(crate) fn put(touches: &mut Vec<Touch>, touch: Touch) -> Result<(), AllocErr
     }
     touches.insert(at, touch)?;
     Ok(())
+}
+
+/// Whether this is a touch of the thread that isn't plain.
+fn is_atomic(touch: Touch, thread: usize) -> bool
+    ensures { IsTrue result ↔ (touch.thread ≡ thread) × (touch.access.plain ≡ false) }
+{
+    touch.thread == thread && !touch.access.plain
+}
+
+/// Whether all touches of the thread are plain.
+pub(crate) fn are_plain(owned: &[Touch], thread: usize) -> bool
+    ensures { result ≡ true → ArePlainOf owned.now thread }
+{
+    for touch in owned {
+        if is_atomic(*touch, thread) {
+            return false;
+        }
+    }
+    true
+}
+
+/// Whether the one writes over what the other would write, and may not where it finds something else.
+fn writes_over(over: NextAccess, access: NextAccess) -> bool
+    ensures { IsTrue result ↔ WritesOver over access }
+{
+    are_matched(access, over)
+        && access.writes
+        && access.is_conditional
+        && over.writes
+        && !over.reads
+}
+
+/// What another thread does next, if this access of thread n writes over that.
+pub(crate) fn over_at(
+    next: Option<NextAccess>,
+    other: usize,
+    n: usize,
+    access: NextAccess,
+) -> Option<NextAccess>
+    ensures some { IfSome result (λ b. (next ≡ Some b) × (other ≢ n) × WritesOver access b) }
+    ensures none { IfNone result ((b : _) → next ≡ Some b → other ≢ n → WritesOver access b → ⊥) }
+{
+    let next = next?;
+    if other != n && writes_over(access, next) {
+        Some(next)
+    } else {
+        None
+    }
+}
+
+/// Puts a touch of each other thread over whose next access this one of thread n writes; or answers with such a thread and
+/// one whose touch that access races with.
+pub(crate) fn put_over(
+    touches: &mut Vec<Touch>,
+    wanted: &[Option<NextAccess>],
+    n: usize,
+    access: NextAccess,
+) -> Result<Option<ThreadRace>, AllocError>
+    ensures none { IfOk result (λ o. IfNone o (ArePutOver wanted.now n access touches.old.items touches.new.items)) }
+    ensures some { IfOk result (λ o. IfSome o (λ r. AreInTheWay wanted.now touches.old.items r.one r.other)) }
+{
+    for other in 0..wanted.len() {
+        if let Some(next) = over_at(wanted[other], other, n, access) {
+            if let Some(one) = struck(touches.as_slice(), other, next) {
+                return Ok(Some(ThreadRace { one, other }));
+            }
+            let touch = Touch {
+                thread: other,
+                access: next,
+            };
+            put(touches, touch)?;
+        }
+    }
+    Ok(None)
 }

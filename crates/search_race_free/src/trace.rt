@@ -7,8 +7,8 @@ ghost use Rattle.search_race_free.specs.Search.{IsOwned};
 use crate::alone::{Arrival, PlainTurn, after_event, turn_alone, wanted};
 use crate::next::first_state;
 use crate::onward::{advance, is_free, next_of};
-use crate::touches::{first_race, of_others};
-use crate::{Accesses, Owning};
+use crate::touches::{first_race, of_others, over_at, put_over};
+use crate::{Accesses, Owning, ThreadRace};
 use search_settled::{NextAccess, RestingState};
 use std::alloc::{AllocError, Global};
 
@@ -60,7 +60,10 @@ fn note_turn<M: Accesses>(
         return Ok(None);
     };
     choices.push(choice_of(before.as_slice(), n))?;
-    let owned = of_others(alloc, from.owned.as_slice(), n)?;
+    let mut owned = of_others(alloc, from.owned.as_slice(), n)?;
+    if let Some(_race) = put_over(&mut owned, before.as_slice(), n, access)? {
+        return Ok(None);
+    }
     Ok(Some(Owning { flat, owned }))
 }
 
@@ -166,25 +169,32 @@ pub fn all_choices<M: Accesses>(
     Ok(all)
 }
 
-/// Whether thread n's turn leads to a race, if it can make one.
-fn turns_to_race<M: Accesses>(
+/// The race to which thread n's turn leads, if it can make one and that does.
+fn race_behind<M: Accesses>(
     alloc: Global,
     system: &M,
     from: &Owning<RestingState<M::Shared, M::Thread>>,
     n: usize,
     most: u32,
-) -> Result<bool, AllocError>
+) -> Result<Option<ThreadRace>, AllocError>
     requires { IsOwned (M.threads system.now) from.now }
 {
     let before = wanted(alloc, system, &from.flat)?;
     let Some(access) = next_of(before.as_slice(), n) else {
-        return Ok(false);
+        return Ok(None);
     };
     match advance(alloc, system, from, before.as_slice(), n, access, most)? {
-        Arrival::Races(_) => Ok(true),
-        Arrival::To(_) => Ok(false),
-        Arrival::Unknown => Ok(false),
+        Arrival::Races(race) => Ok(Some(race)),
+        Arrival::To(_) => Ok(None),
+        Arrival::Unknown => Ok(None),
     }
+}
+
+/// A thread whose turn leads to a race, and that race.
+#[derive(Clone, Copy)]
+struct RacingTurn {
+    thread: usize,
+    race: ThreadRace,
 }
 
 /// The first thread whose turn leads to a race.
@@ -193,12 +203,12 @@ fn racing_turn<M: Accesses>(
     system: &M,
     from: &Owning<RestingState<M::Shared, M::Thread>>,
     most: u32,
-) -> Result<Option<usize>, AllocError>
+) -> Result<Option<RacingTurn>, AllocError>
     requires { IsOwned (M.threads system.now) from.now }
 {
-    for n in 0..from.flat.threads.len() {
-        if turns_to_race(alloc, system, from, n, most)? {
-            return Ok(Some(n));
+    for thread in 0..from.flat.threads.len() {
+        if let Some(race) = race_behind(alloc, system, from, thread, most)? {
+            return Ok(Some(RacingTurn { thread, race }));
         }
     }
     Ok(None)
@@ -223,27 +233,103 @@ fn note_meeting<M: Accesses>(
     Ok(())
 }
 
-/// Notes the choices of the turns that lead from a state to a race.
-fn note_race<M: Accesses>(
-    alloc: Global,
-    system: &M,
-    from: &Owning<RestingState<M::Shared, M::Thread>>,
-    most: u32,
-    choices: &mut Vec<usize>,
-) -> Result<(), AllocError>
-    requires { IsOwned (M.threads system.now) from.now }
-{
-    let Some(n) = racing_turn(alloc, system, from, most)? else {
-        return Ok(());
-    };
-    match note_onward(alloc, system, from, n, most, choices)? {
-        Some(at) => note_meeting(alloc, system, &at, choices),
-        None => Ok(()),
+/// A turn of a thread that is made before a step of a way.
+#[derive(Clone, Copy)]
+struct TurnBefore {
+    thread: usize,
+    step: usize,
+}
+
+/// The thread whose turn is made before this step.
+fn thread_before(sooner: Option<TurnBefore>, step: usize) -> Option<usize> {
+    let turn = sooner?;
+    if turn.step == step {
+        Some(turn.thread)
+    } else {
+        None
     }
 }
 
+/// The threads of a way make their turns from the beginning on, as `note_onward` has it, and one of them one before: notes
+/// the choice of each.
+fn note_way<M: Accesses>(
+    alloc: Global,
+    system: &M,
+    most: u32,
+    way: &[usize],
+    sooner: Option<TurnBefore>,
+    choices: &mut Vec<usize>,
+) -> Result<Option<Owning<RestingState<M::Shared, M::Thread>>>, AllocError>
+    ensures { IfOk result (λ o. IfSome o (IsOwned (M.threads system.now))) }
+{
+    let Arrival::To(first) = first_state(alloc, system)? else {
+        return Ok(None);
+    };
+    let mut at = first;
+    for step in 0..way.len() {
+        if let Some(thread) = thread_before(sooner, step) {
+            match note_turn(alloc, system, &at, thread, choices)? {
+                Some(next) => at = next,
+                None => return Ok(None),
+            }
+        }
+        match note_onward(alloc, system, &at, way[step], most, choices)? {
+            Some(next) => at = next,
+            None => return Ok(None),
+        }
+    }
+    Ok(Some(at))
+}
+
+/// Whether the turn of thread n writes over what thread `one` would write next.
+fn is_over<M: Accesses>(
+    alloc: Global,
+    system: &M,
+    at: &Owning<RestingState<M::Shared, M::Thread>>,
+    n: usize,
+    one: usize,
+) -> Result<bool, AllocError>
+    requires { IsOwned (M.threads system.now) at.now }
+{
+    let before = wanted(alloc, system, &at.flat)?;
+    let Some(access) = next_of(before.as_slice(), n) else {
+        return Ok(false);
+    };
+    let next = next_of(before.as_slice(), one);
+    Ok(over_at(next, one, n, access).is_some())
+}
+
+/// The first step of a way that writes over what thread `one` would write, where that makes no turn from there on.
+fn step_over<M: Accesses>(
+    alloc: Global,
+    system: &M,
+    most: u32,
+    way: &[usize],
+    one: usize,
+) -> Result<Option<usize>, AllocError> {
+    let Arrival::To(first) = first_state(alloc, system)? else {
+        return Ok(None);
+    };
+    let mut unused = Vec::new(alloc);
+    let mut at = first;
+    let mut found = None;
+    for step in 0..way.len() {
+        if way[step] == one {
+            found = None;
+        } else if found.is_none() && is_over(alloc, system, &at, way[step], one)? {
+            found = Some(step);
+        }
+        match note_onward(alloc, system, &at, way[step], most, &mut unused)? {
+            Some(next) => at = next,
+            None => return Ok(found),
+        }
+    }
+    Ok(found)
+}
+
 /// The choices of each turn, plain ones too, to the accesses that race, along the way that `search_race_free` gives with
-/// a race. No clause says that they lead there: they are a hint, to be judged by whoever follows them.
+/// a race. Where one of them was written over, its thread makes it before. No clause says that they lead there: they are a
+/// hint, to be judged by whoever follows them.
 ///
 /// # Errors
 /// Where memory is refused.
@@ -254,16 +340,29 @@ pub fn race_choices<M: Accesses>(
     way: &[usize],
 ) -> Result<Vec<usize>, AllocError> {
     let mut all = Vec::new(alloc);
-    let Arrival::To(first) = first_state(alloc, system)? else {
+    let Some(at) = note_way(alloc, system, most_plain, way, None, &mut all)? else {
         return Ok(all);
     };
-    let mut at = first;
-    for n in way {
-        match note_onward(alloc, system, &at, *n, most_plain, &mut all)? {
-            Some(next) => at = next,
-            None => return Ok(all),
-        }
+    let Some(turn) = racing_turn(alloc, system, &at, most_plain)? else {
+        return Ok(all);
+    };
+    let mut steps = way.to_vec(alloc)?;
+    steps.push(turn.thread)?;
+    let thread = turn.race.one;
+    let sooner = match step_over(alloc, system, most_plain, steps.as_slice(), thread)? {
+        Some(step) => Some(TurnBefore { thread, step }),
+        None => None,
+    };
+    all.clear();
+    if let Some(behind) = note_way(
+        alloc,
+        system,
+        most_plain,
+        steps.as_slice(),
+        sooner,
+        &mut all,
+    )? {
+        note_meeting(alloc, system, &behind, &mut all)?;
     }
-    note_race(alloc, system, &at, most_plain, &mut all)?;
     Ok(all)
 }

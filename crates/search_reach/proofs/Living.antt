@@ -303,6 +303,12 @@ module _ (g : Graph) (ended : List Bool) (before : Verdict) (old : Wish) (after 
   ]
   numbered-before states (inr few) = inr few
 
+  pub all-back : after ≡ verdicts.All → before ≡ verdicts.All
+  all-back v = elim judged.verdict [
+    | inl same ↦ sym same ∙ v
+    | inr told ↦ (let t = told.0 in absurd (cc (t, v)))
+  ]
+
   pub sought-back : after ≡ verdicts.Sought → before ≡ verdicts.Sought
   sought-back v = elim judged.verdict [
     | inl same ↦ sym same ∙ v

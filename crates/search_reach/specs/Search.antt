@@ -10,10 +10,12 @@ use Rattle.search_reach.specs.declared.explores.NextState.{NextState}
 -- state stands for; where it begins, how a world has ended, and of which worlds nothing can be told.
 --
 -- `stands s w left`: the state s stands for the world w, in which thread n makes `left n` steps before it rests.
+-- `follows s n x`: what else is known of s and its next state x by thread n.
 pub record StepSystem (S W E : Type 0) : Type 1 where
   pub worlds : Worlds W
   pub most : ℕ
   pub stands : S → W → (ℕ → ℕ) → Type 0
+  pub follows : S → ℕ → S → Type 0
   pub begins : W → Type 0
   pub ends : W → E → Type 0
   pub stuck : W → Type 0
@@ -123,7 +125,7 @@ module _ {S W E : Type 0} (k : StepSystem S W E) where
 
   -- These are the next states of s, each with its thread, in the order of the threads. Each step of a thread that can go
   -- on stays within s or leads to one of them; and where all rest in s, the threads that can go on are theirs, and come to
-  -- each.
+  -- each. What else is known of next states is so.
   pub record AreNext (s : S) (xs : List (NextState S)) : Type 0 where
     pub orderly : IsOrderly s
     pub step : (w z : W) (left : ℕ → ℕ) (n : ℕ) → k.stands s w left → k.worlds.can w n → k.worlds.steps n w z
@@ -131,6 +133,7 @@ module _ {S W E : Type 0} (k : StepSystem S W E) where
     pub goes_on : (w : W) → StandsFor s w → (x : NextState S) → Contains xs x → k.worlds.can w x.thread
     pub all : (w : W) → RestsIn s w → (n : ℕ) → k.worlds.can w n → HasOf xs n
     pub comes : (w : W) → RestsIn s w → (x : NextState S) → Contains xs x → ComesBy x.thread w x.state
+    pub follow : (x : NextState S) → Contains xs x → k.follows s x.thread x.state
     pub ascend : Ascend xs
 
   -- This is a first state: it stands for all first worlds, and for one.

@@ -9,6 +9,7 @@ ghost use Rattle.search_reach.specs.Levels.{HasEndsWithin, HasGoneThrough, IsLev
 ghost use Rattle.search_reach.specs.Moved.{AreFirsts, ArePathsTo, IsMoved, insert_first};
 ghost use Rattle.search_reach.specs.Sought.{SeeksAmong, SeeksIn};
 ghost use Rattle.search_reach.specs.Told.{HadObeyed, HasObeyed, Obeys, OfCount, StillObeys};
+ghost use Rattle.search_reach.specs.declared.search.Verdict.TheVariants as verdicts;
 ghost use Rattle.search_reach.specs.Ways.{AreNumbered};
 
 use crate::liveness::judged;
@@ -131,6 +132,7 @@ pub fn conclude<T: Meets, Q: Seeks<T::Ending>, F: Follows>(
     ensures seeks { IfOk result (λ r. SeeksIn (Q.sought plan.now.sought) T.Ending.eq r.verdict r.endings.keys) }
     ensures levels { IfOk result
         (λ r. IfSome r.levels (HasEndsWithin (T.system system.now) T.Ending.eq r.endings.keys)) }
+    ensures all { IfOk result (λ r. r.verdict ≡ verdicts.All → reached.verdict ≡ verdicts.All) }
     ensures same { IfOk result (λ r. (r.levels ≡ reached.levels)
         × OfCount (T.holds system.now reached.table) (λ n. r.states ≡ n)) }
     ensures obeys { IfOk result (λ r. StillObeys

@@ -16,7 +16,7 @@ use Rattle.shared_memory.specs.Memory.{Memory, pages, loaded, written, combined,
 use Rattle.shared_memory.proofs.Numbers.{length-le_bytes}
 use Rattle.search_settled.specs.declared.access.NextAccess.{NextAccess}
 use Rattle.search_settled.specs.Accesses.{HasByte, Meet, Conflict}
-use Rattle.search_runs.specs.Accesses.{no_bytes, look, growth, in_bounds, access_by}
+use Rattle.search_runs.specs.Accesses.{no_bytes, look, growth, in_bounds, with_timeout, access_by}
 use Rattle.search_runs.proofs.Bytes as bytes
 
 -- within a memory
@@ -35,18 +35,19 @@ IsAccess m (Cmpxchg addr width expected replacement) = ⊥
 IsAccess m (Ask question) = ⊥
 IsAccess m (Told answer) = ⊥
 
-abbrev inside : Bool → Bool → ℕ → ℕ → NextAccess
-inside plain writes addr width = record { plain = plain; writes = writes; addr = addr; width = width }
+abbrev inside : Bool → Bool → Bool → Bool → ℕ → ℕ → NextAccess
+inside plain reads writes hangs addr width = record { plain = plain; reads = reads; writes = writes; is_conditional = hangs; is_timed = false; addr = addr; width = width }
 
 both-true : (s t : Bool) → (s && t) ≡ true → (s ≡ true) × (t ≡ true)
 both-true true t h = (refl, h)
 both-true false t h = absurd (true≢false (sym h))
 
-in-fits : (m : Memory) (plain writes : Bool) (addr width reach : ℕ) → (in_bounds m plain writes addr width reach).plain ≡ true → FitsIn m addr width reach
-in-fits m plain writes addr width reach h = by (nat_le reach (length m.bytes)) refl h
+in-fits : (m : Memory) (plain reads writes hangs : Bool) (addr width reach : ℕ) → (in_bounds m plain reads writes hangs addr width reach).plain ≡ true
+    → FitsIn m addr width reach
+in-fits m plain reads writes hangs addr width reach h = by (nat_le reach (length m.bytes)) refl h
   where
     by : (t : Bool) → nat_le reach (length m.bytes) ≡ t
-        → (if t then inside (plain && nat_le (addr + width) reach) writes addr width else look).plain ≡ true → FitsIn m addr width reach
+        → (if t then inside (plain && nat_le (addr + width) reach) reads writes hangs addr width else look).plain ≡ true → FitsIn m addr width reach
     by true e g = record {
       ends = leb-true (addr + width) reach (both-true plain (nat_le (addr + width) reach) g).1;
       reaches = leb-true reach (length m.bytes) e;
@@ -56,10 +57,10 @@ in-fits m plain writes addr width reach h = by (nat_le reach (length m.bytes)) r
 not-plain : {B : Type 0} → false ≡ true → B
 not-plain h = absurd (true≢false (sym h))
 
-rmw-plain : (m : Memory) (writes : Bool) (addr width reach : ℕ) → (in_bounds m false writes addr width reach).plain ≡ true → ⊥
-rmw-plain m writes addr width reach h = by (nat_le reach (length m.bytes)) h
+rmw-plain : (m : Memory) (reads writes hangs : Bool) (addr width reach : ℕ) → (in_bounds m false reads writes hangs addr width reach).plain ≡ true → ⊥
+rmw-plain m reads writes hangs addr width reach h = by (nat_le reach (length m.bytes)) h
   where
-    by : (t : Bool) → (if t then inside (false && nat_le (addr + width) reach) writes addr width else look).plain ≡ true → ⊥
+    by : (t : Bool) → (if t then inside (false && nat_le (addr + width) reach) reads writes hangs addr width else look).plain ≡ true → ⊥
     by true g = not-plain g
     by false g = not-plain g
 
@@ -71,20 +72,21 @@ never-plain false x y a b h = not-plain (sym b ∙ h)
 pub is-access : (opening : ℕ) (m : Memory) (p : Bool) (e : Event) → (access_by opening m p e).plain ≡ true → IsAccess m e
 is-access opening m p Size h = not-plain h
 is-access opening m p (Grow more) h = never-plain (can_grow m more) (growth opening) no_bytes refl refl h
-is-access opening m p (Load addr width reach) h = in-fits m p false addr width reach h
-is-access opening m p (Store addr width reach value) h = in-fits m p true addr width reach h
-is-access opening m p (Rmw op addr width value) h = rmw-plain m true addr width (addr + width) h
-is-access opening m p (Cmpxchg addr width expected replacement) h = rmw-plain m (loaded m addr width == expected) addr width (addr + width) h
-is-access opening m p (Ask (Wait addr width expected timeout)) h = rmw-plain m false addr width (addr + width) h
+is-access opening m p (Load addr width reach) h = in-fits m p true false false addr width reach h
+is-access opening m p (Store addr width reach value) h = in-fits m p false true false addr width reach h
+is-access opening m p (Rmw op addr width value) h = rmw-plain m true true false addr width (addr + width) h
+is-access opening m p (Cmpxchg addr width expected replacement) h = rmw-plain m true (loaded m addr width == expected) true addr width (addr + width) h
+is-access opening m p (Ask (Wait addr width expected timeout)) h = rmw-plain m true false false addr width (addr + width) h
 is-access opening m p (Ask (Notify addr count)) h = never-plain (nat_le (addr + 4) opening) no_bytes look refl refl h
 is-access opening m p (Ask (Spawn arg)) h = not-plain h
 is-access opening m p (Ask Leave) h = not-plain h
 is-access opening m p (Told answer) h = not-plain h
 
 -- its bytes
-pub in-is : (m : Memory) (plain writes : Bool) (addr width reach : ℕ) → nat_le reach (length m.bytes) ≡ true
-    → in_bounds m plain writes addr width reach ≡ inside (plain && nat_le (addr + width) reach) writes addr width
-in-is m plain writes addr width reach e = ap (λ t. if t then inside (plain && nat_le (addr + width) reach) writes addr width else look) e
+pub in-is : (m : Memory) (plain reads writes hangs : Bool) (addr width reach : ℕ) → nat_le reach (length m.bytes) ≡ true
+    → in_bounds m plain reads writes hangs addr width reach ≡ inside (plain && nat_le (addr + width) reach) reads writes hangs addr width
+in-is m plain reads writes hangs addr width reach e =
+    ap (λ t. if t then inside (plain && nat_le (addr + width) reach) reads writes hangs addr width else look) e
 
 -- Ranges of bytes without a byte in common.
 abbrev pub Apart : ℕ → ℕ → ℕ → ℕ → Type 0
@@ -182,11 +184,13 @@ longer m (Told answer) = omega arith
 
 -- What a write leaves to bytes that its thread's access doesn't meet.
 abbrev pub Spares : NextAccess → ℕ → ℕ → Type 0
-Spares x b v = x.writes ≡ true → Meet x (inside true true b v) → ⊥
+Spares x b v = x.writes ≡ true → Meet x (inside true false true false b v) → ⊥
 
-spares-apart : (m : Memory) (p : Bool) (a w r b v : ℕ) → nat_le r (length m.bytes) ≡ true → Spares (in_bounds m p true a w r) b v → Apart a w b v
-spares-apart m p a w r b v e h =
-    apart-of (inside (p && nat_le (a + w) r) true a w) (inside true true b v) (subst (λ x. Spares x b v) (in-is m p true a w r e) h refl)
+spares-apart : (m : Memory) (p reads hangs : Bool) (a w r b v : ℕ) → nat_le r (length m.bytes) ≡ true → Spares (in_bounds m p reads true hangs a w r) b v
+    → Apart a w b v
+spares-apart m p reads hangs a w r b v e h =
+    apart-of (inside (p && nat_le (a + w) r) reads true hangs a w) (inside true false true false b v)
+    (subst (λ x. Spares x b v) (in-is m p reads true hangs a w r e) h refl)
 
 -- what is read is there still
 pub loaded-still : (opening : ℕ) (m : Memory) (p : Bool) (f : Event) (b v : ℕ) → b + v ≤ length m.bytes → Spares (access_by opening m p f) b v
@@ -201,20 +205,20 @@ loaded-still opening m p (Load addr width reach) b v within h = refl
 loaded-still opening m p (Store addr width reach value) b v within h = by (nat_le reach (length m.bytes)) refl
   where
     by : (t : Bool) → nat_le reach (length m.bytes) ≡ t → loaded (if t then written m addr width value else m) b v ≡ loaded m b v
-    by true e = loaded-apart m addr width value b v (spares-apart m p addr width reach b v e h) (inl within)
+    by true e = loaded-apart m addr width value b v (spares-apart m p false false addr width reach b v e h) (inl within)
     by false e = refl
 loaded-still opening m p (Rmw op addr width value) b v within h = by (nat_le (addr + width) (length m.bytes)) refl
   where
     by : (t : Bool) → nat_le (addr + width) (length m.bytes) ≡ t
         → loaded (if t then written m addr width (combined op width (loaded m addr width) value) else m) b v ≡ loaded m b v
-    by true e = loaded-apart m addr width (combined op width (loaded m addr width) value) b v (spares-apart m false addr width (addr + width) b v e h)
-        (inl within)
+    by true e = loaded-apart m addr width (combined op width (loaded m addr width) value) b v
+        (spares-apart m false true false addr width (addr + width) b v e h) (inl within)
     by false e = refl
 loaded-still opening m p (Cmpxchg addr width expected replacement) b v within h = by (nat_le (addr + width) (length m.bytes)) refl
   where
-    swapped : nat_le (addr + width) (length m.bytes) ≡ true → (t : Bool) → Spares (in_bounds m false t addr width (addr + width)) b v
+    swapped : nat_le (addr + width) (length m.bytes) ≡ true → (t : Bool) → Spares (in_bounds m false true t true addr width (addr + width)) b v
         → loaded (if t then written m addr width replacement else m) b v ≡ loaded m b v
-    swapped e true g = loaded-apart m addr width replacement b v (spares-apart m false addr width (addr + width) b v e g) (inl within)
+    swapped e true g = loaded-apart m addr width replacement b v (spares-apart m false true true addr width (addr + width) b v e g) (inl within)
     swapped e false g = refl
 
     by : (t : Bool) → nat_le (addr + width) (length m.bytes) ≡ t
@@ -231,12 +235,12 @@ module _ (opening : ℕ) (m : Memory) (p q : Bool) (f : Event) where
 
   load-spared : (b v r : ℕ) → FitsIn m b v r → Spared (Load b v r) → Spares (access_by opening m p f) b v
   load-spared b v r fits h writes meet =
-      h (subst (λ y. Conflict (access_by opening m p f) y) (sym (in-is m q false b v r (le-leb r (length m.bytes) fits.reaches)))
+      h (subst (λ y. Conflict (access_by opening m p f) y) (sym (in-is m q true false false b v r (le-leb r (length m.bytes) fits.reaches)))
       (record { meet = meet; write = inl writes }))
 
-  store-spared : (b v r k : ℕ) → FitsIn m b v r → Spared (Store b v r k) → Meet (access_by opening m p f) (inside true true b v) → ⊥
+  store-spared : (b v r k : ℕ) → FitsIn m b v r → Spared (Store b v r k) → Meet (access_by opening m p f) (inside true false true false b v) → ⊥
   store-spared b v r k fits h meet =
-      h (subst (λ y. Conflict (access_by opening m p f) y) (sym (in-is m q true b v r (le-leb r (length m.bytes) fits.reaches)))
+      h (subst (λ y. Conflict (access_by opening m p f) y) (sym (in-is m q false true false b v r (le-leb r (length m.bytes) fits.reaches)))
       (record { meet = meet; write = inr refl }))
 
   -- it finds the same after the event
@@ -268,46 +272,49 @@ module _ (m : Memory) (p : Bool) (b v k : ℕ) (within : b + v ≤ length m.byte
   meet-back : (x y : NextAccess) → Meet x y → Meet y x
   meet-back x y h = (h.0, (h.1.1, h.1.0))
 
-  store-apart : (t writes : Bool) (a w r : ℕ) → nat_le r (length m.bytes) ≡ true → (Meet (in_bounds m t writes a w r) (inside true true b v) → ⊥) →
-      Apart b v a w
-  store-apart t writes a w r e never =
-      apart-of (inside true true b v) (inside (t && nat_le (a + w) r) writes a w)
-      (λ meet. never (subst (λ x. Meet x (inside true true b v)) (sym (in-is m t writes a w r e))
-      (meet-back (inside true true b v) (inside (t && nat_le (a + w) r) writes a w) meet)))
+  store-apart : (t reads writes hangs : Bool) (a w r : ℕ) → nat_le r (length m.bytes) ≡ true
+      → (Meet (in_bounds m t reads writes hangs a w r) (inside true false true false b v) → ⊥)
+      → Apart b v a w
+  store-apart t reads writes hangs a w r e never =
+      apart-of (inside true false true false b v) (inside (t && nat_le (a + w) r) reads writes hangs a w)
+      (λ meet. never (subst (λ x. Meet x (inside true false true false b v)) (sym (in-is m t reads writes hangs a w r e))
+      (meet-back (inside true false true false b v) (inside (t && nat_le (a + w) r) reads writes hangs a w) meet)))
 
   -- what the event reads is there still
-  other-loads : (t writes : Bool) (a w r end : ℕ) → end ≡ r → (Meet (in_bounds m t writes a w r) (inside true true b v) → ⊥)
+  other-loads : (t reads writes hangs : Bool) (a w r end : ℕ) → end ≡ r → (Meet (in_bounds m t reads writes hangs a w r) (inside true false true false b v) → ⊥)
       → if_within (written m b v k) end (Value (loaded (written m b v k) a w)) OutOfBounds ≡ if_within m end (Value (loaded m a w)) OutOfBounds
-  other-loads t writes a w r end same never =
+  other-loads t reads writes hangs a w r end same never =
       if-same m (written m b v k) end (Value (loaded (written m b v k) a w)) OutOfBounds long ∙ by (nat_le end (length m.bytes)) refl
     where
       by : (s : Bool) → nat_le end (length m.bytes) ≡ s
           → (if s then Value (loaded (written m b v k) a w) else OutOfBounds) ≡ (if s then Value (loaded m a w) else OutOfBounds)
-      by true e = ap Value (loaded-apart m b v k a w (store-apart t writes a w r (subst (λ x. nat_le x (length m.bytes) ≡ true) same e) never) (inr within))
+      by true e = ap Value (loaded-apart m b v k a w
+          (store-apart t reads writes hangs a w r (subst (λ x. nat_le x (length m.bytes) ≡ true) same e) never) (inr within))
       by false e = refl
 
-  pub other-found : (opening : ℕ) (f : Event) → (Meet (access_by opening m p f) (inside true true b v) → ⊥) → reply_of (written m b v k) f ≡ reply_of m f
+  pub other-found : (opening : ℕ) (f : Event) → (Meet (access_by opening m p f) (inside true false true false b v) → ⊥)
+      → reply_of (written m b v k) f ≡ reply_of m f
   other-found opening Size h = ap (λ l. Value (l / PAGE_SIZE)) long
   other-found opening (Grow more) h = ap (λ l. Value (if nat_le (l / PAGE_SIZE + more) m.max then l / PAGE_SIZE else 4294967295)) long
-  other-found opening (Load a w r) h = other-loads p false a w r r refl h
+  other-found opening (Load a w r) h = other-loads p true false false a w r r refl h
   other-found opening (Store a w r n) h = if-same m (written m b v k) r Done OutOfBounds long
-  other-found opening (Rmw op a w value) h = other-loads false true a w (a + w) (a + w) refl h
-  other-found opening (Cmpxchg a w expected replacement) h = other-loads false (loaded m a w == expected) a w (a + w) (a + w) refl h
-  other-found opening (Ask (Wait a w expected timeout)) h = other-loads false false a w (a + w) (a + w) refl h
+  other-found opening (Rmw op a w value) h = other-loads false true true false a w (a + w) (a + w) refl h
+  other-found opening (Cmpxchg a w expected replacement) h = other-loads false true (loaded m a w == expected) true a w (a + w) (a + w) refl h
+  other-found opening (Ask (Wait a w expected timeout)) h = other-loads false true false false a w (a + w) (a + w) refl h
   other-found opening (Ask (Notify a count)) h = if-same m (written m b v k) (a + 4) Done OutOfBounds long
   other-found opening (Ask (Spawn arg)) h = refl
   other-found opening (Ask Leave) h = refl
   other-found opening (Told answer) h = refl
 
   -- it leaves the same, whichever comes first
-  other-writes : (t : Bool) (a w r n end : ℕ) → end ≡ r → (Meet (in_bounds m t true a w r) (inside true true b v) → ⊥) →
+  other-writes : (t reads hangs : Bool) (a w r n end : ℕ) → end ≡ r → (Meet (in_bounds m t reads true hangs a w r) (inside true false true false b v) → ⊥) →
       (s : Bool) → nat_le end (length m.bytes) ≡ s
       → written (if s then written m a w n else m) b v k ≡ (if s then written (written m b v k) a w n else written m b v k)
-  other-writes t a w r n end same h true e = swap-writes m a w n b v k
-      (apart-back b v a w (store-apart t true a w r (subst (λ x. nat_le x (length m.bytes) ≡ true) same e) h)) within
-  other-writes t a w r n end same h false e = refl
+  other-writes t reads hangs a w r n end same h true e = swap-writes m a w n b v k
+      (apart-back b v a w (store-apart t reads true hangs a w r (subst (λ x. nat_le x (length m.bytes) ≡ true) same e) h)) within
+  other-writes t reads hangs a w r n end same h false e = refl
 
-  pub other-leaves : (opening : ℕ) (f : Event) → (Meet (access_by opening m p f) (inside true true b v) → ⊥)
+  pub other-leaves : (opening : ℕ) (f : Event) → (Meet (access_by opening m p f) (inside true false true false b v) → ⊥)
       → written (state_after m f) b v k ≡ state_after (written m b v k) f
   other-leaves opening Size h = refl
   other-leaves opening (Grow more) h = by (can_grow m more) ∙
@@ -318,10 +325,10 @@ module _ (m : Memory) (p : Bool) (b v k : ℕ) (within : b + v ≤ length m.byte
       by false = refl
   other-leaves opening (Load a w r) h = refl
   other-leaves opening (Store a w r n) h =
-      other-writes p a w r n r refl h (nat_le r (length m.bytes)) refl ∙
+      other-writes p false false a w r n r refl h (nat_le r (length m.bytes)) refl ∙
       sym (if-same m (written m b v k) r (written (written m b v k) a w n) (written m b v k) long)
   other-leaves opening (Rmw op a w value) h =
-      other-writes false a w (a + w) (combined op w (loaded m a w) value) (a + w) refl h (nat_le (a + w) (length m.bytes)) refl
+      other-writes false true false a w (a + w) (combined op w (loaded m a w) value) (a + w) refl h (nat_le (a + w) (length m.bytes)) refl
       ∙ (by (nat_le (a + w) (length m.bytes)) refl
       ∙ sym (if-same m (written m b v k) (a + w) (written (written m b v k) a w (combined op w (loaded (written m b v k) a w) value)) (written m b v k) long))
     where
@@ -329,7 +336,7 @@ module _ (m : Memory) (p : Bool) (b v k : ℕ) (within : b + v ≤ length m.byte
           → (if s then written (written m b v k) a w (combined op w (loaded m a w) value) else written m b v k)
           ≡ (if s then written (written m b v k) a w (combined op w (loaded (written m b v k) a w) value) else written m b v k)
       by true e = ap (λ o. written (written m b v k) a w (combined op w o value))
-          (sym (loaded-apart m b v k a w (store-apart false true a w (a + w) e h) (inr within)))
+          (sym (loaded-apart m b v k a w (store-apart false true true false a w (a + w) e h) (inr within)))
       by false e = refl
   other-leaves opening (Cmpxchg a w expected replacement) h =
       by (nat_le (a + w) (length m.bytes)) refl
@@ -338,7 +345,7 @@ module _ (m : Memory) (p : Bool) (b v k : ℕ) (within : b + v ≤ length m.byte
     where
       swapped : nat_le (a + w) (length m.bytes) ≡ true → (s : Bool)
           → written (if s then written m a w replacement else m) b v k ≡ (if s then written (written m b v k) a w replacement else written m b v k)
-      swapped e true = swap-writes m a w replacement b v k (apart-back b v a w (store-apart false (loaded m a w == expected) a w (a + w) e h)) within
+      swapped e true = swap-writes m a w replacement b v k (apart-back b v a w (store-apart false true (loaded m a w == expected) true a w (a + w) e h)) within
       swapped e false = refl
 
       by : (s : Bool) → nat_le (a + w) (length m.bytes) ≡ s
@@ -347,7 +354,7 @@ module _ (m : Memory) (p : Bool) (b v k : ℕ) (within : b + v ≤ length m.byte
       by true e =
           swapped e (loaded m a w == expected)
           ∙ ap (λ o. if o == expected then written (written m b v k) a w replacement else written m b v k)
-          (sym (loaded-apart m b v k a w (store-apart false (loaded m a w == expected) a w (a + w) e h) (inr within)))
+          (sym (loaded-apart m b v k a w (store-apart false true (loaded m a w == expected) true a w (a + w) e h) (inr within)))
       by false e = refl
   other-leaves opening (Ask question) h = refl
   other-leaves opening (Told answer) h = refl
@@ -412,49 +419,52 @@ as-much-most m (Ask question) is = absurd is
 as-much-most m (Told answer) is = absurd is
 
 -- what an event does with a memory depends on its length, and a compare-exchange's on what is there
-in-same : (m z : Memory) (plain writes : Bool) (addr width reach : ℕ) → length z.bytes ≡ length m.bytes
-    → in_bounds z plain writes addr width reach ≡ in_bounds m plain writes addr width reach
-in-same m z plain writes addr width reach h = ap (λ l. if nat_le reach l then inside (plain && nat_le (addr + width) reach) writes addr width else look) h
+in-same : (m z : Memory) (plain reads writes hangs : Bool) (addr width reach : ℕ) → length z.bytes ≡ length m.bytes
+    → in_bounds z plain reads writes hangs addr width reach ≡ in_bounds m plain reads writes hangs addr width reach
+in-same m z plain reads writes hangs addr width reach h =
+    ap (λ l. if nat_le reach l then inside (plain && nat_le (addr + width) reach) reads writes hangs addr width else look) h
 
 -- in the memory after a store that it doesn't meet
 module _ (m : Memory) (p : Bool) (b v k : ℕ) (within : b + v ≤ length m.bytes) where
-  found-same : (a w expected : ℕ) → (Meet (in_bounds m false (loaded m a w == expected) a w (a + w)) (inside true true b v) → ⊥)
-      → in_bounds (written m b v k) false (loaded (written m b v k) a w == expected) a w (a + w) ≡ in_bounds m false (loaded m a w == expected) a w (a + w)
+  found-same : (a w expected : ℕ) → (Meet (in_bounds m false true (loaded m a w == expected) true a w (a + w)) (inside true false true false b v) → ⊥)
+      → in_bounds (written m b v k) false true (loaded (written m b v k) a w == expected) true a w (a + w)
+      ≡ in_bounds m false true (loaded m a w == expected) true a w (a + w)
   found-same a w expected never =
-      in-same m (written m b v k) false (loaded (written m b v k) a w == expected) a w (a + w) (long m p b v k within) ∙
+      in-same m (written m b v k) false true (loaded (written m b v k) a w == expected) true a w (a + w) (long m p b v k within) ∙
       by (nat_le (a + w) (length m.bytes)) refl
     where
       by : (s : Bool) → nat_le (a + w) (length m.bytes) ≡ s
-          → (if s then inside (false && nat_le (a + w) (a + w)) (loaded (written m b v k) a w == expected) a w else look)
-          ≡ (if s then inside (false && nat_le (a + w) (a + w)) (loaded m a w == expected) a w else look)
+          → (if s then inside (false && nat_le (a + w) (a + w)) true (loaded (written m b v k) a w == expected) true a w else look)
+          ≡ (if s then inside (false && nat_le (a + w) (a + w)) true (loaded m a w == expected) true a w else look)
       by true e =
-          ap (λ n. inside (false && nat_le (a + w) (a + w)) (n == expected) a w)
-          (loaded-apart m b v k a w (store-apart m p b v k within false (loaded m a w == expected) a w (a + w) e never) (inr within))
+          ap (λ n. inside (false && nat_le (a + w) (a + w)) true (n == expected) true a w)
+          (loaded-apart m b v k a w (store-apart m p b v k within false true (loaded m a w == expected) true a w (a + w) e never) (inr within))
       by false e = refl
 
-  written-same : (opening : ℕ) (f : Event) → (Meet (access_by opening m p f) (inside true true b v) → ⊥)
+  written-same : (opening : ℕ) (f : Event) → (Meet (access_by opening m p f) (inside true false true false b v) → ⊥)
       → access_by opening (written m b v k) p f ≡ access_by opening m p f
   written-same opening Size h = refl
   written-same opening (Grow more) h =
       ap (λ l. if nat_le (l / PAGE_SIZE + more) m.max then growth opening else no_bytes) (long m p b v k within)
-  written-same opening (Load addr width reach) h = in-same m (written m b v k) p false addr width reach (long m p b v k within)
-  written-same opening (Store addr width reach value) h = in-same m (written m b v k) p true addr width reach (long m p b v k within)
-  written-same opening (Rmw op addr width value) h = in-same m (written m b v k) false true addr width (addr + width) (long m p b v k within)
+  written-same opening (Load addr width reach) h = in-same m (written m b v k) p true false false addr width reach (long m p b v k within)
+  written-same opening (Store addr width reach value) h = in-same m (written m b v k) p false true false addr width reach (long m p b v k within)
+  written-same opening (Rmw op addr width value) h = in-same m (written m b v k) false true true false addr width (addr + width) (long m p b v k within)
   written-same opening (Cmpxchg addr width expected replacement) h = found-same addr width expected h
-  written-same opening (Ask (Wait addr width expected timeout)) h = in-same m (written m b v k) false false addr width (addr + width) (long m p b v k within)
+  written-same opening (Ask (Wait addr width expected timeout)) h =
+      ap (with_timeout timeout) (in-same m (written m b v k) false true false false addr width (addr + width) (long m p b v k within))
   written-same opening (Ask (Notify addr count)) h = refl
   written-same opening (Ask (Spawn arg)) h = refl
   written-same opening (Ask Leave) h = refl
   written-same opening (Told answer) h = refl
 
 -- the bytes that an event touches are the same in a memory as long
-in-meets : (m z : Memory) (plain one other : Bool) (addr width reach : ℕ) (y : NextAccess) → length z.bytes ≡ length m.bytes
-    → Meet (in_bounds m plain one addr width reach) y → Meet (in_bounds z plain other addr width reach) y
-in-meets m z plain one other addr width reach y h meet = subst (λ x. Meet x y) (sym (in-same m z plain other addr width reach h))
+in-meets : (m z : Memory) (plain reads one other hangs : Bool) (addr width reach : ℕ) (y : NextAccess) → length z.bytes ≡ length m.bytes
+    → Meet (in_bounds m plain reads one hangs addr width reach) y → Meet (in_bounds z plain reads other hangs addr width reach) y
+in-meets m z plain reads one other hangs addr width reach y h meet = subst (λ x. Meet x y) (sym (in-same m z plain reads other hangs addr width reach h))
     (by (nat_le reach (length m.bytes)) meet)
   where
-    by : (s : Bool) → Meet (if s then inside (plain && nat_le (addr + width) reach) one addr width else look) y
-        → Meet (if s then inside (plain && nat_le (addr + width) reach) other addr width else look) y
+    by : (s : Bool) → Meet (if s then inside (plain && nat_le (addr + width) reach) reads one hangs addr width else look) y
+        → Meet (if s then inside (plain && nat_le (addr + width) reach) reads other hangs addr width else look) y
     by true g = g
     by false g = g
 
@@ -466,12 +476,12 @@ meets-still : (opening : ℕ) (m z : Memory) (p : Bool) (f : Event) (y : NextAcc
 meets-still opening m z p Size y h most meet = meet
 meets-still opening m z p (Grow more) y h most meet =
     subst (λ (t : Bool). Meet (if t then growth opening else no_bytes) y) (sym (as-much m z more h most)) meet
-meets-still opening m z p (Load addr width reach) y h most meet = in-meets m z p false false addr width reach y h meet
-meets-still opening m z p (Store addr width reach value) y h most meet = in-meets m z p true true addr width reach y h meet
-meets-still opening m z p (Rmw op addr width value) y h most meet = in-meets m z false true true addr width (addr + width) y h meet
+meets-still opening m z p (Load addr width reach) y h most meet = in-meets m z p true false false false addr width reach y h meet
+meets-still opening m z p (Store addr width reach value) y h most meet = in-meets m z p false true true false addr width reach y h meet
+meets-still opening m z p (Rmw op addr width value) y h most meet = in-meets m z false true true true false addr width (addr + width) y h meet
 meets-still opening m z p (Cmpxchg addr width expected replacement) y h most meet =
-    in-meets m z false (loaded m addr width == expected) (loaded z addr width == expected) addr width (addr + width) y h meet
-meets-still opening m z p (Ask (Wait addr width expected timeout)) y h most meet = in-meets m z false false false addr width (addr + width) y h meet
+    in-meets m z false true (loaded m addr width == expected) (loaded z addr width == expected) true addr width (addr + width) y h meet
+meets-still opening m z p (Ask (Wait addr width expected timeout)) y h most meet = in-meets m z false true false false false addr width (addr + width) y h meet
 meets-still opening m z p (Ask (Notify addr count)) y h most meet = meet
 meets-still opening m z p (Ask (Spawn arg)) y h most meet = meet
 meets-still opening m z p (Ask Leave) y h most meet = meet
@@ -502,27 +512,27 @@ module _ (opening : ℕ) (m : Memory) (p q : Bool) (f : Event) where
   conflict-still (Store b v r k) fits c = record {
     meet = meets-still opening m (state_after m (Store b v r k)) p f (access_by opening m q (Store b v r k)) (as-long m (Store b v r k) fits)
         (as-much-most m (Store b v r k) fits) c.meet;
-    write = inr (ap (λ (y : NextAccess). y.writes) (in-is m q true b v r (le-leb r (length m.bytes) fits.reaches)));
+    write = inr (ap (λ (y : NextAccess). y.writes) (in-is m q false true false b v r (le-leb r (length m.bytes) fits.reaches)));
   }
   conflict-still (Rmw op addr width value) is c = absurd is
   conflict-still (Cmpxchg addr width expected replacement) is c = absurd is
   conflict-still (Ask question) is c = absurd is
   conflict-still (Told answer) is c = absurd is
 
-in-more : (m z : Memory) (plain writes : Bool) (addr width reach : ℕ) → FitsIn m addr width reach → length m.bytes ≤ length z.bytes
-    → in_bounds z plain writes addr width reach ≡ in_bounds m plain writes addr width reach
-in-more m z plain writes addr width reach fits more =
+in-more : (m z : Memory) (plain reads writes hangs : Bool) (addr width reach : ℕ) → FitsIn m addr width reach → length m.bytes ≤ length z.bytes
+    → in_bounds z plain reads writes hangs addr width reach ≡ in_bounds m plain reads writes hangs addr width reach
+in-more m z plain reads writes hangs addr width reach fits more =
     let reaches = fits.reaches in
-    in-is z plain writes addr width reach (le-leb reach (length z.bytes) (omega (arith, reaches, more)))
-    ∙ sym (in-is m plain writes addr width reach (le-leb reach (length m.bytes) reaches))
+    in-is z plain reads writes hangs addr width reach (le-leb reach (length z.bytes) (omega (arith, reaches, more)))
+    ∙ sym (in-is m plain reads writes hangs addr width reach (le-leb reach (length m.bytes) reaches))
 
 -- what is within bounds stays so
 pub access-stays : (opening : ℕ) (m z : Memory) (q : Bool) (e : Event) → IsAccess m e → length m.bytes ≤ length z.bytes
     → access_by opening z q e ≡ access_by opening m q e
 access-stays opening m z q Size is more = absurd is
 access-stays opening m z q (Grow pages) is more = absurd is
-access-stays opening m z q (Load addr width reach) fits more = in-more m z q false addr width reach fits more
-access-stays opening m z q (Store addr width reach value) fits more = in-more m z q true addr width reach fits more
+access-stays opening m z q (Load addr width reach) fits more = in-more m z q true false false addr width reach fits more
+access-stays opening m z q (Store addr width reach value) fits more = in-more m z q false true false addr width reach fits more
 access-stays opening m z q (Rmw op addr width value) is more = absurd is
 access-stays opening m z q (Cmpxchg addr width expected replacement) is more = absurd is
 access-stays opening m z q (Ask question) is more = absurd is

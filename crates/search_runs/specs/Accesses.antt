@@ -1,5 +1,5 @@
 -- What a thread of a module does with the memory by its event.
-use Rattle.std.specs.Prelude.{ℕ, ◌+◌, ◌^◌, ◌==◌, ◌&&◌, Bool, true, false, nat_le, length, if◌then◌else◌}
+use Rattle.std.specs.Prelude.{ℕ, ℤ, pos, ◌+◌, ◌^◌, ◌==◌, ◌&&◌, Bool, true, false, nat_le, int_lt, length, if◌then◌else◌}
 use Rattle.types.specs.declared.event.Event.{Event}
 use Rattle.types.specs.declared.event.Event.TheVariants.{Size, Grow, Load, Store, Rmw, Cmpxchg, Ask, Told}
 use Rattle.types.specs.declared.event.Question.TheVariants.{Wait, Notify, Spawn, Leave}
@@ -46,38 +46,76 @@ is_plain (Away o) = false
 
 -- It touches no byte.
 abbrev pub no_bytes : NextAccess
-no_bytes = record { plain = false; writes = false; addr = 0; width = 0 }
+no_bytes = record {
+  plain = false;
+  reads = false;
+  writes = false;
+  is_conditional = false;
+  is_timed = false;
+  addr = 0;
+  width = 0;
+}
 
 -- What looks how many pages there are, and may find more behind a growth: it reads a byte that no memory has. (The length
 -- of a memory is a location, which a test of bounds reads without any order: threads proposal, "Memory model".)
 abbrev pub look : NextAccess
-look = record { plain = false; writes = false; addr = 2 ^ 32; width = 1 }
+look = record {
+  plain = false;
+  reads = true;
+  writes = false;
+  is_conditional = false;
+  is_timed = false;
+  addr = 2 ^ 32;
+  width = 1;
+}
 
 -- A growth that succeeds writes all that lies behind the opening pages, that byte among it: so it conflicts with each
 -- access that passes them, and with each look. Growths of one memory are atomic, of the same bytes.
 abbrev pub growth : ℕ → NextAccess
-growth opening = record { plain = false; writes = true; addr = opening; width = 2 ^ 32 + 1 }
+growth opening = record {
+  plain = false;
+  reads = true;
+  writes = true;
+  is_conditional = false;
+  is_timed = false;
+  addr = opening;
+  width = 2 ^ 32 + 1;
+}
 
 -- A load or a store, whose whole access ends there and whose bytes lie before that, is plain or atomic; one out of bounds
 -- looks, since it passes the opening pages too.
-abbrev pub in_bounds : Memory → Bool → Bool → ℕ → ℕ → ℕ → NextAccess
-in_bounds m plain writes addr width reach =
+abbrev pub in_bounds : Memory → Bool → Bool → Bool → Bool → ℕ → ℕ → ℕ → NextAccess
+in_bounds m plain reads writes is_conditional addr width reach =
     if nat_le reach (length m.bytes)
-    then record { plain = plain && nat_le (addr + width) reach; writes = writes; addr = addr; width = width }
+    then record {
+      plain = plain && nat_le (addr + width) reach;
+      reads = reads;
+      writes = writes;
+      is_conditional = is_conditional;
+      is_timed = false;
+      addr = addr;
+      width = width;
+    }
     else look
 
--- A read-modify-write writes, a compare-exchange exactly where what it expects is there, and a wait reads; all three are
+-- A wait whose timeout is positive has one: it may end by its time. One of 0 ends at once, and a negative one never.
+abbrev pub with_timeout : ℤ → NextAccess → NextAccess
+with_timeout timeout a = record a { is_timed = int_lt (pos 0) timeout }
+
+-- A load reads, and a store writes. A read-modify-write does both; a compare-exchange reads, and writes exactly where
+-- what it expects is there: its writing hangs on what it finds, as that of no other event. A wait reads. These three are
 -- atomic. A notify touches no byte, and looks where its four bytes pass the opening ones. (All calls at one list of
 -- waiters are in its order, growths and sizes in theirs, and spawns in theirs: none of these races.)
 abbrev pub access_by : ℕ → Memory → Bool → Event → NextAccess
 access_by opening m plain Size = no_bytes
 access_by opening m plain (Grow more) = if can_grow m more then growth opening else no_bytes
-access_by opening m plain (Load addr width reach) = in_bounds m plain false addr width reach
-access_by opening m plain (Store addr width reach value) = in_bounds m plain true addr width reach
-access_by opening m plain (Rmw op addr width value) = in_bounds m false true addr width (addr + width)
+access_by opening m plain (Load addr width reach) = in_bounds m plain true false false addr width reach
+access_by opening m plain (Store addr width reach value) = in_bounds m plain false true false addr width reach
+access_by opening m plain (Rmw op addr width value) = in_bounds m false true true false addr width (addr + width)
 access_by opening m plain (Cmpxchg addr width expected replacement) =
-    in_bounds m false (loaded m addr width == expected) addr width (addr + width)
-access_by opening m plain (Ask (Wait addr width expected timeout)) = in_bounds m false false addr width (addr + width)
+    in_bounds m false true (loaded m addr width == expected) true addr width (addr + width)
+access_by opening m plain (Ask (Wait addr width expected timeout)) =
+    with_timeout timeout (in_bounds m false true false false addr width (addr + width))
 access_by opening m plain (Ask (Notify addr count)) = if nat_le (addr + 4) opening then no_bytes else look
 access_by opening m plain (Ask (Spawn arg)) = no_bytes
 access_by opening m plain (Ask Leave) = no_bytes

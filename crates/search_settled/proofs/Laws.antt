@@ -200,6 +200,7 @@ module _ {X T E V A G H M O : Type 0} (k : ThreadSystem X T E V A G H M) (ends :
         goes_on = λ w stands x among. going w stands.0 stands.1 x.thread (record { next = x; among = among; is = refl });
         all = all;
         comes = comes;
+        follow = λ x among. tt;
         ascend = next.ascend;
       }
 

@@ -25,7 +25,21 @@ pub record AreMatched (a b : NextAccess) : Type 0 where
   pub addr : a.addr ≡ b.addr
   pub width : a.width ≡ b.width
 
+-- It isn't plain, and is a wait with a timeout.
+pub record IsTimed (a : NextAccess) : Type 0 where
+  pub atomic : a.plain ≡ false
+  pub timed : a.is_timed ≡ true
+
 -- They conflict, and aren't both atomic of exactly the same bytes.
 pub record Race (a b : NextAccess) : Type 0 where
   pub conflict : Conflict a b
   pub unmatched : AreMatched a b → ⊥
+
+-- Neither is plain, and they are of exactly the same bytes. The one writes there and reads nothing; the other one would
+-- write, and may not where it finds something else. (One that writes whatever it finds still does, when it comes later.)
+pub record WritesOver (over access : NextAccess) : Type 0 where
+  pub matched : AreMatched access over
+  pub writes : access.writes ≡ true
+  pub conditional : access.is_conditional ≡ true
+  pub over_writes : over.writes ≡ true
+  pub blind : over.reads ≡ false

@@ -16,6 +16,7 @@ turn_steps k ends stuck =
       worlds = turning k.system;
       most = k.most;
       stands = StandsForState k;
+      follows = λ s n x. Unit {0};
       begins = IsFirstOf k.first;
       ends = ends;
       stuck = stuck;

@@ -7,8 +7,14 @@ pub struct NextAccess {
     /// Whether nobody else can tell when it is made: it is a turn of its own, or an access within bounds that isn't
     /// atomic.
     pub plain: bool,
+    /// Whether what it does depends on what is there.
+    pub reads: bool,
     /// Whether it writes, or may write.
     pub writes: bool,
+    /// Whether it writes hangs on what it finds.
+    pub is_conditional: bool,
+    /// Whether it is a wait with a timeout.
+    pub is_timed: bool,
     pub addr: u64,
     pub width: u64,
 }

@@ -32,13 +32,13 @@ returns-clause-ways g c =
 
 pub returns-clause-count : goal.returns-clause-count
 returns-clause-count g c =
-    IfOk-weaker c.search_all.result _ _ (λ ended count. counted_by is_same_state (λ s. StandsForState (threads s)) IsStuck
+    IfOk-weaker c.search_all.result _ _ (λ ended count. counted_by is_same_state (λ s. StandsForState (threads s)) (λ s c n x. Unit {0}) IsStuck
     c.in_ok-searched.searched c.args.request.now ended.states c.in_ok-searched.ensures.call count)
     c.search_all.ensures.count
 
 pub returns-clause-live : goal.returns-clause-live
 returns-clause-live g c =
-    IfOk-weaker c.search_all.result _ _ (λ ended live. says_by is_same_state (λ s. StandsForState (threads s)) IsStuck
+    IfOk-weaker c.search_all.result _ _ (λ ended live. says_by is_same_state (λ s. StandsForState (threads s)) (λ s c n x. Unit {0}) IsStuck
     c.in_ok-searched.searched c.args.request.now c.in_ok-searched.ensures.call c.args.dump
     c.in_ok-searched.ensures.dump ended.states ended.verdict ended.liveness live)
     c.search_all.ensures.live

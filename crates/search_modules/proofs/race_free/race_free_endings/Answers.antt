@@ -1,7 +1,7 @@
 use Rattle.std.specs.Prelude.{◌⊎◌}
 use Rattle.std.proofs.lemmas.Result.{IfOk-weaker}
 use Rattle.search_settled.proofs.Laws.{if-some}
-use Rattle.search_race_free.specs.Reduced.{StandsBefore, SomeRace}
+use Rattle.search_race_free.specs.Reduced.{StandsBefore, KeepsTouches, SomeRace}
 use Rattle.search_modules.specs.Liveness.{is_same_owned}
 use Rattle.search_modules.specs.Moved.{called, threads, IsStuck}
 use Rattle.search_modules.proofs.Finding.{every_by, sound_by, sought_by}
@@ -34,14 +34,15 @@ returns-clause-ways g c =
 
 pub returns-clause-count : goal.returns-clause-count
 returns-clause-count g c =
-    IfOk-weaker c.search_race_free.result _ _ (λ free count. counted_by is_same_owned (λ s. StandsBefore (threads s))
+    IfOk-weaker c.search_race_free.result _ _ (λ free count. counted_by is_same_owned (λ s. StandsBefore (threads s)) (λ s. KeepsTouches (threads s))
     (λ s w. IsStuck s w ⊎ SomeRace (threads s))
     c.in_ok-searched.searched c.args.request.now free.ended.states c.in_ok-searched.ensures.call count)
     c.search_race_free.ensures.count
 
 pub returns-clause-live : goal.returns-clause-live
 returns-clause-live g c =
-    IfOk-weaker c.search_race_free.result _ _ (λ free live. says_by is_same_owned (λ s. StandsBefore (threads s)) (λ s w. IsStuck s w ⊎ SomeRace (threads s))
+    IfOk-weaker c.search_race_free.result _ _ (λ free live. says_by is_same_owned (λ s. StandsBefore (threads s)) (λ s. KeepsTouches (threads s))
+    (λ s w. IsStuck s w ⊎ SomeRace (threads s))
     c.in_ok-searched.searched c.args.request.now c.in_ok-searched.ensures.call c.args.dump
     c.in_ok-searched.ensures.dump free.ended.states free.ended.verdict free.ended.liveness live)
     c.search_race_free.ensures.live
@@ -50,6 +51,12 @@ pub returns-clause-none : goal.returns-clause-none
 returns-clause-none g c =
     IfOk-weaker c.search_race_free.result _ _ (λ free none all. (called c.in_ok-searched.searched, c.in_ok-searched.ensures.call, none all))
     c.search_race_free.ensures.none
+
+pub returns-clause-untimed : goal.returns-clause-untimed
+returns-clause-untimed g c =
+    IfOk-weaker c.search_race_free.result _ _
+    (λ free untimed all none. (called c.in_ok-searched.searched, c.in_ok-searched.ensures.call, untimed all none))
+    c.search_race_free.ensures.untimed
 
 pub returns-clause-race : goal.returns-clause-race
 returns-clause-race g c =

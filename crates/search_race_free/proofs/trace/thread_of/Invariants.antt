@@ -1,4 +1,4 @@
-use Rattle.std.proofs.Common.{◌≡◌, ◌+◌, ℕ}
+use Rattle.std.proofs.Common.{◌≡◌, ◌+◌}
 use Rattle.search_race_free.specs.Choices.{choice_of}
 use Rattle.search_race_free.proofs.trace.thread_of.Given as goal
 

@@ -7,7 +7,8 @@ use Rattle.search_reach.specs.Moved.{ArePathsTo}
 use Rattle.search_reach.specs.Ways.{AreNumbered}
 use Rattle.search_reach.proofs.Leading.{ways-are}
 use Rattle.search_reach.proofs.Gathering.{endings-of_all}
-use Rattle.search_reach.proofs.Living.{moves-within, live, found-after, live-after, leads-endless, leads-round, numbered-before, sought-back, sought-forth}
+use Rattle.search_reach.proofs.Living.{moves-within, live, found-after, live-after, leads-endless, leads-round}
+use Rattle.search_reach.proofs.Living.{numbered-before, all-back, sought-back, sought-forth}
 use Rattle.search_reach.proofs.Leveling.{gone-within}
 use Rattle.search_reach.proofs.Passing.{seeks-in}
 use Rattle.search_reach.specs.Told.{Obeys}
@@ -112,3 +113,6 @@ returns-clause-ways g c =
       endless = leads-endless k eq c.count-states.result c.in_ok-verdict.verdict c.in_ok-verdict.liveness (returns-clause-live g c);
       round = leads-round k eq c.count-states.result c.in_ok-verdict.verdict c.in_ok-verdict.liveness (returns-clause-live g c);
     }
+
+pub returns-clause-all : goal.returns-clause-all
+returns-clause-all g c = all-back _ _ _ _ _ _ _ c.in_ok-verdict.ensures.judged

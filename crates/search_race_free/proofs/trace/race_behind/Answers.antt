@@ -1,7 +1,7 @@
 use Rattle.std.proofs.Common.{sym, ◌∙◌, ap}
 use Rattle.search_race_free.specs.Touches.{access_at}
 use Rattle.search_race_free.proofs.Following.{wants-at}
-use Rattle.search_race_free.proofs.trace.turns_to_race.Goals as goal
+use Rattle.search_race_free.proofs.trace.race_behind.Goals as goal
 
 pub advance-requires-clause-wants : goal.advance-requires-clause-wants
 advance-requires-clause-wants g c =

@@ -1,10 +1,10 @@
 use Rattle.std.proofs.Common.{subst}
 use Rattle.search_race_free.specs.Search.{IsCameFirst}
 use Rattle.search_race_free.proofs.Beginning.{begun-known, known-owned}
-use Rattle.search_race_free.proofs.trace.race_choices.Goals as goal
+use Rattle.search_race_free.proofs.trace.step_over.Goals as goal
 
-pub loop-n-init : goal.loop-n-init
-loop-n-init g c =
+pub loop-step-init : goal.loop-step-init
+loop-step-init g c =
     let m = c.args.system.now in
     let k = g.M.Moves.threads m in
     record {
