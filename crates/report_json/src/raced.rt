@@ -18,8 +18,10 @@ pub struct RacingThreads {
 /// What is known of the races of all runs.
 #[derive(Clone, Copy)]
 pub enum RunRaces<'a> {
-    /// No run has one.
+    /// No run has one, and none waits with a timeout.
     Never,
+    /// No run has one, but for what comes behind waits with a timeout.
+    OnlyBehindTimeouts,
     /// A run that was made has this one.
     Found(RacePair<'a>),
     /// These threads race in some run; none was made in which they do.
@@ -46,6 +48,7 @@ fn words_of(races: &RunRaces) -> &'static str
 {
     match races {
         RunRaces::Never => "never",
+        RunRaces::OnlyBehindTimeouts => "only behind timeouts",
         RunRaces::Found(_) | RunRaces::Between(_) => "found",
         RunRaces::Unknown => "unknown",
     }
@@ -57,7 +60,7 @@ pub(crate) fn count_races(races: &Option<RunRaces>) -> usize
 {
     match races {
         Some(RunRaces::Found(_)) | Some(RunRaces::Between(_)) => 2,
-        Some(RunRaces::Never) | Some(RunRaces::Unknown) => 1,
+        Some(RunRaces::Never) | Some(RunRaces::OnlyBehindTimeouts) | Some(RunRaces::Unknown) => 1,
         None => 0,
     }
 }
@@ -87,7 +90,10 @@ fn put_race<S: Serializer>(
     match races {
         Some(RunRaces::Found(pair)) => put(alloc, out, "race", pair),
         Some(RunRaces::Between(threads)) => put(alloc, out, "race", threads),
-        Some(RunRaces::Never) | Some(RunRaces::Unknown) | None => Ok(()),
+        Some(RunRaces::Never)
+        | Some(RunRaces::OnlyBehindTimeouts)
+        | Some(RunRaces::Unknown)
+        | None => Ok(()),
     }
 }
 
