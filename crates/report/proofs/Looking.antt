@@ -4,7 +4,7 @@ use Rattle.spawn_host.specs.Requests.{Requested}
 use Rattle.search_endings.specs.Endings.{Ending}
 use Rattle.search_finds.specs.Finds.{IsLookedFor}
 use Rattle.search_modules.specs.Endings.{HasSought}
-use Rattle.search_modules.specs.Races.{NeverRaces}
+use Rattle.search_modules.specs.Races.{NeverRaces, NeverWaitsTimed, WaitsTimedSo}
 use Rattle.search_race_free.specs.declared.race.ThreadRace.{ThreadRace}
 use Rattle.search_reach.specs.declared.ending.Ended.{Ended}
 use Rattle.search_reach.specs.declared.search.Verdict.{Verdict}
@@ -12,8 +12,8 @@ use Rattle.search_reach.specs.declared.search.Verdict.TheVariants as verdicts
 use Rattle.selection.specs.declared.sought.Sought.{Sought}
 use Rattle.report_command.specs.declared.search.Search.{Search}
 use Rattle.report.specs.Early.{SaysSought, ends_early}
-use Rattle.report.specs.Racing.{IsAsked, IsFreelyComplete, IsKnownOf, IsWhole, racing_by}
-use Rattle.report.specs.declared.whole.Racing.TheVariants.{Never, Found, Unknown}
+use Rattle.report.specs.Racing.{AreNone, IsAsked, IsFreelyComplete, IsKnownOf, IsWhole, racing_by}
+use Rattle.report.specs.declared.whole.Racing.TheVariants.{Never, OnlyBehindTimeouts, Found, Unknown}
 
 -- where every order isn't wanted, races are asked for
 pub asked_found : (s : Search) (r : ThreadRace) → s.every_order ≡ false → IsAsked s (Found r)
@@ -25,39 +25,55 @@ asked_unknown s every = ((λ yes. absurd (true≢false (sym yes ∙ every))), (�
 asked_never : (s : Search) → s.every_order ≡ false → IsAsked s Never
 asked_never s every = ((λ yes. absurd (true≢false (sym yes ∙ every))), (λ is. absurd cc))
 
-asked_by : (s : Search) (v : Verdict) → s.every_order ≡ false → IsAsked s (racing_by v)
-asked_by s verdicts.All every = asked_never s every
-asked_by s verdicts.TooMany every = asked_unknown s every
-asked_by s verdicts.CannotTell every = asked_unknown s every
-asked_by s verdicts.Told every = asked_unknown s every
-asked_by s verdicts.Sought every = asked_unknown s every
+asked_behind : (s : Search) → s.every_order ≡ false → IsAsked s OnlyBehindTimeouts
+asked_behind s every = ((λ yes. absurd (true≢false (sym yes ∙ every))), (λ is. absurd cc))
+
+asked_by : (s : Search) (v : Verdict) (timed : Bool) → s.every_order ≡ false → IsAsked s (racing_by v timed)
+asked_by s verdicts.All false every = asked_never s every
+asked_by s verdicts.All true every = asked_behind s every
+asked_by s verdicts.TooMany timed every = asked_unknown s every
+asked_by s verdicts.CannotTell timed every = asked_unknown s every
+asked_by s verdicts.Told timed every = asked_unknown s every
+asked_by s verdicts.Sought timed every = asked_unknown s every
 
 -- what is known by a verdict
-pub known_by : (q : Requested) (v : Verdict) → (v ≡ verdicts.All → NeverRaces q.parts q.name q.args) → IsKnownOf q (racing_by v)
-known_by q verdicts.All none = none refl
-known_by q verdicts.TooMany none = tt
-known_by q verdicts.CannotTell none = tt
-known_by q verdicts.Told none = tt
-known_by q verdicts.Sought none = tt
+pub known_by : (q : Requested) (v : Verdict) (timed : Bool) → (v ≡ verdicts.All → NeverRaces q.parts q.name q.args)
+    → (v ≡ verdicts.All → timed ≡ false → NeverWaitsTimed q.parts q.name q.args) → (timed ≡ true → WaitsTimedSo q.parts q.name q.args)
+    → IsKnownOf q (racing_by v timed)
+known_by q verdicts.All false none untimed some = (none refl, untimed refl refl)
+known_by q verdicts.All true none untimed some = (none refl, some refl)
+known_by q verdicts.TooMany timed none untimed some = tt
+known_by q verdicts.CannotTell timed none untimed some = tt
+known_by q verdicts.Told timed none untimed some = tt
+known_by q verdicts.Sought timed none untimed some = tt
 
-pub whole_by : (q : Requested) (s : Search) (all : Ended Ending) → IsFreelyComplete q s.sought.dump all
-    → IsKnownOf q (racing_by all.verdict) → s.every_order ≡ false → SaysSought s all.verdict all.endings.keys
-    → IsWhole q s (record { all = all; racing = racing_by all.verdict; is_free = true })
-whole_by q s all complete known every sought = record {
+none_by : (v : Verdict) (timed : Bool) → v ≡ verdicts.All → AreNone (racing_by v timed)
+none_by verdicts.All false is = tt
+none_by verdicts.All true is = tt
+none_by verdicts.TooMany timed is = absurd cc
+none_by verdicts.CannotTell timed is = absurd cc
+none_by verdicts.Told timed is = absurd cc
+none_by verdicts.Sought timed is = absurd cc
+
+pub whole_by : (q : Requested) (s : Search) (all : Ended Ending) (timed : Bool) → IsFreelyComplete q s.sought.dump all
+    → IsKnownOf q (racing_by all.verdict timed) → s.every_order ≡ false → SaysSought s all.verdict all.endings.keys
+    → IsWhole q s (record { all = all; racing = racing_by all.verdict timed; is_free = true })
+whole_by q s all timed complete known every sought = record {
   complete = complete;
   known = known;
-  asked = asked_by s all.verdict every;
-  never = λ _ is_all. ap racing_by is_all;
+  asked = asked_by s all.verdict timed every;
+  never = λ _ is_all. none_by all.verdict timed is_all;
   sought = sought;
 }
 
 -- no race is found by a verdict
-pub unfound_by : (v : Verdict) (r : ThreadRace) → racing_by v ≡ Found r → ⊥
-unfound_by verdicts.All r is = absurd cc
-unfound_by verdicts.TooMany r is = absurd cc
-unfound_by verdicts.CannotTell r is = absurd cc
-unfound_by verdicts.Told r is = absurd cc
-unfound_by verdicts.Sought r is = absurd cc
+pub unfound_by : (v : Verdict) (timed : Bool) (r : ThreadRace) → racing_by v timed ≡ Found r → ⊥
+unfound_by verdicts.All false r is = absurd cc
+unfound_by verdicts.All true r is = absurd cc
+unfound_by verdicts.TooMany timed r is = absurd cc
+unfound_by verdicts.CannotTell timed r is = absurd cc
+unfound_by verdicts.Told timed r is = absurd cc
+unfound_by verdicts.Sought timed r is = absurd cc
 
 -- at which endings a search ends
 pub sought_as : (s : Search) (sought : Sought) (wanted : Bool) (verdict : Verdict) (endings : List Ending) → sought ≡ s.sought → wanted ≡ ends_early s

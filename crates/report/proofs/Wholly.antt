@@ -13,7 +13,7 @@ use Rattle.report.specs.Prints.{IsStatusOf, stops_behind}
 use Rattle.report.specs.Racing.{IsAsked, IsKnownOf, IsWhole, allows, keeps_race}
 use Rattle.report.specs.Searches.{Finds, IsRaceKept, IsSureToEnd, IsWellAt, KeepsNoneOrRace}
 use Rattle.report.specs.declared.whole.Racing.{Racing}
-use Rattle.report.specs.declared.whole.Racing.TheVariants.{Unasked, Never, Found, Unknown}
+use Rattle.report.specs.declared.whole.Racing.TheVariants.{Unasked, Never, OnlyBehindTimeouts, Found, Unknown}
 use Rattle.report.specs.declared.whole.WholeSearch.{WholeSearch}
 use Rattle.report.proofs.Sure.{every_by, can_by, sure_by}
 
@@ -27,7 +27,8 @@ pub never_by : (q : Requested) (s : Search) (allow : Bool) (racing : Racing) →
     → allows allow racing ≡ true → allow ≡ false → s.every_order ≡ false → NeverRaces q.parts q.name q.args
 never_by q s true racing known asked allowed never every = absurd (true≢false never)
 never_by q s false Unasked known asked allowed never every = absurd (true≢false (sym (asked.1 refl) ∙ every))
-never_by q s false Never known asked allowed never every = known
+never_by q s false Never known asked allowed never every = known.0
+never_by q s false OnlyBehindTimeouts known asked allowed never every = known.0
 never_by q s false (Found r) known asked allowed never every = absurd (true≢false (sym allowed))
 never_by q s false Unknown known asked allowed never every = absurd (true≢false (sym allowed))
 

@@ -16,7 +16,7 @@ use Rattle.report_lines.specs.Found.{entries_text}
 use Rattle.report_lines.specs.Complete.{endings_text, states_text, too_many_line, cannot_tell_line, told_line, cannot_end_line}
 use Rattle.report_lines.specs.Complete.{fair_runs_end_line, unknown_line, cycle_line}
 use Rattle.report.specs.declared.whole.Racing.{Racing}
-use Rattle.report.specs.declared.whole.Racing.TheVariants.{Unasked, Never, Found}
+use Rattle.report.specs.declared.whole.Racing.TheVariants.{Unasked, Never, OnlyBehindTimeouts, Found}
 use Rattle.report.specs.declared.whole.Racing.TheVariants as racings
 
 -- What is said of races behind how many endings and states there are; and where it isn't known, that this is so, unless
@@ -24,12 +24,14 @@ use Rattle.report.specs.declared.whole.Racing.TheVariants as racings
 abbrev pub race_words : Racing → List ℕ
 race_words Unasked = []
 race_words Never = codes ", no race"
+race_words OnlyBehindTimeouts = codes ", no race, but for what comes behind waits with a timeout"
 race_words (Found r) = codes ", with races"
 race_words racings.Unknown = []
 
 abbrev pub races_unknown : Racing → List ℕ
 races_unknown Unasked = []
 races_unknown Never = []
+races_unknown OnlyBehindTimeouts = []
 races_unknown (Found r) = []
 races_unknown racings.Unknown = codes "whether it races is not known\n"
 

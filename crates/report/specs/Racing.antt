@@ -10,7 +10,7 @@ use Rattle.search_reach.specs.declared.search.SearchOrder.TheVariants as orders
 use Rattle.search_reach.specs.declared.search.Verdict.{Verdict}
 use Rattle.search_reach.specs.declared.search.Verdict.TheVariants as verdicts
 use Rattle.search_endings.specs.Endings.{Ending}
-use Rattle.search_modules.specs.Races.{CanRaceSo, NeverRaces}
+use Rattle.search_modules.specs.Races.{CanRaceSo, NeverRaces, NeverWaitsTimed, WaitsTimedSo}
 use Rattle.search_modules.specs.Liveness.{CountsOwned, SaysWhereAllFree}
 use Rattle.search_finds.specs.Finds.{IsFind}
 use Rattle.report_command.specs.declared.search.Search.{Search}
@@ -24,7 +24,7 @@ use Rattle.report.specs.declared.raced.RacyRun.{RacyRun}
 use Rattle.report.specs.Early.{SaysSought}
 use Rattle.report.specs.Searches.{FindsEvery, FindsNoOther, IsCompleteOf}
 use Rattle.report.specs.declared.whole.Racing.{Racing}
-use Rattle.report.specs.declared.whole.Racing.TheVariants.{Unasked, Never, Found, Unknown}
+use Rattle.report.specs.declared.whole.Racing.TheVariants.{Unasked, Never, OnlyBehindTimeouts, Found, Unknown}
 use Rattle.report.specs.declared.whole.WholeSearch.{WholeSearch}
 use Rattle.report.specs.declared.whole.FirstLook.{FirstLook}
 use Rattle.report.specs.declared.whole.FirstLook.TheVariants as looks
@@ -32,7 +32,8 @@ use Rattle.report.specs.declared.whole.FirstLook.TheVariants as looks
 -- That is so of all runs of the call.
 abbrev pub IsKnownOf : Requested → Racing → Type 0
 IsKnownOf q Unasked = Unit {0}
-IsKnownOf q Never = NeverRaces q.parts q.name q.args
+IsKnownOf q Never = NeverRaces q.parts q.name q.args × NeverWaitsTimed q.parts q.name q.args
+IsKnownOf q OnlyBehindTimeouts = NeverRaces q.parts q.name q.args × WaitsTimedSo q.parts q.name q.args
 IsKnownOf q (Found r) = CanRaceSo q.parts q.name q.args r
 IsKnownOf q Unknown = Unit {0}
 
@@ -50,6 +51,7 @@ abbrev pub allows : Bool → Racing → Bool
 allows true racing = true
 allows false Unasked = true
 allows false Never = true
+allows false OnlyBehindTimeouts = true
 allows false (Found r) = false
 allows false Unknown = false
 
@@ -66,32 +68,41 @@ abbrev pub IsCompleteBy : Requested → ℕ → Bool → Ended Ending → Type 0
 IsCompleteBy q dump true all = IsFreelyComplete q dump all
 IsCompleteBy q dump false all = IsCompleteOf q dump all
 
+-- None has one, but for what may come behind waits with a timeout.
+abbrev pub AreNone : Racing → Type 0
+AreNone Unasked = ⊥
+AreNone Never = Unit {0}
+AreNone OnlyBehindTimeouts = Unit {0}
+AreNone (Found r) = ⊥
+AreNone Unknown = ⊥
+
 -- What is found of all runs, and of their races: where the first search met all, that there are none. Where a search ends
 -- at what is looked for, its verdict says whether it did.
 pub record IsWhole (q : Requested) (s : Search) (w : WholeSearch) : Type 0 where
   pub complete : IsCompleteBy q s.sought.dump w.is_free w.all
   pub known : IsKnownOf q w.racing
   pub asked : IsAsked s w.racing
-  pub never : w.is_free ≡ true → w.all.verdict ≡ verdicts.All → w.racing ≡ Never
+  pub never : w.is_free ≡ true → w.all.verdict ≡ verdicts.All → AreNone w.racing
   pub sought : SaysSought s w.all.verdict w.all.endings.keys
 
--- Where no race was found none is in any run, if all states were met.
-abbrev pub racing_by : Verdict → Racing
-racing_by verdicts.All = Never
-racing_by verdicts.TooMany = Unknown
-racing_by verdicts.CannotTell = Unknown
-racing_by verdicts.Told = Unknown
-racing_by verdicts.Sought = Unknown
+-- Where no race was found none is in any run, if all states were met, but for what comes behind waits with a timeout.
+abbrev pub racing_by : Verdict → Bool → Racing
+racing_by verdicts.All false = Never
+racing_by verdicts.All true = OnlyBehindTimeouts
+racing_by verdicts.TooMany timed = Unknown
+racing_by verdicts.CannotTell timed = Unknown
+racing_by verdicts.Told timed = Unknown
+racing_by verdicts.Sought timed = Unknown
 
 -- What a first look found, and what it left open.
 abbrev pub IsLooked : Requested → Search → FirstLook → Type 0
-IsLooked q s (looks.Done all) =
-    IsFreelyComplete q s.sought.dump all × IsKnownOf q (racing_by all.verdict) × (s.every_order ≡ false)
+IsLooked q s (looks.Done all timed) =
+    IsFreelyComplete q s.sought.dump all × IsKnownOf q (racing_by all.verdict timed) × (s.every_order ≡ false)
     × SaysSought s all.verdict all.endings.keys
 IsLooked q s (looks.Open racing way) = IsKnownOf q racing × IsAsked s racing
 
 abbrev pub racing_in : FirstLook → Racing
-racing_in (looks.Done all) = racing_by all.verdict
+racing_in (looks.Done all timed) = racing_by all.verdict timed
 racing_in (looks.Open racing way) = racing
 
 -- The run with the race is kept where that is asked for, and a place for its record is given.

@@ -34,7 +34,7 @@ use Rattle.report.specs.declared.raced.KeptRace.{KeptRace}
 use Rattle.report.specs.declared.raced.Raced.{Raced}
 use Rattle.report.specs.declared.raced.Raced.TheVariants as raced
 use Rattle.report.specs.declared.whole.Racing.{Racing}
-use Rattle.report.specs.declared.whole.Racing.TheVariants.{Unasked, Never, Unknown}
+use Rattle.report.specs.declared.whole.Racing.TheVariants.{Unasked, Never, OnlyBehindTimeouts, Unknown}
 use Rattle.report.specs.declared.whole.Racing.TheVariants as racings
 use Rattle.report.specs.declared.table.DrawnTable.{DrawnTable}
 use Rattle.report.specs.declared.table.NoneFound.{NoneFound}
@@ -73,6 +73,7 @@ pub record WritesTold (t : ToldSearch) (is : Option RunRaces) (out : WriterChang
 abbrev pub races_alone : Racing → Option RunRaces
 races_alone Unasked = None
 races_alone Never = Some said.Never
+races_alone OnlyBehindTimeouts = Some said.OnlyBehindTimeouts
 races_alone (racings.Found r) = Some (said.Between (threads_of r))
 races_alone Unknown = Some said.Unknown
 

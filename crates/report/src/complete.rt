@@ -133,7 +133,9 @@ fn write_unknown_races<W: Write>(out: &mut W, verdict: Verdict, racing: Racing) 
         Verdict::Sought => Ok(()),
         Verdict::All | Verdict::TooMany | Verdict::CannotTell | Verdict::Told => match racing {
             Racing::Unknown => write!(out, "whether it races is not known\n"),
-            Racing::Unasked | Racing::Never | Racing::Found(_) => Ok(()),
+            Racing::Unasked | Racing::Never | Racing::OnlyBehindTimeouts | Racing::Found(_) => Ok(
+                (),
+            ),
         },
     }
 }

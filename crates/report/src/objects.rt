@@ -103,6 +103,7 @@ fn races_alone(racing: Racing) -> Option<RunRaces<'static>>
     match racing {
         Racing::Unasked => None,
         Racing::Never => Some(RunRaces::Never),
+        Racing::OnlyBehindTimeouts => Some(RunRaces::OnlyBehindTimeouts),
         Racing::Found(ThreadRace { one, other }) => {
             Some(RunRaces::Between(RacingThreads { one, other }))
         }

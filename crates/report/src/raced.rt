@@ -121,10 +121,12 @@ pub(crate) fn raced_of<'a>(
     ensures trouble { IfErr result IsOfSystem }
 {
     match look {
-        FirstLook::Done(_) => Ok(Raced::Untold),
+        FirstLook::Done { .. } => Ok(Raced::Untold),
         FirstLook::Open { racing, way } => match racing {
             Racing::Found(race) => run_of_race(alloc, call, *race, way.as_slice()),
-            Racing::Unasked | Racing::Never | Racing::Unknown => Ok(Raced::Untold),
+            Racing::Unasked | Racing::Never | Racing::OnlyBehindTimeouts | Racing::Unknown => Ok(
+                Raced::Untold,
+            ),
         },
     }
 }

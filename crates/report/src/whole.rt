@@ -1,6 +1,6 @@
 //! What is found of all runs of a call: first whether any has a race, by fewer orders, and where that leaves something
 //! open by every order of their entries. Both end at an ending that is looked for, where one is to.
-ghost use Rattle.std.specs.Prelude.{◌≡◌, false, IfOk, IfErr, IfSome};
+ghost use Rattle.std.specs.Prelude.{◌≡◌, false, true, IfOk, IfErr, IfSome};
 ghost use Rattle.spawn_host.specs.Requests.{Requested};
 ghost use Rattle.search_reach.specs.Levels.{IsLeveled};
 ghost use Rattle.search_reach.specs.declared.search.Verdict.TheVariants as verdicts;
@@ -29,8 +29,10 @@ use std::thread::Threads;
 pub(crate) enum Racing {
     /// It isn't asked.
     Unasked,
-    /// None has one.
+    /// None has one, and no thread waits with a timeout in any.
     Never,
+    /// None has one, but for what comes behind waits with a timeout, and there are such waits.
+    OnlyBehindTimeouts,
     /// These threads race in some run.
     Found(ThreadRace),
     /// Whether they race isn't known.
@@ -44,6 +46,8 @@ impl Racing {
     {
         match self {
             Racing::Never => ", no race",
+            Racing::OnlyBehindTimeouts =>
+                ", no race, but for what comes behind waits with a timeout",
             Racing::Found(_) => ", with races",
             Racing::Unasked | Racing::Unknown => "",
         }
@@ -57,7 +61,7 @@ impl Racing {
             return true;
         }
         match self {
-            Racing::Unasked | Racing::Never => true,
+            Racing::Unasked | Racing::Never | Racing::OnlyBehindTimeouts => true,
             Racing::Found(_) | Racing::Unknown => false,
         }
     }
@@ -76,17 +80,30 @@ pub(crate) struct WholeSearch {
 #[derive(Drop)]
 pub(crate) enum FirstLook {
     /// Nothing more is to be looked for: this was found, by the orders that matter where no threads race.
-    Done(Complete),
+    Done {
+        all: Complete,
+        /// Whether a thread waits with a timeout in some run.
+        timed: bool,
+    },
     /// Every order is to be gone through; what is known of races, and where one is, the way to it.
-    Open { racing: Racing, way: Vec<usize> },
+    Open {
+        racing: Racing,
+        way: Vec<usize>,
+    },
 }
 
 /// What a search that looks for races knows of them where it found none.
-fn racing_by(verdict: Verdict) -> Racing
-    ensures { result ≡ specified.racing_by verdict }
+fn racing_by(verdict: Verdict, timed: bool) -> Racing
+    ensures { result ≡ specified.racing_by verdict timed }
 {
     match verdict {
-        Verdict::All => Racing::Never,
+        Verdict::All => {
+            if timed {
+                Racing::OnlyBehindTimeouts
+            } else {
+                Racing::Never
+            }
+        }
         Verdict::TooMany | Verdict::CannotTell | Verdict::Told | Verdict::Sought => {
             Racing::Unknown
         }
@@ -177,7 +194,7 @@ pub(crate) fn first_look<R: Threads + Sync, F: Follows>(
         mut ended,
         race,
         way,
-        ..
+        timed,
     } = free;
     if let Some(race) = race {
         return Ok(FirstLook::Open {
@@ -192,7 +209,7 @@ pub(crate) fn first_look<R: Threads + Sync, F: Follows>(
         });
     }
     ended.levels = None;
-    Ok(FirstLook::Done(ended))
+    Ok(FirstLook::Done { all: ended, timed })
 }
 
 /// Goes through every order of the entries of a call, and ends at an ending that is looked for, where it says so.
@@ -236,8 +253,8 @@ pub(crate) fn whole_of<F: Follows>(
     ensures trouble { IfErr result IsOfSystem }
 {
     match look {
-        FirstLook::Done(all) => {
-            let racing = racing_by(all.verdict);
+        FirstLook::Done { all, timed } => {
+            let racing = racing_by(all.verdict, timed);
             Ok(WholeSearch {
                 all,
                 racing,

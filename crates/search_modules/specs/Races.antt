@@ -9,7 +9,7 @@ use Rattle.search_reach.specs.Found.{Claims}
 use Rattle.schedule_threads.specs.Shared.{Shared}
 use Rattle.search_settled.specs.declared.access.NextAccess.{NextAccess}
 use Rattle.search_race_free.specs.Races.{HasRace, NoneRace}
-use Rattle.search_race_free.specs.Timeouts.{NoneWaitsTimed}
+use Rattle.search_race_free.specs.Timeouts.{NoneWaitsTimed, SomeWaitsTimed}
 use Rattle.search_race_free.specs.declared.race.ThreadRace.{ThreadRace}
 use Rattle.search_runs.specs.Accesses.{access_of}
 use Rattle.search_runs.specs.Called.{Called, Walker, system_of, first_state}
@@ -29,7 +29,12 @@ CanRaceSo m entry args r =
 abbrev pub NeverRaces : Parts → List ℕ → List Value → Type 0
 NeverRaces m entry args = (b : Called) × IsCall m entry args b × NoneRace (system_of b) (first_state b) (access_in b)
 
--- By this call no thread without a budget waits with a timeout, in any run.
+-- By this call a thread without a budget waits with a timeout in some run.
+abbrev pub WaitsTimedSo : Parts → List ℕ → List Value → Type 0
+WaitsTimedSo m entry args =
+    (b : Called) × IsCall m entry args b × SomeWaitsTimed (system_of b) (first_state b) (access_in b)
+
+-- By this call none does in any run.
 abbrev pub NeverWaitsTimed : Parts → List ℕ → List Value → Type 0
 NeverWaitsTimed m entry args =
     (b : Called) × IsCall m entry args b × NoneWaitsTimed (system_of b) (first_state b) (access_in b)

@@ -1,13 +1,13 @@
 //! All endings of a call whose threads do not race.
 
-ghost use Rattle.std.specs.Prelude.{◌≡◌, false, IfOk, IfSome, vec_len};
+ghost use Rattle.std.specs.Prelude.{◌≡◌, false, true, IfOk, IfSome, vec_len};
 ghost use Rattle.indexmap.specs.IndexSet.{index_set_len};
 ghost use Rattle.search_reach.specs.Found.{AreListed};
 ghost use Rattle.search_reach.specs.Told.{Obeys};
 ghost use Rattle.search_reach.specs.declared.search.Verdict.TheVariants as verdicts;
 ghost use Rattle.search_modules.specs.Endings.{HasSought};
 ghost use Rattle.search_modules.specs.Liveness.{CountsOwned, SaysWhereAllFree};
-ghost use Rattle.search_modules.specs.Races.{CanRaceSo, NeverRaces, NeverWaitsTimed, race_free_claims_of};
+ghost use Rattle.search_modules.specs.Races.{CanRaceSo, NeverRaces, NeverWaitsTimed, WaitsTimedSo, race_free_claims_of};
 ghost use Rattle.search_modules.specs.Ways.{HasWaysFreely};
 
 use crate::called::Searched;
@@ -33,7 +33,8 @@ pub const MOST_PLAIN: u32 = 10_000;
 /// bytes. A race that is given is in some run (`CanRaceSo`); only at
 /// `Verdict::CannotTell` one is, and not always: a thread may make turns of its own without end, or none may be found.
 ///
-/// Where it met all and `timed` is false, no thread waits with a timeout in any run (`NeverWaitsTimed`).
+/// Where it met all and `timed` is false, no thread waits with a timeout in any run (`NeverWaitsTimed`); where `timed` is
+/// true one does in some run (`WaitsTimedSo`).
 ///
 /// All else is as of `all_endings`, which ends at an ending that is looked for too, but `states` counts states with what
 /// each thread owns: what it has read and written since it last made anything but loads and stores that aren't atomic.
@@ -63,6 +64,8 @@ pub fn race_free_endings<'m, C: MakesAhead<Searched<'m>>, Q: Seeks<Ending>, F: F
         (λ r. IfSome r.race (CanRaceSo request.now.parts request.now.name request.now.args)) }
     ensures untimed { IfOk result (λ r. r.ended.verdict ≡ verdicts.All → r.timed ≡ false
         → NeverWaitsTimed request.now.parts request.now.name request.now.args) }
+    ensures timed { IfOk result (λ r. r.timed ≡ true
+        → WaitsTimedSo request.now.parts request.now.name request.now.args) }
     ensures seeks { IfOk result (λ r. HasSought (Q.sought plan.now.sought) r.ended.verdict r.ended.endings.keys) }
     ensures obeys { IfOk result (λ r.
         Obeys (F.wish follower.old) (F.wish follower.new) (F.told_at follower.new) r.ended.verdict r.ended.states) }

@@ -1,4 +1,5 @@
--- Where all states were met, and in none a thread waits with a timeout, none does in any run.
+-- Where all states were met, and in none a thread waits with a timeout, none does in any run; and where one does in one of
+-- them it does in a run.
 use Rattle.std.proofs.Common.{◌≡◌, ℕ, ◌+◌, ◌<◌, ◌≤◌, true, true≢false, refl, sym, ◌∙◌, arith, List, Contains, length, Option, Some}
 use Rattle.schedule.specs.System.{State}
 use Rattle.search_reach.specs.Search.{IsAll}
@@ -13,9 +14,9 @@ use Rattle.search_race_free.specs.declared.met.StateTable.{StateTable}
 use Rattle.search_race_free.specs.Wanted.{ArePlain}
 use Rattle.search_race_free.specs.Touches.{access_at}
 use Rattle.search_race_free.specs.Met.{IsCopy}
-use Rattle.search_race_free.specs.Reduced.{reduced_steps}
+use Rattle.search_race_free.specs.Reduced.{RestsSomewhere, reduced_steps}
 use Rattle.search_race_free.specs.Search.{NoneBeyond, AreWanted}
-use Rattle.search_race_free.specs.Timeouts.{NoneWaitsTimed, IsUntimed, IsUntimedAt, AreUntimed}
+use Rattle.search_race_free.specs.Timeouts.{NoneWaitsTimed, SomeWaitsTimed, HasTimed, IsUntimed, IsUntimedAt, AreUntimed}
 use Rattle.search_race_free.proofs.Held.{at-of, owning-count, resting-copy}
 use Rattle.search_race_free.proofs.Missing.{none-left}
 use Rattle.search_race_free.proofs.Reducing.{resting, same-then}
@@ -26,6 +27,19 @@ module _ {X T E V A G H M : Type 0} (k : ThreadSystem X T E V A G H M) where
   pub untimed-copy : (s copy : Owning (RestingState G H)) (wanted : List (Option NextAccess)) → IsCopy k s copy → AreWanted k copy.flat wanted
       → ((n : ℕ) (a : NextAccess) → access_at wanted n ≡ Some a → IsTimed a → ⊥) → IsUntimed k s.flat
   untimed-copy s copy wanted is are none z at n a wants timed = none n a (are z (resting-copy k s copy is z at) n ∙ wants) timed
+
+  -- A wait that is wanted where threads can rest is one of a run.
+  pub timed-somewhere : (c : RestingState G H) (wanted : List (Option NextAccess)) → RestsSomewhere k c → AreWanted k c wanted → HasTimed wanted
+      → SomeWaitsTimed k.system k.first k.accesses
+  timed-somewhere c wanted at are some =
+      let rest = at.1 in
+      (some.0, record {
+        state = at.0;
+        reached = rest.reached;
+        access = some.1;
+        wanted = sym (are at.0 rest some.0) ∙ some.2;
+        timed = some.3;
+      })
 
   -- Of the states below a place.
   abbrev pub UntimedBelow : StateTable G H → ℕ → Type 0

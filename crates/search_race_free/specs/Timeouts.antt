@@ -1,5 +1,5 @@
 -- Waits with a timeout, in all runs.
-use Rattle.std.specs.Prelude.{ℕ, ◌≡◌, List, Contains, Some}
+use Rattle.std.specs.Prelude.{ℕ, ◌≡◌, List, Contains, Option, Some}
 use Rattle.std.specs.List.{slice_get}
 use Rattle.schedule.specs.System.{System, State}
 use Rattle.search_settled.specs.Settled.{IsReached}
@@ -10,6 +10,7 @@ use Rattle.search_settled.specs.declared.flat.RestingState.{RestingState}
 use Rattle.search_race_free.specs.declared.owning.Owning.{Owning}
 use Rattle.search_race_free.specs.declared.met.StateTable.{StateTable}
 use Rattle.search_race_free.specs.Wanted.{next_access}
+use Rattle.search_race_free.specs.Touches.{access_at}
 use Rattle.search_race_free.specs.Reduced.{wanted_in, IsResting}
 use Rattle.search_race_free.specs.Met.{HasOwning}
 
@@ -22,9 +23,17 @@ module _ {X T E V A : Type 0} (s : System X T E V A) (first : State X T) (access
     pub wanted : next_access s accesses state n ≡ Some access
     pub timed : IsTimed access
 
+  -- A thread waits with a timeout in some run.
+  abbrev pub SomeWaitsTimed : Type 0
+  SomeWaitsTimed = (n : ℕ) × WaitsTimed n
+
   -- No thread waits with a timeout in any run.
   abbrev pub NoneWaitsTimed : Type 0
   NoneWaitsTimed = (n : ℕ) → WaitsTimed n → ⊥
+
+-- One of these accesses is of a wait with a timeout.
+abbrev pub HasTimed : List (Option NextAccess) → Type 0
+HasTimed wanted = (n : ℕ) × (a : NextAccess) × (access_at wanted n ≡ Some a) × IsTimed a
 
 module _ {X T E V A G H M : Type 0} (k : ThreadSystem X T E V A G H M) where
   -- No thread waits next with a timeout, wherever this is.

@@ -7,7 +7,7 @@ use Rattle.search_race_free.specs.declared.owning.Owning.{Owning}
 use Rattle.search_race_free.specs.declared.race.ThreadRace.{ThreadRace}
 use Rattle.search_race_free.specs.Races.{HasRace, NoneRace}
 use Rattle.search_race_free.specs.Reduced.{reduced_steps}
-use Rattle.search_race_free.specs.Timeouts.{NoneWaitsTimed}
+use Rattle.search_race_free.specs.Timeouts.{NoneWaitsTimed, SomeWaitsTimed}
 
 -- Their turns, by settled states and what is owned: what the members of the trait say.
 abbrev pub reduced : {Self G H M O : Type 0} → (m : Ghosts Self G H M O) → Self
@@ -22,7 +22,11 @@ IsRaceOf m system r = HasRace (m.threads system).system (m.threads system).first
 abbrev pub HasNoRace : {Self G H M O : Type 0} → (m : Ghosts Self G H M O) → Self → Type 0
 HasNoRace m system = NoneRace (m.threads system).system (m.threads system).first (m.threads system).accesses
 
--- No thread waits with a timeout in any run.
+-- A thread waits with a timeout in some run.
+abbrev pub HasTimeout : {Self G H M O : Type 0} → (m : Ghosts Self G H M O) → Self → Type 0
+HasTimeout m system = SomeWaitsTimed (m.threads system).system (m.threads system).first (m.threads system).accesses
+
+-- No thread does in any.
 abbrev pub HasNoTimeout : {Self G H M O : Type 0} → (m : Ghosts Self G H M O) → Self → Type 0
 HasNoTimeout m system =
     NoneWaitsTimed (m.threads system).system (m.threads system).first (m.threads system).accesses

@@ -1,5 +1,5 @@
 //! All endings of threads of which none race, and races of those of which some do.
-ghost use Rattle.std.specs.Prelude.{◌≡◌, false, IfOk, IfSome, OnOk, option_map, vec_len};
+ghost use Rattle.std.specs.Prelude.{◌≡◌, false, true, IfOk, IfSome, OnOk, option_map, vec_len};
 ghost use Rattle.indexmap.specs.IndexSet.{index_set_len};
 ghost use Rattle.search_reach.specs.Meeting.{HasMetAt, HasSound};
 ghost use Rattle.search_reach.specs.Found.{AreEndings};
@@ -7,7 +7,7 @@ ghost use Rattle.search_reach.specs.Liveness.{IsCount, IsLiveWhereAll, HasWays};
 ghost use Rattle.search_reach.specs.Sought.{SeeksIn};
 ghost use Rattle.search_reach.specs.Told.{Obeys};
 ghost use Rattle.search_reach.specs.declared.search.Verdict.TheVariants as verdicts;
-ghost use Rattle.search_race_free.specs.Turns.{reduced, IsRaceOf, HasNoRace, HasNoTimeout};
+ghost use Rattle.search_race_free.specs.Turns.{reduced, IsRaceOf, HasNoRace, HasNoTimeout, HasTimeout};
 ghost use Rattle.search_race_free.specs.Same.{owning_eq};
 ghost use Rattle.search_race_free.specs.Met.{HasOwning};
 ghost use Rattle.search_race_free.specs.Ahead.{ComesOfPlace, IsAhead};
@@ -198,7 +198,7 @@ pub struct RaceFree<E: Eq + Hash> {
     /// The threads whose turns lead to a state from which one more leads to the race. No clause says that they do: they
     /// are a hint for `race_choices`.
     pub way: Vec<usize>,
-    /// Whether a thread may wait with a timeout: where it met all and this is false, none does in any run.
+    /// Whether a thread waits with a timeout in some run; where not all was met it is not looked for.
     pub timed: bool,
 }
 
@@ -337,6 +337,7 @@ pub fn search_race_free<M: Accesses, C: MakesAhead<M>, Q: Seeks<M::Ending>, F: F
     ensures race { IfOk result (λ r. IfSome r.race (IsRaceOf M.Moves system.now)) }
     ensures untimed { IfOk result (λ r. r.ended.verdict ≡ verdicts.All → r.timed ≡ false
         → HasNoTimeout M.Moves system.now) }
+    ensures timed { IfOk result (λ r. r.timed ≡ true → HasTimeout M.Moves system.now) }
 {
     let turns = RaceFreeTurns {
         system,

@@ -1,11 +1,12 @@
 //! Waits with a timeout, in the states that were met.
-ghost use Rattle.std.specs.Prelude.{◌≡◌, ◌↔◌, ℕ, Some, false, IfOk, IsTrue};
+ghost use Rattle.std.specs.Prelude.{◌≡◌, ◌↔◌, ℕ, Some, true, false, IfOk, IsTrue};
 ghost use Rattle.search_reach.specs.Meeting.{HasMetAt, HasSound};
+ghost use Rattle.search_reach.specs.declared.search.Verdict.TheVariants as verdicts;
 ghost use Rattle.search_settled.specs.Accesses.{IsTimed};
 ghost use Rattle.search_race_free.specs.Touches.{access_at};
 ghost use Rattle.search_race_free.specs.Met.{HasOwning};
-ghost use Rattle.search_race_free.specs.Turns.{reduced};
-ghost use Rattle.search_race_free.specs.Timeouts.{IsUntimedAt, AreUntimed};
+ghost use Rattle.search_race_free.specs.Turns.{reduced, HasTimeout};
+ghost use Rattle.search_race_free.specs.Timeouts.{IsUntimedAt, AreUntimed, HasTimed};
 
 use crate::Accesses;
 use crate::ahead::AheadTables;
@@ -27,7 +28,8 @@ fn is_timed(next: Option<NextAccess>) -> bool
 
 /// Whether one of these is a wait with a timeout.
 fn any_timed(wanted: &[Option<NextAccess>]) -> bool
-    ensures { result ≡ false → (n : ℕ) (a : NextAccess) → access_at wanted.now n ≡ Some a → IsTimed a → ⊥ }
+    ensures none { result ≡ false → (n : ℕ) (a : NextAccess) → access_at wanted.now n ≡ Some a → IsTimed a → ⊥ }
+    ensures some { result ≡ true → HasTimed wanted.now }
 {
     for n in 0..wanted.len() {
         if is_timed(wanted[n]) {
@@ -37,7 +39,7 @@ fn any_timed(wanted: &[Option<NextAccess>]) -> bool
     false
 }
 
-/// Whether a thread waits next with a timeout in the state at this place, or there is none.
+/// Whether a thread waits next with a timeout in the state at this place.
 fn is_timed_at<M: Accesses>(
     alloc: Global,
     system: &M,
@@ -45,7 +47,8 @@ fn is_timed_at<M: Accesses>(
     at: usize,
 ) -> Result<bool, AllocError>
     requires { HasMetAt (reduced M.Moves system.now) (HasOwning table.now) at }
-    ensures { IfOk result (λ b. b ≡ false → IsUntimedAt (M.threads system.now) table.now at) }
+    ensures none { IfOk result (λ b. b ≡ false → IsUntimedAt (M.threads system.now) table.now at) }
+    ensures some { IfOk result (λ b. b ≡ true → HasTimeout M.Moves system.now) }
 {
     let Some(state) = state_at(alloc, system, table, at)? else {
         return Ok(true);
@@ -61,7 +64,8 @@ fn timed_among<M: Accesses>(
     table: &StateTable<M::Shared, M::Thread>,
 ) -> Result<bool, AllocError>
     requires { HasSound (reduced M.Moves system.now) (HasOwning table.now) }
-    ensures { IfOk result (λ b. b ≡ false → AreUntimed (M.threads system.now) table.now) }
+    ensures none { IfOk result (λ b. b ≡ false → AreUntimed (M.threads system.now) table.now) }
+    ensures some { IfOk result (λ b. b ≡ true → HasTimeout M.Moves system.now) }
 {
     for place in 0..table.states.len() {
         if is_timed_at(alloc, system, table, place)? {
@@ -71,17 +75,19 @@ fn timed_among<M: Accesses>(
     Ok(false)
 }
 
-/// The same of a search that met all.
+/// The same of a search that met all; of another one it isn't said.
 pub(crate) fn waits_timed<M: Accesses>(
     alloc: Global,
     system: &M,
     reached: &Reached<AheadTables<M::Shared, M::Thread>>,
 ) -> Result<bool, AllocError>
     requires { HasSound (reduced M.Moves system.now) (HasOwning reached.now.table.met) }
-    ensures { IfOk result (λ b. b ≡ false → AreUntimed (M.threads system.now) reached.now.table.met) }
+    ensures none { IfOk result (λ b. reached.now.verdict ≡ verdicts.All → b ≡ false
+        → AreUntimed (M.threads system.now) reached.now.table.met) }
+    ensures some { IfOk result (λ b. b ≡ true → HasTimeout M.Moves system.now) }
 {
     match reached.verdict {
         Verdict::All => timed_among(alloc, system, &reached.table.met),
-        _ => Ok(true),
+        Verdict::TooMany | Verdict::CannotTell | Verdict::Told | Verdict::Sought => Ok(false),
     }
 }

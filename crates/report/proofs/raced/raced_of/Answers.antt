@@ -11,7 +11,7 @@ pub returns-in-Done-clause-raced : goal.returns-in-Done-clause-raced
 returns-in-Done-clause-raced c =
     let q = c.args.call.request.now in
     let s = c.args.call.search.now in
-    subst (λ (look : FirstLook). IsRacedOf q s (racing_in look) Untold) (sym c.in-Done.is) (λ r. unfound_by c.in-Done.field-0.verdict r)
+    subst (λ (look : FirstLook). IsRacedOf q s (racing_in look) Untold) (sym c.in-Done.is) (λ r. unfound_by c.in-Done.all.verdict c.in-Done.timed r)
 
 pub returns-in-Found-clause-raced : goal.returns-in-Found-clause-raced
 returns-in-Found-clause-raced c =

@@ -11,7 +11,7 @@ returns-in-Done-clause-whole g c =
     let all = c.in-Done.all in
     let looked = subst (IsLooked q s) c.in-Done.is c.requires in
     subst (λ (racing : Racing). IsWhole q s (record { all = all; racing = racing; is_free = true })) (sym c.racing_by-racing.ensures)
-    (whole_by q s all looked.0 looked.1 looked.2 looked.3)
+    (whole_by q s all c.in-Done.timed looked.0 looked.1 looked.2 looked.3)
 
 pub returns-in-Done-clause-racing : goal.returns-in-Done-clause-racing
 returns-in-Done-clause-racing g c = c.racing_by-racing.ensures ∙ sym (ap racing_in c.in-Done.is)

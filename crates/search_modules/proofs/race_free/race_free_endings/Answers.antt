@@ -58,6 +58,12 @@ returns-clause-untimed g c =
     (λ free untimed all none. (called c.in_ok-searched.searched, c.in_ok-searched.ensures.call, untimed all none))
     c.search_race_free.ensures.untimed
 
+pub returns-clause-timed : goal.returns-clause-timed
+returns-clause-timed g c =
+    IfOk-weaker c.search_race_free.result _ _
+    (λ free timed is. (called c.in_ok-searched.searched, c.in_ok-searched.ensures.call, timed is))
+    c.search_race_free.ensures.timed
+
 pub returns-clause-race : goal.returns-clause-race
 returns-clause-race g c =
     let r = c.args.request.now in
