@@ -72,7 +72,9 @@ pub fn races_of_run<'m, 'n>(
         return Err(Unwritten::NoMemory);
     };
     let names = code.names;
-    let code = CodeMap::read(alloc, module.parts(), code.module, names)?;
+    let map = DataMap::read(alloc, names)?;
+    let known = CodeMap::read(alloc, module.parts(), code.module, names)?;
+    let code = map.chained(alloc, known, &rows)?;
     let shown = Shown {
         record: record.parts(),
         rows: rows.as_slice(),
@@ -82,7 +84,6 @@ pub fn races_of_run<'m, 'n>(
     if told.races.pairs.as_slice().is_empty() {
         return Ok(None);
     }
-    let map = DataMap::read(alloc, names)?;
     Ok(Some(RacesOfRun {
         rows,
         code,
