@@ -79,9 +79,10 @@ pub fn first_race<'m, 'n>(
         return Ok(None);
     }
     let map = DataMap::read(alloc, names)?;
+    let chained = map.chained(alloc, code, &rows)?;
     Ok(Some(FirstRace {
         rows,
-        code,
+        code: chained,
         map,
         told,
     }))
