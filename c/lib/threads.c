@@ -31,6 +31,7 @@ static _Thread_local uint64_t joined; /* a bit for each that stays */
 
 /* What keys and atexit have called at the end, and behind it: nothing is linked of them where nobody asks for it. */
 static _Thread_local void (*at_its_end)(void), (*behind_its_end)(void);
+static void (*at_mains_exit)(void); /* by pthread_exit: a return from main is an end of the program, where keys call nothing */
 
 /* ---- Null pointers: nothing lies in the first bytes of the memory, so that they are zero in a right program. They are
    read by plain loads, which cost a search nothing ---- */
@@ -277,7 +278,12 @@ int pthread_key_create(pthread_key_t *key, void (*destructor)(void *)) {
     return 0;
 }
 
-int pthread_key_delete(pthread_key_t key) { destructors[key] = (void (*)(void *))0; return 0; }
+int pthread_key_delete(pthread_key_t key) {
+    if ((unsigned)key >= PTHREAD_KEYS_MAX)
+        return EINVAL;
+    destructors[key] = (void (*)(void *))0;
+    return 0;
+}
 
 /* A destructor may put values there again. */
 static void call_destructors(void) {
@@ -299,7 +305,9 @@ int pthread_setspecific(pthread_key_t key, const void *value) {
         return EINVAL;
     values[key] = (void *)value;
     if (thread_self())
-        call_then(call_destructors); /* main's end is that of the program, which calls none */
+        call_then(call_destructors);
+    else
+        at_mains_exit = call_destructors;
     return 0;
 }
 
@@ -321,7 +329,7 @@ static void leave(uint32_t result) {
 /* main's answer is 0 then, and what atexit was given isn't called: that is for the end of the program. */
 void pthread_exit(void *result) {
     if (!thread_self())
-        at_its_end = 0;
+        at_its_end = at_mains_exit;
     leave(thread_self() ? (uint32_t)result : 0);
 }
 

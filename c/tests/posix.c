@@ -115,6 +115,8 @@ static void of_c11(void) {
     cnd_t c;
     tss_t value;
     int found;
+    assert(timespec_get(&until, TIME_UTC) == TIME_UTC && timespec_get(&until, 7) == 0);
+    until.tv_sec++;
     GOES(mtx_init(&m, mtx_timed | mtx_recursive) || cnd_init(&c) || tss_create(&value, 0) || tss_set(value, &m));
     GOES(mtx_lock(&m) || mtx_trylock(&m) || mtx_timedlock(&m, &until) || mtx_unlock(&m) || mtx_unlock(&m));
     assert(cnd_timedwait(&c, &m, &until) == thrd_timedout && tss_get(value) == &m);
