@@ -1,6 +1,9 @@
-/* The names alone: there are no floats. */
+/* The names alone: there are no floats. <cmath> wants more than these, and finds none. */
 #ifndef MATH_H
 #define MATH_H
+#ifdef __cplusplus
+#include_next <math.h>
+#endif
 #include <wathread_c.h>
 WATHREAD_BEGIN
 
