@@ -163,16 +163,18 @@ int pthread_key_delete(pthread_key_t key);
 int pthread_setspecific(pthread_key_t key, const void *value);
 void *pthread_getspecific(pthread_key_t key);
 
-/* What isn't there, by nature. The names that such calls are given are there, so that the message is of the call. */
+/* They are kept for the thread, and change nothing: nobody cancels it. EINVAL for another state. */
 #define PTHREAD_CANCEL_ENABLE 0
 #define PTHREAD_CANCEL_DISABLE 1
 #define PTHREAD_CANCEL_DEFERRED 0
 #define PTHREAD_CANCEL_ASYNCHRONOUS 1
+int pthread_setcancelstate(int state, int *before);
+int pthread_setcanceltype(int type, int *before);
+static inline void pthread_testcancel(void) {}
+
+/* What isn't there, by nature. The names that such calls are given are there, so that the message is of the call. */
 #define WATHREAD_CANCEL WATHREAD_NO("cancellation: let the thread look at a flag, and return from its function")
 WATHREAD_CANCEL int pthread_cancel(pthread_t thread);
-WATHREAD_CANCEL int pthread_setcancelstate(int state, int *before);
-WATHREAD_CANCEL int pthread_setcanceltype(int type, int *before);
-WATHREAD_CANCEL void pthread_testcancel(void);
 #define PTHREAD_INHERIT_SCHED 0
 #define PTHREAD_EXPLICIT_SCHED 1
 #define PTHREAD_PRIO_NONE 0

@@ -43,6 +43,13 @@ int putc(int c, FILE *file);
 int fputc(int c, FILE *file);
 size_t fwrite(const void *__restrict from, size_t size, size_t count, FILE *__restrict file);
 void perror(const char *text);
+
+/* One lock for all. What prints doesn't take it, and so makes no order. */
+void flockfile(FILE *file);
+int ftrylockfile(FILE *file);
+void funlockfile(FILE *file);
+static inline int putc_unlocked(int c, FILE *file) { return putc(c, file); }
+static inline int putchar_unlocked(int c) { return putchar(c); }
 int fflush(FILE *file);
 static inline int feof(FILE *file) { (void)file; return 0; }
 static inline int ferror(FILE *file) { (void)file; return 0; }

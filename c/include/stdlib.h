@@ -48,6 +48,8 @@ lldiv_t lldiv(long long a, long long b);
 int rand(void);
 void srand(unsigned seed);
 int rand_r(unsigned *seed);
+long random(void); /* of 31 bits, by the same row */
+void srandom(unsigned seed);
 
 void qsort(void *items, size_t count, size_t size, int (*compare)(const void *, const void *));
 void *bsearch(const void *key, const void *items, size_t count, size_t size, int (*compare)(const void *, const void *));

@@ -72,6 +72,19 @@ int strncmp(const char *a, const char *b, size_t n) {
 int strcmp(const char *a, const char *b) { return strncmp(a, b, SIZE_MAX); }
 int strcoll(const char *a, const char *b) { return strcmp(a, b); }
 
+int strncasecmp(const char *a, const char *b, size_t n) {
+    for (; n; n--, a++, b++) {
+        orders_reads(a, 1);
+        orders_reads(b, 1);
+        int order = tolower((unsigned char)*a) - tolower((unsigned char)*b);
+        if (order || !*a)
+            return order;
+    }
+    return 0;
+}
+
+int strcasecmp(const char *a, const char *b) { return strncasecmp(a, b, SIZE_MAX); }
+
 void *memchr(const void *from, int byte, size_t n) {
     for (const unsigned char *p = from; n; n--, p++) {
         orders_reads(p, 1);
@@ -84,6 +97,15 @@ void *memchr(const void *from, int byte, size_t n) {
 size_t strnlen(const char *s, size_t n) {
     const char *end = memchr(s, 0, n);
     return end ? (size_t)(end - s) : n;
+}
+
+/* Up to the first `byte`, and that too: then what stands behind it, and else null. */
+void *memccpy(void *restrict to, const void *restrict from, int byte, size_t n) {
+    const char *end = memchr(from, byte, n);
+    size_t length = end ? end + 1 - (const char *)from : n;
+    orders_writes(to, length);
+    memmove(to, from, length);
+    return end ? (char *)to + length : 0;
 }
 
 char *stpcpy(char *restrict to, const char *restrict from) {
@@ -123,11 +145,11 @@ size_t strxfrm(char *restrict to, const char *restrict from, size_t n) {
 }
 
 char *strchr(const char *s, int c) {
-    for (;; s++)
-        if (*s == (char)c)
-            return (char *)s;
-        else if (!*s)
-            return 0;
+    const char *end = s;
+    while (*end && *end != (char)c)
+        end++;
+    orders_reads(s, end - s + 1);
+    return *end == (char)c ? (char *)end : 0;
 }
 
 char *strrchr(const char *s, int c) {
@@ -151,6 +173,7 @@ static size_t span(const char *s, const char *set, int among) {
     size_t n = 0;
     while (s[n] && !strchr(set, s[n]) == !among)
         n++;
+    orders_reads(s, n + 1);
     return n;
 }
 
@@ -167,6 +190,7 @@ char *strtok_r(char *restrict s, const char *restrict set, char **restrict rest)
     s += strspn(s, set);
     char *end = s + strcspn(s, set);
     *rest = *end ? end + 1 : end;
+    orders_writes(end, 1);
     *end = 0;
     return end == s ? 0 : s;
 }
@@ -174,16 +198,40 @@ char *strtok_r(char *restrict s, const char *restrict set, char **restrict rest)
 char *strdup(const char *s) {
     size_t n = strlen(s) + 1;
     char *made = malloc(n);
-    return made ? memmove(made, s, n) : 0;
+    if (!made)
+        return 0;
+    orders_writes(made, n);
+    return memmove(made, s, n);
 }
 
 char *strndup(const char *s, size_t n) {
     size_t length = strnlen(s, n);
     char *made = malloc(length + 1);
-    if (made)
-        ((char *)memmove(made, s, length))[length] = 0;
-    return made;
+    if (!made)
+        return 0;
+    orders_writes(made, length + 1);
+    made[length] = 0;
+    return memmove(made, s, length);
 }
+
+int ffs(int x) { return __builtin_ffs(x); }
+int ffsl(long x) { return __builtin_ffsl(x); }
+int ffsll(long long x) { return __builtin_ffsll(x); }
+int bcmp(const void *a, const void *b, size_t n) { return memcmp(a, b, n); }
+
+void bcopy(const void *from, void *to, size_t n) {
+    orders_reads(from, n);
+    orders_writes(to, n);
+    memmove(to, from, n);
+}
+
+void bzero(void *to, size_t n) {
+    orders_writes(to, n);
+    memset(to, 0, n);
+}
+
+char *index(const char *s, int c) { return strchr(s, c); }
+char *rindex(const char *s, int c) { return strrchr(s, c); }
 
 static const struct { int number; const char *text; } errors[] = {
     {0, "Success"}, {EPERM, "Operation not permitted"}, {ENOENT, "No such file or directory"},

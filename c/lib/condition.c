@@ -41,7 +41,9 @@ int pthread_cond_destroy(pthread_cond_t *c) {
 static inline __attribute__((always_inline)) int wait_for_signal(pthread_cond_t *c, pthread_mutex_t *m, int64_t deadline) {
     _Atomic int *word = signals_of(c);
     int signals = *word, in_vain = fails_for_nothing();
-    pthread_mutex_unlock(m);
+    int wrong = pthread_mutex_unlock(m);
+    if (wrong) /* a mutex that looks for errors is another's */
+        return wrong;
     int late = !in_vain && sleep_while(word, signals, deadline);
     pthread_mutex_lock(m);
     return late ? ETIMEDOUT : 0;

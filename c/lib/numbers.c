@@ -22,6 +22,7 @@ static unsigned long long read_number(const char *s, char **end, int base, unsig
         over |= value > (most - digit) / base;
         value = value * base + digit;
     }
+    orders_reads(s, p - s + 1);
     if (end)
         *end = (char *)(any ? p : s);
     if (over)
@@ -85,6 +86,13 @@ int rand(void) {
 
 void srand(unsigned seed) { seed_less_one = seed - 1; }
 
+long random(void) {
+    long high = rand(), low = rand();
+    return high << 16 | low << 1 | (rand() & 1);
+}
+
+void srandom(unsigned seed) { srand(seed); }
+
 static void swap_bytes(char *a, char *b, size_t n) {
     for (; n; n--, a++, b++) {
         char byte = *a;
@@ -106,6 +114,8 @@ static void sift(char *items, size_t at, size_t count, size_t size, int (*compar
 
 /* Heapsort. */
 void qsort(void *items, size_t count, size_t size, int (*compare)(const void *, const void *)) {
+    orders_reads(items, count * size);
+    orders_writes(items, count * size);
     for (size_t at = count / 2; at--;)
         sift(items, at, count, size, compare);
     while (count-- > 1) {

@@ -267,6 +267,12 @@ int fflush(FILE *file) { (void)file; return 0; }
 int setvbuf(FILE *restrict file, char *restrict to, int kind, size_t n) { (void)file, (void)to, (void)kind, (void)n; return 0; }
 void setbuf(FILE *restrict file, char *restrict to) { (void)file, (void)to; }
 
+static pthread_mutex_t file_lock = PTHREAD_RECURSIVE_MUTEX_INITIALIZER_NP;
+
+void flockfile(FILE *file) { (void)file; pthread_mutex_lock(&file_lock); }
+int ftrylockfile(FILE *file) { (void)file; return pthread_mutex_trylock(&file_lock); }
+void funlockfile(FILE *file) { (void)file; pthread_mutex_unlock(&file_lock); }
+
 void perror(const char *text) {
     const char *why = strerror(errno);
     if (text && *text)

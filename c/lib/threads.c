@@ -31,6 +31,7 @@ static _Thread_local uint64_t joined; /* a bit for each that stays */
 
 /* What keys and atexit have called at the end, and behind it: nothing is linked of them where nobody asks for it. */
 static _Thread_local void (*at_its_end)(void), (*behind_its_end)(void);
+static void (*at_mains_exit)(void); /* by pthread_exit: a return from main is an end of the program, where keys call nothing */
 
 /* ---- Null pointers: nothing lies in the first bytes of the memory, so that they are zero in a right program. They are
    read by plain loads, which cost a search nothing ---- */
@@ -261,6 +262,57 @@ int pthread_attr_setstacksize(pthread_attr_t *a, size_t size) {
     return 0;
 }
 
+/* ---- Signals: none comes. What a thread blocks is kept for it alone, and who is started begins with none ---- */
+
+static _Thread_local sigset_t blocked;
+
+static int change_signal(sigset_t *set, int number, int is_in) {
+    if (number < 1 || number > 64)
+        return errno = EINVAL, -1;
+    sigset_t bit = 1ull << (number - 1);
+    *set = is_in ? *set | bit : *set & ~bit;
+    return 0;
+}
+
+int sigaddset(sigset_t *set, int number) { return change_signal(set, number, 1); }
+int sigdelset(sigset_t *set, int number) { return change_signal(set, number, 0); }
+
+int sigismember(const sigset_t *set, int number) {
+    return number < 1 || number > 64 ? errno = EINVAL, -1 : (int)(*set >> (number - 1) & 1);
+}
+
+int pthread_sigmask(int how, const sigset_t *set, sigset_t *before) {
+    sigset_t now = blocked;
+    if (set && (how < SIG_BLOCK || how > SIG_SETMASK))
+        return EINVAL;
+    if (set)
+        blocked = how == SIG_BLOCK ? now | *set : how == SIG_UNBLOCK ? now & ~*set : *set;
+    if (before)
+        *before = now;
+    return 0;
+}
+
+int sigprocmask(int how, const sigset_t *set, sigset_t *before) {
+    int wrong = pthread_sigmask(how, set, before);
+    return wrong ? errno = wrong, -1 : 0;
+}
+
+/* ---- Nor is a thread cancelled ---- */
+
+static _Thread_local int cancel_state, cancel_type;
+
+static int set_cancel(int *now, int to, int *before) {
+    if (to != 0 && to != 1)
+        return EINVAL;
+    if (before)
+        *before = *now;
+    *now = to;
+    return 0;
+}
+
+int pthread_setcancelstate(int state, int *before) { return set_cancel(&cancel_state, state, before); }
+int pthread_setcanceltype(int type, int *before) { return set_cancel(&cancel_type, type, before); }
+
 /* ---- Keys: thread-local data. A number comes once, so that a new key is null in all threads ---- */
 
 static _Thread_local void *values[PTHREAD_KEYS_MAX];
@@ -277,7 +329,12 @@ int pthread_key_create(pthread_key_t *key, void (*destructor)(void *)) {
     return 0;
 }
 
-int pthread_key_delete(pthread_key_t key) { destructors[key] = (void (*)(void *))0; return 0; }
+int pthread_key_delete(pthread_key_t key) {
+    if ((unsigned)key >= PTHREAD_KEYS_MAX)
+        return EINVAL;
+    destructors[key] = (void (*)(void *))0;
+    return 0;
+}
 
 /* A destructor may put values there again. */
 static void call_destructors(void) {
@@ -299,7 +356,9 @@ int pthread_setspecific(pthread_key_t key, const void *value) {
         return EINVAL;
     values[key] = (void *)value;
     if (thread_self())
-        call_then(call_destructors); /* main's end is that of the program, which calls none */
+        call_then(call_destructors);
+    else
+        at_mains_exit = call_destructors;
     return 0;
 }
 
@@ -321,7 +380,7 @@ static void leave(uint32_t result) {
 /* main's answer is 0 then, and what atexit was given isn't called: that is for the end of the program. */
 void pthread_exit(void *result) {
     if (!thread_self())
-        at_its_end = 0;
+        at_its_end = at_mains_exit;
     leave(thread_self() ? (uint32_t)result : 0);
 }
 

@@ -191,7 +191,7 @@ int clock_getres(clockid_t clock, struct timespec *t) {
     return 0;
 }
 
-int timespec_get(struct timespec *t, int base) { clock_gettime(CLOCK_REALTIME, t); return base; }
+int timespec_get(struct timespec *t, int base) { return base == TIME_UTC ? clock_gettime(CLOCK_REALTIME, t), base : 0; }
 
 time_t time(time_t *t) {
     time_t seconds = time_now() / NANOSECONDS;

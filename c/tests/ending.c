@@ -32,6 +32,7 @@ static void but_one(void) { sum += 100; }
 int main(void) {
     assert(pthread_key_create(&key, add) == 0 && tss_create(&again, put_again) == thrd_success);
     assert(pthread_key_create(&gone, wrong) == 0 && pthread_key_delete(gone) == 0);
+    assert(pthread_key_delete(PTHREAD_KEYS_MAX) == EINVAL);
     assert(atexit(last) == 0);
 #ifndef BUG /* not all is there that is to be called */
     assert(atexit(but_one) == 0);

@@ -2,6 +2,7 @@
 #include "common.h"
 
 static pthread_mutex_t again, careful = PTHREAD_ERRORCHECK_MUTEX_INITIALIZER_NP;
+static pthread_cond_t cond = PTHREAD_COND_INITIALIZER;
 static int sum;
 
 static void body(int me) {
@@ -23,6 +24,7 @@ static void look_for_errors(void) {
     assert(pthread_mutex_lock(&careful) == 0 && pthread_mutex_lock(&careful) == EDEADLK);
     assert(pthread_mutex_trylock(&careful) == EBUSY && pthread_mutex_destroy(&careful) == EBUSY);
     assert(pthread_mutex_unlock(&careful) == 0 && pthread_mutex_unlock(&careful) == EPERM);
+    assert(pthread_cond_wait(&cond, &careful) == EPERM);
     assert(pthread_mutex_destroy(&careful) == 0);
 }
 

@@ -3,6 +3,7 @@
 #include "common.h"
 #include <sched.h>
 #include <semaphore.h>
+#include <signal.h>
 #include <threads.h>
 #include <time.h>
 
@@ -102,6 +103,21 @@ static void conditions(void) {
     GOES(pthread_mutex_destroy(&mutex) || pthread_barrier_destroy(&barrier) || pthread_key_delete(key));
 }
 
+static void masks(void) {
+    sigset_t one, before;
+    GOES(sigemptyset(&one) || sigaddset(&one, SIGTERM) || pthread_sigmask(SIG_BLOCK, &one, &before));
+    assert(before == 0 && sigismember(&one, SIGTERM) == 1 && sigismember(&one, SIGINT) == 0);
+    GOES(sigfillset(&one) || sigdelset(&one, SIGINT) || sigprocmask(SIG_UNBLOCK, &one, &before));
+    assert(sigismember(&before, SIGTERM) == 1 && sigaddset(&one, 65) == -1 && errno == EINVAL);
+    int was, type;
+    GOES(pthread_setcancelstate(PTHREAD_CANCEL_DISABLE, &was) || pthread_setcanceltype(PTHREAD_CANCEL_DEFERRED, &type));
+    assert(was == PTHREAD_CANCEL_ENABLE && pthread_setcancelstate(was, &was) == 0 && was == PTHREAD_CANCEL_DISABLE);
+    assert(type == PTHREAD_CANCEL_DEFERRED && pthread_setcanceltype(2, 0) == EINVAL);
+    pthread_testcancel();
+    GOES(pthread_sigmask(SIG_SETMASK, 0, &before));
+    assert(before == 0 && pthread_sigmask(3, &one, 0) == EINVAL && sigprocmask(3, &one, 0) == -1);
+}
+
 static int ends(void *arg) {
     thrd_yield();
     thrd_exit((int)arg);
@@ -115,6 +131,8 @@ static void of_c11(void) {
     cnd_t c;
     tss_t value;
     int found;
+    assert(timespec_get(&until, TIME_UTC) == TIME_UTC && timespec_get(&until, 7) == 0);
+    until.tv_sec++;
     GOES(mtx_init(&m, mtx_timed | mtx_recursive) || cnd_init(&c) || tss_create(&value, 0) || tss_set(value, &m));
     GOES(mtx_lock(&m) || mtx_trylock(&m) || mtx_timedlock(&m, &until) || mtx_unlock(&m) || mtx_unlock(&m));
     assert(cnd_timedwait(&c, &m, &until) == thrd_timedout && tss_get(value) == &m);
@@ -144,6 +162,7 @@ int main(void) {
     calls = 0;
     locks();
     conditions();
+    masks();
     of_c11();
     (void)start_all, (void)join_all;
     return calls - 2;

@@ -59,6 +59,26 @@ static void print_reads(void) {
         }
 }
 
+static void print_older(void) {
+    char to[8] = "zzzzzzz";
+    SAY("%d %d %d", strcasecmp("Hello", "hELLO"), strcasecmp("abc", "ABD") < 0, strcasecmp("b", "A") > 0);
+    SAY("%d %d %d", strncasecmp("abcX", "ABCy", 3), strncasecmp("abcX", "ABCy", 4) < 0, strncasecmp("a", "b", 0));
+    SAY("%d %d %d %d", ffs(0), ffs(12), ffs(1 << 31), ffs(-1));
+    SAY("%d %d %s", memccpy(to, "one two", ' ', 7) == to + 4, memccpy(to, "xy", 'z', 2) == 0, to);
+    SAY("%s %s %d", index("a/b/c", '/'), rindex("a/b/c", '/'), bcmp("ab", "ac", 1));
+    bcopy("12345", to, 6);
+    bzero(to + 1, 1);
+    SAY("%s %s", to, to + 2);
+    srandom(7);
+    long first = random(), second = random();
+    srandom(7);
+    SAY("%d %d %d", first == random(), second == random(), first >= 0 && first != second);
+    flockfile(stdout);
+    SAY("%d %d", ftrylockfile(stdout), putc_unlocked('x', stdout));
+    funlockfile(stdout);
+    funlockfile(stdout);
+}
+
 static void print_rest(void) {
     int numbers[9] = {5, -3, 9, 0, 5, 100, -7, 2, 1}, key = 9, none = 4;
     char list[] = "  one, two,,three ", *rest, tail[12] = "abc";
@@ -84,6 +104,7 @@ int main(void) {
     print_numbers();
     print_text();
     print_reads();
+    print_older();
     print_rest();
     for (unsigned i = 0; i < at; i++)
         sum = sum * 31 + (unsigned char)all[i];
