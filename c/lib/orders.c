@@ -68,13 +68,6 @@ static int least_of(int t, int l, int order) {
     return least > sc ? least : sc;
 }
 
-/* The same, but for what needs no choice. An SC store can't be moved in front of what others have made meanwhile. */
-static int least_chosen(int t, int l, int order, int stores) {
-    if (marked >> t & 1 && orders.newer[t].at[l] && !(stores && order == SEQ_CST))
-        return orders.places[l].count - 1;
-    return least_of(t, l, order);
-}
-
 /* ---- Messages are read and written ---- */
 
 static void read_message(int t, int l, int p, int order) {
@@ -108,10 +101,8 @@ static void write_message(int t, int l, int p, int order, int glued) {
     news = 1;
     if (at->count == MESSAGES)
         orders_full_of_messages__use_DORDERS_MESSAGES();
-    if (p == at->count)
-        mark_newer(t, l);
-    else {
-        change_all(RAISE, l, p);
+    if (p < at->count) {
+        raise_all(l, p);
         for (int m = at->count; m > p; m--)
             copy_message(&messages[m], &messages[m - 1]);
     }
@@ -134,21 +125,31 @@ INLINE int is_patient(int t, int l) {
     return !ORDERS_PATIENCE || (c & 255) != position(&orders.current[t], l) || c >> 8 < ORDERS_PATIENCE;
 }
 
+static _Thread_local int counted; /* whether anything is */
+
 static void count_read(int t, int l, int p, int for_nothing) {
     view *reads = &orders.reads[t];
     cell many = position(reads, l) == p ? reads->at[l] >> 8 : 0;
-    if (ORDERS_PATIENCE && (for_nothing || p < orders.places[l].count - 1))
+    if (ORDERS_PATIENCE && (for_nothing || p < orders.places[l].count - 1)) {
         put_cell(reads, l, (cell)p | (many < ORDERS_PATIENCE ? many + 1 : many) << 8);
+        if (!counted)
+            counted = 1;
+    }
 }
 
 /* What was counted of a message that the thread can't read any more is nothing. */
 static void forget_counts(int t) {
     view *reads = &orders.reads[t], *current = &orders.current[t];
-    for (int w = words_used(); w--;)
+    u64 left = 0;
+    if (!counted)
+        return;
+    for (int w = words_used(); w--; left |= reads->words[w])
         if (reads->words[w] && (reads->words[w] ^ current->words[w]) & POSITIONS)
             for (int l = w * PER_WORD; l < (w + 1) * PER_WORD; l++)
                 if (position(reads, l) != position(current, l))
                     put_cell(reads, l, 0);
+    if (!left)
+        counted = 0;
 }
 
 /* ---- The same again: what a thread was told where it had no choice is told it again, as long as nobody has written a
@@ -194,7 +195,7 @@ static void tell(u32 at, int how, u64 value) {
 }
 
 static void end_access(int t) {
-    if (news)
+    if (news | !noting)
         forget_what_was_told();
     forget_counts(t);
     end_operation();
@@ -213,14 +214,15 @@ INLINE int is_newest(int found) { return (found & 255) == orders.places[place_in
 static int begin_load(u32 at, int log, int order) {
     int again = begin_operation(at, LOADS);
     int t = me(), l = atomic_place(t, at, log, 0), newest = orders.places[l].count - 1, p = newest;
-    int least = least_chosen(t, l, order, 0);
+    int least = least_of(t, l, order);
     if (least < newest) {
         if (least == position(&orders.current[t], l) && !is_patient(t, l))
             least++;
         p -= choose(newest - least + 1);
     }
     read_message(t, l, p, order);
-    count_read(t, l, p, 0);
+    if (again)
+        count_read(t, l, p, 0);
     return l << PLACE_SHIFT | p | (again && least == newest ? TELLS : 0);
 }
 
@@ -251,7 +253,7 @@ INLINE u64 load(u32 at, int log, int order) {
 
 /* Where in modification order a store comes: not between a read-modify-write and what it read. */
 static int position_of_store(int t, int l, int order) {
-    int count = orders.places[l].count, p = count, least = least_chosen(t, l, order, 1), many = 1;
+    int count = orders.places[l].count, p = count, least = least_of(t, l, order), many = 1;
     for (int q = least + 1; q < count; q++)
         many += !orders.messages[l][q].glued;
     for (int skip = many > 1 ? choose(many) : 0; skip; skip--)
@@ -307,14 +309,14 @@ static u64 result(enum kind kind, u64 had, u64 x, int log) {
 /* Whether a message may be read by one that succeeds: no other may have read it. */
 static int can_change(int t, int l, int q, enum kind kind, u64 expected, int order) {
     const message *m = orders.messages[l];
-    return q >= least_chosen(t, l, order, 1) && (kind < COMPARE || m[q].value == expected) &&
+    return q >= least_of(t, l, order) && (kind < COMPARE || m[q].value == expected) &&
            (q == orders.places[l].count - 1 || !m[q + 1].glued);
 }
 
 /* The same of one that fails, which is a load: of another value, or for nothing where it's weak. */
 static int can_fail(int t, int l, int q, enum kind kind, u64 expected, int order) {
     int newest = orders.places[l].count - 1, oldest = position(&orders.current[t], l);
-    if (kind < COMPARE || q < least_chosen(t, l, order, 0))
+    if (kind < COMPARE || q < least_of(t, l, order))
         return 0;
     if (orders.messages[l][q].value == expected)
         return kind == COMPARE_WEAK && (q != oldest || is_patient(t, l)) && !over;
@@ -337,17 +339,17 @@ static int choose_change(int t, int l, enum kind kind, u64 expected, int order, 
 
 /* The message that was read; the one behind it is that of the change. */
 static int begin_change(u32 at, int log, enum kind kind, u64 expected, int order, int failing) {
-    int again = begin_operation(at, CHANGES);
+    int again = begin_operation(at, kind < COMPARE ? CHANGES : COMPARES);
     int t = me(), l = atomic_place(t, at, log, 1), p = choose_change(t, l, kind, expected, order, failing);
     int fails = p & FAILED;
     p &= ~FAILED;
     if (fails && again && least_of(t, l, failing) == orders.places[l].count - 1)
         fails |= TELLS;
     read_message(t, l, p, fails ? failing : order);
-    if (fails)
-        count_read(t, l, p, orders.messages[l][p].value == expected);
-    else
+    if (!fails)
         write_message(t, l, p + 1, order, 1);
+    else if (again)
+        count_read(t, l, p, orders.messages[l][p].value == expected);
     return l << PLACE_SHIFT | p | fails; /* fails: FAILED and TELLS */
 }
 
@@ -472,7 +474,6 @@ static void forget_views(int t) {
     clear(&orders.acquirable[t]);
     clear(&orders.released[t]);
     clear(&orders.reads[t]);
-    unmark(t);
 #if ORDERS_C11_SEQUENCES
     for (int l = 0; l < PLACES; l++)
         clear(&orders.sequences[t][l]);
@@ -517,6 +518,8 @@ void orders_ends(int thread, unsigned result) {
     clear(&orders.acquirable[t]);
     clear(&orders.released[t]);
     clear(&orders.reads[t]);
+    done = often = counted = last_failed = 0; /* what has ended makes no states */
+    forget_what_was_told();
     if (by >= 0) {
         joiner[t] = 0;
         joining &= ~(1u << by);

@@ -54,7 +54,7 @@ static u32 running, sleeping;
 
    An operation goes in where the gate isn't HELD, by one event, and gives it back by another. Who comes while somebody is
    inside tries again, which is no new state. So that nobody tries for ever in vain, who is inside by something that it
-   did before, as in a loop, leaves the gate OPEN to be asked for: it's then given to those who asked, in turn.
+   did twice before, as in a loop, leaves the gate OPEN to be asked for: it's then given to those who asked, in turn.
 
    The gate also has a bit for each thread that is told the same again where it asks the same again (orders.c): as long as
    nobody writes a message. So a loop that waits for one is a loop of one event, by which nobody is kept out. */
@@ -107,11 +107,8 @@ static u64 turn_behind(int t, u64 was, u64 same) {
     return HELD | OPEN | TURN(t) | (asked & ~ASKS(t)) | same;
 }
 
-static void unmark(int t); /* orders_tables.h */
-
 static void leave(int t) {
-    u64 was = inside, same = news ? 0 : was & ALL_SAME;
-    unmark(t);
+    u64 was = inside, same = news ? 0 : was & ALL_SAME & ~SAME(t);
     if (noting)
         same |= SAME(t);
     if (news | noting)
@@ -202,7 +199,6 @@ static int sleeps(int t, u32 what, long long nanoseconds) {
 }
 
 static void wakes(int t) {
-    unmark(t);
     __atomic_store_n(&asleep[t], 0, __ATOMIC_SEQ_CST);
     __builtin_wasm_memory_atomic_notify((int *)&asleep[t], 1);
 }

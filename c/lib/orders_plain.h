@@ -36,7 +36,7 @@ static void check_readers(int t, int l) {
 static void touch_reading(int t, int l) {
     u32 bit = 1u << t;
     if (orders.places[l].readers & bit)
-        change_all(FORGET, l, READ_KNOWN(t)); /* others know of an earlier one */
+        forget_all(l, READ_KNOWN(t)); /* others know of an earlier one */
     else
         orders.places[l].readers |= bit;
     orders.current[t].at[l] |= READ_KNOWN(t);
@@ -46,7 +46,7 @@ static void touch_reading(int t, int l) {
 static void begin_anew(int l) {
     place *p = &orders.places[l];
     news = 1;
-    change_all(LOWER, l, 127);
+    lower_all(l, 127);
     for (int m = p->count; --m;)
         clear_message(&orders.messages[l][m]);
     clear_message(&orders.messages[l][0]);
@@ -67,7 +67,7 @@ static void touch(int l, int writes) {
     if (p->count)
         begin_anew(l);
     p->readers = 0;
-    change_all(FORGET, l, (cell)~255);
+    forget_all(l, (cell)~255);
     orders.current[t].at[l] |= WRITE_KNOWN;
 }
 
@@ -110,30 +110,36 @@ static void look_at_noted(void) {
         noted = 0;
 }
 
-enum operation { LOADS, STORES, CHANGES, FENCES, WAITS, OTHERS };
+enum operation { LOADS, STORES, CHANGES, COMPARES, FENCES, WAITS, OTHERS };
 
-/* Whether a thread may have done the same to a place before: a bit of 64. */
-static _Thread_local u64 done;
+/* What a thread may have done to a place before, once and twice: a bit of 64. */
+static _Thread_local u64 done, often;
 
-static int is_again(u32 at, enum operation what) {
-    u64 bit = 1ull << (((at >> 2) * 3 + what) & 63), had = done;
-    if (had & bit)
-        return 1;
-    done = had | bit;
-    return 0;
+INLINE u64 bit_of(u32 at, enum operation what) { return 1ull << (((at >> 2) * 5 + what) & 63); }
+
+/* Inside, since what is touched in front of the gate is a part of a state. */
+static int is_again(u64 bit, enum operation what) {
+    if (!(done & bit)) {
+        done |= bit;
+        return 0;
+    }
+    if (what != LOADS && !(often & bit))
+        often |= bit;
+    return 1;
 }
 
 static void forget_what_was_told(void);
 
-/* Answers whether the thread may have done the same before. A load that comes again opens the gate to nobody: it may be told
-   the same again, and then keeps nobody out. */
+/* Answers whether the thread may have done the same before. Who does it for the third time may do so for ever, and opens the
+   gate to others; but for a load: it may be told the same again, and then keeps nobody out. */
 static int begin_operation(u32 at, enum operation what) {
-    int t = me(), again = what != OTHERS && is_again(at, what);
-    enter(t, again && what != LOADS);
+    int t = me();
+    u64 bit = bit_of(at, what);
+    enter(t, what != LOADS && what != OTHERS && often & bit);
     if (!(inside & SAME(t)))
         forget_what_was_told();
     look_at_noted();
-    return again;
+    return what != OTHERS && is_again(bit, what);
 }
 
 /* Whether it's said already, or by more: a write says more than a read. */
