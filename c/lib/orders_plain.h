@@ -112,19 +112,21 @@ static void look_at_noted(void) {
 
 enum operation { LOADS, STORES, CHANGES, COMPARES, FENCES, WAITS, OTHERS };
 
-/* What a thread may have done to a place before, once and twice: a bit of 64. */
-static _Thread_local u64 done, often;
+/* What a thread may have done to a place before, by a number below 64. */
+static _Thread_local u64 done;
 
-INLINE u64 bit_of(u32 at, enum operation what) { return 1ull << (((at >> 2) * 5 + what) & 63); }
+INLINE u32 number_of(u32 at, enum operation what) { return ((at >> 2) * 5 + what) & 63; }
+INLINE u32 often_bit(u32 number) { return 1u << (number & 31); }
 
 /* Inside, since what is touched in front of the gate is a part of a state. */
-static int is_again(u64 bit, enum operation what) {
-    if (!(done & bit)) {
-        done |= bit;
+static int is_again(u32 number, enum operation what) {
+    u64 had = done, bit = 1ull << number;
+    if (!(had & bit)) {
+        done = had | bit;
         return 0;
     }
-    if (what != LOADS && !(often & bit))
-        often |= bit;
+    if (what != LOADS)
+        __wathread_set_often(__wathread_get_often() | often_bit(number));
     return 1;
 }
 
@@ -134,12 +136,12 @@ static void forget_what_was_told(void);
    gate to others; but for a load: it may be told the same again, and then keeps nobody out. */
 static int begin_operation(u32 at, enum operation what) {
     int t = me();
-    u64 bit = bit_of(at, what);
-    enter(t, what != LOADS && what != OTHERS && often & bit);
+    u32 number = number_of(at, what);
+    enter(t, what != LOADS && what != OTHERS && __wathread_get_often() & often_bit(number));
     if (!(inside & SAME(t)))
         forget_what_was_told();
     look_at_noted();
-    return what != OTHERS && is_again(bit, what);
+    return what != OTHERS && is_again(number, what);
 }
 
 /* Whether it's said already, or by more: a write says more than a read. */
@@ -155,7 +157,7 @@ static int is_noted(u32 at, u32 what) {
 
 static void note(u32 at, u32 size, u32 kind) {
     u32 what = size << 2 | kind;
-    if (!parallel || !size || (kind == READ && __wathread_is_constant(at)) || is_noted(at, what))
+    if (!is_parallel() || !size || (kind == READ && __wathread_is_constant(at)) || is_noted(at, what))
         return;
     if (noted == PENDING) {
         begin_operation(0, OTHERS);
