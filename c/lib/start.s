@@ -185,12 +185,12 @@ __wathread_set_\name:
 	end_function
 	.endm
 
-	number_of_thread slot
-	number_of_thread parallel
-	number_of_thread stays
-	number_of_thread tolds
-	number_of_thread often
-	number_of_thread failed
+#orders	number_of_thread slot
+#orders	number_of_thread parallel
+#orders	number_of_thread stays
+#orders	number_of_thread tolds
+#orders	number_of_thread often
+#orders	number_of_thread failed
 
 # The same: whether the program has fences, and where constants lie.
 	.section	.text.__wathread_fences,"",@

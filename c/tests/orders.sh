@@ -71,7 +71,7 @@ planted "a fence that acquires nothing" orders.c 's/add\(&orders.current\[t\], &
 planted "a fence out of order" orders.c 's/^        join_psc\(t\);/        ;/' SB+fsc
 planted "an SC load of what is old" orders.c 's/sc = order == SEQ_CST \?/sc = 0 ?/' SB+sc+sc
 planted "told the same behind a store" orders_gate.h 's/same = news \? 0 : was/same = was/' CoRR3+rlx
-planted "a choice that isn't made" orders_tables.h 's/^    marked &= ~\(1u << t\);/    return;/' SB+rlx+rlx
+planted "a choice that isn't offered" orders_gate.h 's/while \(i < many - 1 \&\& draw/while (i < many - 2 \&\& draw/' SB+rlx+rlx
 planted "no release sequence" orders.c 's/^        copy\(&messages\[p\].view, &messages\[p - 1\].view\);/        clear(\&messages[p].view);/' MP+rs+rmw
 
 [ $wrong = 0 ] && echo "all as wanted" || echo "WRONG"
