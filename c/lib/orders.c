@@ -155,7 +155,6 @@ static void forget_counts(int t) {
 /* ---- The same again: what a thread was told where it had no choice is told it again, as long as nobody has written a
    message since. Nothing is known by it that wasn't known, so the tables aren't asked ---- */
 
-enum { TOLD = 4 };
 static _Thread_local struct { u32 at, how; u64 value; } told[TOLD]; /* how: the order, 8 times the logarithm of the size, and 64 */
 
 INLINE int told_how(int log, int order) { return 64 + 8 * log + order; }

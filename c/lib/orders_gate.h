@@ -44,7 +44,7 @@ enum { PLACES = ORDERS_PLACES, MESSAGES = ORDERS_MESSAGES, THREADS = ORDERS_THRE
 #define OWN(name) int __wathread_get_##name(void); void __wathread_set_##name(int);
 OWN(slot)     /* its number here */
 OWN(parallel) /* 0 while `main` is alone: then nothing has to be simulated */
-OWN(stays)    /* it starts a thread, and stays inside until its next operation, as a start commutes with all that the new thread does */
+OWN(stays)    /* it starts a thread, and stays inside until its next operation: that commutes with what the new thread does */
 OWN(tolds)    /* how much it was told */
 OWN(often)    /* what it may have done twice */
 OWN(failed)   /* its last weak compare-exchange, until that is asked for */

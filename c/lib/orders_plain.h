@@ -130,14 +130,15 @@ static int is_again(u32 number, enum operation what) {
     return 1;
 }
 
+enum { TOLD = 4 }; /* how much a thread is told at most */
 static void forget_what_was_told(void);
 
 /* Answers whether the thread may have done the same before. Who does it for the third time may do so for ever, and opens the
-   gate to others; but for a load: it may be told the same again, and then keeps nobody out. */
+   gate to others; who loads does so where no more can be told, and is else told the same again, which keeps nobody out. */
 static int begin_operation(u32 at, enum operation what) {
     int t = me();
     u32 number = number_of(at, what);
-    enter(t, what != LOADS && what != OTHERS && __wathread_get_often() & often_bit(number));
+    enter(t, what == LOADS ? __wathread_get_tolds() == TOLD : what != OTHERS && __wathread_get_often() & often_bit(number));
     if (!(inside & SAME(t)))
         forget_what_was_told();
     look_at_noted();
