@@ -2,7 +2,8 @@
 # tests/orders.sh [WATHREAD]: what `wathread-cc --orders c11` finds. The programs of tests/orders/accesses in drawn runs, at
 # -O1 and -O0, each with what it is to end as on its first line (`EXPECT ok`, `trap`, `asleep`, or a name in a trace); then
 # those of tests/orders/algorithms, which are right, and bugs planted in the runtime, each found by a litmus test of
-# bench/orders, or by a loop that then waits for ever. Prints a table. WATHREAD is the program, or ../wathread. CC names the clang; RUNS is how many are drawn.
+# bench/orders, or by a loop that then waits for ever. Prints a table. WATHREAD is the program, or ../wathread. CC names the
+# clang; RUNS is how many are drawn.
 set -u
 here=$(cd "$(dirname "$0")/.." && pwd)
 export WATHREAD=${1:-$here/../wathread}
