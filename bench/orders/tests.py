@@ -77,6 +77,8 @@ SINGLE = {
                   [W('z', 1, 'rlx'), F('sc'), R('x', 'rlx')]],
     '2RMW': [[A('x', 'rlx')], [A('x', 'rlx')], [R('x', 'rlx')]],
     'RMW+store': [[A('x', 'rlx')], [W('x', 5, 'rlx')], [A('x', 'rlx')]],
+    # The store may come before the exchange, or behind it, and not in between: it comes late, and hasn't seen the exchange.
+    'RMW+late': [[A('x', 'rlx')], [R('y', 'rlx'), W('x', 5, 'rlx')]],
     'CAS': [[C('x', 0, 1, 'ar'), R('y', 'rlx')], [W('y', 1, 'rlx'), C('x', 0, 2, 'ar')]],
     'CAS+fail': [[W('y', 1, 'rlx'), C('x', 0, 1, 'rel')], [C('x', 0, 2, 'acq'), R('y', 'rlx')]],
     # What is made later against modification order

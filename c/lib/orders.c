@@ -68,13 +68,6 @@ static int least_of(int t, int l, int order) {
     return least > sc ? least : sc;
 }
 
-/* The same, but for what needs no choice. An SC store can't be moved in front of what others have made meanwhile. */
-static int least_chosen(int t, int l, int order, int stores) {
-    if (marked >> t & 1 && orders.newer[t].at[l] && !(stores && order == SEQ_CST))
-        return orders.places[l].count - 1;
-    return least_of(t, l, order);
-}
-
 /* ---- Messages are read and written ---- */
 
 static void read_message(int t, int l, int p, int order) {
@@ -108,10 +101,8 @@ static void write_message(int t, int l, int p, int order, int glued) {
     news = 1;
     if (at->count == MESSAGES)
         orders_full_of_messages__use_DORDERS_MESSAGES();
-    if (p == at->count)
-        mark_newer(t, l);
-    else {
-        change_all(RAISE, l, p);
+    if (p < at->count) {
+        raise_all(l, p);
         for (int m = at->count; m > p; m--)
             copy_message(&messages[m], &messages[m - 1]);
     }
@@ -134,35 +125,43 @@ INLINE int is_patient(int t, int l) {
     return !ORDERS_PATIENCE || (c & 255) != position(&orders.current[t], l) || c >> 8 < ORDERS_PATIENCE;
 }
 
+static _Thread_local int counted; /* whether anything is */
+
 static void count_read(int t, int l, int p, int for_nothing) {
     view *reads = &orders.reads[t];
     cell many = position(reads, l) == p ? reads->at[l] >> 8 : 0;
-    if (ORDERS_PATIENCE && (for_nothing || p < orders.places[l].count - 1))
+    if (ORDERS_PATIENCE && (for_nothing || p < orders.places[l].count - 1)) {
         put_cell(reads, l, (cell)p | (many < ORDERS_PATIENCE ? many + 1 : many) << 8);
+        if (!counted)
+            counted = 1;
+    }
 }
 
 /* What was counted of a message that the thread can't read any more is nothing. */
 static void forget_counts(int t) {
     view *reads = &orders.reads[t], *current = &orders.current[t];
-    for (int w = words_used(); w--;)
+    u64 left = 0;
+    if (!counted)
+        return;
+    for (int w = words_used(); w--; left |= reads->words[w])
         if (reads->words[w] && (reads->words[w] ^ current->words[w]) & POSITIONS)
             for (int l = w * PER_WORD; l < (w + 1) * PER_WORD; l++)
                 if (position(reads, l) != position(current, l))
                     put_cell(reads, l, 0);
+    if (!left)
+        counted = 0;
 }
 
 /* ---- The same again: what a thread was told where it had no choice is told it again, as long as nobody has written a
    message since. Nothing is known by it that wasn't known, so the tables aren't asked ---- */
 
-enum { TOLD = 4 };
 static _Thread_local struct { u32 at, how; u64 value; } told[TOLD]; /* how: the order, 8 times the logarithm of the size, and 64 */
-static _Thread_local u32 tolds;
 
 INLINE int told_how(int log, int order) { return 64 + 8 * log + order; }
 
 /* What is found, from 1 on, or 0. */
 static u32 find_told(u32 at, int how) {
-    u32 i = tolds;
+    u32 i = __wathread_get_tolds();
     while (i && (told[i - 1].at != at || told[i - 1].how != (u32)how))
         i--;
     return i;
@@ -172,29 +171,29 @@ INLINE int is_same(void) { return (atomic_load(&gate) & SAME(me())) != 0; }
 
 /* What was told before something was written is nothing. */
 static void forget_what_was_told(void) {
-    u32 many = tolds;
+    u32 many = __wathread_get_tolds();
     if (!many)
         return;
     for (u32 i = 0; i < many; i++) {
         told[i].at = told[i].how = 0;
         told[i].value = 0;
     }
-    tolds = 0;
+    __wathread_set_tolds(0);
 }
 
 static void tell(u32 at, int how, u64 value) {
-    u32 i = tolds;
+    u32 i = __wathread_get_tolds();
     if (news || i == TOLD)
         return;
     told[i].at = at;
     told[i].how = how;
     told[i].value = value;
-    tolds = i + 1;
+    __wathread_set_tolds(i + 1);
     noting = 1;
 }
 
 static void end_access(int t) {
-    if (news)
+    if (news | !noting)
         forget_what_was_told();
     forget_counts(t);
     end_operation();
@@ -213,14 +212,15 @@ INLINE int is_newest(int found) { return (found & 255) == orders.places[place_in
 static int begin_load(u32 at, int log, int order) {
     int again = begin_operation(at, LOADS);
     int t = me(), l = atomic_place(t, at, log, 0), newest = orders.places[l].count - 1, p = newest;
-    int least = least_chosen(t, l, order, 0);
+    int least = least_of(t, l, order);
     if (least < newest) {
         if (least == position(&orders.current[t], l) && !is_patient(t, l))
             least++;
         p -= choose(newest - least + 1);
     }
     read_message(t, l, p, order);
-    count_read(t, l, p, 0);
+    if (again)
+        count_read(t, l, p, 0);
     return l << PLACE_SHIFT | p | (again && least == newest ? TELLS : 0);
 }
 
@@ -234,7 +234,7 @@ INLINE void show_old(u32 at, int log, u64 value) {
 }
 
 INLINE u64 load(u32 at, int log, int order) {
-    if (!parallel)
+    if (!is_parallel())
         return load_real(at, log);
     u32 i = find_told(at, told_how(log, order));
     if (i && is_same())
@@ -251,7 +251,7 @@ INLINE u64 load(u32 at, int log, int order) {
 
 /* Where in modification order a store comes: not between a read-modify-write and what it read. */
 static int position_of_store(int t, int l, int order) {
-    int count = orders.places[l].count, p = count, least = least_chosen(t, l, order, 1), many = 1;
+    int count = orders.places[l].count, p = count, least = least_of(t, l, order), many = 1;
     for (int q = least + 1; q < count; q++)
         many += !orders.messages[l][q].glued;
     for (int skip = many > 1 ? choose(many) : 0; skip; skip--)
@@ -268,7 +268,7 @@ static int begin_store(u32 at, int log, int order) {
 }
 
 INLINE void store(u32 at, int log, u64 value, int order) {
-    if (!parallel) {
+    if (!is_parallel()) {
         store_real(at, log, value);
         return;
     }
@@ -305,53 +305,51 @@ static u64 result(enum kind kind, u64 had, u64 x, int log) {
 }
 
 /* Whether a message may be read by one that succeeds: no other may have read it. */
-static int can_change(int t, int l, int q, enum kind kind, u64 expected, int order) {
+static int can_change(int l, int q, enum kind kind, u64 expected, int least) {
     const message *m = orders.messages[l];
-    return q >= least_chosen(t, l, order, 1) && (kind < COMPARE || m[q].value == expected) &&
-           (q == orders.places[l].count - 1 || !m[q + 1].glued);
+    return q >= least && (kind < COMPARE || m[q].value == expected) && (q == orders.places[l].count - 1 || !m[q + 1].glued);
 }
 
 /* The same of one that fails, which is a load: of another value, or for nothing where it's weak. */
-static int can_fail(int t, int l, int q, enum kind kind, u64 expected, int order) {
-    int newest = orders.places[l].count - 1, oldest = position(&orders.current[t], l);
-    if (kind < COMPARE || q < least_chosen(t, l, order, 0))
+static int can_fail(int t, int l, int q, enum kind kind, u64 expected, int least) {
+    int oldest = position(&orders.current[t], l);
+    if (kind < COMPARE || q < least)
         return 0;
     if (orders.messages[l][q].value == expected)
         return kind == COMPARE_WEAK && (q != oldest || is_patient(t, l)) && !over;
-    return q == newest || q != oldest || is_patient(t, l);
+    return q == orders.places[l].count - 1 || q != oldest || is_patient(t, l);
 }
 
 /* Which message is read, and FAILED where nothing is written. */
 static int choose_change(int t, int l, enum kind kind, u64 expected, int order, int failing) {
     int newest = orders.places[l].count - 1, oldest = position(&orders.current[t], l), many = 0;
+    int least = least_of(t, l, order), fails = least_of(t, l, failing);
     for (int q = newest; q >= oldest; q--)
-        many += can_change(t, l, q, kind, expected, order) + can_fail(t, l, q, kind, expected, failing);
+        many += can_change(l, q, kind, expected, least) + can_fail(t, l, q, kind, expected, fails);
     int skip = many > 1 ? choose(many) : 0;
     for (int q = newest;; q--) {
-        if (can_change(t, l, q, kind, expected, order) && !skip--)
+        if (can_change(l, q, kind, expected, least) && !skip--)
             return q;
-        if (can_fail(t, l, q, kind, expected, failing) && !skip--)
+        if (can_fail(t, l, q, kind, expected, fails) && !skip--)
             return q | FAILED;
     }
 }
 
 /* The message that was read; the one behind it is that of the change. */
 static int begin_change(u32 at, int log, enum kind kind, u64 expected, int order, int failing) {
-    int again = begin_operation(at, CHANGES);
+    int again = begin_operation(at, kind < COMPARE ? CHANGES : COMPARES);
     int t = me(), l = atomic_place(t, at, log, 1), p = choose_change(t, l, kind, expected, order, failing);
     int fails = p & FAILED;
     p &= ~FAILED;
     if (fails && again && least_of(t, l, failing) == orders.places[l].count - 1)
         fails |= TELLS;
     read_message(t, l, p, fails ? failing : order);
-    if (fails)
-        count_read(t, l, p, orders.messages[l][p].value == expected);
-    else
+    if (!fails)
         write_message(t, l, p + 1, order, 1);
+    else if (again)
+        count_read(t, l, p, orders.messages[l][p].value == expected);
     return l << PLACE_SHIFT | p | fails; /* fails: FAILED and TELLS */
 }
-
-static _Thread_local int last_failed; /* the last weak compare-exchange, until that is asked for */
 
 INLINE u64 change_alone(u32 at, int log, enum kind kind, u64 x, u64 expected) {
     u64 had = load_real(at, log);
@@ -361,15 +359,15 @@ INLINE u64 change_alone(u32 at, int log, enum kind kind, u64 x, u64 expected) {
 }
 
 INLINE u64 change_value(u32 at, int log, enum kind kind, u64 x, u64 expected, int order, int failing) {
-    if (!parallel) {
+    if (!is_parallel()) {
         if (kind == COMPARE_WEAK && load_real(at, log) != expected)
-            last_failed = 1;
+            __wathread_set_failed(1);
         return change_alone(at, log, kind, x, expected);
     }
     u32 i = kind < COMPARE ? 0 : find_told(at, told_how(log, failing));
     if (i && told[i - 1].value != expected && is_same()) {
         if (kind == COMPARE_WEAK)
-            last_failed = 1;
+            __wathread_set_failed(1);
         return told[i - 1].value;
     }
     int found = begin_change(at, log, kind, expected, order, failing);
@@ -386,7 +384,7 @@ INLINE u64 change_value(u32 at, int log, enum kind kind, u64 x, u64 expected, in
             store_real(at, log, value);
     }
     if (kind == COMPARE_WEAK && found & FAILED)
-        last_failed = 1;
+        __wathread_set_failed(1);
     end_access(me());
     return had;
 }
@@ -404,7 +402,7 @@ static void join_psc(int t) {
 }
 
 void __wathread_fence(int order) {
-    if (!parallel || order == RELAXED)
+    if (!is_parallel() || order == RELAXED)
         return;
     begin_operation(0, FENCES);
     int t = me();
@@ -433,10 +431,12 @@ void orders_main(void) { will_end = 1; }
 int __wathread_fences(void); /* start.s */
 
 void orders_start_begins(void) {
-    if (!parallel) {
+    if (!is_parallel()) {
         enter(0, 0); /* who was joined last may be about to leave */
-        parallel = running = 1;
-        slots[thread_self()] = slot = 0;
+        simulates = running = 1;
+        __wathread_set_parallel(1);
+        __wathread_set_slot(0);
+        slots[thread_self()] = 0;
         fences = __wathread_fences();
     } else
         begin_operation(0, OTHERS);
@@ -464,7 +464,7 @@ void orders_start_ends(int thread) {
         running |= 1u << chosen;
         copy(&orders.current[chosen], &orders.current[me()]);
     }
-    stays = 1;
+    __wathread_set_stays(1);
 }
 
 static void forget_views(int t) {
@@ -472,7 +472,6 @@ static void forget_views(int t) {
     clear(&orders.acquirable[t]);
     clear(&orders.released[t]);
     clear(&orders.reads[t]);
-    unmark(t);
 #if ORDERS_C11_SEQUENCES
     for (int l = 0; l < PLACES; l++)
         clear(&orders.sequences[t][l]);
@@ -496,14 +495,14 @@ static void end_parallel(int t) {
         remove_place(orders.count - 1);
     forget_views(t);
     clear(&orders.psc);
-    parallel = 0;
+    simulates = 0;
     tell_helper(will_end ? RESTS : OVER);
     if (!will_end)
         helper = 0;
 }
 
 void orders_ends(int thread, unsigned result) {
-    if (!parallel) {
+    if (!is_parallel()) {
         tell_helper(OVER);
         return;
     }
@@ -517,6 +516,8 @@ void orders_ends(int thread, unsigned result) {
     clear(&orders.acquirable[t]);
     clear(&orders.released[t]);
     clear(&orders.reads[t]);
+    done = counted = 0; /* what has ended makes no states */
+    forget_what_was_told();
     if (by >= 0) {
         joiner[t] = 0;
         joining &= ~(1u << by);
@@ -534,7 +535,7 @@ void orders_ends(int thread, unsigned result) {
 }
 
 int orders_has_ended(int thread) {
-    if (!parallel)
+    if (!is_parallel())
         return 1;
     begin_operation(0, OTHERS);
     int is = (joined >> thread & 1) || (ended >> slots[thread] & 1);
@@ -565,6 +566,7 @@ int orders_joins(int thread, unsigned *result, long long nanoseconds) {
         joined |= 1ull << thread;
         take_end(t, of);
         end_parallel(t);
+        __wathread_set_parallel(simulates);
         end_access(t);
     } else {
         joiner[of] = t + 1;
@@ -573,6 +575,7 @@ int orders_joins(int thread, unsigned *result, long long nanoseconds) {
         end_access(t);
         if (sleeps(t, thread, nanoseconds) == 2 && is_late(t, of))
             return 2;
+        __wathread_set_parallel(simulates);
     }
     *result = results[thread];
     return 0;
@@ -630,19 +633,19 @@ static int waits(u32 at, int log, u64 value, long long nanoseconds) {
 }
 
 int __wathread_wait32(u32 word, int value, long long nanoseconds) {
-    if (!parallel)
+    if (!is_parallel())
         return __builtin_wasm_memory_atomic_wait32((int *)word, value, nanoseconds);
     return waits(word, 2, (u32)value, nanoseconds);
 }
 
 int __wathread_wait64(u32 word, long long value, long long nanoseconds) {
-    if (!parallel)
+    if (!is_parallel())
         return __builtin_wasm_memory_atomic_wait64((long long *)word, value, nanoseconds);
     return waits(word, 3, value, nanoseconds);
 }
 
 unsigned __wathread_notify(u32 word, unsigned most) {
-    if (!parallel)
+    if (!is_parallel())
         return 0;
     begin_operation(word, WAITS);
     unsigned many = 0;
@@ -706,7 +709,7 @@ static void forget_places(u32 at, u32 size, int touches) {
 }
 
 void orders_freed(void *block, unsigned size) {
-    if (!parallel)
+    if (!is_parallel())
         return;
     begin_operation(0, OTHERS);
     forget_places((u32)block, size, 1);
@@ -717,7 +720,7 @@ void orders_freed(void *block, unsigned size) {
 /* With --reuse: what was freed is a new block, whose bytes nobody has touched. */
 void orders_taken(void *block, unsigned size) {
     u32 at = (u32)block;
-    if (!parallel)
+    if (!is_parallel())
         return;
     begin_operation(0, OTHERS);
     for (int i = 0; i < FREED; i++) {
@@ -754,9 +757,8 @@ ATOMICS(32, 2, u32)
 ATOMICS(64, 3, u64)
 
 int __wathread_failed(void) {
-    int failed = last_failed;
-    if (failed)
-        last_failed = 0;
+    int failed = __wathread_get_failed();
+    __wathread_set_failed(0);
     return failed;
 }
 void __wathread_reads(u32 at, u32 size) { note(at, size, READ); }

@@ -21,7 +21,7 @@ typedef uint8_t u8;
 #define ORDERS_FREED 16       /* blocks that were freed while threads run */
 #endif
 #ifndef ORDERS_PATIENCE
-#define ORDERS_PATIENCE 2     /* how often in a row a thread is told again what is old; 0: any number */
+#define ORDERS_PATIENCE 1     /* how often a thread is told what is old where it has asked before; 0: any number */
 #endif
 #ifndef ORDERS_C11_SEQUENCES
 #define ORDERS_C11_SEQUENCES 0 /* 1: a release sequence has later stores of the same thread too, as before C++20 */
@@ -39,13 +39,22 @@ typedef uint8_t u8;
 enum { PLACES = ORDERS_PLACES, MESSAGES = ORDERS_MESSAGES, THREADS = ORDERS_THREADS, FREED = ORDERS_FREED,
        NUMBERS = 64, FRONT = 16 /* in front of each block of malloc's */ };
 
-/* Numbers of the runtime, used again after a join: a thread's own, by starts, and by the numbers that traces have. */
-static _Thread_local u8 slot;
-static u8 slots_of_starts[NUMBERS], slots[NUMBERS];
-INLINE int me(void) { return slot; }
+/* Numbers that each thread has for itself, and no memory (start.s): what a thread touches in front of an event is a part
+   of a state, so an operation that comes first or tries again would be two of them. */
+#define OWN(name) int __wathread_get_##name(void); void __wathread_set_##name(int);
+OWN(slot)     /* its number here */
+OWN(parallel) /* 0 while `main` is alone: then nothing has to be simulated */
+OWN(stays)    /* it starts a thread, and stays inside until its next operation: that commutes with what the new thread does */
+OWN(tolds)    /* how much it was told */
+OWN(often)    /* what it may have done twice */
+OWN(failed)   /* its last weak compare-exchange, until that is asked for */
 
-/* False while `main` is alone: then nothing has to be simulated. */
-static int parallel;
+/* Numbers of the runtime are used again after a join: by starts, and by the numbers that traces have. */
+static u8 slots_of_starts[NUMBERS], slots[NUMBERS];
+INLINE int me(void) { return __wathread_get_slot(); }
+INLINE int is_parallel(void) { return __wathread_get_parallel(); }
+
+static int simulates; /* the same for who is told of it: it was waiting as threads became one */
 
 /* Bits by slots: threads that haven't ended, and of these who sleeps. */
 static u32 running, sleeping;
@@ -54,7 +63,7 @@ static u32 running, sleeping;
 
    An operation goes in where the gate isn't HELD, by one event, and gives it back by another. Who comes while somebody is
    inside tries again, which is no new state. So that nobody tries for ever in vain, who is inside by something that it
-   did before, as in a loop, leaves the gate OPEN to be asked for: it's then given to those who asked, in turn.
+   did twice before, as in a loop, leaves the gate OPEN to be asked for: it's then given to those who asked, in turn.
 
    The gate also has a bit for each thread that is told the same again where it asks the same again (orders.c): as long as
    nobody writes a message. So a loop that waits for one is a loop of one event, by which nobody is kept out. */
@@ -71,9 +80,6 @@ static _Atomic u64 gate;
 static u64 inside;       /* what the gate was as the thread that is inside came in, without HELD */
 static int news, noting; /* of that one: there is a message or a place that wasn't; it will be told the same again */
 
-/* Who starts a thread stays inside until its next operation, as a start commutes with all that the new thread does. */
-static _Thread_local int stays;
-
 /* A function of its own, so that nothing of a try in vain is left in the frame: it would make more states. */
 static __attribute__((noinline)) int tries(int t, u64 mine) {
     u64 was = atomic_fetch_or(&gate, mine);
@@ -89,8 +95,8 @@ static __attribute__((noinline)) int tries(int t, u64 mine) {
 }
 
 static void enter(int t, int again) {
-    if (stays)
-        stays = 0;
+    if (__wathread_get_stays())
+        __wathread_set_stays(0);
     else
         while (!tries(t, again ? HELD | OPEN : HELD))
             ;
@@ -107,11 +113,8 @@ static u64 turn_behind(int t, u64 was, u64 same) {
     return HELD | OPEN | TURN(t) | (asked & ~ASKS(t)) | same;
 }
 
-static void unmark(int t); /* orders_tables.h */
-
 static void leave(int t) {
-    u64 was = inside, same = news ? 0 : was & ALL_SAME;
-    unmark(t);
+    u64 was = inside, same = news ? 0 : was & ALL_SAME & ~SAME(t);
     if (noting)
         same |= SAME(t);
     if (news | noting)
@@ -154,8 +157,10 @@ int orders_begins(int thread, int place) {
             ;
         place = (int)dice[thread] - BECOMES;
     }
-    if (place >= 0)
-        slot = slots_of_starts[place];
+    if (place >= 0) {
+        __wathread_set_slot(slots_of_starts[place]);
+        __wathread_set_parallel(1);
+    }
     return place;
 }
 
@@ -202,7 +207,6 @@ static int sleeps(int t, u32 what, long long nanoseconds) {
 }
 
 static void wakes(int t) {
-    unmark(t);
     __atomic_store_n(&asleep[t], 0, __ATOMIC_SEQ_CST);
     __builtin_wasm_memory_atomic_notify((int *)&asleep[t], 1);
 }
@@ -226,7 +230,7 @@ static void fails_inside(void) {
 
 /* In front of a trap that the program or the library asks for. */
 void __wathread_traps(void) {
-    if (parallel) {
+    if (is_parallel()) {
         enter(me(), 0);
         fails_inside();
     } else

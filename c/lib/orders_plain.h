@@ -36,7 +36,7 @@ static void check_readers(int t, int l) {
 static void touch_reading(int t, int l) {
     u32 bit = 1u << t;
     if (orders.places[l].readers & bit)
-        change_all(FORGET, l, READ_KNOWN(t)); /* others know of an earlier one */
+        forget_all(l, READ_KNOWN(t)); /* others know of an earlier one */
     else
         orders.places[l].readers |= bit;
     orders.current[t].at[l] |= READ_KNOWN(t);
@@ -46,7 +46,7 @@ static void touch_reading(int t, int l) {
 static void begin_anew(int l) {
     place *p = &orders.places[l];
     news = 1;
-    change_all(LOWER, l, 127);
+    lower_all(l, 127);
     for (int m = p->count; --m;)
         clear_message(&orders.messages[l][m]);
     clear_message(&orders.messages[l][0]);
@@ -67,7 +67,7 @@ static void touch(int l, int writes) {
     if (p->count)
         begin_anew(l);
     p->readers = 0;
-    change_all(FORGET, l, (cell)~255);
+    forget_all(l, (cell)~255);
     orders.current[t].at[l] |= WRITE_KNOWN;
 }
 
@@ -110,30 +110,39 @@ static void look_at_noted(void) {
         noted = 0;
 }
 
-enum operation { LOADS, STORES, CHANGES, FENCES, WAITS, OTHERS };
+enum operation { LOADS, STORES, CHANGES, COMPARES, FENCES, WAITS, OTHERS };
 
-/* Whether a thread may have done the same to a place before: a bit of 64. */
+/* What a thread may have done to a place before, by a number below 64. */
 static _Thread_local u64 done;
 
-static int is_again(u32 at, enum operation what) {
-    u64 bit = 1ull << (((at >> 2) * 3 + what) & 63), had = done;
-    if (had & bit)
-        return 1;
-    done = had | bit;
-    return 0;
+INLINE u32 number_of(u32 at, enum operation what) { return ((at >> 2) * 5 + what) & 63; }
+INLINE u32 often_bit(u32 number) { return 1u << (number & 31); }
+
+/* Inside, since what is touched in front of the gate is a part of a state. */
+static int is_again(u32 number, enum operation what) {
+    u64 had = done, bit = 1ull << number;
+    if (!(had & bit)) {
+        done = had | bit;
+        return 0;
+    }
+    if (what != LOADS)
+        __wathread_set_often(__wathread_get_often() | often_bit(number));
+    return 1;
 }
 
+enum { TOLD = 4 }; /* how much a thread is told at most */
 static void forget_what_was_told(void);
 
-/* Answers whether the thread may have done the same before. A load that comes again opens the gate to nobody: it may be told
-   the same again, and then keeps nobody out. */
+/* Answers whether the thread may have done the same before. Who does it for the third time may do so for ever, and opens the
+   gate to others; who loads does so where no more can be told, and is else told the same again, which keeps nobody out. */
 static int begin_operation(u32 at, enum operation what) {
-    int t = me(), again = what != OTHERS && is_again(at, what);
-    enter(t, again && what != LOADS);
+    int t = me();
+    u32 number = number_of(at, what);
+    enter(t, what == LOADS ? __wathread_get_tolds() == TOLD : what != OTHERS && __wathread_get_often() & often_bit(number));
     if (!(inside & SAME(t)))
         forget_what_was_told();
     look_at_noted();
-    return again;
+    return what != OTHERS && is_again(number, what);
 }
 
 /* Whether it's said already, or by more: a write says more than a read. */
@@ -149,7 +158,7 @@ static int is_noted(u32 at, u32 what) {
 
 static void note(u32 at, u32 size, u32 kind) {
     u32 what = size << 2 | kind;
-    if (!parallel || !size || (kind == READ && __wathread_is_constant(at)) || is_noted(at, what))
+    if (!is_parallel() || !size || (kind == READ && __wathread_is_constant(at)) || is_noted(at, what))
         return;
     if (noted == PENDING) {
         begin_operation(0, OTHERS);

@@ -35,15 +35,11 @@ static struct {
     view acquirable[THREADS], released[THREADS]; /* by its next acquire fence; since its last release fence */
     view psc;                                  /* positions alone: where sequentially consistent ones have come to */
     view reads[THREADS];                       /* how often a thread read the oldest message it may: above its position */
-    view newer[THREADS];                       /* NEWER: all that it hasn't seen came since its last operation */
     struct { u32 at, size; } freed[FREED];
 #if ORDERS_C11_SEQUENCES
     view sequences[THREADS][PLACES];           /* what a thread's later stores to a place release */
 #endif
 } orders;
-
-enum { NEWER = 0x100 };
-static u32 marked; /* who has such marks: bits by slots */
 
 static u32 ended;   /* and not joined: bits by slots */
 static u32 joining; /* who waits for a thread's end, and will know what that knows */
@@ -128,7 +124,7 @@ static void take_out_cell(view *v, int l) {
     }
 }
 
-static void change(view *v, enum change what, int l, int n) {
+INLINE void change(view *v, enum change what, int l, int n) {
     if (what == PUT_IN || what == TAKE_OUT) {
         what == PUT_IN ? put_in_cell(v, l) : take_out_cell(v, l);
         return;
@@ -156,15 +152,13 @@ static void change(view *v, enum change what, int l, int n) {
     }
 }
 
-static void change_all(enum change what, int l, int n) {
+INLINE void change_each(enum change what, int l, int n) {
     u32 alive = running | ended;
     for (int t = 0; alive >> t; t++)
         if (alive >> t & 1) {
             change(&orders.current[t], what, l, n);
             if (what != FORGET)
                 change(&orders.reads[t], what, l, n);
-            if (what > FORGET && marked >> t & 1)
-                change(&orders.newer[t], what, l, n);
             if (fences) {
                 change(&orders.acquirable[t], what, l, n);
                 change(&orders.released[t], what, l, n);
@@ -179,6 +173,14 @@ static void change_all(enum change what, int l, int n) {
             change(&orders.messages[k][m].view, what, l, n);
     change(&orders.psc, what, l, n);
 }
+
+/* One function for each, so that none asks at each view what is done. */
+static void raise_all(int l, int n) { change_each(RAISE, l, n); }
+static void lower_all(int l, int n) { change_each(LOWER, l, n); }
+static void forget_all(int l, cell bits) { change_each(FORGET, l, bits); }
+static void put_in_all(int l) { change_each(PUT_IN, l, 0); }
+static void take_out_all(int l) { change_each(TAKE_OUT, l, 0); }
+static void same_all(int l) { change_each(SAME_AS_BEFORE, l, 0); }
 
 /* ---- Places ---- */
 
@@ -236,7 +238,7 @@ static void remove_place(int l) {
     for (int m = orders.places[l].count; m--;)
         clear_message(&orders.messages[l][m]);
     orders.places[l].count = 0;
-    change_all(TAKE_OUT, l, 0);
+    take_out_all(l);
     for (int k = l; k < orders.count - 1; k++)
         move_place(k + 1, k);
     orders.count--;
@@ -250,7 +252,7 @@ static void put_in(int l, u32 at, int log, u32 readers) {
         move_place(k - 1, k);
     set_place(l, at, log, readers);
     orders.count++;
-    change_all(PUT_IN, l, 0);
+    put_in_all(l);
 }
 
 /* Whether all that there is to know of a place is in this view. */
@@ -311,28 +313,7 @@ static void split(int l) {
         atomics_of_mixed_sizes();
     p->log--;
     put_in(l + 1, end_of(p), p->log, p->readers);
-    change_all(SAME_AS_BEFORE, l + 1, 0);
-}
-
-/* ---- Messages that came since a thread's last operation. To read an older one now, or to store in front of one, is what
-   the thread could have done before that came: so that needs no choice, since a search goes through that order too ---- */
-
-static void mark_newer(int by, int l) {
-    u32 others = running & ~sleeping & ~(1u << by);
-    for (int t = 0; others >> t; t++)
-        if (others >> t & 1 && position(&orders.current[t], l) == orders.places[l].count - 1) {
-            put_cell(&orders.newer[t], l, NEWER);
-            if (!(marked >> t & 1))
-                marked |= 1u << t;
-        }
-}
-
-static void unmark(int t) {
-    if (!(marked >> t & 1))
-        return;
-    marked &= ~(1u << t);
-    for (int w = words_used(); w--;)
-        put(&orders.newer[t].words[w], 0);
+    same_all(l + 1);
 }
 
 /* ---- Messages that nobody can read any more ---- */
@@ -346,7 +327,7 @@ static void drop(int l, int many) {
     if (orders.messages[l][0].glued)
         orders.messages[l][0].glued = 0;
     orders.places[l].count = count;
-    change_all(LOWER, l, many);
+    lower_all(l, many);
 }
 
 static void clean(void) {

@@ -163,7 +163,36 @@ __cyg_profile_func_enter_bare:
 	end_if
 	end_function
 
-# For --orders c11 (orders.c): whether the program has fences, and where constants lie.
+# For --orders c11 (orders.c): numbers that each thread has for itself, and no memory: so they are in no entry and no race.
+	.macro	number_of_thread name
+	.globaltype	number_\name, i32
+number_\name:
+	.section	.text.__wathread_get_\name,"",@
+	.globl	__wathread_get_\name
+	.type	__wathread_get_\name,@function
+__wathread_get_\name:
+	.functype	__wathread_get_\name () -> (i32)
+	global.get	number_\name
+	end_function
+
+	.section	.text.__wathread_set_\name,"",@
+	.globl	__wathread_set_\name
+	.type	__wathread_set_\name,@function
+__wathread_set_\name:
+	.functype	__wathread_set_\name (i32) -> ()
+	local.get	0
+	global.set	number_\name
+	end_function
+	.endm
+
+#orders	number_of_thread slot
+#orders	number_of_thread parallel
+#orders	number_of_thread stays
+#orders	number_of_thread tolds
+#orders	number_of_thread often
+#orders	number_of_thread failed
+
+# The same: whether the program has fences, and where constants lie.
 	.section	.text.__wathread_fences,"",@
 	.globl	__wathread_fences
 	.type	__wathread_fences,@function

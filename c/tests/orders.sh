@@ -2,7 +2,8 @@
 # tests/orders.sh [WATHREAD]: what `wathread-cc --orders c11` finds. The programs of tests/orders/accesses in drawn runs, at
 # -O1 and -O0, each with what it is to end as on its first line (`EXPECT ok`, `trap`, `asleep`, or a name in a trace); then
 # those of tests/orders/algorithms, which are right, and bugs planted in the runtime, each found by a litmus test of
-# bench/orders. Prints a table. WATHREAD is the program, or ../wathread. CC names the clang; RUNS is how many are drawn.
+# bench/orders, or by a loop that then waits for ever. Prints a table. WATHREAD is the program, or ../wathread. CC names the
+# clang; RUNS is how many are drawn.
 set -u
 here=$(cd "$(dirname "$0")/.." && pwd)
 export WATHREAD=${1:-$here/../wathread}
@@ -46,17 +47,32 @@ algorithms() {
     done
 }
 
-# A bug in the runtime, an edit by sed, has to change the outcomes of one of the litmus tests.
-planted() { # what, file, edit, tests
+# A bug in the runtime, an edit by sed; the status is 1 where it changes nothing.
+plant() { # what, file, edit
     rm -rf "$work/c" && mkdir -p "$work/c" "$work/bench"
     cp -R "$here/wathread-cc" "$here/wathread-link" "$here/include" "$here/lib" "$work/c"
     cp -R "$here/../bench/orders" "$work/bench"
     sed -E "$3" "$here/lib/$2" >"$work/c/lib/$2"
-    ! cmp -s "$here/lib/$2" "$work/c/lib/$2" || { wrong=1 && say "$1" "" "no change" "$3" && return; }
+    ! cmp -s "$here/lib/$2" "$work/c/lib/$2" || { wrong=1 && say "$1" "" "no change" "$3" && return 1; }
+}
+
+# It has to change the outcomes of one of the litmus tests.
+planted() { # what, file, edit, tests
+    plant "$@" || return
     local out
     out=$(python3 "$work/bench/orders/compare.py" --all 100000 $4 2>&1)
     if [ $? = 0 ]; then wrong=1 out='NOT FOUND'; else out=$(echo "$out" | grep -E 'WEAKER|stronger' | cut -c1-80); fi
     say "planted" "" "$1" "$out"
+}
+
+# It has to let a loop of one of the algorithms wait for ever.
+planted_loop() { # what, file, edit, algorithm
+    plant "$@" || return
+    build "$work/c" -O1 "$here/tests/orders/algorithms/$4.c"
+    local out
+    out=$("$WATHREAD" search "$work/m.wasm" --invoke main --all --states 100000 2>&1 | grep -E 'for ever|no run ends' | head -1)
+    [ -n "$out" ] || { wrong=1 && out='NOT FOUND'; }
+    say "planted" "" "$1" "$4: $out"
 }
 
 accesses
@@ -64,14 +80,14 @@ algorithms
 planted "an acquire joins no view" orders.c 's/^    if \(acquires\(order\)\)$/    if (0)/' MP+rel+acq
 planted "a release leaves no view" orders.c 's/^    if \(releases\(order\)\)$/    if (0)/' MP+rel+acq
 planted "no old message is read" orders.c 's/^        p -= choose\(newest - least \+ 1\);/        p -= 0;/' SB+rlx+rlx
-planted "a message is passed by" orders.c 's/^    int least = position\(.*sc = order/    int least = 0, sc = order/' CoRR+rlx+rlx
-planted "a store comes in between" orders.c 's/^    messages\[p\].glued = glued;/    messages[p].glued = 0;/' RMW+store
+planted "a message is passed by" orders.c 's/^    int least = position\(.*sc = order/    int least = 0, sc = order/' CoWR+rlx+rlx
+planted "a store comes in between" orders.c 's/^    messages\[p\].glued = glued;/    messages[p].glued = 0;/' RMW+late
 planted "a fence that releases nothing" orders.c 's/copy\(&orders.released\[t\], &orders.current\[t\]\);/;/' MP+frel+acq
 planted "a fence that acquires nothing" orders.c 's/add\(&orders.current\[t\], &orders.acquirable\[t\]\);/;/' MP+rel+facq
 planted "a fence out of order" orders.c 's/^        join_psc\(t\);/        ;/' SB+fsc
 planted "an SC load of what is old" orders.c 's/sc = order == SEQ_CST \?/sc = 0 ?/' SB+sc+sc
-planted "told the same behind a store" orders_gate.h 's/same = news \? 0 : was/same = was/' CoRR3+rlx
-planted "a choice that isn't made" orders_tables.h 's/^    marked &= ~\(1u << t\);/    return;/' SB+rlx+rlx
+planted_loop "told the same behind a store" orders_gate.h 's/same = news \? 0 : was/same = was/' ticket
+planted "a choice that isn't offered" orders_gate.h 's/while \(i < many - 1 \&\& draw/while (i < many - 2 \&\& draw/' SB+rlx+rlx
 planted "no release sequence" orders.c 's/^        copy\(&messages\[p\].view, &messages\[p - 1\].view\);/        clear(\&messages[p].view);/' MP+rs+rmw
 
 [ $wrong = 0 ] && echo "all as wanted" || echo "WRONG"
