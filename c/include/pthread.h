@@ -7,7 +7,7 @@
 #include <time.h>
 WATHREAD_BEGIN
 
-typedef int pthread_t; /* the number that traces have: t1, t2 .. */
+typedef int pthread_t; /* the number that traces have: t1, t2 ..; main's is 64, and 0 is nobody's */
 typedef struct { int detached; size_t stack, guard; } pthread_attr_t;
 typedef struct { int kind; } pthread_mutexattr_t;
 typedef struct { int clock; } pthread_condattr_t;

@@ -15,6 +15,9 @@ int __wathread_stack(void);
 
 enum { MOST_THREADS = 64, MOST_THAT_STAY = MOST_THREADS / 4 };
 
+/* As a pthread_t main has no thread's number: programs take 0 for nobody's. */
+enum { MAINS = MOST_THREADS };
+
 /* What a thread calls: the place in the table of functions, and in the two bits above what type is there. */
 enum type { POSIX, C11, OWN, TYPE_SHIFT = 30 };
 
@@ -218,8 +221,10 @@ int pthread_create(pthread_t *thread, const pthread_attr_t *attr, void *(*functi
     return 0;
 }
 
-int pthread_detach(pthread_t thread) { orders_detached(thread); return 0; }
-pthread_t pthread_self(void) { return thread_self(); }
+static int number_of(pthread_t thread) { return thread == MAINS ? 0 : thread; }
+
+int pthread_detach(pthread_t thread) { orders_detached(number_of(thread)); return 0; }
+pthread_t pthread_self(void) { return thread_self() ? thread_self() : MAINS; }
 int pthread_equal(pthread_t a, pthread_t b) { return a == b; }
 
 int thrd_create(thrd_t *thread, thrd_start_t function, void *arg) {

@@ -125,14 +125,16 @@ static uint32_t result_of(int thread) {
 void thread_join(int thread) { result_of(thread); }
 
 static int is_no_other(pthread_t thread) {
-    return (unsigned)thread >= MOST_THREADS ? ESRCH : thread == thread_self() ? EDEADLK : 0;
+    if (thread != MAINS && (!thread || (unsigned)thread >= MOST_THREADS))
+        return ESRCH;
+    return number_of(thread) == thread_self() ? EDEADLK : 0;
 }
 
 int pthread_join(pthread_t thread, void **result) {
     int wrong = is_no_other(thread);
     if (wrong)
         return wrong;
-    uint32_t found = result_of(thread);
+    uint32_t found = result_of(number_of(thread));
     if (result)
         *result = (void *)found;
     return 0;
@@ -141,7 +143,7 @@ int pthread_join(pthread_t thread, void **result) {
 int thrd_join(thrd_t thread, int *result) {
     if (is_no_other(thread))
         return thrd_error;
-    uint32_t found = result_of(thread);
+    uint32_t found = result_of(number_of(thread));
     if (result)
         *result = found;
     return thrd_success;
@@ -161,15 +163,15 @@ static int runs_until(int thread, int64_t deadline) {
 
 int pthread_tryjoin_np(pthread_t thread, void **result) {
     int wrong = is_no_other(thread);
-    return wrong ? wrong : runs(thread) ? EBUSY : pthread_join(thread, result);
+    return wrong ? wrong : runs(number_of(thread)) ? EBUSY : pthread_join(thread, result);
 }
 
 int pthread_timedjoin_np(pthread_t thread, void **result, const struct timespec *until) {
     int wrong = is_no_other(thread);
     if (wrong || is_wrong(until))
         return wrong ? wrong : EINVAL;
-    while (runs(thread))
-        if (runs_until(thread, deadline_of(until)))
+    while (runs(number_of(thread)))
+        if (runs_until(number_of(thread), deadline_of(until)))
             return ETIMEDOUT;
     return pthread_join(thread, result);
 }

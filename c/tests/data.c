@@ -56,5 +56,5 @@ int main(void) {
         results[i] = (int)result;
     }
     assert(local == 100 && strlen(names[2]) == 3 && constant.letter == 'x');
-    return sum_of(3, results[0], results[1], pthread_self());
+    return sum_of(3, results[0], results[1], !pthread_self());
 }

@@ -138,7 +138,7 @@ static void of_c11(void) {
     assert(cnd_timedwait(&c, &m, &until) == thrd_timedout && tss_get(value) == &m);
     GOES(cnd_signal(&c) || cnd_broadcast(&c) || mtx_unlock(&m));
     GOES(thrd_create(&one, ends, (void *)6) || thrd_join(one, &found));
-    assert(found == 6 && thrd_equal(thrd_current(), 0));
+    assert(found == 6 && !thrd_equal(thrd_current(), 0));
     GOES(thrd_create(&one, ends, 0) || thrd_detach(one) || thrd_sleep(&(struct timespec){0, 5}, 0));
     call_once(&flag, count);
     cnd_destroy(&c), mtx_destroy(&m), tss_delete(value);
