@@ -5,7 +5,8 @@
 -- a notify enter the critical section of the list of waiters at their address (ECMAScript, "WaiterList Objects"; threads
 -- proposal, "Wait and notify operators"). A spawn takes the next number, which hosts count up atomically (wasi-threads).
 -- A timeout makes no access, and neither does the end of a thread.
-use Rattle.std.specs.Prelude.{ℕ, ◌≡◌, ◌==◌, ◌+◌, ◌<◌, ◌≤◌, ◌++◌, Bool, true, false, not, nat_lt, if◌then◌else◌, Option, Some, None, List}
+use Rattle.std.specs.Prelude.{ℕ, zero, suc, ◌≡◌, ◌==◌, ◌+◌, ◌-◌, ◌^◌, ◌<◌, ◌≤◌, ◌++◌, Bool, true, false, not, min, nat_lt, if◌then◌else◌}
+use Rattle.std.specs.Prelude.{Option, Some, None, List, [], ◌∷◌}
 use Rattle.std.specs.Option.{option_to_list}
 use Rattle.types.specs.declared.event.Entry.{Entry}
 use Rattle.types.specs.declared.event.Event.{Event}
@@ -140,10 +141,26 @@ pages_within n event reply opening = if nat_lt opening (end_of event) then Some 
 abbrev pub pages_of : Entry → ℕ → Option ThreadAccess
 pages_of e opening = pages_within e.thread e.event e.reply opening
 
+-- To one of an access's bytes, so many behind the first (as far as there are addresses): atomic.
+abbrev pub one_byte : ThreadAccess → ℕ → ThreadAccess
+one_byte a behind = record a { addr = min (a.addr + behind) (2 ^ 64 - 1); width = 1; atomic = true }
+
+-- To each of so many.
+abbrev pub each_byte : ThreadAccess → ℕ → List ThreadAccess
+each_byte a zero = []
+each_byte a (suc more) = each_byte a more ++ one_byte a more ∷ []
+
+-- What an access to bytes is: one, or, where it is allowed to race, one to each of its bytes. These are atomic, so that
+-- two of them that meet are of the same byte, and don't race.
+abbrev pub judged : Option ThreadAccess → Bool → List ThreadAccess
+judged None is_allowed = []
+judged (Some a) true = each_byte a a.width
+judged (Some a) false = a ∷ []
+
 -- All of an entry's, where the memory opens with pages of so many bytes.
 abbrev pub accesses_of : Entry → Site → ℕ → List ThreadAccess
 accesses_of e site opening =
-    option_to_list (bytes_of e site) ++ option_to_list (call_of e) ++ option_to_list (pages_of e opening)
+    judged (bytes_of e site) site.is_allowed ++ option_to_list (call_of e) ++ option_to_list (pages_of e opening)
 
 abbrev pub HasByte : ThreadAccess → ℕ → Type 0
 HasByte a byte = (a.addr ≤ byte) × (byte < a.addr + a.width)
