@@ -8,18 +8,18 @@ draws N modules of few threads (2,000 where it isn't said; agree_modules.py), fr
 It prints each disagreement, with the module's text and the command lines, and keeps the module and the record here as
 agree-S-I.wasm and agree-S-I.record. Disagreements are:
 
-- a race in a run of a module of which no run has one, by the other. Of two kinds that is known (MEMORY_MODEL.md, "What
-  no race is worth"). *Written over*: the first entry is a compare-exchange that stored, before the second one another
-  thread stored the same bytes atomically, and the second one only reads. *Timeout*: between the two a positive timeout
-  ended, since all slept;
+- a race in a run of a module of which no run has one, by the other, unless that says that there may be some behind waits
+  with a timeout, and it is one: between the two entries a positive timeout ended, since all slept (MEMORY_MODEL.md,
+  "What no race is worth");
 - a race without a run, or with one of which `races` doesn't tell it;
 - what an enumeration of all runs (agree_runs.py), which shares no code with the program, says otherwise: whether two
-  threads meet in a race, whether some run has one, or that no run has one of the kind that a drawn run has.
+  threads meet in a race, or one with what was written over, whether some run has one, whether a thread waits with a
+  timeout, or that no run has a race of the kind that a drawn run has.
 
 A module with more states than --states (30,000) is left out where nothing is known of its races. The last lines are
 counts: of modules by what both say, of disagreements by kind, of states and runs; of those without a race how many have
 a run in which two threads touch a byte, not both atomically, one writing, in an order that something gives; and of how
-many the drawn runs met each ending. The status is 1 where a disagreement is of no known kind. With --channels it asks
+many the drawn runs met each ending. The status is 1 where there is a disagreement. With --channels it asks
 the same of modules made by hand (agree_channels.py), and prints what both say. With --alone it asks the enumeration
 alone, which has both definitions, and needs no program.
 """
@@ -38,7 +38,7 @@ import agree_runs
 
 TOP = os.path.dirname(os.path.dirname(os.path.abspath(__file__)))
 BUILT = os.environ.get("PROGRAM", os.path.join(TOP, "crates", "wathread", "out", "wathread.by-rattle"))
-KNOWN = ["written over", "timeout"]
+BEHIND = "only behind timeouts"
 
 # At most so many runs with a race are looked at, of a module of which no run has one by the other.
 MOST_FOUND = 12
@@ -84,9 +84,6 @@ class Module:
     def pairs(self):
         return self.ask("races", self.record, "--most", "10000")["races"]
 
-    def rows(self):
-        return {row["line"]: row for row in self.ask("show", self.record)["rows"]}
-
 
 # A run, by its record.
 
@@ -115,30 +112,12 @@ def timeouts_in(entries):
     return ended
 
 
-def has_stored(words, reply):
-    return words[0] in ("store", "rmw") or words[0] == "cmpxchg" and reply == words[3]
-
-
-def is_written_over(entries, rows, first, second):
-    thread, words, reply = entries[first]
-    if words[0] != "cmpxchg" or not has_stored(words, reply) or has_stored(*entries[second][1:]):
-        return False
-    between = ((line, *entry) for line, entry in entries.items() if first < line < second and entry[0] != thread)
-    return any(stored[0] == "store" and stored[1:3] == words[1:3] and rows[line]["words"].startswith("atomic store")
-               for line, _, stored, _ in between)
-
-
 def kinds_of(module):
-    """Of each race of the kept run, in which no race should be, the kind."""
-    entries, rows = entries_of(module.record), module.rows()
+    """Of each race of the kept run, in which no race should be but behind timeouts, the kind."""
+    entries = entries_of(module.record)
     for pair in module.pairs():
         first, second = lines_of(pair)
-        if any(first < line < second for line in timeouts_in(entries)):
-            yield "timeout"
-        elif is_written_over(entries, rows, first, second):
-            yield "written over"
-        else:
-            yield "race in a run"
+        yield "timeout" if any(first < line < second for line in timeouts_in(entries)) else "race in a run"
 
 
 # What both say.
@@ -149,7 +128,8 @@ def lines_of(pair):
 
 
 def ask_all(module, counts):
-    """What is said of all runs: never, found, or unknown; and of a race in a run whether that has it."""
+    """What is said of all runs: never, only behind timeouts, found, or unknown; and of a race in a run whether that has
+    it."""
     said = module.in_all_runs()
     counts["states"] += said["states"]
     if said["races"] != "found":
@@ -210,8 +190,8 @@ def report(module, counts, kind):
 
 def judge(module, counts):
     said, own = ask_all(module, counts), enumerate_runs(module.bodies, module.most, counts)
-    if said["races"] != "unknown" and own and own.meet != (said["races"] == "found"):
-        report(module, counts, f"races of all runs: {said['races']}, enumerated {own.meet}")
+    if said["races"] != "unknown" and own and own.said() != said["races"]:
+        report(module, counts, f"races of all runs: {said['races']}, enumerated {own.said()}")
     if said["races"] == "unknown":
         counts["left out"] += 1
     elif said["races"] == "found":
@@ -219,23 +199,23 @@ def judge(module, counts):
         counts["runs"] += drawn["runs"]["made"]
         counts["race by both" if drawn["races"] == "found" else "race by --all and its run, and none drawn"] += 1
     else:
-        judge_free(module, counts, len(said["endings"]), own)
+        judge_free(module, counts, said, own)
 
 
-def judge_free(module, counts, endings, own):
+def judge_free(module, counts, said, own):
     kinds, met = look_on(module, counts)
     if own and "race" in own.kinds:
         report(module, counts, "race in a run that was enumerated")
     if own and kinds - {"race in a run"} - own.kinds:
         report(module, counts, f"{kinds} in drawn runs, and not enumerated")
-    for kind in kinds & set(KNOWN):
-        counts[f"known: {kind}"] += 1
+    if "timeout" in kinds and said["races"] != BEHIND:
+        report(module, counts, f"race behind a timeout, where --all says {said['races']}")
     if kinds:
+        counts["only behind timeouts by both"] += 1
         return
-    counts["none by both"] += 1
+    counts["none by both" if said["races"] == "never" else "none drawn, and only behind timeouts by --all"] += 1
     counts[f"none by both, {module.kind}"] += 1
-    counts["none drawn, and a known one enumerated"] += bool(own and own.kinds and "race" not in own.kinds)
-    counts["each ending drawn"] += met == endings
+    counts["each ending drawn"] += met == len(said["endings"])
     counts["none by both, though two threads touch a byte"] += bool(own and own.ordered)
 
 
@@ -263,13 +243,13 @@ def enumerate_alone(drawn, counts):
     own = enumerate_runs(bodies, most, counts)
     if own is None:
         return
-    if own.meet != ("race" in own.kinds):
+    if own.meet != ("race" in own.kinds) or own.kinds and not own.meet and not own.timed:
         counts["FOUND: race by one definition"] += 1
         print(f"{kind}: threads meet: {own.meet}, races: {own.kinds}", agree_modules.wat_of(bodies, most), sep="\n")
     elif own.meet:
         counts["race by both"] += 1
     else:
-        counts["none by both" if not own.kinds else f"known: {' and '.join(sorted(own.kinds))}"] += 1
+        counts["none by both" if not own.kinds else "none, and one behind a timeout"] += 1
         counts["none by both, though two threads touch a byte"] += own.ordered and not own.kinds
 
 

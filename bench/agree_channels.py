@@ -13,7 +13,7 @@ grow, size = Op("grow"), Op("size", test=2, then=(load,))
 asleep, notify, notify_two = Op("wait", LIST), Op("notify", LIST), Op("notify", LIST, value=2)
 for_5 = asleep._replace(timeout=5)
 NONE, RACE, MIXED = ("-", "-"), ("race", "race"), ("mixed", "mixed")
-KNOWN, MIXED_KNOWN = ("-", "race"), ("-", "mixed")
+BEHIND = ("-", "race")
 
 
 def where(op, test, *then):
@@ -75,8 +75,8 @@ CHANNELS = [
     ("wait: found the value, with no time", NONE, [where(Op("wait", F, expected=1, timeout=0), 2, load)],
      [store, set_flag]),
     ("wait: no time, and no value that was stored", RACE, [where(asleep._replace(timeout=0), 2, load)], [store]),
-    ("timeout: as a sleep until the other has ended", KNOWN, [where(for_5, 2, load)], [store]),
-    ("timeout: the longer of two", KNOWN, [where(asleep._replace(timeout=9), 2, load)], [where(for_5, 2, store)]),
+    ("timeout: as a sleep until the other has ended", BEHIND, [where(for_5, 2, load)], [store]),
+    ("timeout: the longer of two", BEHIND, [where(asleep._replace(timeout=9), 2, load)], [where(for_5, 2, store)]),
     ("timeout: then an atomic flag", NONE, [for_5, seen(load)], [store, set_flag]),
     ("narrow: neighbours, plain", NONE, [at("store", 9, 1)], [at("store", 8, 1), at("store", 10, 2)]),
     ("narrow: a byte in common, plain", RACE, [at("store", 9, 1)], [at("store", 8, 2)]),
@@ -95,12 +95,12 @@ CHANNELS = [
     ("exchange: one that fails, behind the data", RACE, [where(Op("load", F), 2, load)],
      [store, other_exchange], [over]),
     ("exchange: a lock", NONE, [where(exchange, 0, store, let)], [where(exchange, 0, load, let)]),
-    ("exchange: written over", KNOWN, [seen(at("load", F), flag=G)], [exchange], [over, set_other]),
-    ("exchange: written over, and read more widely", MIXED_KNOWN, [seen(at("load", F, 8, True), flag=FAR)], [exchange],
+    ("exchange: written over", RACE, [seen(at("load", F), flag=G)], [exchange], [over, set_other]),
+    ("exchange: written over, and read more widely", MIXED, [seen(at("load", F, 8, True), flag=FAR)], [exchange],
      [over, Op("store", FAR)]),
-    ("exchange: written over, and a wait that reads more widely", MIXED_KNOWN,
+    ("exchange: written over, and a wait that reads more widely", MIXED,
      [seen(Op("wait", F, 8, expected=9), flag=FAR)], [exchange], [over, Op("store", FAR)]),
-    ("exchange: written over by who reads it then", KNOWN, [over, at("load", F)], [exchange]),
+    ("exchange: written over by who reads it then", RACE, [over, at("load", F)], [exchange]),
     ("exchange: written over, and written plainly", RACE, [seen(at("store", F), flag=G)], [exchange],
      [over, set_other]),
     ("exchange: written over by an exchange", NONE, [seen(at("load", F), flag=G)], [exchange],

@@ -1,6 +1,8 @@
-"""All runs of a drawn module, for agree.py: whether some run has a race by what happens before what, and whether in
-some run two threads are at once before accesses that race. It goes through the operations themselves, in every order,
-and shares no code with the program. Runs that differ in the order of entries alone that nothing orders are one.
+"""All runs of a drawn module, for agree.py: whether some run has a race by what happens before what; whether in some run
+two threads are at once before accesses that race, or one is before an access that races with what another thread would
+write by a compare-exchange, had no store come over it; and whether a thread waits with a timeout. It goes through the
+operations themselves, in every order, and shares no code with the program. Runs that differ in the order of entries
+alone that nothing orders are one.
 
 The definitions are those of MEMORY_MODEL.md, "Races", written down plainly. A thread knows of each thread how many of
 its epochs happened before; an epoch ends with what another thread may read.
@@ -23,7 +25,7 @@ class World:
         # of each thread the operations that are left, as pairs, its local, and the low part of a load over two words
         self.threads, self.knows = [(linked(ops), 0, None)], [(0,)]
         # of each byte the last write: its range, whether it was atomic, and what its thread knew
-        self.written, self.clocks, self.accesses = {}, {}, frozenset()
+        self.written, self.clocks, self.accesses, self.over = {}, {}, frozenset(), frozenset()
 
     def copy(self):
         new = World.__new__(World)
@@ -34,7 +36,8 @@ class World:
 
     def key(self):
         tables = (frozenset(table.items()) for table in (self.memory, self.written, self.clocks))
-        return (self.pages, self.sleepers, self.alive, tuple(self.threads), tuple(self.knows), self.accesses, *tables)
+        return (self.pages, self.sleepers, self.alive, tuple(self.threads), tuple(self.knows), self.accesses, self.over,
+                *tables)
 
 
 def linked(ops, rest=None):
@@ -97,6 +100,12 @@ def wanted(world, n, most):
     return (not op.atomic, writes, addr, width)
 
 
+def is_timed(world, n):
+    """Whether a thread that can go on waits next, within bounds, with a timeout that isn't 0 and ends."""
+    op = world.threads[n][0][0]
+    return op.kind == "wait" and op.timeout > 0
+
+
 def are_racing(a, b):
     meet = a[2] < b[2] + b[3] and b[2] < a[2] + a[3]
     return meet and (a[1] or b[1]) and (a[0] or b[0] or a[2:] != b[2:])
@@ -105,12 +114,12 @@ def are_racing(a, b):
 class Runs:
     def __init__(self, bodies, most, limit=100000):
         self.bodies, self.most, self.limit = bodies, most, limit
-        self.meet, self.kinds, self.ordered, self.states = False, set(), False, 0
+        self.meet, self.timed, self.kinds, self.ordered, self.states = False, False, set(), False, 0
 
     def go(self):
         first = World(self.bodies[0])
         seen, open = {first.key()}, [first]
-        while open and not (self.meet and "race" in self.kinds):
+        while open and not self.is_settled():
             world = open.pop()
             self.look(world)
             for n in world.alive:
@@ -124,14 +133,35 @@ class Runs:
                 raise TooMany
         self.states = len(seen)
 
+    def said(self):
+        """What `search --all` is to say of races."""
+        return "found" if self.meet else "only behind timeouts" if self.timed else "never"
+
+    def is_settled(self):
+        """Whether no further state tells anything new: there are races by both definitions."""
+        return self.meet and "race" in self.kinds
+
     def look(self, world):
         wants = [(n, a) for n in world.alive if (a := wanted(world, n, self.most))]
         self.meet |= any(n < m and are_racing(a, b) for n, a in wants for m, b in wants)
+        self.meet |= any(n != m and are_racing(a, (False, True, *over)) for n, a in wants for m, *over in world.over)
+        self.timed |= any(is_timed(world, n) for n, _ in wants)
 
-    # What an entry does. An access is (thread, epoch, location, address, width, writes, atomic, exchange, marks).
+    # What an entry does. An access is (thread, epoch, location, address, width, writes, atomic, marks).
+
+    def write_over(self, world, n):
+        """Who would write by a compare-exchange where thread n stores over it, whatever is there, until it goes on."""
+        made, (ops, _, _) = wanted(world, n, self.most), world.threads[n]
+        world.over = frozenset(over for over in world.over if over[0] != n)
+        if not made or not ops[0].atomic or ops[0].kind != "store" or is_unaligned(ops[0]):
+            return
+        would = {(m, *a[2:]) for m in world.alive if m != n and world.threads[m][0] and world.threads[m][0][0].kind == "cas"
+                 if (a := wanted(world, m, self.most)) and a == (False, True, *made[2:])}
+        world.over |= would
 
     def step(self, before, n):
         world = before.copy()
+        self.write_over(world, n)
         ops, r, _ = world.threads[n]
         if ops is None:
             world.alive = tuple(m for m in world.alive if m != n)
@@ -158,8 +188,8 @@ class Runs:
 
     def entry(self, world, n, accesses):
         """Joins what they read from, tells races with what was made before, and notes them. An access is (location,
-        address, width, reads, writes, atomic, whether it is a compare-exchange)."""
-        for location, addr, width, reads, writes, atomic, _ in accesses:
+        address, width, reads, writes, atomic)."""
+        for location, addr, width, reads, writes, atomic in accesses:
             if reads and atomic:
                 self.join(world, n, self.source(world, location, addr, width))
         for one in accesses:
@@ -167,7 +197,7 @@ class Runs:
         for one in accesses:
             self.note(world, n, *one)
 
-    def tell(self, world, n, location, addr, width, reads, writes, atomic, exchange):
+    def tell(self, world, n, location, addr, width, reads, writes, atomic):
         for a in world.accesses:
             meet = a[2] == location and a[3] < addr + width and addr < a[3] + a[4]
             if a[0] == n or not meet or not (a[5] or writes) or a[6] and atomic and a[3:5] == (addr, width):
@@ -175,25 +205,14 @@ class Runs:
             if world.knows[n][a[0]] > a[1]:
                 self.ordered = True
             else:
-                is_over = "over" in a[8] and not writes
-                self.kinds.add("timeout" if "slept" in a[8] else "written over" if is_over else "race")
+                self.kinds.add("timeout" if "slept" in a[7] else "race")
 
-    def note(self, world, n, location, addr, width, reads, writes, atomic, exchange):
-        if location == BYTES:
-            self.mark_over(world, n, addr, width, reads, writes, atomic)
-        what = (location, addr, width, writes, atomic, exchange and writes)
-        others = frozenset(a for a in world.accesses if a[0] != n or a[2:8] != what or a[8])
+    def note(self, world, n, location, addr, width, reads, writes, atomic):
+        what = (location, addr, width, writes, atomic)
+        others = frozenset(a for a in world.accesses if a[0] != n or a[2:7] != what or a[7])
         world.accesses = others | {(n, world.knows[n][n], *what, frozenset())}
         if writes:
             self.writes(world, n, location, addr, width, atomic)
-
-    def mark_over(self, world, n, addr, width, reads, writes, atomic):
-        """Marks exchanges whose bytes are stored over by a thread that doesn't know of them, without a look."""
-        def is_over(a):
-            return a[7] and a[0] != n and a[3:5] == (addr, width) and world.knows[n][a[0]] <= a[1]
-
-        if writes and atomic and not reads:
-            world.accesses = frozenset(a[:8] + (a[8] | {"over"},) if is_over(a) else a for a in world.accesses)
 
     def source(self, world, location, addr, width):
         if location != BYTES:
@@ -221,7 +240,7 @@ class Runs:
 
     def within(self, world, n, op, accesses):
         """An entry that looks at the number of pages, where that may matter; whether its bytes are within them."""
-        looks = [(PAGES, 0, 1, True, False, False, False)] if end_of(op) > PAGE else []
+        looks = [(PAGES, 0, 1, True, False, False)] if end_of(op) > PAGE else []
         is_within = end_of(op) <= world.pages * PAGE
         self.entry(world, n, (accesses if is_within else []) + looks)
         if not is_within:
@@ -233,7 +252,7 @@ class Runs:
         addr, width = part_of(op, low is not None)
         old, value = loaded(world, addr, width), operand(op, r) & (1 << 8 * op.width) - 1
         writes = op.kind in ("store", "add", "xchg") or op.kind == "cas" and old == op.expected & (1 << 64) - 1
-        access = (BYTES, addr, width, op.kind != "store", writes, op.atomic, op.kind == "cas")
+        access = (BYTES, addr, width, op.kind != "store", writes, op.atomic)
         if not self.within(world, n, op, [access]):
             return
         if writes:
@@ -246,12 +265,12 @@ class Runs:
     do_load = do_store = do_add = do_xchg = do_cas = do_bytes
 
     def do_size(self, world, n, op, r):
-        self.entry(world, n, [(PAGES, 0, 1, True, False, True, False)])
+        self.entry(world, n, [(PAGES, 0, 1, True, False, True)])
         self.goes_on(world, n, world.pages)
 
     def do_grow(self, world, n, op, r):
         can, old = has_space(world, op, r, self.most), world.pages
-        self.entry(world, n, [(PAGES, 0, 1, True, can, True, False)])
+        self.entry(world, n, [(PAGES, 0, 1, True, can, True)])
         world.pages += (operand(op, r) & MASK) if can else 0
         self.goes_on(world, n, old if can else -1)
 
@@ -259,7 +278,7 @@ class Runs:
         self.goes_on(world, n, None)
 
     def do_spawn(self, world, n, op, r):
-        self.entry(world, n, [(THREADS, 0, 1, True, True, True, False)])
+        self.entry(world, n, [(THREADS, 0, 1, True, True, True)])
         number, body = len(world.threads), operand(op, r)
         ops = self.bodies[body] if 0 < body < len(self.bodies) else []
         world.threads.append((linked(ops), 0, None))
@@ -269,7 +288,7 @@ class Runs:
         self.goes_on(world, n, number)
 
     def do_wait(self, world, n, op, r):
-        asked = [(BYTES, op.addr, op.width, True, False, True, False), (LIST, op.addr, 1, True, True, True, False)]
+        asked = [(BYTES, op.addr, op.width, True, False, True), (LIST, op.addr, 1, True, True, True)]
         if not self.within(world, n, op, asked):
             return
         if loaded(world, op.addr, op.width) != op.expected:
@@ -281,7 +300,7 @@ class Runs:
         self.settle(world)
 
     def do_notify(self, world, n, op, r):
-        if not self.within(world, n, op, [(LIST, op.addr, 1, True, True, True, False)]):
+        if not self.within(world, n, op, [(LIST, op.addr, 1, True, True, True)]):
             return
         woken = [s for s in world.sleepers if s[1] == op.addr][:operand(op, r) & MASK]
         world.sleepers = tuple(s for s in world.sleepers if s not in woken)
@@ -301,5 +320,5 @@ class Runs:
             return
         n = min(timed)[1]
         world.sleepers = tuple(s for s in world.sleepers if s[0] != n)
-        world.accesses = frozenset(a[:8] + (a[8] | {"slept"},) for a in world.accesses)
+        world.accesses = frozenset(a[:7] + (a[7] | {"slept"},) for a in world.accesses)
         self.goes_on(world, n, 2)

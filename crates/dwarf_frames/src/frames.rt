@@ -11,7 +11,7 @@ use std::alloc::{AllocError, Global};
 use std::fmt::Write;
 
 /// What stands for a name that isn't known.
-const UNKNOWN: &str = "?";
+pub(crate) const UNKNOWN: &str = "?";
 
 /// The most bytes of calls, behind which further ones are only said to be there.
 const MOST_CALLS: usize = 1024;
@@ -36,7 +36,7 @@ pub struct CallFrame {
 }
 
 /// Behind the name of a function that calls another one: the file and the line of the call, as far as they are known.
-fn write_place(
+pub(crate) fn write_place(
     file: Option<Source>,
     line: Option<u64>,
     words: &mut String,

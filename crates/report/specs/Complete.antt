@@ -25,7 +25,7 @@ abbrev pub race_words : Racing → List ℕ
 race_words Unasked = []
 race_words Never = codes ", no race"
 race_words OnlyBehindTimeouts = codes ", no race, but for what comes behind waits with a timeout"
-race_words (Found r) = codes ", with races"
+race_words (Found r) = codes ", with races: status 1 without --allow-races"
 race_words racings.Unknown = []
 
 abbrev pub races_unknown : Racing → List ℕ

@@ -46,7 +46,7 @@ text_of_none None is_told s table = behind_text is_told s table
 text_of_none (Some races) is_told s table = raceless_text is_told s table
 
 -- The run with a race that was found, or where that is asked for one by the call that was shrunk and has one too; the sizes
--- of both, where it was shrunk; and a race of it.
+-- of both, where it was shrunk; and its races.
 pub record HasRacy (q : Requested) (s : Search) (run : ℕ) (found : MadeRun) (k : KeptRace) : Type 0 where
   pub number : k.run ≡ run
   pub find : IsFindBy (SaysRaceOf q) q s.sought.limit k.racy.made

@@ -15,8 +15,8 @@ use Rattle.search_modules.specs.Liveness.{CountsOwned, SaysWhereAllFree}
 use Rattle.search_finds.specs.Finds.{IsFind}
 use Rattle.report_command.specs.declared.search.Search.{Search}
 use Rattle.report_jobs.specs.Prints.{WriterChange, KeepsRecord}
-use Rattle.report_looks.specs.Raced.{SaysPair}
-use Rattle.report_looks.specs.Sighted.{CanBeTold, IsFirstRace}
+use Rattle.report_looks.specs.Raced.{SaysFound}
+use Rattle.report_looks.specs.Sighted.{CanBeTold, AreRacesOf}
 use Rattle.search_race_free.specs.declared.race.ThreadRace.{ThreadRace}
 use Rattle.report.specs.declared.raced.Raced.{Raced}
 use Rattle.report.specs.declared.raced.Raced.TheVariants as raced
@@ -115,7 +115,7 @@ threads_line one other =
 
 -- What is told of a race: of a run that was made, or of the threads alone.
 abbrev pub IsRacyRun : Parts → RacyRun → Type 0
-IsRacyRun m run = IsFirstRace m run.made.record run.race
+IsRacyRun m run = AreRacesOf m run.made.record run.race
 
 abbrev pub IsRacedIn : Parts → Raced → Type 0
 IsRacedIn m (raced.Run run kept) = IsRacyRun m run
@@ -147,9 +147,9 @@ abbrev pub unkept_text : Bool → List ℕ
 unkept_text true = []
 unkept_text false = codes "  to keep this run: search --all --races --record OUT\n"
 
--- Its lines: the race of the run in the words of `races`, and how that can be kept, where it isn't; or the threads alone.
+-- Its lines: the races of the run in the words of `races`, and how that can be kept, where it isn't; or the threads alone.
 abbrev pub SaysRaced : Parts → Raced → List ℕ → Type 0
-SaysRaced m (raced.Run run kept) text = (pair : List ℕ) × SaysPair m run.made.record pair × (text ≡ pair ++ unkept_text kept)
+SaysRaced m (raced.Run run kept) text = (pair : List ℕ) × SaysFound m run.made.record pair × (text ≡ pair ++ unkept_text kept)
 SaysRaced m (raced.Threads r) text = text ≡ threads_line r.one r.other
 SaysRaced m raced.Untold text = text ≡ []
 

@@ -12,7 +12,7 @@ use Rattle.report_jobs.specs.Prints.{WriterChange}
 use Rattle.report_json.specs.declared.raced.RunRaces.{RunRaces}
 use Rattle.report_lines.specs.Drawn.{cut_line}
 use Rattle.report_lines.specs.Found.{found_run_line}
-use Rattle.report_looks.specs.Raced.{SaysPair}
+use Rattle.report_looks.specs.Raced.{SaysFound}
 use Rattle.report_looks.specs.Sighted.{CanBeTold}
 use Rattle.report.specs.Complete.{complete_lines}
 use Rattle.report.specs.Drawn.{coverage_of, cut_in, table_lines}
@@ -47,10 +47,10 @@ abbrev pub EndsKept : Form → Sought → EndingTable → KeptRun → WriterChan
 EndsKept Lines s table k out = Appends out.old out.new (kept_text s.dump k)
 EndsKept Json s table k out = WritesKept s table k out
 
--- The sizes of the run, a race of it in the words of `races`, and its lines.
+-- The sizes of the run, its races in the words of `races`, and its lines.
 pub record TellsRacy (m : Parts) (dump : ℕ) (k : KeptRace) (out : WriterChange) : Type 0 where
   pub pair : List ℕ
-  pub says : SaysPair m k.racy.made.record pair
+  pub says : SaysFound m k.racy.made.record pair
   pub lines : Appends out.old out.new (shrunk_text k.shrunk ++ (pair ++ run_lines dump k.racy.made))
 
 abbrev pub EndsRacy : Form → Parts → Sought → EndingTable → KeptRace → WriterChange → Type 0

@@ -18,7 +18,7 @@ use Rattle.report_json.specs.declared.found.FoundAs.TheVariants as founds
 use Rattle.report_json.specs.declared.raced.RunRaces.{RunRaces}
 use Rattle.report_json.specs.declared.raced.RunRaces.TheVariants as said
 use Rattle.report_lines.specs.Found.{found_run_line}
-use Rattle.report_looks.specs.Raced.{SaysPair}
+use Rattle.report_looks.specs.Raced.{SaysFound}
 use Rattle.report.specs.Complete.{complete_lines}
 use Rattle.report.specs.Drawn.{behind_text}
 use Rattle.report.specs.DrawnRaces.{HasRacy, SaysRaceOf, raceless_text}
@@ -118,7 +118,7 @@ pub record TellsDrawn (m : Parts) (s : Search) (out save : WriterChange) (status
 pub record LinesOfRacy (m : Parts) (s : Search) (table : EndingTable) (run : ℕ) (k : KeptRace)
     (out : WriterChange) : Type 0 where
   pub pair : List ℕ
-  pub says : SaysPair m k.racy.made.record pair
+  pub says : SaysFound m k.racy.made.record pair
   pub lines : Appends out.old out.new (head_lines s.sought table ++ (found_run_line run
       ++ (shrunk_text k.shrunk ++ (pair ++ run_lines s.sought.dump k.racy.made))))
 

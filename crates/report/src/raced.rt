@@ -12,7 +12,7 @@ use crate::whole::{FirstLook, Racing};
 use report_command::Sought;
 use report_jobs::Trouble;
 use report_json::Shrunk;
-use report_looks::{FirstRace, first_race};
+use report_looks::{RacesOfRun, races_of_run};
 use search_finds::{Hears, NumberedRun, run_round, shrunk_by, size_of};
 use search_modules::{MOST_PLAIN, ThreadRace, race_choices};
 use search_races::RaceJudge;
@@ -24,7 +24,7 @@ use std::alloc::Global;
 #[derive(Drop)]
 pub(crate) struct RacyRun<'m, 'n> {
     pub made: MadeRun,
-    pub race: FirstRace<'m, 'n>,
+    pub race: RacesOfRun<'m, 'n>,
 }
 
 /// What is told of a race of all runs.
@@ -82,7 +82,7 @@ fn racy_run<'a>(
         Ok(made) => made,
         Err(_) => return Err(Trouble::NoMemory),
     };
-    match first_race(alloc, request.module(), &made.record, code) {
+    match races_of_run(alloc, request.module(), &made.record, code) {
         Ok(Some(race)) => Ok(Some(RacyRun { made, race })),
         Ok(None) => Ok(None),
         Err(unwritten) => Err(trouble_of(unwritten)),
@@ -170,7 +170,7 @@ pub(crate) fn kept_race<'a, F: Hears>(
     let was = size_of(&made.record);
     let made = smaller_racy(alloc, call, made, follower)?;
     let is = size_of(&made.record);
-    match first_race(alloc, call.request.module(), &made.record, call.code) {
+    match races_of_run(alloc, call.request.module(), &made.record, call.code) {
         Ok(Some(race)) => Ok(KeptRace {
             run,
             shrunk: shrunk_if(call.search.shrink, was, is),

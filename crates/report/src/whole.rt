@@ -48,7 +48,7 @@ impl Racing {
             Racing::Never => ", no race",
             Racing::OnlyBehindTimeouts =>
                 ", no race, but for what comes behind waits with a timeout",
-            Racing::Found(_) => ", with races",
+            Racing::Found(_) => ", with races: status 1 without --allow-races",
             Racing::Unasked | Racing::Unknown => "",
         }
     }

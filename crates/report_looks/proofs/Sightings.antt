@@ -1,5 +1,5 @@
--- The races that a run has, and the first one, by other names of what they are told by.
-use Rattle.std.proofs.Common.{ℕ, ◌≡◌, ◌∙◌, ◌<◌, ◌==◌, Bool, true, false, List, [], ◌∷◌, Option, length, get_or, ap, subst, sym, arith, All}
+-- The races that a run has, by other names of what they are told by.
+use Rattle.std.proofs.Common.{ℕ, ◌≡◌, ◌∙◌, ◌<◌, ◌==◌, Bool, true, false, List, [], ◌∷◌, Option, length, get_or, ap, refl, subst, sym, arith, All}
 use Rattle.std.proofs.lemmas.Bool.{eqb-true}
 use Rattle.std.proofs.lemmas.List.Elements.{Contains-get_or}
 use Rattle.types.specs.declared.event.Entry.{Entry}
@@ -17,31 +17,35 @@ use Rattle.show_races.specs.Rows.{AreRowsOf, sites_of}
 use Rattle.show_races.specs.Sites.{opening_of}
 use Rattle.show_races.proofs.Told.{sites_alike, told_of}
 use Rattle.show_races.specs.Told.{HasNoRace, IsWithin}
-use Rattle.show_race_words.specs.Written.{SaysRace, WritesFirst}
+use Rattle.show_race_words.specs.Written.{TellsFound}
 use Rattle.show_rows.specs.Listing.{IsStoryOf}
 use Rattle.show_rows.specs.declared.code.CodeMap.{CodeMap}
 use Rattle.show_rows.specs.declared.listing.Shown.{Shown}
 use Rattle.show_rows.specs.declared.rows.Row.{Row}
 use Rattle.report_objects.specs.RaceObjects.{IsPairOf}
-use Rattle.report_looks.specs.Raced.{IsSeen, IsShownOf, SaysObject, SaysOf, WritesPair}
-use Rattle.report_looks.specs.Sighted.{AreTold, IsFirstRace, IsShownBy}
-use Rattle.report_looks.specs.declared.sighting.FirstRace.{FirstRace}
+use Rattle.report_looks.specs.Raced.{IsSeen, IsShownOf, SaysObject, SaysOf, WritesFound}
+use Rattle.report_looks.specs.Sighted.{AreTold, AreRacesOf, IsShownBy}
+use Rattle.report_looks.specs.declared.sighting.RacesOfRun.{RacesOfRun}
 use Rattle.report_looks.specs.declared.sighting.ToldRaces.{ToldRaces}
+use Rattle.report_looks.specs.declared.sighting.TheConstants.{MOST_TOLD}
+
+-- what shows the same
+same_shown : (a b : Shown) → a.record.now ≡ b.record.now → a.rows.now ≡ b.rows.now → a.code.now ≡ b.code.now → a ≡ b
+same_shown a b entries rows code = cc (entries, rows, code)
 
 module _ (m : Parts) (r : RecordParts) (rows : List (Option Row)) (seen : (end : EndState) × IsRunOf m r end × AreRowsOf m r end rows)
-    (shown : Shown) (of_record : shown.record.now ≡ r) (of_rows : shown.rows.now ≡ rows) (of_module : shown.code.now.parts.now ≡ m)
-    (most : ℕ) where
+    (shown : Shown) (of_record : shown.record.now ≡ r) (of_rows : shown.rows.now ≡ rows) (of_module : shown.code.now.parts.now ≡ m) where
   log : shown.record.now.log ≡ r.log
   log = ap (λ (p : RecordParts). p.log) of_record
 
-  pub first_by : (f : FirstRace) → f.rows.items ≡ rows → f.code.parts.now ≡ m → AreTold shown most f.told → 0 < length f.told.races.pairs.items
-      → IsFirstRace m r f
-  first_by f same code told some =
+  pub races_by : (f : RacesOfRun) → f.rows.items ≡ rows → shown.code.now ≡ f.code → AreTold shown MOST_TOLD f.told
+      → 0 < length f.told.races.pairs.items → AreRacesOf m r f
+  races_by f same code told some =
       let mine = of_rows ∙ sym same in
       let alike = sites_alike shown.record.now.log r.log shown.code.now.parts.now m shown.rows.now f.rows.items log of_module mine in
       record {
         seen = (seen.0, seen.1, subst (λ (xs : List (Option Row)). AreRowsOf m r seen.0 xs) (sym same) seen.2);
-        of_module = code;
+        of_module = sym (ap (λ (c : CodeMap). c.parts.now) code) ∙ of_module;
         is_story = subst (λ (l : List Entry). IsStoryOf l f.told.story) log told.is_story;
         sites = told.sites ∙ alike;
         races = told_of (λ l k o. AreRaces l k o f.told.races.pairs.items) shown.record.now.log r.log shown.code.now.parts.now m shown.rows.now
@@ -50,9 +54,11 @@ module _ (m : Parts) (r : RecordParts) (rows : List (Option Row)) (seen : (end :
           some = some;
           within = subst (λ (l : List Entry). All (IsWithin l) f.told.races.pairs.items) log told.within;
         };
+        shown = λ other is. subst (λ (x : Shown). AreTold x MOST_TOLD f.told)
+            (same_shown shown other (of_record ∙ sym is.of_record) (mine ∙ sym is.of_rows) (code ∙ sym is.of_code)) told;
       }
 
-  pub none_by : (t : ToldRaces) → AreTold shown most t → t.races.pairs.items ≡ [] → SaysOfRun m r false
+  pub none_by : (t : ToldRaces) → AreTold shown MOST_TOLD t → t.races.pairs.items ≡ [] → SaysOfRun m r false
   none_by t told empty = record {
     rows = rows;
     end = seen.0;
@@ -63,7 +69,7 @@ module _ (m : Parts) (r : RecordParts) (rows : List (Option Row)) (seen : (end :
   }
 
 -- what is shown by its rows and its code
-pub shown_by : (m : Parts) (r : RecordParts) (f : FirstRace) → IsFirstRace m r f → (shown : Shown) → IsShownBy r f shown
+pub shown_by : (m : Parts) (r : RecordParts) (f : RacesOfRun) → AreRacesOf m r f → (shown : Shown) → IsShownBy r f shown
     → IsShownOf m r f.rows.items shown f.told.story
 shown_by m r f first shown is = record {
   of_record = is.of_record;
@@ -72,12 +78,12 @@ shown_by m r f first shown is = record {
   is_story = subst (λ (l : List Entry). IsStoryOf l f.told.story) (sym (ap (λ (p : RecordParts). p.log) is.of_record)) first.is_story;
 }
 
-race_of : (m : Parts) (r : RecordParts) (f : FirstRace) → IsFirstRace m r f → (d : Race)
+race_of : (m : Parts) (r : RecordParts) (f : RacesOfRun) → AreRacesOf m r f → (d : Race)
     → IsLastRace r.log (sites_of m r f.rows.items) (opening_of m) (get_or f.told.races.pairs.items 0 d)
 race_of m r f first d = first.races (get_or f.told.races.pairs.items 0 d) (Contains-get_or f.told.races.pairs.items 0 d first.told.some)
 
--- the first of a run's races, in an object
-pub object_by : (m : Parts) (r : RecordParts) (f : FirstRace) → IsFirstRace m r f → (shown : Shown) → IsShownBy r f shown
+-- the first one in an object
+pub object_by : (m : Parts) (r : RecordParts) (f : RacesOfRun) → AreRacesOf m r f → (shown : Shown) → IsShownBy r f shown
     → (sites : List Site) (ps : List Race) (d : Race) (pair : RacePair) → sites ≡ f.told.races.sites.items → ps ≡ f.told.races.pairs.items
     → IsPairOf shown f.told.story sites (get_or ps 0 d) pair → SaysObject m r pair
 object_by m r f first shown is sites ps d pair same alike says =
@@ -96,35 +102,32 @@ object_by m r f first shown is sites ps d pair same alike says =
       says = subst (λ (ks : List Site). IsPairOf shown f.told.story ks (get_or f.told.races.pairs.items 0 d) pair) (same ∙ first.sites) there;
     }
 
--- and in words
-pub pair_by : (m : Parts) (r : RecordParts) (f : FirstRace) → IsFirstRace m r f → (shown : Shown) → IsShownBy r f shown
-    → (is : Bool) (old new : Option (List ℕ)) → WritesFirst shown f.map f.told.story f.told.races is old new → WritesPair m r (change old new)
-pair_by m r f first shown is true old new (race, within, at, text, says, lines) = (
-  text,
+-- and all in words
+pub found_by : (m : Parts) (r : RecordParts) (f : RacesOfRun) → AreRacesOf m r f → (shown : Shown) → IsShownBy r f shown
+    → (old new : Option (List ℕ)) → TellsFound shown f.map f.told.story f.told.races old new → WritesFound m r (change old new)
+found_by m r f first shown is old new (texts, says, lines) = (
+  _,
   lines,
-  (
-    f.map,
-    record {
-      rows = f.rows.items;
-      end = first.seen.0;
-      run = first.seen.1;
-      rows_are = first.seen.2;
-      shown = shown;
-      story = f.told.story;
-      is_shown = shown_by m r f first shown is;
-      race = race;
-      is_race = first.races race (0, within, at);
-      says = subst (λ (ks : List Site). SaysRace shown f.map f.told.story ks race text) first.sites says;
-    },
-  ),
+  record {
+    rows = f.rows.items;
+    end = first.seen.0;
+    run = first.seen.1;
+    rows_are = first.seen.2;
+    shown = shown;
+    story = f.told.story;
+    is_shown = shown_by m r f first shown is;
+    map = f.map;
+    races = f.told.races;
+    told = first.shown shown is;
+    some = first.told.some;
+    texts = texts;
+    says = says;
+    is = refl;
+  },
 )
-pair_by m r f first shown is false old new (none, same) =
-    let some = first.told.some in
-    let empty : length f.told.races.pairs.items ≡ 0 = ap length none in
-    absurd (omega (arith, some, empty))
 
 -- a run with a race to tell has one
-pub says_race : (m : Parts) (r : RecordParts) (f : FirstRace) → IsFirstRace m r f → (d : Race) → SaysOfRun m r true
+pub says_race : (m : Parts) (r : RecordParts) (f : RacesOfRun) → AreRacesOf m r f → (d : Race) → SaysOfRun m r true
 says_race m r f first d = record {
   rows = f.rows.items;
   end = first.seen.0;

@@ -1,5 +1,6 @@
 -- What is said of the races of a record's run.
-use Rattle.std.specs.Prelude.{ℕ, ◌≡◌, ◌≤◌, ◌⊎◌, Bool, true, false, List, length, Option}
+use Rattle.std.specs.Prelude.{ℕ, ◌≡◌, ◌≤◌, ◌<◌, ◌⊎◌, ◌++◌, Bool, true, false, List, length, Option}
+use Rattle.std.specs.List.{AllZip, concat}
 use Rattle.std.specs.Io.KnownBytes.{Appends}
 use Rattle.types.specs.declared.parts.Parts.{Parts}
 use Rattle.validate_typing.specs.Validity.{IsValid}
@@ -19,13 +20,15 @@ use Rattle.show_races.specs.Rows.{AreRowsOf, sites_of}
 use Rattle.show_races.specs.Sites.{opening_of}
 use Rattle.show_races.specs.Told.{AreApart, AreMany, HasNoRace, IsMore, TellsEach}
 use Rattle.show_named.specs.declared.data_map.DataMap.{DataMap}
-use Rattle.show_race_words.specs.Written.{SaysRace, TellsRaces}
+use Rattle.show_race_words.specs.Written.{SaysRace, TellsRaces, more_text}
 use Rattle.show_races.specs.declared.found.RecordRaces.{RecordRaces}
 use Rattle.report_command.specs.declared.form.Form.{Form}
 use Rattle.report_command.specs.declared.form.Form.TheVariants.{Lines, Json}
 use Rattle.report_jobs.specs.Prints.{WriterChange}
 use Rattle.show_json.specs.declared.races.RacePair.{RacePair}
 use Rattle.report_objects.specs.RaceObjects.{IsPairOf, WritesPairs}
+use Rattle.report_looks.specs.Sighted.{AreTold}
+use Rattle.report_looks.specs.declared.sighting.TheConstants.{MOST_TOLD}
 
 -- The text is that of this record, of a run of the module, and these are its rows.
 pub record IsSeen (m : Parts) (saved : List ℕ) (r : RecordParts) (rows : List (Option Row)) : Type 0 where
@@ -111,14 +114,28 @@ pub record HasPair (m : Parts) (r : RecordParts)
   pub is_race : IsLastRace r.log (sites_of m r rows) (opening_of m) race
   pub says : IsSaid shown story (sites_of m r rows) race
 
--- The text says so in the words of `races`, with names of data.
-abbrev pub SaysPair : Parts → RecordParts → List ℕ → Type 0
-SaysPair m r text = (map : DataMap) × HasPair m r (λ shown story sites race. SaysRace shown map story sites race text)
+-- The text tells of races of a run in the words of `races`, with names of data: of each race at its two places in the code,
+-- where it doesn't say that these are not all, no two of the same two places; and there is one.
+pub record SaysFound (m : Parts) (r : RecordParts) (text : List ℕ) : Type 0 where
+  pub rows : List (Option Row)
+  pub end : EndState
+  pub run : IsRunOf m r end
+  pub rows_are : AreRowsOf m r end rows
+  pub shown : Shown
+  pub story : Story
+  pub is_shown : IsShownOf m r rows shown story
+  pub map : DataMap
+  pub races : RecordRaces
+  pub told : AreTold shown MOST_TOLD (record { story = story; races = races })
+  pub some : 0 < length races.pairs.items
+  pub texts : List (List ℕ)
+  pub says : AllZip (SaysRace shown map story races.sites.items) races.pairs.items texts
+  pub is : text ≡ concat texts ++ more_text races.is_cut (length races.pairs.items)
 
 -- An object says so.
 abbrev pub SaysObject : Parts → RecordParts → RacePair → Type 0
 SaysObject m r pair = HasPair m r (λ shown story sites race. IsPairOf shown story sites race pair)
 
--- A race of a run was written.
-abbrev pub WritesPair : Parts → RecordParts → WriterChange → Type 0
-WritesPair m r out = (text : List ℕ) × Appends out.old out.new text × SaysPair m r text
+-- They were written.
+abbrev pub WritesFound : Parts → RecordParts → WriterChange → Type 0
+WritesFound m r out = (text : List ℕ) × Appends out.old out.new text × SaysFound m r text

@@ -1,4 +1,4 @@
--- The races that a run has, and the first one, with what it is told by.
+-- The races that a run has, with what they are told by.
 use Rattle.std.specs.Prelude.{ℕ, ◌≡◌, ◌≤◌, ◌<◌, ◌⊎◌, All, [], true, false, length}
 use Rattle.types.specs.declared.parts.Parts.{Parts}
 use Rattle.replay_text.specs.declared.parts.RecordParts.{RecordParts}
@@ -10,8 +10,9 @@ use Rattle.show_rows.specs.declared.listing.Shown.{Shown}
 use Rattle.show_races.specs.Sites.{opening_of, opening_shown, sites_shown}
 use Rattle.show_races.specs.Told.{AreApart, AreMany, HasNoRace, IsMore, IsWithin, TellsEach}
 use Rattle.show_races.specs.Rows.{AreRowsOf, sites_of}
-use Rattle.report_looks.specs.declared.sighting.FirstRace.{FirstRace}
+use Rattle.report_looks.specs.declared.sighting.RacesOfRun.{RacesOfRun}
 use Rattle.report_looks.specs.declared.sighting.ToldRaces.{ToldRaces}
+use Rattle.report_looks.specs.declared.sighting.TheConstants.{MOST_TOLD}
 
 -- These are races of a run as it is shown, so many at most, no two of the same two places of the code: each one, where it
 -- isn't said that they are cut, and else there are more.
@@ -26,22 +27,23 @@ pub record AreTold (shown : Shown) (most : ℕ) (told : ToldRaces) : Type 0 wher
   pub few : length told.races.pairs.items ≤ most
   pub within : All (IsWithin shown.record.now.log) told.races.pairs.items
 
--- There is a race to tell, of two entries of the record.
-pub record CanBeTold (r : RecordParts) (f : FirstRace) : Type 0 where
+-- There is a race to tell, and each is of two entries of the record.
+pub record CanBeTold (r : RecordParts) (f : RacesOfRun) : Type 0 where
   pub some : 0 < length f.told.races.pairs.items
   pub within : All (IsWithin r.log) f.told.races.pairs.items
 
--- The record is of a run of the module, and these are its rows, its code, and a race of it.
-pub record IsFirstRace (m : Parts) (r : RecordParts) (f : FirstRace) : Type 0 where
+-- The record is shown by these rows and this code.
+pub record IsShownBy (r : RecordParts) (f : RacesOfRun) (shown : Shown) : Type 0 where
+  pub of_record : shown.record.now ≡ r
+  pub of_rows : shown.rows.now ≡ f.rows.items
+  pub of_code : shown.code.now ≡ f.code
+
+-- The record is of a run of the module, and these are its rows, its code, and the races of it that are told.
+pub record AreRacesOf (m : Parts) (r : RecordParts) (f : RacesOfRun) : Type 0 where
   pub seen : (end : EndState) × IsRunOf m r end × AreRowsOf m r end f.rows.items
   pub of_module : f.code.parts.now ≡ m
   pub is_story : IsStoryOf r.log f.told.story
   pub sites : f.told.races.sites.items ≡ sites_of m r f.rows.items
   pub races : AreRaces r.log (sites_of m r f.rows.items) (opening_of m) f.told.races.pairs.items
   pub told : CanBeTold r f
-
--- The record is shown by these rows and this code.
-pub record IsShownBy (r : RecordParts) (f : FirstRace) (shown : Shown) : Type 0 where
-  pub of_record : shown.record.now ≡ r
-  pub of_rows : shown.rows.now ≡ f.rows.items
-  pub of_code : shown.code.now ≡ f.code
+  pub shown : (shown : Shown) → IsShownBy r f shown → AreTold shown MOST_TOLD f.told

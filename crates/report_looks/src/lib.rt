@@ -23,4 +23,4 @@ mod wanted;
 
 pub use racing::races_saved;
 pub use showing::{CodeBytes, show_saved};
-pub use sighting::{FirstRace, first_race};
+pub use sighting::{MOST_TOLD, RacesOfRun, races_of_run};

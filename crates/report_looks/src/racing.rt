@@ -153,7 +153,8 @@ fn write_seen<W: Write>(
         asked.now.form (changed W.contents out.old out.new)) }
 {
     let map = DataMap::read(alloc, code.names)?;
-    let code = CodeMap::read(alloc, module.parts(), code.module, code.names)?;
+    let known = CodeMap::read(alloc, module.parts(), code.module, code.names)?;
+    let code = map.chained(alloc, known, &seen.rows)?;
     let shown = Shown {
         record: seen.record.parts(),
         rows: seen.rows.as_slice(),

@@ -111,16 +111,20 @@ pub struct CodeBytes<'a> {
     pub sources: &'a [SourceFile],
 }
 
-/// The code of a module, with what it is called and the text of its source.
+/// The code of a module, with what it is called, the text of its source, and the functions that were put in the place of
+/// their calls at the places of these rows.
 fn code_of<'a>(
     alloc: Global,
     module: &'a ValidModule,
     code: CodeBytes<'a>,
+    map: &DataMap,
+    rows: &[Option<Row>],
 ) -> Result<CodeMap<'a, 'a>, AllocError>
     ensures { IfOk result (λ c. c.parts.now ≡ «module».now.parts) }
 {
-    let map = CodeMap::read(alloc, module.parts(), code.module, code.names)?;
-    Ok(map.with_sources(Sources::new(alloc, code.sources)?))
+    let known = CodeMap::read(alloc, module.parts(), code.module, code.names)?;
+    let chained = map.chained(alloc, known, rows)?;
+    Ok(chained.with_sources(Sources::new(alloc, code.sources)?))
 }
 
 /// Shows of the record whose text `saved` is what is asked for.
@@ -142,12 +146,12 @@ fn show_record<W: Write>(
         Ok(seen) => seen,
         Err(UnseenRecord { unfit, stood }) => return Err(Unshown::Unfit { unfit, stood }),
     };
-    let places = match code_of(alloc, module, code) {
-        Ok(places) => places,
-        Err(_) => return Err(no_memory()),
-    };
     let map = match DataMap::read(alloc, code.names) {
         Ok(map) => map,
+        Err(_) => return Err(no_memory()),
+    };
+    let places = match code_of(alloc, module, code, &map, &seen.rows) {
+        Ok(places) => places,
         Err(_) => return Err(no_memory()),
     };
     let asked = match asked_of(alloc, seen.record.parts(), &map, how) {

@@ -1,10 +1,10 @@
-//! The races that a run has, and the first one, with what it is told by.
+//! The races that a run has, with what they are told by.
 ghost use Rattle.std.specs.Prelude.{◌≤◌, false, IfOk, IfNone, IfSome};
 ghost use Rattle.types.specs.declared.parts.Parts.{Parts};
 ghost use Rattle.replay_text.specs.declared.parts.RecordParts.{RecordParts};
 ghost use Rattle.show_races.specs.Races.{SaysOfRun};
-ghost use Rattle.report_looks.specs.Raced.{SaysObject, WritesPair};
-ghost use Rattle.report_looks.specs.Sighted.{AreTold, CanBeTold, IsFirstRace, IsShownBy};
+ghost use Rattle.report_looks.specs.Raced.{SaysObject, WritesFound};
+ghost use Rattle.report_looks.specs.Sighted.{AreTold, CanBeTold, AreRacesOf, IsShownBy};
 ghost use Rattle.report_jobs.specs.Prints.{changed};
 
 use crate::showing::CodeBytes;
@@ -13,7 +13,7 @@ use replay_text::Record;
 use report_objects::pair_of;
 use show_json::RacePair;
 use show_named::DataMap;
-use show_race_words::write_first;
+use show_race_words::write_found;
 use show_races::{RecordRaces, races_shown, watched};
 use show_rows::{CodeMap, Row, Shown, Story};
 use show_text::Unwritten;
@@ -42,44 +42,49 @@ pub(crate) fn races_in(alloc: Global, shown: Shown, most: usize) -> Result<ToldR
     Ok(ToldRaces { story, races })
 }
 
-/// The first race of a recorded run, with the rows of its entries, and the code of its module and the names of its data.
+/// How many races are told at most of a run that was found for one.
+pub const MOST_TOLD: usize = 20;
+
+/// The races of a recorded run that has some, with the rows of its entries, and the code of its module and the names of its
+/// data.
 #[derive(Drop)]
-pub struct FirstRace<'m, 'n> {
+pub struct RacesOfRun<'m, 'n> {
     rows: Vec<Option<Row>>,
     code: CodeMap<'m, 'n>,
     map: DataMap<'n>,
     told: ToldRaces,
 }
 
-/// The first race of a recorded run, if it has one.
+/// The races of a recorded run, if it has some: `MOST_TOLD` at most, each two places in the code once.
 ///
 /// # Errors
 /// Where memory is refused; and where the record is none of a run of the module, or has more threads than 64.
-pub fn first_race<'m, 'n>(
+pub fn races_of_run<'m, 'n>(
     alloc: Global,
     module: &'m ValidModule,
     record: &Record,
     code: CodeBytes<'n>,
-) -> Result<Option<FirstRace<'m, 'n>>, Unwritten>
-    ensures race { IfOk result (λ o. IfSome o (IsFirstRace «module».now.parts «record».now)) }
+) -> Result<Option<RacesOfRun<'m, 'n>>, Unwritten>
+    ensures race { IfOk result (λ o. IfSome o (AreRacesOf «module».now.parts «record».now)) }
     ensures none { IfOk result (λ o. IfNone o (SaysOfRun «module».now.parts «record».now false)) }
 {
     let Ok(rows) = watched(alloc, module, record) else {
         return Err(Unwritten::NoMemory);
     };
     let names = code.names;
-    let code = CodeMap::read(alloc, module.parts(), code.module, names)?;
+    let map = DataMap::read(alloc, names)?;
+    let known = CodeMap::read(alloc, module.parts(), code.module, names)?;
+    let code = map.chained(alloc, known, &rows)?;
     let shown = Shown {
         record: record.parts(),
         rows: rows.as_slice(),
         code: &code,
     };
-    let told = races_in(alloc, shown, 1)?;
+    let told = races_in(alloc, shown, MOST_TOLD)?;
     if told.races.pairs.as_slice().is_empty() {
         return Ok(None);
     }
-    let map = DataMap::read(alloc, names)?;
-    Ok(Some(FirstRace {
+    Ok(Some(RacesOfRun {
         rows,
         code,
         map,
@@ -87,7 +92,7 @@ pub fn first_race<'m, 'n>(
     }))
 }
 
-impl<'m, 'n> FirstRace<'m, 'n> {
+impl<'m, 'n> RacesOfRun<'m, 'n> {
     /// The record of the run as it is shown.
     pub fn shown<'a>(&'a self, record: &'a Record) -> Shown<'a, 'a, 'a, 'm, 'n>
         ensures { IsShownBy «record».now self.now result }
@@ -99,7 +104,7 @@ impl<'m, 'n> FirstRace<'m, 'n> {
         }
     }
 
-    /// Writes the race of the run in words.
+    /// Writes the races of the run in words, a paragraph each.
     ///
     /// # Errors
     /// Where memory is refused, or the stream fails.
@@ -110,10 +115,10 @@ impl<'m, 'n> FirstRace<'m, 'n> {
         out: &mut W,
     ) -> Result<(), Unwritten>
         requires { CanBeTold «record».now self.now }
-        ensures { (m : Parts) → IsFirstRace m «record».now self.now
-            → IfOk result (λ _. WritesPair m «record».now (changed W.contents out.old out.new)) }
+        ensures { (m : Parts) → AreRacesOf m «record».now self.now
+            → IfOk result (λ _. WritesFound m «record».now (changed W.contents out.old out.new)) }
     {
-        write_first(
+        write_found(
             alloc,
             self.shown(record),
             &self.map,
@@ -124,10 +129,10 @@ impl<'m, 'n> FirstRace<'m, 'n> {
         Ok(())
     }
 
-    /// The race of the run in an object.
+    /// The first race of the run in an object.
     pub fn pair<'a>(&'a self, shown: &'a Shown) -> RacePair<'a>
         requires { CanBeTold shown.now.record.now self.now }
-        ensures { (m : Parts) (r : RecordParts) → IsFirstRace m r self.now → IsShownBy r self.now shown.now
+        ensures { (m : Parts) (r : RecordParts) → AreRacesOf m r self.now → IsShownBy r self.now shown.now
             → SaysObject m r result }
     {
         let races = &self.told.races;

@@ -1,6 +1,6 @@
 -- Where all states were met, and in none a thread waits with a timeout, none does in any run; and where one does in one of
 -- them it does in a run.
-use Rattle.std.proofs.Common.{◌≡◌, ℕ, ◌+◌, ◌<◌, ◌≤◌, true, true≢false, refl, sym, ◌∙◌, arith, List, Contains, length, Option, Some}
+use Rattle.std.proofs.Common.{◌≡◌, ℕ, ◌+◌, ◌<◌, ◌≤◌, true≢false, refl, sym, ◌∙◌, arith, List, Contains, length, Option, Some}
 use Rattle.schedule.specs.System.{State}
 use Rattle.search_reach.specs.Search.{IsAll}
 use Rattle.search_table.specs.Tables.{states_of}
@@ -32,14 +32,16 @@ module _ {X T E V A G H M : Type 0} (k : ThreadSystem X T E V A G H M) where
   pub timed-somewhere : (c : RestingState G H) (wanted : List (Option NextAccess)) → RestsSomewhere k c → AreWanted k c wanted → HasTimed wanted
       → SomeWaitsTimed k.system k.first k.accesses
   timed-somewhere c wanted at are some =
-      let rest = at.1 in
-      (some.0, record {
-        state = at.0;
-        reached = rest.reached;
-        access = some.1;
-        wanted = sym (are at.0 rest some.0) ∙ some.2;
-        timed = some.3;
-      })
+      let rest = at.1 in (
+        some.0,
+        record {
+          state = at.0;
+          reached = rest.reached;
+          access = some.1;
+          wanted = sym (are at.0 rest some.0) ∙ some.2;
+          timed = some.3;
+        },
+      )
 
   -- Of the states below a place.
   abbrev pub UntimedBelow : StateTable G H → ℕ → Type 0

@@ -4,17 +4,22 @@ ghost use Rattle.dwarf_data.specs.Within.{NamesWithin};
 ghost use Rattle.dwarf_units.specs.Spans.{holds};
 ghost use Rattle.show_named.specs.Names.{HasData, IsDataText};
 
+use crate::marks::marks_of;
 use dwarf_data::{NamedBytes, name_at, place_of, read_data};
-use dwarf_frames::{CallFrame, read_frame, read_functions};
+use dwarf_frames::{CallFrame, read_chains, read_frame, read_functions};
 use dwarf_lines::DebugSections;
 use dwarf_units::{InfoSections, Spans, Units, read_units};
 use selection::touched;
+use show_rows::{CodeMap, Row};
 use show_text::Plain;
 use std::alloc::{AllocError, Global};
 use types::Event;
 
 /// How many steps the name of an address takes at most.
 const NAME_STEPS: u64 = 1 << 14;
+
+/// How many steps the functions at a place in the code take at most.
+const PLACE_STEPS: u64 = 1 << 16;
 
 /// How many steps the open functions of a thread take at most, and the names to which their pointers lead.
 const STACK_STEPS: u64 = 1 << 21;
@@ -71,6 +76,32 @@ impl<'n> DataMap<'n> {
         ensures { IfOk result (λ frame. frame.offset ≡ offset) }
     {
         read_frame(alloc, &self.units, self.lines, &self.functions, offset)
+    }
+
+    /// The code with the functions that were put in the place of their calls, at the places of these rows and of their
+    /// callers.
+    ///
+    /// # Errors
+    /// Where memory is refused.
+    pub fn chained<'m, 'c>(
+        &self,
+        alloc: Global,
+        code: CodeMap<'m, 'c>,
+        rows: &[Option<Row>],
+    ) -> Result<CodeMap<'m, 'c>, AllocError>
+        ensures parts { IfOk result (λ c. c.parts.now ≡ code.entry.parts.now) }
+        ensures others { IfOk result (λ c. c ≡ record code.entry { chains = c.chains }) }
+    {
+        let marks = marks_of(alloc, &code, rows)?;
+        let chains = read_chains(
+            alloc,
+            &self.units,
+            self.lines,
+            &self.functions,
+            &marks,
+            PLACE_STEPS,
+        )?;
+        Ok(code.with_chains(chains))
     }
 
     /// What the data is called that is at an address: that of a type, if such data begins there.

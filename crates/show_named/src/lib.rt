@@ -22,6 +22,7 @@ mod data_map;
 mod folds;
 mod last_texts;
 mod lasts;
+mod marks;
 mod rows;
 mod same;
 

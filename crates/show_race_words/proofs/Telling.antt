@@ -1,7 +1,8 @@
 -- What is told of a race, by the slices that were read.
-use Rattle.std.proofs.Common.{◌≡◌, ◌∙◌, ◌<◌, nat_lt, ℕ, List, ◌++◌, Option, Some, length, get_or, sym, ap, subst, codes}
+use Rattle.std.proofs.Common.{◌≡◌, ◌∙◌, ◌<◌, ◌≤◌, nat_lt, ℕ, List, ◌++◌, Option, Some, length, get_or, sym, ap, subst, codes}
 use Rattle.std.specs.List.{AllZip, concat, slice_get}
-use Rattle.std.specs.Io.KnownBytes.{Appends}
+use Rattle.std.specs.Io.KnownBytes.{Appends, Keeps}
+use Rattle.std.proofs.lemmas.List.{take_all}
 use Rattle.std.proofs.lemmas.Option.{slice_get-get_or}
 use Rattle.types.specs.declared.event.Entry.{Entry}
 use Rattle.race_history.specs.declared.access.Site.{Site}
@@ -13,8 +14,12 @@ use Rattle.show_races.specs.Releases.{IsNextWrite}
 use Rattle.show_named.specs.declared.data_map.DataMap.{DataMap}
 use Rattle.show_race_words.specs.Spots.{IsSpot}
 use Rattle.show_race_words.specs.Starts.{IsStartText}
-use Rattle.show_race_words.specs.Written.{act_at, end_text, leads_text, look_text, order_text}
-use Rattle.show_race_words.specs.Written.{AreAt, AreStarts, IsLookText, IsNextText, IsOrderText, SaysRace, TellsRaces}
+use Rattle.show_race_words.specs.Written.{act_at, leads_text, look_text, order_text}
+use Rattle.show_race_words.specs.Written.{AreAt, AreStarts, IsLookText, IsNextText, IsOrderText, SaysRace}
+use Rattle.show_race_words.specs.Written.{WritesBefore, WritesEach}
+use Rattle.replay_forms.proofs.Written.{appends_then}
+use Rattle.show_rows.proofs.Chosen.{appends_keeps}
+use Rattle.show_rows.proofs.Texts.{AreWritten}
 
 stands : (log whole : List Entry) (at : ℕ) (d : Entry) → log ≡ whole → at < length whole → slice_get whole at ≡ Some (get_or log at d)
 stands log whole at d same within = subst (λ (l : List Entry). slice_get l at ≡ Some (get_or log at d)) same
@@ -70,14 +75,16 @@ next_by shown story r second at log act spot text same act_is is_spot is = (
       (act_is ∙ ap (λ (l : List Entry). act_at l at) same),
 )
 
--- Of all races, by the slices that were gone through.
-pub told_all : (shown : Shown) (map : DataMap) (story : Story) (races : RecordRaces) (sites : List Site) (pairs : List Race)
-    (a d : Option (List ℕ)) → sites ≡ races.sites.items → pairs ≡ races.pairs.items
-    → ((texts : List (List ℕ)) × AllZip (SaysRace shown map story sites) pairs texts
-    × Appends a d (concat texts ++ end_text races.is_cut (length pairs)))
-    → TellsRaces shown map story races a d
-told_all shown map story races sites pairs a d same alike told =
-    subst (λ (ks : List Site). (texts : List (List ℕ)) × AllZip (SaysRace shown map story ks) races.pairs.items texts
-    × Appends a d (concat texts ++ end_text races.is_cut (length races.pairs.items))) same
-    (subst (λ (ps : List Race). (texts : List (List ℕ)) × AllZip (SaysRace shown map story sites) ps texts
-    × Appends a d (concat texts ++ end_text races.is_cut (length ps))) alike told)
+-- Of all races, by the slices that were gone through; and with what stands behind them.
+pub told_each : (shown : Shown) (map : DataMap) (story : Story) (races : RecordRaces) (sites : List Site) (pairs : List Race) (n : ℕ)
+    (a b : Option (List ℕ)) → sites ≡ races.sites.items → pairs ≡ races.pairs.items → length pairs ≤ n
+    → AreWritten (SaysRace shown map story sites) pairs n a b → WritesEach shown map story races a b
+told_each shown map story races sites pairs n a b same alike all (texts, says, wrote) =
+    subst (λ (ks : List Site). (ts : List (List ℕ)) × AllZip (SaysRace shown map story ks) races.pairs.items ts × Appends a b (concat ts)) same
+    (subst (λ (ps : List Race). (ts : List (List ℕ)) × AllZip (SaysRace shown map story sites) ps ts × Appends a b (concat ts)) alike
+    (texts, subst (λ (ps : List Race). AllZip (SaysRace shown map story sites) ps texts) (take_all n pairs all) says, wrote))
+
+pub told_before : (shown : Shown) (map : DataMap) (story : Story) (races : RecordRaces) (last : List ℕ) (a b c d : Option (List ℕ))
+    → WritesEach shown map story races a b → Appends b c last → Keeps c d → WritesBefore last shown map story races a d
+told_before shown map story races last a b c d (texts, says, wrote) more kept =
+    (texts, says, appends_keeps a c d (concat texts ++ last) (appends_then a b c (concat texts) last wrote more) kept)

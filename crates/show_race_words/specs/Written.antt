@@ -134,14 +134,26 @@ abbrev pub end_text : Bool → ℕ → List ℕ
 end_text is_cut count = if is_cut then codes "not all: more than " ++ (decimal count ++ codes ", by `--most`\n")
     else if count == 0 then codes "no race\n" else []
 
--- What is written is a paragraph for each race, in order, and whether that are all.
-abbrev pub TellsRaces : Shown → DataMap → Story → RecordRaces → Option (List ℕ) → Option (List ℕ) → Type 0
-TellsRaces shown map story races old new = (texts : List (List ℕ))
-    × AllZip (SaysRace shown map story races.sites.items) races.pairs.items texts
-    × Appends old new (concat texts ++ end_text races.is_cut (length races.pairs.items))
+-- What tells more, where these are not all.
+abbrev pub more_text : Bool → ℕ → List ℕ
+more_text is_cut count = if is_cut then
+    codes "not all: more than " ++ (decimal count ++ codes "; `races` tells more of a record\n") else []
 
--- The first of the races is written, where there is one.
-abbrev pub WritesFirst : Shown → DataMap → Story → RecordRaces → Bool → Option (List ℕ) → Option (List ℕ) → Type 0
-WritesFirst shown map story races true old new = (r : Race) × (0 < length races.pairs.items)
-    × (slice_index_or races.pairs.items 0 r ≡ r) × (text : List ℕ) × SaysRace shown map story races.sites.items r text × Appends old new text
-WritesFirst shown map story races false old new = (races.pairs.items ≡ []) × (new ≡ old)
+-- A paragraph is written for each race, in order; and this behind them.
+abbrev pub WritesEach : Shown → DataMap → Story → RecordRaces → Option (List ℕ) → Option (List ℕ) → Type 0
+WritesEach shown map story races old new = (texts : List (List ℕ))
+    × AllZip (SaysRace shown map story races.sites.items) races.pairs.items texts × Appends old new (concat texts)
+
+abbrev pub WritesBefore : List ℕ → Shown → DataMap → Story → RecordRaces → Option (List ℕ) → Option (List ℕ) → Type 0
+WritesBefore last shown map story races old new = (texts : List (List ℕ))
+    × AllZip (SaysRace shown map story races.sites.items) races.pairs.items texts × Appends old new (concat texts ++ last)
+
+-- Behind them stands whether that are all.
+abbrev pub TellsRaces : Shown → DataMap → Story → RecordRaces → Option (List ℕ) → Option (List ℕ) → Type 0
+TellsRaces shown map story races old new =
+    WritesBefore (end_text races.is_cut (length races.pairs.items)) shown map story races old new
+
+-- Of a run that was found for a race, what tells more.
+abbrev pub TellsFound : Shown → DataMap → Story → RecordRaces → Option (List ℕ) → Option (List ℕ) → Type 0
+TellsFound shown map story races old new =
+    WritesBefore (more_text races.is_cut (length races.pairs.items)) shown map story races old new

@@ -2,7 +2,7 @@
 
 ghost use Rattle.std.specs.Prelude.{◌≡◌, ◌<◌, All, IfOk, OnOk, length, string_bytes};
 ghost use Rattle.show_races.specs.Told.{IsWithin};
-ghost use Rattle.show_race_words.specs.Written.{AreStarts, SaysRace, TellsRaces, WritesFirst, kind_of, name_text};
+ghost use Rattle.show_race_words.specs.Written.{AreStarts, SaysRace, TellsFound, TellsRaces, WritesEach, kind_of, name_text};
 
 use crate::looks::look_text;
 use crate::ordering::order_text;
@@ -71,32 +71,6 @@ fn race_text(
     Ok(text)
 }
 
-/// Writes the first of the races of a record's run, where it has one, and answers whether it has.
-///
-/// # Errors
-/// Where memory is refused, or the stream fails.
-pub fn write_first<W: Write>(
-    alloc: Global,
-    shown: Shown,
-    map: &DataMap,
-    story: &Story,
-    races: &RecordRaces,
-    out: &mut W,
-) -> Result<bool, Unwritten>
-    requires { All (IsWithin shown.record.now.log) races.now.pairs.items }
-    ensures { IfOk result
-        (λ is. WritesFirst shown.entry map.now story.now races.now is (W.contents out.old) (W.contents out.new)) }
-{
-    let pairs = races.pairs.as_slice();
-    if pairs.is_empty() {
-        return Ok(false);
-    }
-    let text = race_text(alloc, shown, map, story, races.sites.as_slice(), pairs[0])?;
-    write!(out, "{text}")?;
-    out.flush()?;
-    Ok(true)
-}
-
 /// Whether these are all, where that isn't clear.
 #[derive(Clone, Copy)]
 struct End {
@@ -122,6 +96,53 @@ impl fmt::Display for End {
     }
 }
 
+/// What tells more, where these are not all.
+#[derive(Clone, Copy)]
+struct More {
+    is_cut: bool,
+    count: usize,
+}
+
+impl fmt::Display for More {
+    ghost use Rattle.std.specs.Prelude.{Some};
+    ghost use Rattle.show_race_words.specs.Written.{more_text};
+
+    ghost output = { λ m. Some (more_text m.is_cut m.count) };
+
+    fn fmt<W: fmt::Write>(&self, f: &mut Formatter<W>) -> fmt::Result {
+        let count = self.count;
+        if self.is_cut {
+            write!(
+                f,
+                "not all: more than {count}; `races` tells more of a record\n"
+            )
+        } else {
+            Ok(())
+        }
+    }
+}
+
+/// Writes the races of a record's run, a paragraph each.
+fn write_each<W: Write>(
+    alloc: Global,
+    shown: Shown,
+    map: &DataMap,
+    story: &Story,
+    races: &RecordRaces,
+    out: &mut W,
+) -> Result<(), Unwritten>
+    requires { All (IsWithin shown.record.now.log) races.now.pairs.items }
+    ensures { OnOk result (WritesEach shown.entry map.now story.now races.now (W.contents out.old) (W.contents out.new)) }
+{
+    let pairs = races.pairs.as_slice();
+    let sites = races.sites.as_slice();
+    for at in 0..pairs.len() {
+        let text = race_text(alloc, shown, map, story, sites, pairs[at])?;
+        write!(out, "{text}")?;
+    }
+    Ok(())
+}
+
 /// Writes the races of a record's run, a paragraph each, or that there is none; and where some are left out, that these
 /// are not all.
 ///
@@ -138,17 +159,37 @@ pub fn write_races<W: Write>(
     requires { All (IsWithin shown.record.now.log) races.now.pairs.items }
     ensures { OnOk result (TellsRaces shown.entry map.now story.now races.now (W.contents out.old) (W.contents out.new)) }
 {
-    let pairs = races.pairs.as_slice();
-    let sites = races.sites.as_slice();
-    for at in 0..pairs.len() {
-        let text = race_text(alloc, shown, map, story, sites, pairs[at])?;
-        write!(out, "{text}")?;
-    }
+    write_each(alloc, shown, map, story, races, out)?;
     let end = End {
         is_cut: races.is_cut,
-        count: pairs.len(),
+        count: races.pairs.len(),
     };
     write!(out, "{end}")?;
+    out.flush()?;
+    Ok(())
+}
+
+/// Writes the races of a run that was found for one, a paragraph each; and where some are left out, what tells more.
+///
+/// # Errors
+/// Where memory is refused, or the stream fails.
+pub fn write_found<W: Write>(
+    alloc: Global,
+    shown: Shown,
+    map: &DataMap,
+    story: &Story,
+    races: &RecordRaces,
+    out: &mut W,
+) -> Result<(), Unwritten>
+    requires { All (IsWithin shown.record.now.log) races.now.pairs.items }
+    ensures { OnOk result (TellsFound shown.entry map.now story.now races.now (W.contents out.old) (W.contents out.new)) }
+{
+    write_each(alloc, shown, map, story, races, out)?;
+    let more = More {
+        is_cut: races.is_cut,
+        count: races.pairs.len(),
+    };
+    write!(out, "{more}")?;
     out.flush()?;
     Ok(())
 }

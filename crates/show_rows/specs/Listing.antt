@@ -1,6 +1,6 @@
 -- What is written of a record: a row for each entry that is chosen.
 use Rattle.std.specs.Prelude.{ℕ, ◌≡◌, ◌+◌, ◌-◌, ◌^◌, min, Bool, false, List, [], ◌∷◌, ◌++◌, length, map, filter}
-use Rattle.std.specs.Prelude.{Option, Some, None, option_map, option_and_then, unwrap_or}
+use Rattle.std.specs.Prelude.{Option, Some, None, option_map, option_and_then, unwrap_or, string_bytes}
 use Rattle.std.specs.List.{slice_get, enumerate_from}
 use Rattle.std.specs.Io.KnownBytes.{Keeps}
 use Rattle.types.specs.declared.event.Event.{Event}
@@ -11,6 +11,7 @@ use Rattle.types.specs.declared.outcome.Outcome.{Outcome}
 use Rattle.types.specs.declared.outcome.ThreadReport.{ThreadReport}
 use Rattle.types.specs.declared.parts.Parts.{Parts}
 use Rattle.types.specs.declared.limits.TheConstants.{MOST_THREADS}
+use Rattle.dwarf_frames.specs.declared.frames.Chain.{Chain}
 use Rattle.interp.specs.declared.place.CodePlace.{CodePlace}
 use Rattle.replay_text.specs.Versions.{header_count}
 use Rattle.selection.specs.declared.choice.Look.{Look}
@@ -28,7 +29,8 @@ use Rattle.show_rows.specs.declared.code.CodeMap.{CodeMap}
 use Rattle.show_rows.specs.declared.listing.Shown.{Shown}
 use Rattle.show_rows.specs.declared.listing.Story.{Story}
 use Rattle.show_spots.specs.Spots.{call_text, spot_text}
-use Rattle.show_rows.specs.Spots.{IsSpotOf, call_apart, is_atomic}
+use Rattle.show_spots.specs.Inlined.{inlined_call_text, inlined_text}
+use Rattle.show_rows.specs.Spots.{IsSpotOf, call_apart, chain_at, is_atomic}
 
 -- The line of the record that has the entry at a place.
 abbrev pub line_at : Shown → ℕ → ℕ
@@ -95,15 +97,25 @@ pub record AreWordsOf (shown : Shown) (story : Story) (at : ℕ) (made : Entry) 
   pub woken : w.woken.now ≡ woken_in story.wakes at
   pub outcome : w.outcome ≡ outcome_of shown made
 
+-- A place: its function; or the innermost one that was put in the place of its call there, and the calls that lead to it.
+abbrev pub place_text : Spot → Option Chain → List ℕ
+place_text s None = spot_text s
+place_text s (Some chain) = inlined_text s (string_bytes chain.innermost) (string_bytes chain.calls)
+
+-- A call, in the same way.
+abbrev pub chained_call_text : Spot → Option Chain → List ℕ
+chained_call_text s None = call_text s
+chained_call_text s (Some chain) = inlined_call_text s (string_bytes chain.innermost) (string_bytes chain.calls)
+
 -- The text of a place, or none.
 abbrev pub IsPlaceText : CodeMap → Option CodePlace → List ℕ → Type 0
 IsPlaceText code None text = text ≡ []
-IsPlaceText code (Some place) text = (s : Spot) × IsSpotOf code place s × (text ≡ spot_text s)
+IsPlaceText code (Some place) text = (s : Spot) × IsSpotOf code place s × (text ≡ place_text s (chain_at code place))
 
 -- The text of a call, or none.
 abbrev pub IsCallText : CodeMap → Option CodePlace → List ℕ → Type 0
 IsCallText code None text = text ≡ []
-IsCallText code (Some call) text = (s : Spot) × IsSpotOf code call s × (text ≡ call_text s)
+IsCallText code (Some call) text = (s : Spot) × IsSpotOf code call s × (text ≡ chained_call_text s (chain_at code call))
 
 -- The text of where the entry at a place was made: of its place, and behind it of the call that is in another file.
 pub record IsPlaceTextOf (shown : Shown) (story : Story) (at : ℕ) (text : List ℕ) : Type 0 where

@@ -16,6 +16,8 @@ use Rattle.show_places.specs.declared.bodies.BodyPlaces.{BodyPlaces}
 use Rattle.show_places.specs.Bodies.{bodies_in}
 use Rattle.show_places.specs.Names.{IsCalled}
 use Rattle.show_places.specs.Sections.{Part, HasFirst, HasNone}
+use Rattle.dwarf_frames.specs.declared.frames.Chain.{Chain}
+use Rattle.dwarf_frames.specs.Chains as of_code
 use Rattle.dwarf_lines.specs.declared.table.Range.{Range}
 use Rattle.dwarf_lines.specs.contracts.header.SourcePartialEq.TheImpl as equal
 use Rattle.dwarf_lines.specs.Lines.{holds, source_of}
@@ -44,6 +46,10 @@ abbrev pub named_offset : CodeMap → CodePlace → Option ℕ
 named_offset code place = if has_as_many (slice_get code.bodies place.function) (slice_get code.named_bodies place.function)
     then offset_of code.named_bodies place
     else None
+
+-- The functions that were put in the place of their calls at a place, if there are any.
+abbrev pub chain_at : CodeMap → CodePlace → Option Chain
+chain_at code place = option_and_then (of_code.chain_at code.chains) (named_offset code place)
 
 -- Its lines.
 abbrev pub range_at : CodeMap → CodePlace → Option Range

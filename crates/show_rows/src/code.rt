@@ -9,6 +9,7 @@ ghost use Rattle.show_rows.specs.Around.{lines_around};
 ghost use Rattle.show_rows.specs.Spots.{IsSpotOf, AreBodies, are_apart, is_function_import, range_at};
 
 use binary_wire::ReadFault;
+use dwarf_frames::{Chain, Chains};
 use dwarf_lines::{DebugSections, LineTable, Range, Sources, read_lines};
 use interp::CodePlace;
 use show_places::{BodyPlaces, Named, code_places, function_name, read_names, section_of};
@@ -26,6 +27,8 @@ pub struct CodeMap<'m, 'n> {
     named_bodies: Sequence<BodyPlaces>,
     names: Sequence<Named>,
     lines: LineTable<'n>,
+    /// The functions that were put in the place of their calls, as far as they were asked for.
+    chains: Chains,
     /// The text of its source, as far as it is there.
     sources: Sources<'n>,
     /// How many functions are imported.
@@ -95,6 +98,7 @@ impl<'m, 'n> CodeMap<'m, 'n> {
             named_bodies: bodies_of(alloc, names)?,
             names: read_names(alloc, names)?,
             lines: read_lines(alloc, DebugSections::of(names))?,
+            chains: Chains::none(alloc)?,
             sources: Sources::none(alloc),
             imported: count_functions(parts.imports.as_slice()),
         })
@@ -105,6 +109,21 @@ impl<'m, 'n> CodeMap<'m, 'n> {
         ensures { result ≡ record self.entry { sources = sources.entry } }
     {
         CodeMap { sources, ..self }
+    }
+
+    /// The same with the functions that were put in the place of their calls.
+    pub fn with_chains(self, chains: Chains) -> CodeMap<'m, 'n>
+        ensures { result ≡ record self.entry { chains = chains } }
+    {
+        CodeMap { chains, ..self }
+    }
+
+    /// The functions that were put in the place of their calls at a place, if there are any.
+    pub fn chain_at(&self, place: CodePlace) -> Option<&Chain>
+        ensures { option_map (λ c. c.now) result ≡ specified.chain_at self.now place }
+    {
+        let offset = self.named_offset(place)?;
+        self.chains.at(offset)
     }
 
     /// The parts of the module.

@@ -1,17 +1,18 @@
 //! The rows of a record, one below the other.
 
 ghost use Rattle.std.specs.Prelude.{◌≡◌, ◌<◌, [], ◌∷◌, ◌++◌, cond, length, string_bytes, IfOk, OnOk, All};
-ghost use Rattle.std.specs.Prelude.{option_and_then, option_map};
+ghost use Rattle.std.specs.Prelude.{Some, option_and_then, option_map};
 ghost use Rattle.show_rows.specs.Listing.{line_at, chosen, row_at, context_at, outcome_of, is_atomic_row};
 ghost use Rattle.show_rows.specs.Listing.{made_row, place_of, caller_of, call_of, IsPlaceText, IsCallText, IsPlaceTextOf};
 ghost use Rattle.show_rows.specs.Listing.{IsStoryOf, AreWordsOf, AddsEntry, AddsEntries, WritesRows};
 
 use crate::Row;
 use crate::code::CodeMap;
+use dwarf_frames::Chain;
 use interp::CodePlace;
 use replay_text::RecordParts;
 use selection::{Color, Look};
-use show_spots::CallSpot;
+use show_spots::{CallSpot, InlinedCall, InlinedSpot, Spot};
 use show_text::{Context, Sheet, Unwritten, Wakes, Words, contexts};
 use std::alloc::{AllocError, Global};
 use std::io::Write;
@@ -195,8 +196,32 @@ fn spot_text(alloc: Global, code: &CodeMap, place: Option<CodePlace>) -> Result<
     ensures { IfOk result (λ text. IsPlaceText code.now place (string_bytes text)) }
 {
     match place {
-        Some(place) => code.spot(place).to_string(alloc),
+        Some(place) => known_text(alloc, code, place),
         None => Ok(String::new(alloc)),
+    }
+}
+
+/// The same of a place that is known.
+fn known_text(alloc: Global, code: &CodeMap, place: CodePlace) -> Result<String, AllocError>
+    ensures { IfOk result (λ text. IsPlaceText code.now (Some place) (string_bytes text)) }
+{
+    let spot = code.spot(place);
+    match code.chain_at(place) {
+        Some(chain) => in_chain(spot, chain).to_string(alloc),
+        None => spot.to_string(alloc),
+    }
+}
+
+/// A place with the functions that were put in the place of their calls there.
+fn in_chain<'a>(spot: Spot<'a>, chain: &'a Chain) -> InlinedSpot<'a>
+    ensures spot { result.spot ≡ spot.entry }
+    ensures function { result.function.now ≡ string_bytes chain.now.innermost }
+    ensures calls { result.calls.now ≡ string_bytes chain.now.calls }
+{
+    InlinedSpot {
+        spot,
+        function: chain.innermost.as_str(),
+        calls: chain.calls.as_str(),
     }
 }
 
@@ -205,8 +230,19 @@ fn call_text(alloc: Global, code: &CodeMap, call: Option<CodePlace>) -> Result<S
     ensures { IfOk result (λ text. IsCallText code.now call (string_bytes text)) }
 {
     match call {
-        Some(call) => CallSpot(code.spot(call)).to_string(alloc),
+        Some(call) => known_call_text(alloc, code, call),
         None => Ok(String::new(alloc)),
+    }
+}
+
+/// The same of a call that is known.
+fn known_call_text(alloc: Global, code: &CodeMap, call: CodePlace) -> Result<String, AllocError>
+    ensures { IfOk result (λ text. IsCallText code.now (Some call) (string_bytes text)) }
+{
+    let spot = code.spot(call);
+    match code.chain_at(call) {
+        Some(chain) => InlinedCall(in_chain(spot, chain)).to_string(alloc),
+        None => CallSpot(spot).to_string(alloc),
     }
 }
 

@@ -72,7 +72,7 @@ fn is_reserved(name: FunctionName) -> bool
 }
 
 /// The file and the line, and what stands there, as far as they are known.
-fn write_source<W: Write>(f: &mut Formatter<W>, spot: &Spot) -> fmt::Result
+pub(crate) fn write_source<W: Write>(f: &mut Formatter<W>, spot: &Spot) -> fmt::Result
     ensures { WritesOnOk W.write_str_gives f.old result
         (source_text (λ file. file.now) spot.now.source ++ behind_text spot.now.text) f.new }
 {

@@ -2,7 +2,7 @@ use Rattle.std.proofs.Common.{◌∙◌, ap, refl, subst}
 use Rattle.types.specs.declared.parts.Parts.{Parts}
 use Rattle.search_finds.specs.Sizes.{size_in}
 use Rattle.search_finds.specs.declared.size.Size.{Size}
-use Rattle.report_looks.specs.Sighted.{IsFirstRace}
+use Rattle.report_looks.specs.Sighted.{AreRacesOf}
 use Rattle.report.specs.Found.{shrunk_if}
 use Rattle.report.proofs.raced.kept_race.Goals as goal
 
@@ -16,6 +16,6 @@ returns-in-Ok-Some-clause-has g c =
       same = c.in_ok-made.ensures.same;
       shrunk_is = c.shrunk_if.ensures ∙ (ap (λ (was : Size). shrunk_if shrink was c.size_of-is.result) c.size_of-was.ensures
           ∙ ap (λ (is : Size). shrunk_if shrink (size_in c.args.found.made.«record») is) c.size_of-is.ensures);
-      race = subst (λ (p : Parts). IsFirstRace p made.«record» c.in-Ok-Some.race) c.module.ensures
+      race = subst (λ (p : Parts). AreRacesOf p made.«record» c.in-Ok-Some.race) c.module.ensures
           (rw c.in-Ok-Some.field-0-is at c.in-Ok-Some.ensures.race);
     }

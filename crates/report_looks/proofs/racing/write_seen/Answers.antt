@@ -15,7 +15,7 @@ returns-clause-says g c =
     let are = c.in_ok-told.ensures in
     let is_racy = c.is_racy.result in
     told_of (λ l k o. Says l k o is_racy) log c.args.seen.now.record.log m c.args.module.now.parts rows c.args.seen.now.rows.items
-    (ap (λ (r : RecordParts). r.log) c.parts-2.ensures.parts) (c.in_ok-code.ensures.parts ∙ c.parts.ensures.parts) c.as_slice.ensures.value
+    (ap (λ (r : RecordParts). r.log) c.parts-2.ensures.parts) (c.in_ok-code.ensures.parts ∙ c.in_ok-known.ensures.parts ∙ c.parts.ensures.parts) c.as_slice.ensures.value
     (says_by log (sites_in m rows (length log)) (opening_of m) told.races.pairs.items is_racy are.races are.none
     c.is_racy.ensures.some c.is_racy.ensures.none)
 
@@ -27,7 +27,7 @@ returns-clause-writes g c =
     let told = c.in_ok-told.told in
     let are = c.in_ok-told.ensures in
     let same = ap (λ (r : RecordParts). r.log) c.parts-2.ensures.parts in
-    let parts = c.in_ok-code.ensures.parts ∙ c.parts.ensures.parts in
+    let parts = c.in_ok-code.ensures.parts ∙ c.in_ok-known.ensures.parts ∙ c.parts.ensures.parts in
     record {
       shown = _;
       of_record = c.parts-2.ensures.parts;

@@ -38,7 +38,7 @@ returns-clause-untimed g c all none =
     let r = c.in_ok-reached.ensures.reached in
     none-timed (g.M.Moves.threads m) (g.M.Moves.ends m) (g.M.Moves.stuck m) (g.met.M.Moves.tame m) (g.met.M.Accesses.plain m)
     (g.met.M.Accesses.beyond m) r.states (r.found.all (c.in_ok-ended.ensures.all all))
-    (λ s among. c.in_ok-timed.ensures none r.states (r.held).owning s among)
+    (λ s among. c.in_ok-timed.ensures.none (c.in_ok-ended.ensures.all all) none r.states (r.held).owning s among)
 
 pub waits_timed-requires : goal.waits_timed-requires
 waits_timed-requires g c = let r = c.in_ok-reached.ensures.reached in (r.states, (r.held).owning, r.found.sound)

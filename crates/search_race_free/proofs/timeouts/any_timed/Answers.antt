@@ -12,5 +12,10 @@ loop-n-preserved c = record {
       c.if-is_timed.false));
 }
 
-pub returns : goal.returns
-returns c = λ e. at_all (λ t a. IsTimed a → ⊥) c.args.wanted.now c.loop-n.n (omega (arith, c.loop-n-test.false)) c.loop-n.invariant.missed
+pub returns-clause-none : goal.returns-clause-none
+returns-clause-none c = λ e. at_all (λ t a. IsTimed a → ⊥) c.args.wanted.now c.loop-n.n (omega (arith, c.loop-n-test.false)) c.loop-n.invariant.missed
+
+pub returns-then-is_timed-clause-some : goal.returns-then-is_timed-clause-some
+returns-then-is_timed-clause-some c = λ _.
+    let e = c.is_timed.ensures.0 c.if-is_timed.true in
+    (c.loop-n.n, e.0, access-here c.args.wanted.now c.loop-n.n None c.loop-n-test.true ∙ e.1, e.2)

@@ -20,9 +20,9 @@ is_timed_at-requires g c =
 pub loop-place-preserved : goal.loop-place-preserved
 loop-place-preserved g c =
     untimed-more (g.M.Moves.threads c.args.system.now) c.args.table.now c.loop-place.place c.loop-place.invariant
-    (c.in_ok-is_timed_at.ensures c.if-branch.false)
+    (c.in_ok-is_timed_at.ensures.none c.if-branch.false)
 
-pub returns : goal.returns
-returns g c = λ e.
+pub returns-clause-none : goal.returns-clause-none
+returns-clause-none g c = λ e.
     untimed-all (g.M.Moves.threads c.args.system.now) c.args.table.now c.loop-place.place c.len-place-end.result c.len-place-end.ensures
     (omega arith) c.loop-place.invariant

@@ -1,21 +1,7 @@
-use Rattle.std.proofs.Common.{refl, length}
-use Rattle.show_race_words.specs.Written.{SaysRace, end_text}
-use Rattle.show_race_words.proofs.Telling.{told_all}
-use Rattle.show_rows.proofs.Texts.{all_written, none_yet, text_next}
+use Rattle.show_race_words.specs.Written.{end_text}
+use Rattle.show_race_words.proofs.Telling.{told_before}
 use Rattle.show_race_words.proofs.writing.write_races.Goals as goal
 
-pub loop-at-init : goal.loop-at-init
-loop-at-init g c = none_yet (SaysRace c.args.shown c.args.map.now c.args.story.now c.as_slice-sites.result.now) c.as_slice-pairs.result.now
-    (g.W.Write.contents c.args.out.now)
-
-pub loop-at-preserved : goal.loop-at-preserved
-loop-at-preserved g c = text_next (SaysRace c.args.shown c.args.map.now c.args.story.now c.as_slice-sites.result.now)
-    c.as_slice-pairs.result.now c.loop-at.at _ _ _ _ _ _ c.loop-at-test.true refl c.loop-at.invariant c.in_ok-text.ensures
-    c.in_ok-write.ensures.bytes
-
 pub returns : goal.returns
-returns g c = told_all c.args.shown c.args.map.now c.args.story.now c.args.races.now c.as_slice-sites.result.now c.as_slice-pairs.result.now
-    (g.W.Write.contents c.args.out.now) (g.W.Write.contents c.flush.new.self) c.as_slice-sites.ensures.value c.as_slice-pairs.ensures.value
-    (all_written (SaysRace c.args.shown c.args.map.now c.args.story.now c.as_slice-sites.result.now) c.as_slice-pairs.result.now c.loop-at.at
-    (end_text c.args.races.now.is_cut (length c.as_slice-pairs.result.now)) _ _ _ _ c.loop-at-test.false c.loop-at.invariant
-    c.in_ok-write-2.ensures.bytes c.in_ok-flush.ensures.bytes)
+returns g c = told_before c.args.shown c.args.map.now c.args.story.now c.args.races.now _ _ _ _ _ c.in_ok-write_each.ensures
+    c.in_ok-write.ensures.bytes c.in_ok-flush.ensures.bytes

@@ -1,5 +1,5 @@
 use Rattle.report_looks.proofs.Sightings.{object_by}
-use Rattle.report_looks.proofs.sighting.FirstRace.pair.Goals as goal
+use Rattle.report_looks.proofs.sighting.RacesOfRun.pair.Goals as goal
 
 pub returns : goal.returns
 returns c = λ m r first is.

@@ -1,6 +1,6 @@
 use Rattle.std.proofs.Common.{◌∙◌, sym}
 use Rattle.report_looks.proofs.Sightings.{empty_by, none_by}
-use Rattle.report_looks.proofs.sighting.first_race.Goals as goal
+use Rattle.report_looks.proofs.sighting.races_of_run.Goals as goal
 
 pub returns-then-is_empty-clause-none : goal.returns-then-is_empty-clause-none
 returns-then-is_empty-clause-none c =
@@ -8,5 +8,5 @@ returns-then-is_empty-clause-none c =
     let pairs = c.as_slice-2.result.now in
     none_by m c.args.record.now c.in-Ok.rows.items c.in-Ok.ensures.run
     (record { «record» = c.parts-2.result; rows = c.as_slice.result; code = _ }) c.parts-2.ensures.parts c.as_slice.ensures.value
-    (c.in_ok-code.ensures.parts ∙ c.parts.ensures.parts) 1 c.in_ok-told.told c.in_ok-told.ensures
+    (c.in_ok-code.ensures.parts ∙ c.in_ok-known.ensures.parts ∙ c.parts.ensures.parts) c.in_ok-told.told c.in_ok-told.ensures
     (empty_by pairs c.in_ok-told.told.races.pairs.items c.as_slice-2.ensures.value (sym c.if-is_empty.true ∙ c.is_empty.ensures))
