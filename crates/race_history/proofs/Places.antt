@@ -18,7 +18,7 @@ use Rattle.race_history.specs.declared.access.Site.{Site}
 use Rattle.race_history.specs.declared.access.Location.{Location}
 use Rattle.race_history.specs.declared.access.Location.TheVariants.{Bytes, Pages, Waiters, Threads}
 use Rattle.race_history.specs.Accesses.{HasByte, Meet, accesses_of, bytes_of, bytes_within, call_of, call_within, changing, counting, each_byte, end_of, entering}
-use Rattle.race_history.specs.Accesses.{has_value, is_atomic, is_out_of_bounds, judged, one_byte, pages_of, pages_within, reading}
+use Rattle.race_history.specs.Accesses.{has_value, is_atomic_by, is_out_of_bounds, judged, one_byte, pages_of, pages_within, reading}
 use Rattle.race_history.specs.Places.{IsAt, IsAccess, thread_at}
 use Rattle.race_history.specs.Lasts.{IsInWord}
 use Rattle.race_history.proofs.Lists.{Contains-none, IsAt-same, map-at, some_in}
@@ -44,7 +44,7 @@ module _ (n : ℕ) (a : ThreadAccess) where
   made_to l r e thread location = of_some (IsTo n l) r a e (record { thread = thread; location = location })
 
   bytes_to : (event : Event) (reply : Reply) (site : Site) → bytes_within n event reply site ≡ Some a → IsTo n Bytes a
-  bytes_to (Load addr width reach) reply site e = made_to Bytes (reading n addr width (is_atomic site.kind) site.code) e refl refl
+  bytes_to (Load addr width reach) reply site e = made_to Bytes (reading n addr width (is_atomic_by site) site.code) e refl refl
   bytes_to (Store addr width reach value) reply site e =
       made_to Bytes (record {
         thread = n;
@@ -53,7 +53,7 @@ module _ (n : ℕ) (a : ThreadAccess) where
         width = width;
         reads = false;
         writes = true;
-        atomic = is_atomic site.kind;
+        atomic = is_atomic_by site;
         code = site.code;
       }) e refl refl
   bytes_to (Rmw op addr width value) reply site e = made_to Bytes (changing n addr width true site.code) e refl refl
@@ -141,7 +141,7 @@ module _ (n : ℕ) (reply : Reply) (site : Site) (a : ThreadAccess) where
   in_word r e h = of_some IsInWord r a e (record { some = h.0; one_word = h.1 })
 
   bytes_word : (event : Event) → IsEvent event → bytes_within n event reply site ≡ Some a → IsInWord a
-  bytes_word (Load addr width reach) h e = in_word (reading n addr width (is_atomic site.kind) site.code) e (h.some, h.one_word)
+  bytes_word (Load addr width reach) h e = in_word (reading n addr width (is_atomic_by site) site.code) e (h.some, h.one_word)
   bytes_word (Store addr width reach value) h e =
       in_word (record {
         thread = n;
@@ -150,7 +150,7 @@ module _ (n : ℕ) (reply : Reply) (site : Site) (a : ThreadAccess) where
         width = width;
         reads = false;
         writes = true;
-        atomic = is_atomic site.kind;
+        atomic = is_atomic_by site;
         code = site.code;
       }) e (h.0.some, h.0.one_word)
   bytes_word (Rmw op addr width value) h e = in_word (changing n addr width true site.code) e (atomic_in_word addr width h.0)

@@ -5,7 +5,7 @@
 -- a notify enter the critical section of the list of waiters at their address (ECMAScript, "WaiterList Objects"; threads
 -- proposal, "Wait and notify operators"). A spawn takes the next number, which hosts count up atomically (wasi-threads).
 -- A timeout makes no access, and neither does the end of a thread.
-use Rattle.std.specs.Prelude.{ℕ, zero, suc, ◌≡◌, ◌==◌, ◌+◌, ◌-◌, ◌^◌, ◌<◌, ◌≤◌, ◌++◌, Bool, true, false, not, min, nat_lt, if◌then◌else◌}
+use Rattle.std.specs.Prelude.{ℕ, zero, suc, ◌≡◌, ◌==◌, ◌+◌, ◌-◌, ◌^◌, ◌<◌, ◌≤◌, ◌++◌, ◌||◌, Bool, true, false, not, min, nat_lt, if◌then◌else◌}
 use Rattle.std.specs.Prelude.{Option, Some, None, List, [], ◌∷◌}
 use Rattle.std.specs.Option.{option_to_list}
 use Rattle.types.specs.declared.event.Entry.{Entry}
@@ -33,6 +33,10 @@ has_value _ n = false
 abbrev pub is_atomic : AccessKind → Bool
 is_atomic Plain = false
 is_atomic Atomic = true
+
+-- An access counts as atomic that was made by an atomic instruction, or is allowed to race.
+abbrev pub is_atomic_by : Site → Bool
+is_atomic_by site = is_atomic site.kind || site.is_allowed
 
 -- An access to bytes that reads, and an atomic one that reads and may write.
 abbrev pub reading : ℕ → ℕ → ℕ → Bool → ℕ → ThreadAccess
@@ -88,7 +92,7 @@ counting n writes atomic = record {
 -- To bytes, within bounds: a load reads, a store writes, a read-modify-write does both, a compare-exchange writes where
 -- it found what it expected, and a wait reads. The last three are atomic whatever their kind says.
 abbrev pub bytes_within : ℕ → Event → Reply → Site → Option ThreadAccess
-bytes_within n (Load addr width reach) reply site = Some (reading n addr width (is_atomic site.kind) site.code)
+bytes_within n (Load addr width reach) reply site = Some (reading n addr width (is_atomic_by site) site.code)
 bytes_within n (Store addr width reach value) reply site =
     Some (record {
       thread = n;
@@ -97,7 +101,7 @@ bytes_within n (Store addr width reach value) reply site =
       width = width;
       reads = false;
       writes = true;
-      atomic = is_atomic site.kind;
+      atomic = is_atomic_by site;
       code = site.code;
     })
 bytes_within n (Rmw op addr width value) reply site = Some (changing n addr width true site.code)

@@ -2,7 +2,7 @@
 ghost use Rattle.std.specs.Prelude.{◌≡◌, ◌++◌, ◌+◌, IfOk, OnOk, nat_lt, true, false};
 ghost use Rattle.std.specs.Option.{option_to_list};
 ghost use Rattle.race_history.specs.Accesses.{accesses_of, bytes_of, bytes_within, call_of, call_within, changing};
-ghost use Rattle.race_history.specs.Accesses.{counting, end_of, entering, has_value, is_atomic, is_out_of_bounds};
+ghost use Rattle.race_history.specs.Accesses.{counting, end_of, entering, has_value, is_atomic, is_atomic_by, is_out_of_bounds};
 ghost use Rattle.race_history.specs.Accesses.{each_byte, judged, one_byte, pages_of, reading};
 ghost use Rattle.race_history.specs.Tests.{are_alike, are_matched, conflicts, is_same, location_number, overlap};
 ghost use Rattle.race_history.specs.Tests.{touches};
@@ -91,6 +91,13 @@ fn is_atomic(kind: AccessKind) -> bool
     }
 }
 
+/// Whether its access counts as atomic.
+fn is_atomic_by(site: &Site) -> bool
+    ensures { result ≡ is_atomic_by site.now }
+{
+    is_atomic(site.kind) || site.is_allowed
+}
+
 /// An access to bytes that reads alone.
 fn reading(thread: u32, addr: u64, width: u8, atomic: bool, code: u64) -> ThreadAccess
     ensures { result ≡ reading thread addr width atomic code }
@@ -164,7 +171,7 @@ fn bytes_within(thread: u32, event: Event, reply: Reply, site: &Site) -> Option<
             addr,
             width,
             reach: _,
-        } => Some(reading(thread, addr, width, is_atomic(site.kind), site.code)),
+        } => Some(reading(thread, addr, width, is_atomic_by(site), site.code)),
         Event::Store {
             addr,
             width,
@@ -177,7 +184,7 @@ fn bytes_within(thread: u32, event: Event, reply: Reply, site: &Site) -> Option<
             width,
             reads: false,
             writes: true,
-            atomic: is_atomic(site.kind),
+            atomic: is_atomic_by(site),
             code: site.code,
         }),
         Event::Rmw {
