@@ -114,6 +114,10 @@ module _ (b : Called) (w : systems.State Shared Walker) (reach : CanReach b w) (
       starts = λ m. starts-same b w.shared (shared_by w.shared n e) f m queue-is;
     }
 
+-- what a thread does, before it is said what may race
+abbrev made_in : ℕ → systems.State Shared Walker → Walker → Event → NextAccess
+made_in opening w t e = access_by opening w.shared.memory (is_plain t) e
+
 -- what may race changes no conflict
 module _ (allowed : Allowed) (a b : NextAccess) where
   judged-conflict : Conflict a b → Conflict (judged allowed a) (judged allowed b)
@@ -128,25 +132,22 @@ plain b allowed opening = record {
   starts = λ w n e wants m. starts-nobody b w.shared w.shared.memory e m (access-at w n e wants);
   same = λ w n e wants t f spared. ap (judged allowed)
       (access-same opening w.shared.memory (is_plain t) (is_plain (w.threads n)) f e (access-at w n e wants)
-      (λ c. spared (judged-conflict allowed (by_one w t f) (by_one w (w.threads n) e) c)));
+      (λ c. spared (judged-conflict allowed (made_in opening w t f) (made_in opening w (w.threads n) e) c)));
   still = λ w n e wants t f c. judged-conflict allowed
-      (access_by opening (state_after w.shared.memory e) (is_plain t) f) (by_one w (w.threads n) e)
+      (access_by opening (state_after w.shared.memory e) (is_plain t) f) (made_in opening w (w.threads n) e)
       (conflict-still opening w.shared.memory (is_plain t) (is_plain (w.threads n)) f e (access-at w n e wants)
-      (unjudged-conflict allowed (by_one w t f) (by_one w (w.threads n) e) c));
+      (unjudged-conflict allowed (made_in opening w t f) (made_in opening w (w.threads n) e) c));
   stays = λ w n e wants u f calls. ap (judged allowed)
       (access-stays opening w.shared.memory (state_after w.shared.memory f) (is_plain (w.threads n)) e (access-at w n e wants) (longer w.shared.memory f));
   independent = λ w n e wants u f calls apart spared.
       independent b w wants.reached n e (access-at w n e wants) opening (is_plain (w.threads u)) (is_plain (w.threads n)) u f
-      (λ c. spared (judged-conflict allowed (by_one w (w.threads u) f) (by_one w (w.threads n) e) c));
+      (λ c. spared (judged-conflict allowed (made_in opening w (w.threads u) f) (made_in opening w (w.threads n) e) c));
 }
   where
-    by_one : systems.State Shared Walker → Walker → Event → NextAccess
-    by_one w t e = access_by opening w.shared.memory (is_plain t) e
-
     access-at : (w : systems.State Shared Walker) (n : ℕ) (e : Event) → WantsPlain (system_of b) (access_of allowed opening) (first_state b) w n e
         → IsAccess w.shared.memory e
     access-at w n e wants = is-access opening w.shared.memory (is_plain (w.threads n)) e
-        (both-true (by_one w (w.threads n) e).plain (not (may_race allowed (by_one w (w.threads n) e))) wants.plain).0
+        (both-true (made_in opening w (w.threads n) e).plain (not (may_race allowed (made_in opening w (w.threads n) e))) wants.plain).0
 
 -- who is gone can't go on
 gone-not : (b : Called) (allowed : Allowed) (opening : ℕ) (w : systems.State Shared Walker) (n : ℕ) (a : NextAccess)
