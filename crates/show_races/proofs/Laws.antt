@@ -1,6 +1,6 @@
 -- What is found of the races of a run, from what is told of all of them.
-use Rattle.std.proofs.Common.{ℕ, zero, suc, ◌≡◌, ◌∙◌, ◌≤◌, ◌<◌, ◌+◌, Bool, true, false, List, [], ◌∷◌, ◌++◌, All}
-use Rattle.std.proofs.Common.{Contains, length, get_or, inl, inr, ap, refl, sym, subst, arith}
+use Rattle.std.proofs.Common.{ℕ, zero, suc, ◌≡◌, ◌≤◌, ◌<◌, ◌+◌, Bool, true, false, List, [], ◌∷◌, ◌++◌, All}
+use Rattle.std.proofs.Common.{Contains, length, get_or, inl, inr, ap, refl, subst, arith}
 use Rattle.std.proofs.lemmas.Bool.{cases_lt}
 use Rattle.std.proofs.lemmas.List.Elements.{All-contains, Contains-get_or}
 use Rattle.std.proofs.lemmas.List.{length-append}
@@ -8,7 +8,6 @@ use Rattle.allowed_races.specs.declared.allowed.Allowed.{Allowed}
 use Rattle.types.specs.declared.event.Entry.{Entry}
 use Rattle.race_history.specs.declared.access.Site.{Site}
 use Rattle.race_history.specs.declared.race.Race.{Race}
-use Rattle.race_history.specs.declared.access.ThreadAccess.{ThreadAccess}
 use Rattle.race_history.specs.Races.{AreRaces, HasEach, IsCut, IsLastRace, IsRaceOf}
 use Rattle.show_rows.specs.declared.listing.Shown.{Shown}
 use Rattle.show_races.specs.Sites.{site_at, sites_before}

@@ -2,7 +2,7 @@ use Rattle.std.proofs.Common.{◌≡◌, ◌∙◌, ℕ, List, false, length, If
 use Rattle.types.specs.declared.event.Entry.{Entry}
 use Rattle.race_history.specs.declared.access.Site.{Site}
 use Rattle.race_history.specs.Races.{HasEach}
-use Rattle.show_races.specs.Sites.{opening_shown, sites_shown}
+use Rattle.show_races.specs.Sites.{sites_shown}
 use Rattle.show_races.proofs.Laws.{carried, sites_length}
 use Rattle.show_races.proofs.found.all_races.Goals as goal
 
