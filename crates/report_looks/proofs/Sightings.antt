@@ -1,5 +1,5 @@
 -- The races that a run has, by other names of what they are told by.
-use Rattle.std.proofs.Common.{ℕ, ◌≡◌, ◌∙◌, ◌<◌, ◌==◌, Bool, true, false, List, [], ◌∷◌, Option, length, get_or, ap, refl, subst, sym, arith, All}
+use Rattle.std.proofs.Common.{ℕ, ◌≡◌, ◌∙◌, ◌<◌, ◌==◌, Bool, true, false, List, [], ◌∷◌, Option, length, get_or, ap, refl, subst, sym, true≢false, arith, All}
 use Rattle.std.proofs.lemmas.Bool.{eqb-true}
 use Rattle.std.proofs.lemmas.List.Elements.{Contains-get_or}
 use Rattle.types.specs.declared.event.Entry.{Entry}
@@ -29,10 +29,6 @@ use Rattle.report_looks.specs.declared.sighting.RacesOfRun.{RacesOfRun}
 use Rattle.report_looks.specs.declared.sighting.ToldRaces.{ToldRaces}
 use Rattle.report_looks.specs.declared.sighting.TheConstants.{MOST_TOLD}
 
--- what shows the same
-same_shown : (a b : Shown) → a.record.now ≡ b.record.now → a.rows.now ≡ b.rows.now → a.code.now ≡ b.code.now → a ≡ b
-same_shown a b entries rows code = cc (entries, rows, code)
-
 module _ (m : Parts) (r : RecordParts) (rows : List (Option Row)) (seen : (end : EndState) × IsRunOf m r end × AreRowsOf m r end rows)
     (shown : Shown) (of_record : shown.record.now ≡ r) (of_rows : shown.rows.now ≡ rows) (of_module : shown.code.now.parts.now ≡ m) where
   log : shown.record.now.log ≡ r.log
@@ -54,8 +50,7 @@ module _ (m : Parts) (r : RecordParts) (rows : List (Option Row)) (seen : (end :
           some = some;
           within = subst (λ (l : List Entry). All (IsWithin l) f.told.races.pairs.items) log told.within;
         };
-        shown = λ other is. subst (λ (x : Shown). AreTold x MOST_TOLD f.told)
-            (same_shown shown other (of_record ∙ sym is.of_record) (mine ∙ sym is.of_rows) (code ∙ sym is.of_code)) told;
+        all = (shown, record { of_record = of_record; of_rows = mine; of_code = code }, told);
       }
 
   pub none_by : (t : ToldRaces) → AreTold shown MOST_TOLD t → t.races.pairs.items ≡ [] → SaysOfRun m r false
@@ -113,12 +108,14 @@ found_by m r f first shown is old new (texts, says, lines) = (
     end = first.seen.0;
     run = first.seen.1;
     rows_are = first.seen.2;
-    shown = shown;
+    found = first.all.0;
     story = f.told.story;
+    is_found = shown_by m r f first first.all.0 first.all.1;
+    races = f.told.races;
+    told = first.all.2;
+    shown = shown;
     is_shown = shown_by m r f first shown is;
     map = f.map;
-    races = f.told.races;
-    told = first.shown shown is;
     some = first.told.some;
     texts = texts;
     says = says;
@@ -146,3 +143,8 @@ says_of m saved r rows seen false none = record { record_is = r; rows = rows; se
 pub empty_by : (xs ys : List Race) → xs ≡ ys → true ≡ (length xs == 0) → ys ≡ []
 empty_by [] ys same is = sym same
 empty_by (x ∷ xs) ys same is = let none : length (x ∷ xs) ≡ 0 = eqb-true (length (x ∷ xs)) 0 (sym is) in absurd (omega arith)
+
+-- one that is the same as a list with elements
+pub some_by : (xs ys : List Race) → xs ≡ ys → false ≡ (length xs == 0) → 0 < length ys
+some_by [] ys same is = absurd (true≢false (sym is))
+some_by (x ∷ xs) ys same is = subst (λ (l : List Race). 0 < length l) same (omega arith)

@@ -115,18 +115,21 @@ pub record HasPair (m : Parts) (r : RecordParts)
   pub says : IsSaid shown story (sites_of m r rows) race
 
 -- The text tells of races of a run in the words of `races`, with names of data: of each race at its two places in the code,
--- where it doesn't say that these are not all, no two of the same two places; and there is one.
+-- where it doesn't say that these are not all, no two of the same two places; and there is one. It shows the record in which
+-- they were found.
 pub record SaysFound (m : Parts) (r : RecordParts) (text : List ℕ) : Type 0 where
   pub rows : List (Option Row)
   pub end : EndState
   pub run : IsRunOf m r end
   pub rows_are : AreRowsOf m r end rows
-  pub shown : Shown
+  pub found : Shown
   pub story : Story
+  pub is_found : IsShownOf m r rows found story
+  pub races : RecordRaces
+  pub told : AreTold found MOST_TOLD (record { story = story; races = races })
+  pub shown : Shown
   pub is_shown : IsShownOf m r rows shown story
   pub map : DataMap
-  pub races : RecordRaces
-  pub told : AreTold shown MOST_TOLD (record { story = story; races = races })
   pub some : 0 < length races.pairs.items
   pub texts : List (List ℕ)
   pub says : AllZip (SaysRace shown map story races.sites.items) races.pairs.items texts

@@ -46,4 +46,4 @@ pub record AreRacesOf (m : Parts) (r : RecordParts) (f : RacesOfRun) : Type 0 wh
   pub sites : f.told.races.sites.items ≡ sites_of m r f.rows.items
   pub races : AreRaces r.log (sites_of m r f.rows.items) (opening_of m) f.told.races.pairs.items
   pub told : CanBeTold r f
-  pub shown : (shown : Shown) → IsShownBy r f shown → AreTold shown MOST_TOLD f.told
+  pub all : (shown : Shown) × IsShownBy r f shown × AreTold shown MOST_TOLD f.told

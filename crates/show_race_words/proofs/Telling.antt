@@ -84,7 +84,9 @@ told_each shown map story races sites pairs n a b same alike all (texts, says, w
     (subst (λ (ps : List Race). (ts : List (List ℕ)) × AllZip (SaysRace shown map story sites) ps ts × Appends a b (concat ts)) alike
     (texts, subst (λ (ps : List Race). AllZip (SaysRace shown map story sites) ps texts) (take_all n pairs all) says, wrote))
 
-pub told_before : (shown : Shown) (map : DataMap) (story : Story) (races : RecordRaces) (last : List ℕ) (a b c d : Option (List ℕ))
-    → WritesEach shown map story races a b → Appends b c last → Keeps c d → WritesBefore last shown map story races a d
-told_before shown map story races last a b c d (texts, says, wrote) more kept =
-    (texts, says, appends_keeps a c d (concat texts ++ last) (appends_then a b c (concat texts) last wrote more) kept)
+pub told_before : (shown : Shown) (map : DataMap) (story : Story) (races : RecordRaces) (text : ℕ → List ℕ) (count : ℕ)
+    (a b c d : Option (List ℕ)) → count ≡ length races.pairs.items → WritesEach shown map story races a b → Appends b c (text count)
+    → Keeps c d → WritesBefore (text (length races.pairs.items)) shown map story races a d
+told_before shown map story races text count a b c d counted (texts, says, wrote) more kept =
+    subst (λ (n : ℕ). WritesBefore (text n) shown map story races a d) counted
+    (texts, says, appends_keeps a c d (concat texts ++ text count) (appends_then a b c (concat texts) (text count) wrote more) kept)

@@ -1,6 +1,6 @@
 -- What is written of races.
-use Rattle.std.specs.Prelude.{ℕ, ◌≡◌, ◌<◌, ◌==◌, nat_lt, if◌then◌else◌, Bool, true, false}
-use Rattle.std.specs.Prelude.{List, [], ◌++◌, codes, length, Option, Some, None, option_map, slice_index_or}
+use Rattle.std.specs.Prelude.{ℕ, ◌≡◌, ◌==◌, nat_lt, if◌then◌else◌, Bool}
+use Rattle.std.specs.Prelude.{List, [], ◌++◌, codes, length, Option, Some, None, option_map}
 use Rattle.std.specs.List.{slice_get, AllZip, concat}
 use Rattle.std.specs.Fmt.{decimal}
 use Rattle.std.specs.Io.KnownBytes.{Appends}

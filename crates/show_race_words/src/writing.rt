@@ -160,9 +160,10 @@ pub fn write_races<W: Write>(
     ensures { OnOk result (TellsRaces shown.entry map.now story.now races.now (W.contents out.old) (W.contents out.new)) }
 {
     write_each(alloc, shown, map, story, races, out)?;
+    let pairs = races.pairs.as_slice();
     let end = End {
         is_cut: races.is_cut,
-        count: races.pairs.len(),
+        count: pairs.len(),
     };
     write!(out, "{end}")?;
     out.flush()?;
@@ -185,9 +186,10 @@ pub fn write_found<W: Write>(
     ensures { OnOk result (TellsFound shown.entry map.now story.now races.now (W.contents out.old) (W.contents out.new)) }
 {
     write_each(alloc, shown, map, story, races, out)?;
+    let pairs = races.pairs.as_slice();
     let more = More {
         is_cut: races.is_cut,
-        count: races.pairs.len(),
+        count: pairs.len(),
     };
     write!(out, "{more}")?;
     out.flush()?;
