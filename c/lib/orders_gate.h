@@ -6,10 +6,10 @@ typedef uint16_t u16;
 typedef uint8_t u8;
 #define INLINE __attribute__((always_inline)) static inline
 
-/* ---- Limits: each is set by a switch of wathread-cc, as -DORDERS_PLACES=64 ---- */
+/* ---- Limits: each is set by a switch of wathread-cc, as -DORDERS_PLACES=128 ---- */
 
 #ifndef ORDERS_PLACES
-#define ORDERS_PLACES 32      /* places that threads share at a time, a multiple of 4 */
+#define ORDERS_PLACES 64      /* places that threads share at a time, a multiple of 4 */
 #endif
 #ifndef ORDERS_MESSAGES
 #define ORDERS_MESSAGES 16    /* of one place that somebody may still read, up to 120 */
