@@ -50,7 +50,7 @@ int pthread_create(pthread_t *thread, const pthread_attr_t *attr, void *(*functi
 int pthread_join(pthread_t thread, void **result); /* EDEADLK for itself, ESRCH for what is no thread's number */
 int pthread_tryjoin_np(pthread_t thread, void **result); /* EBUSY */
 int pthread_timedjoin_np(pthread_t thread, void **result, const struct timespec *until);
-int pthread_detach(pthread_t thread); /* does nothing */
+int pthread_detach(pthread_t thread); /* does nothing; ESRCH for what is no thread's number */
 pthread_t pthread_self(void);
 int pthread_equal(pthread_t a, pthread_t b);
 WATHREAD_LEAVES void pthread_exit(void *result); /* in main the others go on, and its answer is 0 */

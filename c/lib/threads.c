@@ -222,8 +222,15 @@ int pthread_create(pthread_t *thread, const pthread_attr_t *attr, void *(*functi
 }
 
 static int number_of(pthread_t thread) { return thread == MAINS ? 0 : thread; }
+static int is_nobodys(pthread_t thread) { return thread != MAINS && (thread < 1 || thread >= MOST_THREADS); }
 
-int pthread_detach(pthread_t thread) { orders_detached(number_of(thread)); return 0; }
+int pthread_detach(pthread_t thread) {
+    if (is_nobodys(thread))
+        return ESRCH;
+    orders_detached(number_of(thread));
+    return 0;
+}
+
 pthread_t pthread_self(void) { return thread_self() ? thread_self() : MAINS; }
 int pthread_equal(pthread_t a, pthread_t b) { return a == b; }
 

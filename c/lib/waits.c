@@ -125,9 +125,7 @@ static uint32_t result_of(int thread) {
 void thread_join(int thread) { result_of(thread); }
 
 static int is_no_other(pthread_t thread) {
-    if (thread != MAINS && (!thread || (unsigned)thread >= MOST_THREADS))
-        return ESRCH;
-    return number_of(thread) == thread_self() ? EDEADLK : 0;
+    return is_nobodys(thread) ? ESRCH : number_of(thread) == thread_self() ? EDEADLK : 0;
 }
 
 int pthread_join(pthread_t thread, void **result) {
