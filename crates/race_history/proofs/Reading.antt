@@ -11,7 +11,7 @@ use Rattle.shared_memory.specs.History.{AreEntries}
 use Rattle.race_history.specs.declared.access.ThreadAccess.{ThreadAccess}
 use Rattle.race_history.specs.declared.access.Site.{Site}
 use Rattle.race_history.specs.declared.lasts.Last.{Last}
-use Rattle.race_history.specs.Accesses.{AreMatched, Meet, accesses_of}
+use Rattle.race_history.specs.Accesses.{AreMatched, HasByte, Meet, accesses_of}
 use Rattle.race_history.specs.Places.{IsAccess, IsAt}
 use Rattle.race_history.specs.Order.{ReadsFrom}
 use Rattle.race_history.specs.Lasts.{AreLasts, IsInWord, list_for}
@@ -89,6 +89,15 @@ module _ (log : List Entry) (sites : List Site) (opening : ℕ) (entries : AreEn
     meet_found : Meet found.0.access a
     meet_found = subst (λ (b : ThreadAccess). Meet b a) (sym found.1.1) meet
 
+    -- it has the bytes of this one
+    back : (byte : ℕ) → HasByte a byte → HasByte r.write byte
+    back byte has =
+        let read : HasByte r.read byte = subst (λ (b : ThreadAccess). HasByte b byte) (sym same_read) has in (
+          subst (λ (n : ℕ). n ≤ byte) (sym r.matched.addr) read.0,
+          subst (λ (n : ℕ). byte < n + r.write.width) (sym r.matched.addr)
+              (subst (λ (n : ℕ). byte < r.read.addr + n) (sym r.matched.width) read.1),
+        )
+
     from_reads : (o : Option Last) → IsLatest a (list_for lists a.addr) o → from_latest a o ≡ Some first
     from_reads None h = absurd (h found.0 found.1.0 writes_found meet_found)
     from_reads (Some y) h =
@@ -99,7 +108,7 @@ module _ (log : List Entry) (sites : List Site) (opening : ℕ) (entries : AreEn
         let made = lasts.made (a.addr / 8 % length lists) y h.has in
         let same : y.access ≡ r.write =
         IsAccess-same log sites opening first y.access r.write (subst (λ (n : ℕ). IsAccess log sites opening n y.access) at made.1) r.made
-        (h.meet.0 ∙ sym meet.0) in
+        (h.meet.0 ∙ sym meet.0, (h.meet.1.0, (h.meet.1.1.0, back h.meet.1.0 h.meet.1.1.1))) in
         let matched : AreMatched y.access a =
         subst (λ (b : ThreadAccess). AreMatched b a) (sym same) (subst (λ (b : ThreadAccess). AreMatched r.write b) same_read r.matched) in
         let reads : a.reads ≡ true = subst (λ (b : ThreadAccess). b.reads ≡ true) same_read r.reads in

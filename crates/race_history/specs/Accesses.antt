@@ -5,7 +5,8 @@
 -- a notify enter the critical section of the list of waiters at their address (ECMAScript, "WaiterList Objects"; threads
 -- proposal, "Wait and notify operators"). A spawn takes the next number, which hosts count up atomically (wasi-threads).
 -- A timeout makes no access, and neither does the end of a thread.
-use Rattle.std.specs.Prelude.{ℕ, ◌≡◌, ◌==◌, ◌+◌, ◌<◌, ◌≤◌, ◌++◌, Bool, true, false, not, nat_lt, if◌then◌else◌, Option, Some, None, List}
+use Rattle.std.specs.Prelude.{ℕ, zero, suc, ◌≡◌, ◌==◌, ◌+◌, ◌-◌, ◌^◌, ◌<◌, ◌≤◌, ◌++◌, ◌||◌, Bool, true, false, not, min, nat_lt, if◌then◌else◌}
+use Rattle.std.specs.Prelude.{Option, Some, None, List, [], ◌∷◌}
 use Rattle.std.specs.Option.{option_to_list}
 use Rattle.types.specs.declared.event.Entry.{Entry}
 use Rattle.types.specs.declared.event.Event.{Event}
@@ -32,6 +33,10 @@ has_value _ n = false
 abbrev pub is_atomic : AccessKind → Bool
 is_atomic Plain = false
 is_atomic Atomic = true
+
+-- An access counts as atomic that was made by an atomic instruction, or is allowed to race.
+abbrev pub is_atomic_by : Site → Bool
+is_atomic_by site = is_atomic site.kind || site.is_allowed
 
 -- An access to bytes that reads, and an atomic one that reads and may write.
 abbrev pub reading : ℕ → ℕ → ℕ → Bool → ℕ → ThreadAccess
@@ -87,7 +92,7 @@ counting n writes atomic = record {
 -- To bytes, within bounds: a load reads, a store writes, a read-modify-write does both, a compare-exchange writes where
 -- it found what it expected, and a wait reads. The last three are atomic whatever their kind says.
 abbrev pub bytes_within : ℕ → Event → Reply → Site → Option ThreadAccess
-bytes_within n (Load addr width reach) reply site = Some (reading n addr width (is_atomic site.kind) site.code)
+bytes_within n (Load addr width reach) reply site = Some (reading n addr width (is_atomic_by site) site.code)
 bytes_within n (Store addr width reach value) reply site =
     Some (record {
       thread = n;
@@ -96,7 +101,7 @@ bytes_within n (Store addr width reach value) reply site =
       width = width;
       reads = false;
       writes = true;
-      atomic = is_atomic site.kind;
+      atomic = is_atomic_by site;
       code = site.code;
     })
 bytes_within n (Rmw op addr width value) reply site = Some (changing n addr width true site.code)
@@ -140,10 +145,26 @@ pages_within n event reply opening = if nat_lt opening (end_of event) then Some 
 abbrev pub pages_of : Entry → ℕ → Option ThreadAccess
 pages_of e opening = pages_within e.thread e.event e.reply opening
 
+-- To one of an access's bytes, so many behind the first (as far as there are addresses): atomic.
+abbrev pub one_byte : ThreadAccess → ℕ → ThreadAccess
+one_byte a behind = record a { addr = min (a.addr + behind) (2 ^ 64 - 1); width = 1; atomic = true }
+
+-- To each of so many.
+abbrev pub each_byte : ThreadAccess → ℕ → List ThreadAccess
+each_byte a zero = []
+each_byte a (suc more) = each_byte a more ++ one_byte a more ∷ []
+
+-- What an access to bytes is: one, or, where it is allowed to race, one to each of its bytes. These are atomic, so that
+-- two of them that meet are of the same byte, and don't race.
+abbrev pub judged : Option ThreadAccess → Bool → List ThreadAccess
+judged None is_allowed = []
+judged (Some a) true = each_byte a a.width
+judged (Some a) false = a ∷ []
+
 -- All of an entry's, where the memory opens with pages of so many bytes.
 abbrev pub accesses_of : Entry → Site → ℕ → List ThreadAccess
 accesses_of e site opening =
-    option_to_list (bytes_of e site) ++ option_to_list (call_of e) ++ option_to_list (pages_of e opening)
+    judged (bytes_of e site) site.is_allowed ++ option_to_list (call_of e) ++ option_to_list (pages_of e opening)
 
 abbrev pub HasByte : ThreadAccess → ℕ → Type 0
 HasByte a byte = (a.addr ≤ byte) × (byte < a.addr + a.width)

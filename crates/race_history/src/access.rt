@@ -2,8 +2,8 @@
 ghost use Rattle.std.specs.Prelude.{◌≡◌, ◌++◌, ◌+◌, IfOk, OnOk, nat_lt, true, false};
 ghost use Rattle.std.specs.Option.{option_to_list};
 ghost use Rattle.race_history.specs.Accesses.{accesses_of, bytes_of, bytes_within, call_of, call_within, changing};
-ghost use Rattle.race_history.specs.Accesses.{counting, end_of, entering, has_value, is_atomic, is_out_of_bounds};
-ghost use Rattle.race_history.specs.Accesses.{pages_of, reading};
+ghost use Rattle.race_history.specs.Accesses.{counting, end_of, entering, has_value, is_atomic, is_atomic_by, is_out_of_bounds};
+ghost use Rattle.race_history.specs.Accesses.{each_byte, judged, one_byte, pages_of, reading};
 ghost use Rattle.race_history.specs.Tests.{are_alike, are_matched, conflicts, is_same, location_number, overlap};
 ghost use Rattle.race_history.specs.Tests.{touches};
 ghost use Rattle.race_history.specs.declared.access.Location.TheVariants.{Waiters, Threads};
@@ -37,6 +37,8 @@ pub struct Site {
     pub kind: AccessKind,
     /// A number of its place in the code. Two are equal exactly where the places are.
     pub code: u64,
+    /// Whether each byte of its access is one of its own, and atomic, so that it races with no other such byte.
+    pub is_allowed: bool,
 }
 
 /// An access to a location.
@@ -87,6 +89,13 @@ fn is_atomic(kind: AccessKind) -> bool
         AccessKind::Plain => false,
         AccessKind::Atomic => true,
     }
+}
+
+/// Whether its access counts as atomic.
+fn is_atomic_by(site: &Site) -> bool
+    ensures { result ≡ is_atomic_by site.now }
+{
+    is_atomic(site.kind) || site.is_allowed
 }
 
 /// An access to bytes that reads alone.
@@ -162,7 +171,7 @@ fn bytes_within(thread: u32, event: Event, reply: Reply, site: &Site) -> Option<
             addr,
             width,
             reach: _,
-        } => Some(reading(thread, addr, width, is_atomic(site.kind), site.code)),
+        } => Some(reading(thread, addr, width, is_atomic_by(site), site.code)),
         Event::Store {
             addr,
             width,
@@ -175,7 +184,7 @@ fn bytes_within(thread: u32, event: Event, reply: Reply, site: &Site) -> Option<
             width,
             reads: false,
             writes: true,
-            atomic: is_atomic(site.kind),
+            atomic: is_atomic_by(site),
             code: site.code,
         }),
         Event::Rmw {
@@ -304,6 +313,46 @@ fn pages_of(entry: &Entry, opening: u64) -> Option<ThreadAccess>
     }
 }
 
+/// The access to one of an access's bytes, so many behind the first, as far as there are addresses: atomic.
+fn one_byte(access: ThreadAccess, behind: u8) -> ThreadAccess
+    ensures { result ≡ one_byte access behind }
+{
+    ThreadAccess {
+        addr: access.addr.saturating_add(u64::from(behind)),
+        width: 1,
+        atomic: true,
+        ..access
+    }
+}
+
+/// Puts the accesses to each byte of an access behind the others.
+fn push_each(made: &mut Vec<ThreadAccess>, access: ThreadAccess) -> Result<(), AllocError>
+    ensures { OnOk result (made.new.items ≡ made.old.items ++ each_byte access access.width) }
+{
+    for behind in 0..access.width {
+        made.push(one_byte(access, behind))?;
+    }
+    Ok(())
+}
+
+/// Puts the accesses to bytes behind the others that an entry's one is, if there is one.
+fn push_judged(
+    made: &mut Vec<ThreadAccess>,
+    is_allowed: bool,
+    access: Option<ThreadAccess>,
+) -> Result<(), AllocError>
+    ensures { OnOk result (made.new.items ≡ made.old.items ++ judged access is_allowed) }
+{
+    let Some(access) = access else {
+        return Ok(());
+    };
+    if is_allowed {
+        return push_each(made, access);
+    }
+    made.push(access)?;
+    Ok(())
+}
+
 /// Puts an access behind the others, if there is one.
 fn push_some(made: &mut Vec<ThreadAccess>, access: Option<ThreadAccess>) -> Result<(), AllocError>
     ensures { OnOk result (made.new.items ≡ made.old.items ++ option_to_list access) }
@@ -327,7 +376,7 @@ pub fn accesses_of(
     ensures { IfOk result (λ v. v.items ≡ accesses_of entry.now site.now opening) }
 {
     let mut made = Vec::new(alloc);
-    push_some(&mut made, bytes_of(entry, site))?;
+    push_judged(&mut made, site.is_allowed, bytes_of(entry, site))?;
     push_some(&mut made, call_of(entry))?;
     push_some(&mut made, pages_of(entry, opening))?;
     Ok(made)

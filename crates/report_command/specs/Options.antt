@@ -29,6 +29,7 @@ use Rattle.report_command.specs.declared.form.EndLook.{EndLook}
 use Rattle.report_command.specs.declared.command_line.Job.{Job}
 use Rattle.report_command.specs.declared.command_line.Job.TheVariants as jobs
 use Rattle.report_command.specs.declared.command_line.JobOrder.{JobOrder}
+use Rattle.report_command.specs.declared.allowance.Allowance.{Allowance}
 use Rattle.report_command.specs.declared.races.RacesJob.{RacesJob}
 use Rattle.report_command.specs.declared.show.RecordView.{RecordView}
 use Rattle.report_command.specs.declared.show.RecordView.TheVariants.{Rows, Unfolded, Moment, Write, Page, Trace}
@@ -163,12 +164,18 @@ pub record AsksShow (f : Found) (file saved : Bor (List ℕ)) (names : Option (B
   pub names_is : HasTextIfAny f (codes "names") names
   pub look_is : AsksLook f how
 
+-- Which accesses may race: those to these bytes, by their addresses or by words, and atomic ones of different widths.
+pub record AsksAllowance (f : Found) (allow : Allowance) : Type 0 where
+  pub bytes : AreRead (IsData IsSpan) f (codes "allow-race") allow.bytes.items
+  pub mixed : HasFlag f (codes "allow-mixed") allow.mixed
+
 -- `races`
 pub record AsksRaces (f : Found) (job : RacesJob) : Type 0 where
   pub file_is : HasText f (codes "file") job.file
   pub saved_is : HasText f (codes "record") job.saved
   pub names_is : HasTextIfAny f (codes "names") job.names
   pub most_is : HasNumber f (codes "most") job.most
+  pub allow_is : AsksAllowance f job.allow
   pub form_is : AsksForm f job.form
 
 -- The strategy that a word names.
@@ -254,6 +261,7 @@ pub record AsksSearch (f : Found) (s : Search) : Type 0 where
   pub deep : HasFlag f (codes "deep") s.deep
   pub races : HasFlag f (codes "races") s.races
   pub allow_races : HasFlag f (codes "allow-races") s.allow_races
+  pub allow : AsksAllowance f s.allow
   pub until : HasTextIfAny f (codes "until") s.until
   pub save : HasTextIfAny f (codes "record") s.save
   pub form_is : AsksForm f s.form

@@ -399,7 +399,7 @@ fn job_of<'a>(
         "run" => run_job(alloc, matches),
         "replay" => replay_job(matches),
         "show" => show_job(alloc, matches),
-        "races" => races_job(matches),
+        "races" => races_job(alloc, matches),
         "search" => search_job(alloc, matches),
         _ => Err(FILE.refusal("")),
     }

@@ -11,6 +11,7 @@
 #![tactic(auto)]
 
 mod advice;
+mod allowance;
 mod arguments;
 mod call;
 mod command_line;
@@ -31,6 +32,7 @@ mod table;
 mod values;
 
 pub use advice::{ADVICE, Advice};
+pub use allowance::Allowance;
 pub use call::CallWords;
 pub use command_line::{Job, JobOrder, Misuse, RunJob, Usage, asked, command, misused, not_text};
 pub use explain::Explain;

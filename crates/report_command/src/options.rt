@@ -59,6 +59,10 @@ pub(crate) const RACES: Fixed = argument!("races" "", ArgumentKind::Flag);
 
 pub(crate) const ALLOW_RACES: Fixed = argument!("allow-races" "", ArgumentKind::Flag);
 
+pub(crate) const ALLOW_RACE: Fixed = argument!("allow-race" "A[-B],..", ArgumentKind::Addresses);
+
+pub(crate) const ALLOW_MIXED: Fixed = argument!("allow-mixed" "", ArgumentKind::Flag);
+
 pub(crate) const FIND: Fixed = argument!("find" "WORDS", ArgumentKind::Words);
 
 pub(crate) const EXPECT: Fixed = argument!("expect" "RESULT", ArgumentKind::Outcome);

@@ -8,6 +8,7 @@ ghost use Rattle.report_command.specs.Searches.{IsSoughtInRange};
 ghost use Rattle.report_command.specs.Options.{AsksAll, AsksEffort, AsksFind, AsksNamed, AsksResult, AsksSought};
 ghost use Rattle.report_command.specs.Options.{AsksTarget, AsksWay, IsFindOf, IsWay, stops_by};
 
+use crate::allowance::{Allowance, allowance_of};
 use crate::call::{CallWords, call_of};
 use crate::command_line::{Job, Misuse};
 use crate::form::{Form, form_of};
@@ -52,6 +53,8 @@ pub struct Search<'a> {
     pub races: bool,
     /// Whether the status is that of the endings alone, where there are races or it isn't known.
     pub allow_races: bool,
+    /// Which accesses may race.
+    pub allow: Allowance<'a>,
     /// The path of the file at which the search ends, if there is one.
     pub until: Option<&'a str>,
     /// The path of the record of what is found, if one is wanted.
@@ -269,6 +272,7 @@ pub(crate) fn search_job<'a>(
     let file = FILE.text(matches)?;
     let effort = effort_of(matches)?;
     let all = all_of(matches)?;
+    let allow = allowance_of(alloc, matches)?;
     let call = call_of(alloc, matches)?;
     Ok(Job::Search(Search {
         file,
@@ -283,6 +287,7 @@ pub(crate) fn search_job<'a>(
         deep: DEEP.is_set(matches),
         races,
         allow_races: ALLOW_RACES.is_set(matches),
+        allow,
         until: UNTIL.text_if_any(matches),
         save: SEARCH_RECORD.text_if_any(matches),
         form: form_of(matches),

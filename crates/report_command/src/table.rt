@@ -3,11 +3,11 @@
 use crate::arguments::NamedArgument;
 use crate::commands::CommandName;
 use crate::options::{
-    ADDRESSES, ALL, ALLOW_RACES, ARGS, AT, BYTES, COLOR, DEEP, DUMP, EXPECT, EXPLAIN, FILE, FIND,
-    FROM, FUEL, HTML, INVOKE, JOBS, JSON, LAST_WRITE, LIMIT, LINES, MEMORY, MEMORY_IN, MEMORY_OUT,
-    MOST, NAMES, NO_EXPLAIN, ORDERS, RACES, RAW, RECORD, RUN_RECORD, RUNS, SEARCH_RECORD, SEED,
-    SHRINK, SHRINK_TIME, SOURCE, STATES, STRATEGY, THREADS, TIME, TRACE, UNFOLD, UNITS, UNTIL,
-    WIDTH,
+    ADDRESSES, ALL, ALLOW_MIXED, ALLOW_RACE, ALLOW_RACES, ARGS, AT, BYTES, COLOR, DEEP, DUMP,
+    EXPECT, EXPLAIN, FILE, FIND, FROM, FUEL, HTML, INVOKE, JOBS, JSON, LAST_WRITE, LIMIT, LINES,
+    MEMORY, MEMORY_IN, MEMORY_OUT, MOST, NAMES, NO_EXPLAIN, ORDERS, RACES, RAW, RECORD, RUN_RECORD,
+    RUNS, SEARCH_RECORD, SEED, SHRINK, SHRINK_TIME, SOURCE, STATES, STRATEGY, THREADS, TIME, TRACE,
+    UNFOLD, UNITS, UNTIL, WIDTH,
 };
 
 /// Where an argument stands among the words.
@@ -95,7 +95,7 @@ pub(crate) static OF_A_RUN: [OptionRow; 7] = [
 ];
 
 /// Which runs a search makes.
-pub(crate) static OF_RUNS: [OptionRow; 11] = [
+pub(crate) static OF_RUNS: [OptionRow; 13] = [
     row!(RUNS, for [Search],
     "How many runs are made at most", defaults: &["10000"]),
     row!(FROM, for [Search],
@@ -118,7 +118,7 @@ pub(crate) static OF_RUNS: [OptionRow; 11] = [
     row!(ORDERS, for [Search],
     "With --all: needed looks for races first, and where there is none goes through the orders that matter then; \
     all goes through every order at once, and looks for no race",
-    conflicts: &["races", "allow-races"], needs: &["all"]),
+    conflicts: &["races", "allow-races", "allow-race", "allow-mixed"], needs: &["all"]),
     row!(DEEP, for [Search],
     "With --all: go on each time from the state that was met last, so that what is looked for is met early where \
     there are too many states", needs: &["all"]),
@@ -128,6 +128,11 @@ pub(crate) static OF_RUNS: [OptionRow; 11] = [
     row!(ALLOW_RACES, for [Search],
     "With --all: races don't count, so the status is 0 where all runs end well, also where some have a race",
     needs: &["all"]),
+    row!(ALLOW_RACE, for [Races, Search],
+    "No race at these addresses, or at the data of these names: an access all of whose bytes are there counts as \
+    atomic, and two of these don't race; may be given several times"),
+    row!(ALLOW_MIXED, for [Races, Search],
+    "No race of two atomic accesses of different widths"),
 ];
 
 /// What a search looks for, how long, and within what.

@@ -1,4 +1,5 @@
 -- Where all threads come to rest in the beginning.
+use Rattle.allowed_races.specs.declared.allowed.Allowed.{Allowed}
 use Rattle.std.specs.Prelude.{ℕ, zero, suc, ◌≡◌, ◌≢◌, List, [], ◌∷◌, length, Option, Some, None}
 use Rattle.std.proofs.Common.{refl, sym, ap, ◌∙◌, subst, arith, inl, inr}
 use Rattle.std.specs.List.{slice_get}
@@ -56,11 +57,11 @@ module _ (w : WithTables) (b : Called) (opening : List ℕ) (main : RestingThrea
     }
   ]
 
-  pub begun : (c : RestingState Common HashedThread) → Shares opening c.shared (first_shared b)
+  pub begun : (allowed : Allowed) (c : RestingState Common HashedThread) → Shares opening c.shared (first_shared b)
       → (t : HashedThread) × (c.threads.items ≡ t ∷ []) × (t.standing ≡ main)
-      → IsBeginning (threads_of w b opening) c
+      → IsBeginning (threads_of w b allowed opening) c
   unfolding first_queue
-  begun c shared first = record {
+  begun allowed c shared first = record {
     settled = record { shared = first_shared b; threads = threads };
     rest = record { shared = refl; each = settles };
     settled_is = record {

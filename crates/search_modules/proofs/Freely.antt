@@ -36,15 +36,15 @@ same_ends s endings are e among =
 
 -- where it gives up
 pub lost_freely : (m : Parts) (s : Searched) (entry : List ℕ) (args : List Value) → IsCall m entry args (called s) → IsWorkerOf m s.worker
-    → CanGetStuck (gone_freely s) → CanBeLost m entry args ⊎ ((race : ThreadRace) × CanRaceSo m entry args race)
+    → CanGetStuck (gone_freely s) → CanBeLost m entry args ⊎ ((race : ThreadRace) × CanRaceSo m entry args s.allowed race)
 lost_freely m s entry args call worker stuck = by stuck.gets.is
   where
-    by : IsStuck s stuck.gets.end ⊎ SomeRace (threads s) → CanBeLost m entry args ⊎ ((race : ThreadRace) × CanRaceSo m entry args race)
+    by : IsStuck s stuck.gets.end ⊎ SomeRace (threads s) → CanBeLost m entry args ⊎ ((race : ThreadRace) × CanRaceSo m entry args s.allowed race)
     by (inl lost) =
         inl (lost_by m s entry args call worker
         (record { from = stuck.from; begun = stuck.begun; gets = record { end = stuck.gets.end; path = stuck.gets.path; is = lost } }))
     by (inr race) = inr (record { one = race.0; other = race.1 }, (called s, call, race.2))
 
 pub race_by : (m : Parts) (s : Searched) (entry : List ℕ) (args : List Value) → IsCall m entry args (called s) → (r : ThreadRace)
-    → HasRace (system_of (called s)) (first_state (called s)) (access_in (called s)) r.one r.other → CanRaceSo m entry args r
+    → HasRace (system_of (called s)) (first_state (called s)) (access_in s.allowed (called s)) r.one r.other → CanRaceSo m entry args s.allowed r
 race_by m s entry args call r race = (called s, call, race)

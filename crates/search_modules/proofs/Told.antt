@@ -27,19 +27,19 @@ module _ (s : Searched) where
       → IfOk r (IsEventAt (threads s) shared thread n)
   event_told opening same shared read thread is n r h =
       if_ok_so r (IsEventIn s.valid.now s.opening.items shared thread.standing n) (IsEventAt (threads s) shared thread n)
-      (λ o by z of. by (called s) z (record { of = refl; reached = of.0; shares = of.1; rested = of.2 }))
+      (λ o by z of. by (called s) s.allowed z (record { of = refl; reached = of.0; shares = of.1; rested = of.2 }))
       (subst (λ (t : HashedThread). IfOk r (IsEventIn s.valid.now s.opening.items shared t.standing n)) is
       (subst (λ l. IfOk r (IsEventIn s.valid.now l shared read.standing n)) same h))
 
   -- of what a thread does with the memory
   pub access_told : {E : Type 0} (opening : List ℕ) → opening ≡ s.opening.items → (shared : Common) (read thread : HashedThread) → read ≡ thread
-      → (n : ℕ) (r : Result (Option NextAccess) E) → IfOk r (IsAccessIn s.valid.now opening shared read.standing n)
+      → (n : ℕ) (r : Result (Option NextAccess) E) → IfOk r (IsAccessIn s.valid.now s.allowed opening shared read.standing n)
       → IfOk r (IsAccessOf (threads s) shared thread n)
   access_told opening same shared read thread is n r h =
-      if_ok_so r (IsAccessIn s.valid.now s.opening.items shared thread.standing n) (IsAccessOf (threads s) shared thread n)
+      if_ok_so r (IsAccessIn s.valid.now s.allowed s.opening.items shared thread.standing n) (IsAccessOf (threads s) shared thread n)
       (λ o by z of. by (called s) z (record { of = refl; reached = of.0; shares = of.1; rested = of.2 }))
-      (subst (λ (t : HashedThread). IfOk r (IsAccessIn s.valid.now s.opening.items shared t.standing n)) is
-      (subst (λ l. IfOk r (IsAccessIn s.valid.now l shared read.standing n)) same h))
+      (subst (λ (t : HashedThread). IfOk r (IsAccessIn s.valid.now s.allowed s.opening.items shared t.standing n)) is
+      (subst (λ l. IfOk r (IsAccessIn s.valid.now s.allowed l shared read.standing n)) same h))
 
   -- of an ending
   abbrev EndTold : RestingState Common HashedThread → Option Ending → Type 0
@@ -51,7 +51,7 @@ module _ (s : Searched) where
   end_told opening same shared ts r h =
       if_ok_so r (λ o. (flat : RestingState Common HashedThread) → HasParts shared ts flat → HasEndedIn s.opening.items s.dump flat o)
       (λ o. (flat : RestingState Common HashedThread) → HasParts shared ts flat → EndTold flat o)
-      (λ o by flat parts. by flat parts s.valid.now (called s))
+      (λ o by flat parts. by flat parts s.valid.now (called s) s.allowed)
       (subst (λ l. IfOk r (λ o. (flat : RestingState Common HashedThread) → HasParts shared ts flat → HasEndedIn l s.dump flat o)) same h)
 
   pub end_asked : (opening : List ℕ) → opening ≡ s.opening.items → (flat : RestingState Common HashedThread) → IsSomewhere (threads s) flat
@@ -59,5 +59,6 @@ module _ (s : Searched) where
   end_asked opening same flat at = (
     s.valid.now,
     called s,
-    subst (λ l. IsSomewhere (threads_of s.valid.now (called s) l) flat) (sym same) at,
+    s.allowed,
+    subst (λ l. IsSomewhere (threads_of s.valid.now (called s) s.allowed l) flat) (sym same) at,
   )

@@ -3,6 +3,7 @@ use Rattle.std.specs.Prelude.{ℕ, ◌≡◌, ◌<◌, Bool, [], List, Contains,
 use Rattle.std.specs.List.{slice_get, IsDistinct}
 use Rattle.std.specs.List.Sorted.{IsStrictlyIncreasing}
 use Rattle.std.specs.Option.{MatchOption}
+use Rattle.allowed_races.specs.declared.allowed.Allowed.{Allowed}
 use Rattle.schedule.specs.System.{State}
 use Rattle.schedule_threads.specs.Shared.{Shared}
 use Rattle.spawn_host.specs.Requests.{Requested}
@@ -28,7 +29,7 @@ use Rattle.search_parts.specs.contracts.shared.CommonPartialEq.TheImpl as common
 use Rattle.search_parts.specs.contracts.shared.HashedThreadPartialEq.TheImpl as hashed
 use Rattle.search_parts.specs.declared.shared.Common.{Common}
 use Rattle.search_parts.specs.declared.shared.HashedThread.{HashedThread}
-use Rattle.search_modules.specs.Moved.{called, threads}
+use Rattle.search_modules.specs.Moved.{called, threads, threads_by}
 use Rattle.search_modules.specs.Returned.{IsCall}
 use Rattle.search_modules.specs.declared.called.Searched.{Searched}
 
@@ -68,9 +69,10 @@ Owned = Owning Searching
 abbrev pub is_same_owned : Owned → Owned → Bool
 is_same_owned = owning_eq commons.eq-value.it hashed.eq-value.it
 
--- Threads can come to w, and from there, by plain turns alone, each within what its thread owns, to rest in c.
-abbrev pub RestsPlainly : Searched → Owned → State Shared Thread → Type 0
-RestsPlainly s c w = (turns : ℕ → ℕ) × StandsBefore (threads s) c w turns
+-- Threads can come to w, and from there, by plain turns alone, each within what its thread owns, to rest in c; where so
+-- much may race.
+abbrev pub RestsPlainly : Allowed → Searched → Owned → State Shared Thread → Type 0
+RestsPlainly allowed s c w = (turns : ℕ → ℕ) × StandsBefore (threads_by allowed s) c w turns
 
 -- This is the call.
 abbrev pub IsOfCall : Requested → Searched → Type 0
@@ -121,8 +123,8 @@ abbrev pub SaysWhereAll : Requested → ℕ → ℕ → Verdict → Option Liven
 SaysWhereAll = SaysWhereAllBy is_same_state RestsLater
 
 -- Of a search through the orders of what isn't plain.
-abbrev pub CountsOwned : Requested → ℕ → Type 0
-CountsOwned = CountsStatesBy is_same_owned RestsPlainly
+abbrev pub CountsOwned : Requested → Allowed → ℕ → Type 0
+CountsOwned r allowed = CountsStatesBy is_same_owned (RestsPlainly allowed) r
 
-abbrev pub SaysWhereAllFree : Requested → ℕ → ℕ → Verdict → Option Liveness → Type 0
-SaysWhereAllFree = SaysWhereAllBy is_same_owned RestsPlainly
+abbrev pub SaysWhereAllFree : Requested → Allowed → ℕ → ℕ → Verdict → Option Liveness → Type 0
+SaysWhereAllFree r allowed = SaysWhereAllBy is_same_owned (RestsPlainly allowed) r

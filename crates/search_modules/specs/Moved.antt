@@ -1,5 +1,6 @@
 -- The states of a search: what is shared and each thread at rest, of a module's threads.
 use Rattle.std.specs.Prelude.{ℕ}
+use Rattle.allowed_races.specs.declared.allowed.Allowed.{Allowed}
 use Rattle.types.specs.declared.event.Answer.{Answer}
 use Rattle.types.specs.declared.event.Event.{Event}
 use Rattle.types.specs.declared.event.Reply.{Reply}
@@ -23,9 +24,13 @@ use Rattle.search_modules.specs.declared.called.Searched.{Searched}
 abbrev pub called : Searched → Called
 called s = called_of s.valid.now.parts s.opening.items s.max s.main s.args.items s.worker
 
--- Its threads, and what stands for them.
+-- Its threads, and what stands for them, where so much may race.
+abbrev pub threads_by : Allowed → Searched → ThreadSystem Shared Thread Event Reply Answer Common HashedThread Effect
+threads_by allowed s = threads_of s.valid.now (called s) allowed s.opening.items
+
+-- The same, where as much may race as in the search.
 abbrev pub threads : Searched → ThreadSystem Shared Thread Event Reply Answer Common HashedThread Effect
-threads s = threads_of s.valid.now (called s) s.opening.items
+threads s = threads_by s.allowed s
 
 -- Thread n made an event in one of its states.
 abbrev pub IsEffectOf : Searched → Effect → ℕ → State Shared Thread → Event → Type 0

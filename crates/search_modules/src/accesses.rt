@@ -11,11 +11,11 @@ impl Accesses for Searched<'_> {
     ghost use Rattle.search_modules.specs.Moved.{called};
     ghost use Rattle.search_runs.proofs.Accessing.{plain, beyond, finished};
 
-    ghost plain = { λ t. plain (called t) (length t.opening.items) };
+    ghost plain = { λ t. plain (called t) t.allowed (length t.opening.items) };
 
-    ghost beyond = { λ t. beyond (called t) (length t.opening.items) };
+    ghost beyond = { λ t. beyond (called t) t.allowed (length t.opening.items) };
 
-    ghost finished = { λ t. finished (called t) (length t.opening.items) t.dump };
+    ghost finished = { λ t. finished (called t) t.allowed (length t.opening.items) t.dump };
 
     fn access(
         &self,
@@ -27,6 +27,7 @@ impl Accesses for Searched<'_> {
         next_access(
             alloc,
             self.valid,
+            &self.allowed,
             self.opening.as_slice(),
             shared,
             thread.walker(),

@@ -10,6 +10,7 @@ ghost use Rattle.search_modules.specs.Liveness.{CountsStates, SaysWhereAll};
 ghost use Rattle.search_modules.specs.Ways.{HasWaysOf};
 
 use crate::calling::searched;
+use allowed_races::Allowed;
 use search_endings::Ending;
 use search_reach::{Ended, Follows, SearchPlan, Seeks};
 use search_settled::search_all;
@@ -62,6 +63,6 @@ pub fn all_endings<Q: Seeks<Ending>, F: Follows>(
     ensures obeys { IfOk result (λ r.
         Obeys (F.wish follower.old) (F.wish follower.new) (F.told_at follower.new) r.verdict r.states) }
 {
-    let searched = searched(alloc, request, dump)?;
+    let searched = searched(alloc, request, &Allowed::nothing(), dump)?;
     search_all(alloc, &searched, plan, follower)
 }

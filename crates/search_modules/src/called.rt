@@ -3,6 +3,7 @@
 ghost use Rattle.std.specs.Prelude.{◌≡◌, true};
 ghost use Rattle.search_modules.specs.Searching.{is_callable};
 
+use allowed_races::Allowed;
 use types::Value;
 use validate_module::ValidModule;
 
@@ -19,5 +20,7 @@ pub struct Searched<'m> {
     /// The number of the function that spawned threads call.
     pub worker: Option<usize>,
     pub dump: usize,
+    /// What may race.
+    pub allowed: Allowed<'m>,
     ghost callable: { is_callable valid.now.parts opening.items max main args.items worker ≡ true },
 }

@@ -7,6 +7,7 @@ ghost use Rattle.search_modules.specs.Endings.{IsWorkerOf};
 ghost use Rattle.search_modules.specs.Moved.{called};
 
 use crate::called::Searched;
+use allowed_races::Allowed;
 use spawn_host::{Request, thread_start};
 use std::alloc::{AllocError, Global};
 use types::Value;
@@ -22,18 +23,21 @@ fn worker_of(valid: &ValidModule) -> Option<usize>
     Some(thread_start(valid))
 }
 
-/// What is searched: the call that is requested, of which so many first bytes are looked at in the end.
+/// What is searched: the call that is requested, where so much may race, and of which so many first bytes are looked at
+/// in the end.
 ///
 /// # Errors
 /// Where memory is refused.
 pub(crate) fn searched<'m>(
     alloc: Global,
     request: &Request<'m, '_>,
+    allowed: &Allowed<'m>,
     dump: usize,
 ) -> Result<Searched<'m>, AllocError>
     ensures call { IfOk result (λ s. IsCall request.now.parts request.now.name request.now.args (called s)) }
     ensures worker { IfOk result (λ s. IsWorkerOf request.now.parts s.worker) }
     ensures dump { IfOk result (λ s. s.dump ≡ dump) }
+    ensures allowed { IfOk result (λ s. s.allowed ≡ allowed.now) }
     ensures names { IfOk result (λ _. HasDistinctNames request.now.parts.exports) }
 {
     let valid = request.module();
@@ -48,5 +52,6 @@ pub(crate) fn searched<'m>(
         args,
         worker: worker_of(valid),
         dump,
+        allowed: *allowed,
     })
 }

@@ -12,6 +12,7 @@ ghost use Rattle.search_modules.specs.Ways.{HasWaysFreely};
 
 use crate::called::Searched;
 use crate::calling::searched;
+use allowed_races::Allowed;
 use search_endings::Ending;
 use search_race_free::{
     MakesAhead, RaceFree, all_choices, race_choices as choices_to_race, search_race_free,
@@ -30,7 +31,8 @@ pub const MOST_PLAIN: u32 = 10_000;
 /// says it, and no threads without budgets race in any run by this call (`NeverRaces`): none makes a load or a store
 /// that isn't atomic, and later, when it has made nothing since but such, another wants an access to a byte of it, one
 /// of the two writing; nor do two want accesses to a byte at once, one writing, unless both are atomic and of the same
-/// bytes. A race that is given is in some run (`CanRaceSo`); only at
+/// bytes. An access all of whose bytes are allowed counts as atomic, and two of these don't race, whatever their bytes;
+/// where mixed accesses are, two atomic ones don't. A race that is given is in some run (`CanRaceSo`); only at
 /// `Verdict::CannotTell` one is, and not always: a thread may make turns of its own without end, or none may be found.
 ///
 /// Where it met all and `timed` is false, no thread waits with a timeout in any run (`NeverWaitsTimed`); where `timed` is
@@ -45,6 +47,7 @@ pub const MOST_PLAIN: u32 = 10_000;
 pub fn race_free_endings<'m, C: MakesAhead<Searched<'m>>, Q: Seeks<Ending>, F: Follows>(
     alloc: Global,
     request: &Request<'m, '_>,
+    allowed: &Allowed<'m>,
     crew: &C,
     plan: &SearchPlan<Q>,
     dump: usize,
@@ -52,25 +55,25 @@ pub fn race_free_endings<'m, C: MakesAhead<Searched<'m>>, Q: Seeks<Ending>, F: F
 ) -> Result<RaceFree<Ending>, AllocError>
     requires { C.ready crew.now }
     ensures found { IfOk result
-        (λ r. AreListed (race_free_claims_of request.now dump) plan.now.most (F.wish follower.new) r.ended) }
+        (λ r. AreListed (race_free_claims_of request.now allowed.now dump) plan.now.most (F.wish follower.new) r.ended) }
     ensures paths { IfOk result (λ r. vec_len r.ended.paths ≡ index_set_len r.ended.endings) }
-    ensures ways { IfOk result (λ r. HasWaysFreely request.now dump r.ended) }
-    ensures count { IfOk result (λ r. CountsOwned request.now r.ended.states) }
+    ensures ways { IfOk result (λ r. HasWaysFreely request.now allowed.now dump r.ended) }
+    ensures count { IfOk result (λ r. CountsOwned request.now allowed.now r.ended.states) }
     ensures live { IfOk result
-        (λ r. SaysWhereAllFree request.now dump r.ended.states r.ended.verdict r.ended.liveness) }
+        (λ r. SaysWhereAllFree request.now allowed.now dump r.ended.states r.ended.verdict r.ended.liveness) }
     ensures none { IfOk result (λ r. r.ended.verdict ≡ verdicts.All
-        → NeverRaces request.now.parts request.now.name request.now.args) }
+        → NeverRaces request.now.parts request.now.name request.now.args allowed.now) }
     ensures race { IfOk result
-        (λ r. IfSome r.race (CanRaceSo request.now.parts request.now.name request.now.args)) }
+        (λ r. IfSome r.race (CanRaceSo request.now.parts request.now.name request.now.args allowed.now)) }
     ensures untimed { IfOk result (λ r. r.ended.verdict ≡ verdicts.All → r.timed ≡ false
-        → NeverWaitsTimed request.now.parts request.now.name request.now.args) }
+        → NeverWaitsTimed request.now.parts request.now.name request.now.args allowed.now) }
     ensures timed { IfOk result (λ r. r.timed ≡ true
-        → WaitsTimedSo request.now.parts request.now.name request.now.args) }
+        → WaitsTimedSo request.now.parts request.now.name request.now.args allowed.now) }
     ensures seeks { IfOk result (λ r. HasSought (Q.sought plan.now.sought) r.ended.verdict r.ended.endings.keys) }
     ensures obeys { IfOk result (λ r.
         Obeys (F.wish follower.old) (F.wish follower.new) (F.told_at follower.new) r.ended.verdict r.ended.states) }
 {
-    let searched = searched(alloc, request, dump)?;
+    let searched = searched(alloc, request, allowed, dump)?;
     search_race_free(alloc, &searched, crew, plan, MOST_PLAIN, follower)
 }
 
@@ -80,13 +83,14 @@ pub fn race_free_endings<'m, C: MakesAhead<Searched<'m>>, Q: Seeks<Ending>, F: F
 ///
 /// # Errors
 /// Where memory is refused.
-pub fn turn_choices(
+pub fn turn_choices<'m>(
     alloc: Global,
-    request: &Request,
+    request: &Request<'m, '_>,
+    allowed: &Allowed<'m>,
     dump: usize,
     choices: &[usize],
 ) -> Result<Vec<usize>, AllocError> {
-    let searched = searched(alloc, request, dump)?;
+    let searched = searched(alloc, request, allowed, dump)?;
     all_choices(alloc, &searched, MOST_PLAIN, choices)
 }
 
@@ -96,13 +100,14 @@ pub fn turn_choices(
 ///
 /// # Errors
 /// Where memory is refused.
-pub fn race_choices(
+pub fn race_choices<'m>(
     alloc: Global,
-    request: &Request,
+    request: &Request<'m, '_>,
+    allowed: &Allowed<'m>,
     dump: usize,
     way: &[usize],
     most_plain: u32,
 ) -> Result<Vec<usize>, AllocError> {
-    let searched = searched(alloc, request, dump)?;
+    let searched = searched(alloc, request, allowed, dump)?;
     choices_to_race(alloc, &searched, most_plain, way)
 }

@@ -3,6 +3,7 @@ use Rattle.std.specs.Prelude.{ℕ, zero, suc, ◌≡◌, ◌<◌, List, [], ◌�
 use Rattle.std.specs.List.{slice_get}
 use Rattle.std.proofs.Common.{refl, sym, ap, ◌∙◌, arith}
 use Rattle.std.proofs.lemmas.List.{length-map}
+use Rattle.allowed_races.specs.declared.allowed.Allowed.{Allowed}
 use Rattle.types.specs.declared.outcome.Outcome.{Outcome}
 use Rattle.shared_memory.specs.Memory.{Memory, pages}
 use Rattle.validate_typing.specs.Tabled.{WithTables}
@@ -87,8 +88,8 @@ one_ending dump z x y one other =
     let bytes_so = one.bytes_are ∙ sym other.bytes_are in
     λ i. record { outcomes = outcomes i; pages = pages_so i; bytes = bytes_so i }
 
-module _ (w : WithTables) (b : Called) (opening : List ℕ) (flat : RestingState Common HashedThread) (z : systems.State Shared Thread)
-    (at : IsAt (threads_of w b opening) flat z) where
+module _ (w : WithTables) (b : Called) (allowed : Allowed) (opening : List ℕ) (flat : RestingState Common HashedThread)
+    (z : systems.State Shared Thread) (at : IsAt (threads_of w b allowed opening) flat z) where
   abbrev threads : List HashedThread
   threads = flat.threads.items
 

@@ -6,11 +6,13 @@ ghost use Rattle.shared_memory.specs.Events.{IsEvent};
 ghost use Rattle.shared_memory.specs.Memory.{Memory, can_grow, loaded};
 ghost use Rattle.search_memory.specs.Memories.{memory_of};
 ghost use Rattle.search_runs.specs.Accesses.{no_bytes, look, growth, in_bounds, with_timeout, access_by};
+ghost use Rattle.search_runs.specs.Accesses.{is_to_bytes, judged, may_race};
 ghost use Rattle.search_parts.specs.Threads.{IsInCall, IsAccessIn};
 
 use crate::plain::is_plain;
 use crate::shared::{Common, HashedThread};
 use crate::wants::wanted;
+use allowed_races::Allowed;
 use search_memory::{Changes, can_grow, holds};
 use search_settled::NextAccess;
 use std::alloc::{AllocError, Global};
@@ -27,6 +29,7 @@ fn no_bytes() -> NextAccess
         writes: false,
         is_conditional: false,
         is_timed: false,
+        is_allowed: false,
         addr: 0,
         width: 0,
     }
@@ -45,6 +48,7 @@ fn look() -> NextAccess
         writes: false,
         is_conditional: false,
         is_timed: false,
+        is_allowed: false,
         addr: NO_MEMORY_HAS,
         width: 1,
     }
@@ -61,6 +65,7 @@ fn growth(opening: &[u8], memory: &Changes, more: u32) -> NextAccess
             writes: true,
             is_conditional: false,
             is_timed: false,
+            is_allowed: false,
             addr: opening.len() as u64,
             width: NO_MEMORY_HAS + 1,
         }
@@ -94,6 +99,7 @@ fn load_or_store(
             writes,
             is_conditional: false,
             is_timed: false,
+            is_allowed: false,
             addr,
             width: u64::from(width),
         }
@@ -114,6 +120,7 @@ fn atomic(len: u64, writes: bool, is_conditional: bool, addr: u64, width: u8) ->
             writes,
             is_conditional,
             is_timed: false,
+            is_allowed: false,
             addr,
             width: u64::from(width),
         }
@@ -192,24 +199,53 @@ fn access_by(opening: &[u8], memory: &Changes, plain: bool, event: &Event) -> Ne
     }
 }
 
-/// What thread n does with the memory next, if it can go on.
+/// Whether an access is to bytes that a memory can have.
+fn is_to_bytes(access: NextAccess) -> bool
+    ensures { result ≡ is_to_bytes access }
+{
+    access.addr <= NO_MEMORY_HAS && access.width <= NO_MEMORY_HAS - access.addr
+}
+
+/// Whether all its bytes may race.
+fn may_race(allowed: &Allowed, access: NextAccess) -> bool
+    ensures { result ≡ may_race allowed.now access }
+{
+    is_to_bytes(access) && allowed.has(access.addr, access.width)
+}
+
+/// An access, where so much may race.
+fn judged(allowed: &Allowed, access: NextAccess) -> NextAccess
+    ensures { result ≡ judged allowed.now access }
+{
+    let may_race = may_race(allowed, access);
+    let is_to_bytes = is_to_bytes(access);
+    NextAccess {
+        plain: access.plain && !may_race,
+        is_allowed: may_race || (allowed.mixed && is_to_bytes),
+        ..access
+    }
+}
+
+/// What thread n does with the memory next, if it can go on, where so much may race.
 ///
 /// # Errors
 /// Where memory is refused.
 pub fn next_access(
     alloc: Global,
     valid: &ValidModule,
+    allowed: &Allowed,
     opening: &[u8],
     shared: &Common,
     thread: &HashedThread,
     n: usize,
 ) -> Result<Option<NextAccess>, AllocError>
     requires { IsInCall valid.now opening.now shared.now thread.now.standing n }
-    ensures { IfOk result (IsAccessIn valid.now opening.now shared.now thread.now.standing n) }
+    ensures { IfOk result (IsAccessIn valid.now allowed.now opening.now shared.now thread.now.standing n) }
 {
     let Some(event) = wanted(alloc, valid, &thread.standing)? else {
         return Ok(None);
     };
     let plain = is_plain(valid, &thread.standing);
-    Ok(Some(access_by(opening, &shared.memory, plain, &event)))
+    let access = access_by(opening, &shared.memory, plain, &event);
+    Ok(Some(judged(allowed, access)))
 }

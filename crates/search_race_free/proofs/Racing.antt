@@ -5,7 +5,7 @@ use Rattle.std.proofs.lemmas.Option.{none-some}
 use Rattle.schedule.proofs.Basics.{same_or_not}
 use Rattle.search_graph.specs.Paths.{Goes, Reaches}
 use Rattle.search_settled.specs.declared.access.NextAccess.{NextAccess}
-use Rattle.search_settled.specs.Accesses.{IsPlain, Conflict, AreMatched, Race, WritesOver}
+use Rattle.search_settled.specs.Accesses.{IsPlain, Conflict, AreMatched, HaveSameBytes, Race, WritesOver}
 use Rattle.search_race_free.specs.Orders.{StepsPlainly}
 use Rattle.search_race_free.proofs.Moving.{PlainLaws}
 
@@ -26,15 +26,27 @@ plain-race-other a b p c = record { conflict = c; unmatched = λ m. true≢false
 pub race-swap : (a b : NextAccess) → Race a b → Race b a
 race-swap a b r = record {
   conflict = conflict-swap a b r.conflict;
-  unmatched = λ m. r.unmatched (record { first = m.second; second = m.first; addr = sym m.addr; width = sym m.width });
+  unmatched = λ m. r.unmatched (matched-swap m);
 }
+  where
+    same : (b.is_allowed ≡ a.is_allowed) → (b.is_allowed ≡ true) ⊎ HaveSameBytes b a → (a.is_allowed ≡ true) ⊎ HaveSameBytes a b
+    same alike (inl h) = inl (sym alike ∙ h)
+    same alike (inr h) = inr (sym h.0, sym h.1)
 
--- Two that are written over by the same are of the same bytes.
+    matched-swap : AreMatched b a → AreMatched a b
+    matched-swap m = record { first = m.second; second = m.first; alike = sym m.alike; bytes = same m.alike m.bytes }
+
+-- Two that are written over by the same are matched.
 pub over-matched : (k a b : NextAccess) → WritesOver k a → WritesOver k b → AreMatched a b
 over-matched k a b x y =
     let m = x.matched in
     let n = y.matched in
-    record { first = m.first; second = n.first; addr = m.addr ∙ sym n.addr; width = m.width ∙ sym n.width }
+    record { first = m.first; second = n.first; alike = m.alike ∙ sym n.alike; bytes = by m.bytes n.bytes }
+  where
+    by : (a.is_allowed ≡ true) ⊎ HaveSameBytes a k → (b.is_allowed ≡ true) ⊎ HaveSameBytes b k → (a.is_allowed ≡ true) ⊎ HaveSameBytes a b
+    by (inl h) other = inl h
+    by (inr h) (inl o) = inl (x.matched.alike ∙ (sym y.matched.alike ∙ o))
+    by (inr h) (inr o) = inr (h.0 ∙ sym o.0, h.1 ∙ sym o.1)
 
 module _ {W : Type 0} (wants : W → ℕ → Option NextAccess) (next : W → ℕ → W) (R : W → Type 0) (laws : PlainLaws wants next R) where
   -- One thread makes these plain accesses, alone.

@@ -33,15 +33,18 @@ same_access x y e =
     let reads = (booleans_Decides x.reads y.reads).0 (first_so _ _ b) in
     let writes = (booleans_Decides x.writes y.writes).0 (first_so _ _ c) in
     let is_conditional = (booleans_Decides x.is_conditional y.is_conditional).0 (first_so _ _ d) in
+    let h = second_so _ _ g in
     let is_timed = (booleans_Decides x.is_timed y.is_timed).0 (first_so _ _ f) in
-    let addr = eqb-true x.addr y.addr (first_so _ _ g) in
-    let width = eqb-true x.width y.width (second_so _ _ g) in
+    let is_allowed = (booleans_Decides x.is_allowed y.is_allowed).0 (first_so _ _ g) in
+    let addr = eqb-true x.addr y.addr (first_so _ _ h) in
+    let width = eqb-true x.width y.width (second_so _ _ h) in
     λ i. record {
       plain = plain i;
       reads = reads i;
       writes = writes i;
       is_conditional = is_conditional i;
       is_timed = is_timed i;
+      is_allowed = is_allowed i;
       addr = addr i;
       width = width i;
     }

@@ -9,7 +9,16 @@ use Rattle.search_settled.specs.Accesses.{IsPlain, Conflict}
 
 -- A turn of a thread's own touches nothing.
 abbrev pub own_turn : NextAccess
-own_turn = record { plain = true; reads = false; writes = false; is_conditional = false; is_timed = false; addr = 0; width = 0 }
+own_turn = record {
+  plain = true;
+  reads = false;
+  writes = false;
+  is_conditional = false;
+  is_timed = false;
+  is_allowed = false;
+  addr = 0;
+  width = 0;
+}
 
 module _ {X T E V A : Type 0} (s : System X T E V A) where
   -- The state after the next turn of thread n.

@@ -1,6 +1,6 @@
 //! What threads touch, and where that conflicts.
 ghost use Rattle.std.specs.Prelude.{◌≡◌, ◌≢◌, ◌↔◌, ◌⊎◌, true, false, Some, IfOk, OnOk, IfSome, IfNone, IsTrue};
-ghost use Rattle.search_settled.specs.Accesses.{Meet, Conflict, AreMatched, Race as AreRacing, WritesOver};
+ghost use Rattle.search_settled.specs.Accesses.{Meet, Conflict, AreMatched, Race as AreRacing, Covers, WritesOver};
 ghost use Rattle.search_race_free.specs.Touches.{StrikesNobody, Strikes, AreOfOthers, MeetsNobody, Meets, IsPut};
 ghost use Rattle.search_race_free.specs.Touches.{AreClear, AreInTheWay, ArePlainOf, ArePutOver};
 
@@ -26,11 +26,14 @@ fn conflict(a: NextAccess, b: NextAccess) -> bool
     (a.writes || b.writes) && meet(a, b)
 }
 
-/// Whether neither is plain, and they are of exactly the same bytes.
+/// Whether neither is plain, and both are allowed, or neither is and they are of exactly the same bytes.
 fn are_matched(a: NextAccess, b: NextAccess) -> bool
     ensures { IsTrue result ↔ AreMatched a b }
 {
-    !a.plain && !b.plain && a.addr == b.addr && a.width == b.width
+    !a.plain
+        && !b.plain
+        && a.is_allowed == b.is_allowed
+        && (a.is_allowed || a.addr == b.addr && a.width == b.width)
 }
 
 /// Whether they race where they are next at once.
@@ -172,11 +175,19 @@ pub(crate) fn are_plain(owned: &[Touch], thread: usize) -> bool
     true
 }
 
+/// Whether each byte of the second is one of the first.
+fn covers(a: NextAccess, b: NextAccess) -> bool
+    ensures { IsTrue result ↔ Covers a b }
+{
+    a.addr <= b.addr && b.addr - a.addr <= a.width && b.width <= a.width - (b.addr - a.addr)
+}
+
 /// Whether the one writes over what the other would write, and may not where it finds something else.
 fn writes_over(over: NextAccess, access: NextAccess) -> bool
     ensures { IsTrue result ↔ WritesOver over access }
 {
     are_matched(access, over)
+        && covers(over, access)
         && access.writes
         && access.is_conditional
         && over.writes

@@ -7,6 +7,7 @@ use Rattle.std.proofs.lemmas.Bool.{cases_eq}
 use Rattle.std.proofs.lemmas.List.{length-replicate}
 use Rattle.std.proofs.lemmas.Option.{slice_get_within}
 use Rattle.std.specs.Global.{Vec}
+use Rattle.allowed_races.specs.declared.allowed.Allowed.{Allowed}
 use Rattle.types.specs.declared.event.Event.{Event}
 use Rattle.types.specs.declared.event.Event.TheVariants as events
 use Rattle.types.specs.declared.event.Question.TheVariants as questions
@@ -444,10 +445,11 @@ module _ (m : Parts) (r : RecordParts) (first : Course Thread) (begun : HasBegun
         )
 
 -- what is said of a made run's races by the places that were heard
-pub heard_so : (q : Requested) (limit : ℕ) (made : MadeRun) (d : Vec (Option Row)) → IsFind q limit made → made.heard.hears ≡ true
+pub heard_so : (allowed : Allowed) (q : Requested) (limit : ℕ) (made : MadeRun) (d : Vec (Option Row)) → IsFind q limit made → made.heard.hears ≡ true
     → d.items ≡ map row_heard made.heard.places.items → (is : Bool)
-    → Says made.record.log (sites_of q.parts made.record (map row_heard made.heard.places.items)) (opening_of q.parts) is → SaysOfRun q.parts made.record is
-heard_so q limit made d find listens alike is says =
+    → Says made.record.log (sites_of allowed q.parts made.record (map row_heard made.heard.places.items)) (opening_of q.parts) is
+    → SaysOfRun allowed q.parts made.record is
+heard_so allowed q limit made d find listens alike is says =
     let h = find.heard in
     let begun = h.begun made.record find.of_call in
     let count = counted h.first h.none h.last made.heard begun.log h.empty listens h.is_heard in
@@ -462,5 +464,5 @@ heard_so q limit made d find listens alike is says =
       run = find.run;
       rows_are = x.1;
       says = subst (λ (l : List Site). Says made.record.log l (opening_of q.parts) is)
-          (sym (sites_same q.parts x.0 made.heard.places.items x.2 (length made.record.log) (omega (arith, x.3)))) says;
+          (sym (sites_same allowed q.parts made.record.log x.0 made.heard.places.items x.2 (length made.record.log) (omega (arith, x.3)))) says;
     }

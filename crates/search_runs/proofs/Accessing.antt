@@ -2,7 +2,7 @@
 use Rattle.std.proofs.Common.{◌≡◌, ◌≢◌, ◌==◌, ◌&&◌, Bool, true, cond, nat_lt, ℕ, zero, suc, ◌+◌, ◌<◌, ◌≤◌, ◌⊎◌, inl}
 use Rattle.std.proofs.Common.{inr, length, List, [], ◌∷◌, Option, Some, None, refl, sym, ◌∙◌, ap, subst, arith}
 use Rattle.std.specs.List.{slice_get}
-use Rattle.std.specs.Prelude.{replicate}
+use Rattle.std.specs.Prelude.{not, replicate}
 use Rattle.std.proofs.lemmas.Bool.{cases_lt}
 use Rattle.std.proofs.lemmas.Option.{none-some}
 use Rattle.std.proofs.lemmas.List.{length-replicate}
@@ -10,6 +10,7 @@ use Rattle.types.specs.declared.event.Event.{Event}
 use Rattle.types.specs.declared.event.Event.TheVariants as events
 use Rattle.types.specs.declared.event.Question.TheVariants as questions
 use Rattle.types.specs.declared.event.Reply.{Reply}
+use Rattle.allowed_races.specs.declared.allowed.Allowed.{Allowed}
 use Rattle.types.specs.declared.event.Answer.{Answer}
 use Rattle.types.specs.declared.limits.TheConstants.{MOST_THREADS}
 use Rattle.types.specs.declared.outcome.Outcome.{Outcome}
@@ -30,11 +31,11 @@ use Rattle.search_race_free.specs.Wanted.{ArePlain, AreIndependent, WantsPlain, 
 use Rattle.search_race_free.specs.Wanted as nexts
 use Rattle.search_race_free.specs.Search.{NoneBeyond, NobodyGoesOn}
 use Rattle.search_runs.specs.Called.{Called, Walker, system_of, first_state, shared_by, begun_at}
-use Rattle.search_runs.specs.Accesses.{access_by, access_of, is_plain}
+use Rattle.search_runs.specs.Accesses.{access_by, access_of, is_plain, judged, may_race}
 use Rattle.search_runs.specs.Ends.{HasEndedSo}
 use Rattle.search_runs.specs.Theorems.{CanReach}
 use Rattle.search_runs.proofs.Tame.{orderly, missing}
-use Rattle.search_runs.proofs.Plain.{IsAccess, is-access, longer, reply-still, found-still, leaves-same, access-same, conflict-still, access-stays}
+use Rattle.search_runs.proofs.Plain.{IsAccess, is-access, both-true, longer, reply-still, found-still, leaves-same, access-same, conflict-still, access-stays}
 
 -- an access leaves the queue
 queue-still : (m : Memory) (q : WaitQueue) (n : ℕ) (e : Event) (r : Reply) → IsAccess m e → queue_step q n e r ≡ q
@@ -113,45 +114,65 @@ module _ (b : Called) (w : systems.State Shared Walker) (reach : CanReach b w) (
       starts = λ m. starts-same b w.shared (shared_by w.shared n e) f m queue-is;
     }
 
-pub plain : (b : Called) (opening : ℕ) → ArePlain (system_of b) (access_of opening) (first_state b)
-plain b opening = record {
+-- what a thread does, before it is said what may race
+abbrev made_in : ℕ → systems.State Shared Walker → Walker → Event → NextAccess
+made_in opening w t e = access_by opening w.shared.memory (is_plain t) e
+
+-- what may race changes no conflict
+module _ (allowed : Allowed) (a b : NextAccess) where
+  judged-conflict : Conflict a b → Conflict (judged allowed a) (judged allowed b)
+  judged-conflict c = record { meet = c.meet; write = c.write }
+
+  unjudged-conflict : Conflict (judged allowed a) (judged allowed b) → Conflict a b
+  unjudged-conflict c = record { meet = c.meet; write = c.write }
+
+pub plain : (b : Called) (allowed : Allowed) (opening : ℕ) → ArePlain (system_of b) (access_of allowed opening) (first_state b)
+plain b allowed opening = record {
   gives = λ w n e wants m. gives-none b w wants.reached n e (access-at w n e wants) m;
   starts = λ w n e wants m. starts-nobody b w.shared w.shared.memory e m (access-at w n e wants);
-  same = λ w n e wants t f spared. access-same opening w.shared.memory (is_plain t) (is_plain (w.threads n)) f e (access-at w n e wants) spared;
-  still = λ w n e wants t f c. conflict-still opening w.shared.memory (is_plain t) (is_plain (w.threads n)) f e (access-at w n e wants) c;
-  stays = λ w n e wants u f calls.
-      access-stays opening w.shared.memory (state_after w.shared.memory f) (is_plain (w.threads n)) e (access-at w n e wants) (longer w.shared.memory f);
+  same = λ w n e wants t f spared. ap (judged allowed)
+      (access-same opening w.shared.memory (is_plain t) (is_plain (w.threads n)) f e (access-at w n e wants)
+      (λ c. spared (judged-conflict allowed (made_in opening w t f) (made_in opening w (w.threads n) e) c)));
+  still = λ w n e wants t f c. judged-conflict allowed
+      (access_by opening (state_after w.shared.memory e) (is_plain t) f) (made_in opening w (w.threads n) e)
+      (conflict-still opening w.shared.memory (is_plain t) (is_plain (w.threads n)) f e (access-at w n e wants)
+      (unjudged-conflict allowed (made_in opening w t f) (made_in opening w (w.threads n) e) c));
+  stays = λ w n e wants u f calls. ap (judged allowed)
+      (access-stays opening w.shared.memory (state_after w.shared.memory f) (is_plain (w.threads n)) e (access-at w n e wants) (longer w.shared.memory f));
   independent = λ w n e wants u f calls apart spared.
-      independent b w wants.reached n e (access-at w n e wants) opening (is_plain (w.threads u)) (is_plain (w.threads n)) u f spared;
+      independent b w wants.reached n e (access-at w n e wants) opening (is_plain (w.threads u)) (is_plain (w.threads n)) u f
+      (λ c. spared (judged-conflict allowed (made_in opening w (w.threads u) f) (made_in opening w (w.threads n) e) c));
 }
   where
-    access-at : (w : systems.State Shared Walker) (n : ℕ) (e : Event) → WantsPlain (system_of b) (access_of opening) (first_state b) w n e
+    access-at : (w : systems.State Shared Walker) (n : ℕ) (e : Event) → WantsPlain (system_of b) (access_of allowed opening) (first_state b) w n e
         → IsAccess w.shared.memory e
-    access-at w n e wants = is-access opening w.shared.memory (is_plain (w.threads n)) e wants.plain
+    access-at w n e wants = is-access opening w.shared.memory (is_plain (w.threads n)) e
+        (both-true (made_in opening w (w.threads n) e).plain (not (may_race allowed (made_in opening w (w.threads n) e))) wants.plain).0
 
 -- who is gone can't go on
-gone-not : (b : Called) (opening : ℕ) (w : systems.State Shared Walker) (n : ℕ) (a : NextAccess) → unlimited_wants (machine_of b.program) (w.threads n) ≡ Gone
-    → next_access (system_of b) (access_of opening) w n ≡ Some a → ⊥
-gone-not b opening w n a gone h = none-some a (sym (ap (nexts.access_by (system_of b) (access_of opening) w.shared (w.threads n)) gone) ∙ h)
+gone-not : (b : Called) (allowed : Allowed) (opening : ℕ) (w : systems.State Shared Walker) (n : ℕ) (a : NextAccess)
+    → unlimited_wants (machine_of b.program) (w.threads n) ≡ Gone → next_access (system_of b) (access_of allowed opening) w n ≡ Some a → ⊥
+gone-not b allowed opening w n a gone h =
+    none-some a (sym (ap (nexts.access_by (system_of b) (access_of allowed opening) w.shared (w.threads n)) gone) ∙ h)
 
-pub beyond : (b : Called) (opening : ℕ) → NoneBeyond (system_of b) (access_of opening) (first_state b) MOST_THREADS
-beyond b opening w reach n past a h =
+pub beyond : (b : Called) (allowed : Allowed) (opening : ℕ) → NoneBeyond (system_of b) (access_of allowed opening) (first_state b) MOST_THREADS
+beyond b allowed opening w reach n past a h =
     let o = orderly b w reach in
     let sound = o.sound in
     let low : length (WaitQueue.args w.shared.queue) < length (WaitQueue.due w.shared.queue) = sound.few in
     let dues = o.dues in
-    gone-not b opening w n a (ap (unlimited_wants (machine_of b.program)) (missing b w reach n (omega (arith, low, dues, past)))) h
+    gone-not b allowed opening w n a (ap (unlimited_wants (machine_of b.program)) (missing b w reach n (omega (arith, low, dues, past)))) h
 
 is_there : (xs : List Outcome) (n : ℕ) → n < length xs → (x : Outcome) × (slice_get xs n ≡ Some x)
 is_there [] n lt = absurd (omega (arith, lt))
 is_there (x ∷ xs) zero lt = (x, refl)
 is_there (x ∷ xs) (suc n) lt = is_there xs n (omega (arith, lt))
 
-pub finished : (b : Called) (opening dump : ℕ) → NobodyGoesOn (system_of b) (access_of opening) (HasEndedSo dump)
-finished b opening dump w o ends n a h = elim (cases_lt n (next_id w.shared.queue)) [
+pub finished : (b : Called) (allowed : Allowed) (opening dump : ℕ) → NobodyGoesOn (system_of b) (access_of allowed opening) (HasEndedSo dump)
+finished b allowed opening dump w o ends n a h = elim (cases_lt n (next_id w.shared.queue)) [
   | inl low ↦
       (let count = ends.count in
       let at = is_there o.outcomes n (omega (arith, low, count)) in
-      gone-not b opening w n a (ap (unlimited_wants (machine_of b.program)) (ends.left n at.0 at.1)) h)
-  | inr past ↦ gone-not b opening w n a (ap (unlimited_wants (machine_of b.program)) (ends.others n past)) h
+      gone-not b allowed opening w n a (ap (unlimited_wants (machine_of b.program)) (ends.left n at.0 at.1)) h)
+  | inr past ↦ gone-not b allowed opening w n a (ap (unlimited_wants (machine_of b.program)) (ends.others n past)) h
 ]

@@ -36,9 +36,9 @@ IsAccess m (Ask question) = ⊥
 IsAccess m (Told answer) = ⊥
 
 abbrev inside : Bool → Bool → Bool → Bool → ℕ → ℕ → NextAccess
-inside plain reads writes hangs addr width = record { plain = plain; reads = reads; writes = writes; is_conditional = hangs; is_timed = false; addr = addr; width = width }
+inside plain reads writes hangs addr width = record { plain = plain; reads = reads; writes = writes; is_conditional = hangs; is_timed = false; is_allowed = false; addr = addr; width = width }
 
-both-true : (s t : Bool) → (s && t) ≡ true → (s ≡ true) × (t ≡ true)
+pub both-true : (s t : Bool) → (s && t) ≡ true → (s ≡ true) × (t ≡ true)
 both-true true t h = (refl, h)
 both-true false t h = absurd (true≢false (sym h))
 

@@ -1,5 +1,7 @@
 -- What a thread of a module does with the memory by its event.
-use Rattle.std.specs.Prelude.{ℕ, ℤ, pos, ◌+◌, ◌^◌, ◌==◌, ◌&&◌, Bool, true, false, nat_le, int_lt, length, if◌then◌else◌}
+use Rattle.std.specs.Prelude.{ℕ, ℤ, pos, ◌+◌, ◌^◌, ◌==◌, ◌&&◌, ◌||◌, Bool, true, false, not, nat_le, int_lt, length, if◌then◌else◌}
+use Rattle.allowed_races.specs.declared.allowed.Allowed.{Allowed}
+use Rattle.allowed_races.specs.Bytes.{has_bytes}
 use Rattle.types.specs.declared.event.Event.{Event}
 use Rattle.types.specs.declared.event.Event.TheVariants.{Size, Grow, Load, Store, Rmw, Cmpxchg, Ask, Told}
 use Rattle.types.specs.declared.event.Question.TheVariants.{Wait, Notify, Spawn, Leave}
@@ -52,6 +54,7 @@ no_bytes = record {
   writes = false;
   is_conditional = false;
   is_timed = false;
+  is_allowed = false;
   addr = 0;
   width = 0;
 }
@@ -65,6 +68,7 @@ look = record {
   writes = false;
   is_conditional = false;
   is_timed = false;
+  is_allowed = false;
   addr = 2 ^ 32;
   width = 1;
 }
@@ -78,6 +82,7 @@ growth opening = record {
   writes = true;
   is_conditional = false;
   is_timed = false;
+  is_allowed = false;
   addr = opening;
   width = 2 ^ 32 + 1;
 }
@@ -93,6 +98,7 @@ in_bounds m plain reads writes is_conditional addr width reach =
       writes = writes;
       is_conditional = is_conditional;
       is_timed = false;
+      is_allowed = false;
       addr = addr;
       width = width;
     }
@@ -121,6 +127,22 @@ access_by opening m plain (Ask (Spawn arg)) = no_bytes
 access_by opening m plain (Ask Leave) = no_bytes
 access_by opening m plain (Told answer) = no_bytes
 
--- Of a memory that opens with so many bytes.
-abbrev pub access_of : ℕ → Shared → Walker → Event → NextAccess
-access_of opening x t e = access_by opening x.memory (is_plain t) e
+-- It is to bytes that a memory can have. (Growths and looks pass these.)
+abbrev pub is_to_bytes : NextAccess → Bool
+is_to_bytes a = nat_le (a.addr + a.width) (2 ^ 32)
+
+-- All its bytes may race.
+abbrev pub may_race : Allowed → NextAccess → Bool
+may_race allowed a = is_to_bytes a && has_bytes allowed a.addr a.width
+
+-- Where all its bytes may race it isn't plain, as if it were atomic; and such accesses may meet, or, where mixed accesses
+-- may race, all to bytes that aren't plain.
+abbrev pub judged : Allowed → NextAccess → NextAccess
+judged allowed a = record a {
+  plain = a.plain && not (may_race allowed a);
+  is_allowed = may_race allowed a || (allowed.mixed && is_to_bytes a);
+}
+
+-- Of a memory that opens with so many bytes, where so much may race.
+abbrev pub access_of : Allowed → ℕ → Shared → Walker → Event → NextAccess
+access_of allowed opening x t e = judged allowed (access_by opening x.memory (is_plain t) e)

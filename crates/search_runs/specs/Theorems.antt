@@ -1,6 +1,7 @@
 -- Runs of a module's threads, with and without budgets.
 use Rattle.std.specs.Prelude.{ℕ, ◌≡◌, ◌≢◌, ◌+◌, Bool, List, length, take, Option, Some}
 use Rattle.std.specs.List.{slice_get}
+use Rattle.allowed_races.specs.declared.allowed.Allowed.{Allowed}
 use Rattle.types.specs.declared.event.Entry as entries
 use Rattle.types.specs.declared.outcome.Outcome.{Outcome}
 use Rattle.types.specs.declared.outcome.Outcome.TheVariants as outcomes
@@ -28,16 +29,19 @@ use Rattle.search_runs.specs.Ends.{HasEndedSo}
 abbrev pub ThreadsAreTame : Type 0
 ThreadsAreTame = (b : Called) → AreTame (system_of b) (first_state b) MOST_THREADS
 
--- A plain access is nobody else's concern, unless it conflicts with theirs.
+-- A plain access is nobody else's concern, unless it conflicts with theirs, whatever may race.
 abbrev pub AccessesArePlain : Type 0
-AccessesArePlain = (b : Called) (opening : ℕ) → ArePlain (system_of b) (access_of opening) (first_state b)
+AccessesArePlain = (b : Called) (allowed : Allowed) (opening : ℕ)
+    → ArePlain (system_of b) (access_of allowed opening) (first_state b)
 
 -- At most 64 threads go on, and none that has left.
 abbrev pub FewGoOn : Type 0
-FewGoOn = (b : Called) (opening : ℕ) → NoneBeyond (system_of b) (access_of opening) (first_state b) MOST_THREADS
+FewGoOn = (b : Called) (allowed : Allowed) (opening : ℕ)
+    → NoneBeyond (system_of b) (access_of allowed opening) (first_state b) MOST_THREADS
 
 abbrev pub NobodyGoesOnInTheEnd : Type 0
-NobodyGoesOnInTheEnd = (b : Called) (opening dump : ℕ) → NobodyGoesOn (system_of b) (access_of opening) (HasEndedSo dump)
+NobodyGoesOnInTheEnd = (b : Called) (allowed : Allowed) (opening dump : ℕ)
+    → NobodyGoesOn (system_of b) (access_of allowed opening) (HasEndedSo dump)
 
 -- It can be reached by turns of threads without budgets.
 abbrev pub CanReach : Called → systems.State Shared Walker → Type 0

@@ -18,27 +18,36 @@ pub record Conflict (a b : NextAccess) : Type 0 where
   pub meet : Meet a b
   pub write : (a.writes ≡ true) ⊎ (b.writes ≡ true)
 
--- Neither is plain, and they are of exactly the same bytes.
+-- They are of exactly the same bytes.
+abbrev pub HaveSameBytes : NextAccess → NextAccess → Type 0
+HaveSameBytes a b = (a.addr ≡ b.addr) × (a.width ≡ b.width)
+
+-- Neither is plain, and both are allowed, or neither is and they are of exactly the same bytes.
 pub record AreMatched (a b : NextAccess) : Type 0 where
   pub first : a.plain ≡ false
   pub second : b.plain ≡ false
-  pub addr : a.addr ≡ b.addr
-  pub width : a.width ≡ b.width
+  pub alike : a.is_allowed ≡ b.is_allowed
+  pub bytes : (a.is_allowed ≡ true) ⊎ HaveSameBytes a b
 
 -- It isn't plain, and is a wait with a timeout.
 pub record IsTimed (a : NextAccess) : Type 0 where
   pub atomic : a.plain ≡ false
   pub timed : a.is_timed ≡ true
 
--- They conflict, and aren't both atomic of exactly the same bytes.
+-- They conflict, and aren't matched.
 pub record Race (a b : NextAccess) : Type 0 where
   pub conflict : Conflict a b
   pub unmatched : AreMatched a b → ⊥
 
--- Neither is plain, and they are of exactly the same bytes. The one writes there and reads nothing; the other one would
--- write, and may not where it finds something else. (One that writes whatever it finds still does, when it comes later.)
+-- Each byte of the one is one of the other.
+abbrev pub Covers : NextAccess → NextAccess → Type 0
+Covers a b = (a.addr ≤ b.addr) × (b.addr + b.width ≤ a.addr + a.width)
+
+-- They are matched. The one writes all bytes of the other and reads nothing; the other one would write, and may not where
+-- it finds something else. (One that writes whatever it finds still does, when it comes later.)
 pub record WritesOver (over access : NextAccess) : Type 0 where
   pub matched : AreMatched access over
+  pub covers : Covers over access
   pub writes : access.writes ≡ true
   pub conditional : access.is_conditional ≡ true
   pub over_writes : over.writes ≡ true

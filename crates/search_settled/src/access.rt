@@ -15,6 +15,9 @@ pub struct NextAccess {
     pub is_conditional: bool,
     /// Whether it is a wait with a timeout.
     pub is_timed: bool,
+    /// Whether it may meet another one of which that is so, where neither is plain: all its bytes are such as may race,
+    /// or it is atomic and the bytes of two atomic accesses may differ.
+    pub is_allowed: bool,
     pub addr: u64,
     pub width: u64,
 }

@@ -14,7 +14,7 @@ use Rattle.show_named.specs.declared.lasts.Act.TheVariants as acts
 
 -- Any instruction.
 abbrev pub any : Site
-any = record { kind = Plain; code = 0 }
+any = record { kind = Plain; code = 0; is_allowed = false }
 
 -- The entry writes a byte at one of these addresses. By which instruction it was made makes no difference to that.
 pub record Writes (addrs : NumberSpan) (e : Entry) : Type 0 where

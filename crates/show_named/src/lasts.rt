@@ -22,6 +22,7 @@ pub enum Act {
 const ANY: Site = Site {
     kind: AccessKind::Plain,
     code: 0,
+    is_allowed: false,
 };
 
 /// Whether an entry writes a byte at one of these addresses.

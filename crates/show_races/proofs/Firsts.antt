@@ -6,6 +6,7 @@ use Rattle.std.proofs.lemmas.Bool.{both_ways, cases_lt}
 use Rattle.std.proofs.lemmas.List.{get_or-take, get_or_default, length-take-le, take_all, take_more}
 use Rattle.std.proofs.lemmas.List.Elements.{All-contains, All-nil, All-push, Contains-append_left, Contains-get_or, Contains-push}
 use Rattle.std.proofs.lemmas.List.Quantifiers.{all_pairs_push}
+use Rattle.allowed_races.specs.declared.allowed.Allowed.{Allowed}
 use Rattle.race_history.specs.declared.race.Race.{Race}
 use Rattle.race_history.specs.Races.{AreInOrder, AreRaces, HasEach, IsCut, IsEarlier}
 use Rattle.show_rows.specs.declared.listing.Shown.{Shown}
@@ -105,20 +106,20 @@ module _ (shown : Shown) (story : Story) where
     contained : (r : Race) → IsFirstAmong shown story all r → Contains all r
     contained r f = subst (Contains all) f.is (Contains-get_or all f.at r f.within)
 
-    pub firsts_whole : AreRaces shown.record.now.log (sites_shown shown) (opening_shown shown) all
-        → HasEach shown.record.now.log (sites_shown shown) (opening_shown shown) all → All (IsFirstThere shown story) told
-    firsts_whole races each k d lt s last alike = among (get_or told k d) s (from k d lt)
-        (named_it shown.record.now.log (sites_shown shown) (opening_shown shown) all each s last) alike
+    pub firsts_whole : (allowed : Allowed) → AreRaces shown.record.now.log (sites_shown allowed shown) (opening_shown shown) all
+        → HasEach shown.record.now.log (sites_shown allowed shown) (opening_shown shown) all → All (IsFirstThere allowed shown story) told
+    firsts_whole allowed races each k d lt s last alike = among (get_or told k d) s (from k d lt)
+        (named_it shown.record.now.log (sites_shown allowed shown) (opening_shown shown) all each s last) alike
 
-    pub firsts_cut : (most : ℕ) → IsCut shown.record.now.log (sites_shown shown) (opening_shown shown) all most → All (IsFirstThere shown story) told
-    firsts_cut most cut k d lt s last alike = elim (cut.first s last) [
+    pub firsts_cut : (allowed : Allowed) (most : ℕ) → IsCut shown.record.now.log (sites_shown allowed shown) (opening_shown shown) all most → All (IsFirstThere allowed shown story) told
+    firsts_cut allowed most cut k d lt s last alike = elim (cut.first s last) [
       | inl has ↦ among (get_or told k d) s (from k d lt) has alike
       | inr behind ↦ inr (behind (get_or told k d) (contained (get_or told k d) (from k d lt)))
     ]
 
-  pub tells_each : (all told : List Race) → AreRaces shown.record.now.log (sites_shown shown) (opening_shown shown) all
-      → HasEach shown.record.now.log (sites_shown shown) (opening_shown shown) all → All (IsTold shown story told) all → TellsEach shown story told
-  tells_each all told races each h first second a b racing =
+  pub tells_each : (allowed : Allowed) (all told : List Race) → AreRaces shown.record.now.log (sites_shown allowed shown) (opening_shown shown) all
+      → HasEach shown.record.now.log (sites_shown allowed shown) (opening_shown shown) all → All (IsTold shown story told) all → TellsEach allowed shown story told
+  tells_each allowed all told races each h first second a b racing =
       let n = each first second a b racing in
       record {
         race = record { first = n.first; second = second };
@@ -127,9 +128,9 @@ module _ (shown : Shown) (story : Story) where
         is_told = All-contains (IsTold shown story told) all (record { first = n.first; second = second }) h n.named;
       }
 
-  pub is_more : (all told : List Race) (most : ℕ) → AreRaces shown.record.now.log (sites_shown shown) (opening_shown shown) all
-      → IsLeftOut shown story all told most → IsMore shown story told most
-  is_more all told most races left = record {
+  pub is_more : (allowed : Allowed) (all told : List Race) (most : ℕ) → AreRaces shown.record.now.log (sites_shown allowed shown) (opening_shown shown) all
+      → IsLeftOut shown story all told most → IsMore allowed shown story told most
+  is_more allowed all told most races left = record {
     full = left.full;
     other = left.other;
     races = races left.other left.among;
@@ -145,27 +146,27 @@ module _ (shown : Shown) (story : Story) where
   among_all all told from k d lt = let f = from k d lt in
       subst (Contains all) f.is (Contains-get_or all f.at (get_or told k d) f.within)
 
-  pub firsts_all : (all told : List Race) (is_cut : Bool) (most : ℕ) → AreInOrder all → All (IsFirstAmong shown story all) told
-      → AreRaces shown.record.now.log (sites_shown shown) (opening_shown shown) all
-      → (is_cut ≡ false → HasEach shown.record.now.log (sites_shown shown) (opening_shown shown) all)
-      → (is_cut ≡ true → IsCut shown.record.now.log (sites_shown shown) (opening_shown shown) all most) → All (IsFirstThere shown story) told
-  firsts_all all told false most order from races each cut = firsts_whole all told order from races (each refl)
-  firsts_all all told true most order from races each cut = firsts_cut all told order from most (cut refl)
+  pub firsts_all : (allowed : Allowed) (all told : List Race) (is_cut : Bool) (most : ℕ) → AreInOrder all → All (IsFirstAmong shown story all) told
+      → AreRaces shown.record.now.log (sites_shown allowed shown) (opening_shown shown) all
+      → (is_cut ≡ false → HasEach shown.record.now.log (sites_shown allowed shown) (opening_shown shown) all)
+      → (is_cut ≡ true → IsCut shown.record.now.log (sites_shown allowed shown) (opening_shown shown) all most) → All (IsFirstThere allowed shown story) told
+  firsts_all allowed all told false most order from races each cut = firsts_whole all told order from allowed races (each refl)
+  firsts_all allowed all told true most order from races each cut = firsts_cut all told order from allowed most (cut refl)
 
-  pub each_all : (all told : List Race) (a b : Bool) → (a || b) ≡ false → AreRaces shown.record.now.log (sites_shown shown) (opening_shown shown) all
-      → (a ≡ false → HasEach shown.record.now.log (sites_shown shown) (opening_shown shown) all) → (b ≡ false → All (IsTold shown story told) all)
-      → TellsEach shown story told
-  each_all all told false false none races each told_each = tells_each all told races (each refl) (told_each refl)
-  each_all all told false true none races each told_each = absurd (both_ways true none refl)
-  each_all all told true b none races each told_each = absurd (both_ways true none refl)
+  pub each_all : (allowed : Allowed) (all told : List Race) (a b : Bool) → (a || b) ≡ false → AreRaces shown.record.now.log (sites_shown allowed shown) (opening_shown shown) all
+      → (a ≡ false → HasEach shown.record.now.log (sites_shown allowed shown) (opening_shown shown) all) → (b ≡ false → All (IsTold shown story told) all)
+      → TellsEach allowed shown story told
+  each_all allowed all told false false none races each told_each = tells_each allowed all told races (each refl) (told_each refl)
+  each_all allowed all told false true none races each told_each = absurd (both_ways true none refl)
+  each_all allowed all told true b none races each told_each = absurd (both_ways true none refl)
 
-  pub cut_all : (all told : List Race) (a b : Bool) (most : ℕ) → (a || b) ≡ true
-      → AreRaces shown.record.now.log (sites_shown shown) (opening_shown shown) all
-      → (a ≡ true → IsCut shown.record.now.log (sites_shown shown) (opening_shown shown) all MOST_PAIRS) → (b ≡ true → IsLeftOut shown story all told most)
-      → IsMore shown story told most ⊎ AreMany shown
-  cut_all all told true b most some races cut left = inr (all, cut refl)
-  cut_all all told false true most some races cut left = inl (is_more all told most races (left refl))
-  cut_all all told false false most some races cut left = absurd (both_ways false refl some)
+  pub cut_all : (allowed : Allowed) (all told : List Race) (a b : Bool) (most : ℕ) → (a || b) ≡ true
+      → AreRaces shown.record.now.log (sites_shown allowed shown) (opening_shown shown) all
+      → (a ≡ true → IsCut shown.record.now.log (sites_shown allowed shown) (opening_shown shown) all MOST_PAIRS) → (b ≡ true → IsLeftOut shown story all told most)
+      → IsMore allowed shown story told most ⊎ AreMany allowed shown
+  cut_all allowed all told true b most some races cut left = inr (all, cut refl)
+  cut_all allowed all told false true most some races cut left = inl (is_more allowed all told most races (left refl))
+  cut_all allowed all told false false most some races cut left = absurd (both_ways false refl some)
 
   pub some_told : (all told : List Race) (is_cut : Bool) (most : ℕ) → 1 ≤ most → (is_cut ≡ false → All (IsTold shown story told) all)
       → (is_cut ≡ true → IsLeftOut shown story all told most) → 1 ≤ length all → 1 ≤ length told

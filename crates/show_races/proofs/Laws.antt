@@ -1,22 +1,23 @@
 -- What is found of the races of a run, from what is told of all of them.
-use Rattle.std.proofs.Common.{ℕ, zero, suc, ◌≡◌, ◌∙◌, ◌≤◌, ◌<◌, ◌+◌, Bool, true, false, List, [], ◌∷◌, ◌++◌, All}
-use Rattle.std.proofs.Common.{Contains, length, get_or, inl, inr, ap, refl, sym, subst, arith}
+use Rattle.std.proofs.Common.{ℕ, zero, suc, ◌≡◌, ◌≤◌, ◌<◌, ◌+◌, Bool, true, false, List, [], ◌∷◌, ◌++◌, All}
+use Rattle.std.proofs.Common.{Contains, length, get_or, inl, inr, ap, refl, subst, arith}
 use Rattle.std.proofs.lemmas.Bool.{cases_lt}
 use Rattle.std.proofs.lemmas.List.Elements.{All-contains, Contains-get_or}
 use Rattle.std.proofs.lemmas.List.{length-append}
+use Rattle.allowed_races.specs.declared.allowed.Allowed.{Allowed}
 use Rattle.types.specs.declared.event.Entry.{Entry}
 use Rattle.race_history.specs.declared.access.Site.{Site}
 use Rattle.race_history.specs.declared.race.Race.{Race}
-use Rattle.race_history.specs.declared.access.ThreadAccess.{ThreadAccess}
 use Rattle.race_history.specs.Races.{AreRaces, HasEach, IsCut, IsLastRace, IsRaceOf}
 use Rattle.show_rows.specs.declared.listing.Shown.{Shown}
 use Rattle.show_races.specs.Sites.{site_at, sites_before}
 use Rattle.show_races.specs.Told.{HasNoRace, IsWithin}
 
 -- each entry has an instruction
-pub sites_length : (shown : Shown) (n : ℕ) → length (sites_before shown n) ≡ n
-sites_length shown zero = refl
-sites_length shown (suc n) = omega (arith, sites_length shown n, length-append (sites_before shown n) (site_at shown n ∷ []))
+pub sites_length : (allowed : Allowed) (shown : Shown) (n : ℕ) → length (sites_before allowed shown n) ≡ n
+sites_length allowed shown zero = refl
+sites_length allowed shown (suc n) =
+    omega (arith, sites_length allowed shown n, length-append (sites_before allowed shown n) (site_at allowed shown n ∷ []))
 
 pub one_longer : (told : List Race) (x : Race) → length (told ++ x ∷ []) ≡ length told + 1
 one_longer told x = length-append told (x ∷ [])

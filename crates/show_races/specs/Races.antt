@@ -1,5 +1,6 @@
 -- What is said of the races of recorded runs.
 use Rattle.std.specs.Prelude.{ℕ, Bool, true, false, List, Option}
+use Rattle.allowed_races.specs.declared.allowed.Allowed.{Allowed}
 use Rattle.types.specs.declared.parts.Parts.{Parts}
 use Rattle.types.specs.declared.event.Entry.{Entry}
 use Rattle.replay_text.specs.declared.parts.RecordParts.{RecordParts}
@@ -19,10 +20,10 @@ Says log sites opening true = (r : Race) × IsLastRace log sites opening r
 Says log sites opening false = HasNoRace log sites opening
 
 -- The record is of a run of the module; where its threads stand says by which instruction each entry was made;
--- and so two accesses race, or none do.
-pub record SaysOfRun (m : Parts) (r : RecordParts) (is : Bool) : Type 0 where
+-- and so two accesses race that may not, or none do.
+pub record SaysOfRun (allowed : Allowed) (m : Parts) (r : RecordParts) (is : Bool) : Type 0 where
   pub rows : List (Option Row)
   pub end : EndState
   pub run : IsRunOf m r end
   pub rows_are : AreRowsOf m r end rows
-  pub says : Says r.log (sites_of m r rows) (opening_of m) is
+  pub says : Says r.log (sites_of allowed m r rows) (opening_of m) is

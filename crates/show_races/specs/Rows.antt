@@ -1,5 +1,6 @@
 -- Where the entries of a record's run were made.
 use Rattle.std.specs.Prelude.{◌≡◌, List, length, replicate, Option, None, Ok}
+use Rattle.allowed_races.specs.declared.allowed.Allowed.{Allowed}
 use Rattle.types.specs.declared.parts.Parts.{Parts}
 use Rattle.replay_text.specs.declared.parts.RecordParts.{RecordParts}
 use Rattle.spawn_host.specs.declared.end.EndState.{EndState}
@@ -19,6 +20,6 @@ pub record AreRowsOf (m : Parts) (r : RecordParts) (end : EndState) (rows : List
   pub sees : SeesReplay RowsSee m r (Ok end) first last
   pub filled : last.rows.items ≡ rows
 
--- The instructions of its entries, where their threads stand.
-abbrev pub sites_of : Parts → RecordParts → List (Option Row) → List Site
-sites_of m r rows = sites_in m rows (length r.log)
+-- The instructions of its entries, where their threads stand, and which of them may race.
+abbrev pub sites_of : Allowed → Parts → RecordParts → List (Option Row) → List Site
+sites_of allowed m r rows = sites_in allowed m rows r.log (length r.log)

@@ -1,6 +1,7 @@
 -- What is told of the races of a recorded run.
 use Rattle.std.specs.Prelude.{ℕ, ◌≡◌, ◌⊎◌, ◌<◌, ◌==◌, ◌&&◌, Bool, true, false, Option, Some, None, List, length, AllPairs, Contains}
 use Rattle.std.specs.Prelude.{slice_index_or}
+use Rattle.allowed_races.specs.declared.allowed.Allowed.{Allowed}
 use Rattle.types.specs.declared.event.Entry.{Entry}
 use Rattle.interp.specs.declared.place.CodePlace.{CodePlace}
 use Rattle.race_history.specs.declared.access.ThreadAccess.{ThreadAccess}
@@ -59,33 +60,33 @@ pub record IsLeftOut (shown : Shown) (story : Story) (all told : List Race) (mos
   pub among : Contains all other
   pub untold : IsTold shown story told other → ⊥
 
-abbrev pub IsLastShown : Shown → Race → Type 0
-IsLastShown shown r = IsLastRace shown.record.now.log (sites_shown shown) (opening_shown shown) r
+abbrev pub IsLastShown : Allowed → Shown → Race → Type 0
+IsLastShown allowed shown r = IsLastRace shown.record.now.log (sites_shown allowed shown) (opening_shown shown) r
 
 -- Of the races at the same two places it is the first.
-abbrev pub IsFirstThere : Shown → Story → Race → Type 0
-IsFirstThere shown story r =
-    (s : Race) → IsLastShown shown s → AreAlike shown story s r → (r ≡ s) ⊎ IsEarlier r s
+abbrev pub IsFirstThere : Allowed → Shown → Story → Race → Type 0
+IsFirstThere allowed shown story r =
+    (s : Race) → IsLastShown allowed shown s → AreAlike shown story s r → (r ≡ s) ⊎ IsEarlier r s
 
 -- Of a race by these accesses: with the last entry that makes the first one, and the same second entry, it is told.
-pub record IsToldOf (shown : Shown) (story : Story) (told : List Race) (a b : ThreadAccess) (second : ℕ) : Type 0 where
+pub record IsToldOf (allowed : Allowed) (shown : Shown) (story : Story) (told : List Race) (a b : ThreadAccess) (second : ℕ) : Type 0 where
   pub race : Race
-  pub is : IsRaceOf shown.record.now.log (sites_shown shown) (opening_shown shown) race a b
+  pub is : IsRaceOf shown.record.now.log (sites_shown allowed shown) (opening_shown shown) race a b
   pub met : race.second ≡ second
   pub is_told : IsTold shown story told race
 
 -- Each race of the run is told, at its two places in the code.
-abbrev pub TellsEach : Shown → Story → List Race → Type 0
-TellsEach shown story told = (first second : ℕ) (a b : ThreadAccess)
-    → AreRacing shown.record.now.log (sites_shown shown) (opening_shown shown) first second a b → IsToldOf shown story told a b second
+abbrev pub TellsEach : Allowed → Shown → Story → List Race → Type 0
+TellsEach allowed shown story told = (first second : ℕ) (a b : ThreadAccess)
+    → AreRacing shown.record.now.log (sites_shown allowed shown) (opening_shown shown) first second a b → IsToldOf allowed shown story told a b second
 
 -- Just so many are told, and a race is left out that was made at other places.
-pub record IsMore (shown : Shown) (story : Story) (told : List Race) (most : ℕ) : Type 0 where
+pub record IsMore (allowed : Allowed) (shown : Shown) (story : Story) (told : List Race) (most : ℕ) : Type 0 where
   pub full : length told ≡ most
   pub other : Race
-  pub races : IsLastShown shown other
+  pub races : IsLastShown allowed shown other
   pub untold : IsTold shown story told other → ⊥
 
 -- There are more races than are looked at.
-abbrev pub AreMany : Shown → Type 0
-AreMany shown = (looked : List Race) × IsCut shown.record.now.log (sites_shown shown) (opening_shown shown) looked MOST_PAIRS
+abbrev pub AreMany : Allowed → Shown → Type 0
+AreMany allowed shown = (looked : List Race) × IsCut shown.record.now.log (sites_shown allowed shown) (opening_shown shown) looked MOST_PAIRS

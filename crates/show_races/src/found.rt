@@ -10,6 +10,7 @@ ghost use Rattle.show_races.specs.Told.{AreMany, AreApart, HasNoRace, IsFirstAmo
 ghost use Rattle.show_races.specs.Told.{IsTold, IsWithin, TellsEach};
 
 use crate::sites::{opening_of, sites_of};
+use allowed_races::Allowed;
 use interp::CodePlace;
 use race_history::{Race, Races, Site, races_of};
 use show_rows::{Shown, Story};
@@ -117,28 +118,30 @@ fn find_firsts(
     })
 }
 
-/// The pairs of entries of a record's run that race, as `races_of` names them, where the entries were made so; `most` at
-/// most.
+/// The pairs of entries of a record's run that race, as `races_of` names them, where the entries were made so, and so much
+/// may race; `most` at most.
 fn all_races(
     alloc: Global,
     shown: Shown,
+    allowed: &Allowed,
     sites: &[Site],
     opening: u64,
     most: usize,
 ) -> Result<Races, AllocError>
-    requires sites { sites.now ≡ sites_shown shown }
+    requires sites { sites.now ≡ sites_shown allowed.now shown }
     requires opening { opening ≡ opening_shown shown }
     requires entries { AreEntries shown.record.now.log }
     requires legal { IsQueueLegal shown.record.now.log }
     ensures races { IfOk result (λ r. AreRaces shown.entry.record.now.log
-        (sites_shown shown.entry) (opening_shown shown.entry) r.pairs.items) }
+        (sites_shown allowed.now shown.entry) (opening_shown shown.entry) r.pairs.items) }
     ensures in_order { IfOk result (λ r. AreInOrder r.pairs.items) }
     ensures each { IfOk result (λ r. r.is_cut ≡ false
-        → HasEach shown.entry.record.now.log (sites_shown shown.entry) (opening_shown shown.entry) r.pairs.items) }
+        → HasEach shown.entry.record.now.log (sites_shown allowed.now shown.entry) (opening_shown shown.entry) r.pairs.items) }
     ensures few { IfOk result (λ r. length r.pairs.items ≤ most) }
     ensures cut { IfOk result (λ r. r.is_cut ≡ true
-        → IsCut shown.entry.record.now.log (sites_shown shown.entry) (opening_shown shown.entry) r.pairs.items most) }
+        → IsCut shown.entry.record.now.log (sites_shown allowed.now shown.entry) (opening_shown shown.entry) r.pairs.items most) }
 {
+    let _ = allowed;
     races_of(alloc, shown.record.log.as_slice(), sites, opening, most)
 }
 
@@ -149,7 +152,8 @@ fn either(a: bool, b: bool) -> bool
     a || b
 }
 
-/// The races of a record's run, `most` at most: of those that were made at the same two places of the code the first.
+/// The races of a record's run that aren't allowed, `most` at most: of those that were made at the same two places of the
+/// code the first.
 ///
 /// # Errors
 /// Where memory is refused.
@@ -157,28 +161,29 @@ pub fn races_shown(
     alloc: Global,
     shown: Shown,
     story: &Story,
+    allowed: &Allowed,
     most: usize,
 ) -> Result<RecordRaces, AllocError>
     requires entries { AreEntries shown.record.now.log }
     requires legal { IsQueueLegal shown.record.now.log }
     requires some { 1 ≤ most }
-    ensures sites { IfOk result (λ r. r.sites.items ≡ sites_shown shown.entry) }
+    ensures sites { IfOk result (λ r. r.sites.items ≡ sites_shown allowed.now shown.entry) }
     ensures races { IfOk result (λ r. AreRaces shown.entry.record.now.log
-        (sites_shown shown.entry) (opening_shown shown.entry) r.pairs.items) }
+        (sites_shown allowed.now shown.entry) (opening_shown shown.entry) r.pairs.items) }
     ensures in_order { IfOk result (λ r. AreInOrder r.pairs.items) }
     ensures once { IfOk result (λ r. AreApart shown.entry story.now r.pairs.items) }
-    ensures firsts { IfOk result (λ r. All (IsFirstThere shown.entry story.now) r.pairs.items) }
-    ensures each { IfOk result (λ r. r.is_cut ≡ false → TellsEach shown.entry story.now r.pairs.items) }
+    ensures firsts { IfOk result (λ r. All (IsFirstThere allowed.now shown.entry story.now) r.pairs.items) }
+    ensures each { IfOk result (λ r. r.is_cut ≡ false → TellsEach allowed.now shown.entry story.now r.pairs.items) }
     ensures cut { IfOk result (λ r. r.is_cut ≡ true
-        → IsMore shown.entry story.now r.pairs.items most ⊎ AreMany shown.entry) }
+        → IsMore allowed.now shown.entry story.now r.pairs.items most ⊎ AreMany allowed.now shown.entry) }
     ensures none { IfOk result (λ r. r.pairs.items ≡ []
-        → HasNoRace shown.entry.record.now.log (sites_shown shown.entry) (opening_shown shown.entry)) }
+        → HasNoRace shown.entry.record.now.log (sites_shown allowed.now shown.entry) (opening_shown shown.entry)) }
     ensures few { IfOk result (λ r. length r.pairs.items ≤ most) }
     ensures within { IfOk result (λ r. All (IsWithin shown.entry.record.now.log) r.pairs.items) }
 {
-    let sites = sites_of(alloc, shown)?;
+    let sites = sites_of(alloc, shown, allowed)?;
     let opening = opening_of(alloc, shown.code.parts())?;
-    let all = all_races(alloc, shown, sites.as_slice(), opening, MOST_PAIRS)?;
+    let all = all_races(alloc, shown, allowed, sites.as_slice(), opening, MOST_PAIRS)?;
     let told = find_firsts(alloc, shown, story, all.pairs.as_slice(), most)?;
     Ok(RecordRaces {
         sites,
@@ -187,22 +192,27 @@ pub fn races_shown(
     })
 }
 
-/// The pairs of entries of a record's run that race, as `races_of` names them, `most` at most; all of them where they are
-/// fewer.
+/// The pairs of entries of a record's run that race and aren't allowed, as `races_of` names them, `most` at most; all of
+/// them where they are fewer.
 ///
 /// # Errors
 /// Where memory is refused.
-pub fn racing_pairs(alloc: Global, shown: Shown, most: usize) -> Result<Vec<Race>, AllocError>
+pub fn racing_pairs(
+    alloc: Global,
+    shown: Shown,
+    allowed: &Allowed,
+    most: usize,
+) -> Result<Vec<Race>, AllocError>
     requires entries { AreEntries shown.record.now.log }
     requires legal { IsQueueLegal shown.record.now.log }
     ensures races { IfOk result (λ r. AreRaces shown.entry.record.now.log
-        (sites_shown shown.entry) (opening_shown shown.entry) r.items) }
+        (sites_shown allowed.now shown.entry) (opening_shown shown.entry) r.items) }
     ensures each { IfOk result (λ r. length r.items < most
-        → HasEach shown.entry.record.now.log (sites_shown shown.entry) (opening_shown shown.entry) r.items) }
+        → HasEach shown.entry.record.now.log (sites_shown allowed.now shown.entry) (opening_shown shown.entry) r.items) }
     ensures within { IfOk result (λ r. All (IsWithin shown.entry.record.now.log) r.items) }
 {
-    let sites = sites_of(alloc, shown)?;
+    let sites = sites_of(alloc, shown, allowed)?;
     let opening = opening_of(alloc, shown.code.parts())?;
-    let all = all_races(alloc, shown, sites.as_slice(), opening, most)?;
+    let all = all_races(alloc, shown, allowed, sites.as_slice(), opening, most)?;
     Ok(all.pairs)
 }

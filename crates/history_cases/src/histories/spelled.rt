@@ -108,6 +108,7 @@ fn site(letter: u8, code: u8) -> Site {
     Site {
         kind,
         code: u64::from(code),
+        is_allowed: false,
     }
 }
 

@@ -1,4 +1,4 @@
-use Rattle.std.proofs.Common.{◌≡◌, ◌∙◌, ◌<◌, ◌+◌, ℕ, List, length, get_or, subst, sym, ap, arith}
+use Rattle.std.proofs.Common.{◌≡◌, ◌∙◌, ◌<◌, ◌+◌, ℕ, List, length, get_or, false, subst, sym, ap, arith}
 use Rattle.std.specs.List.{Contains, fold}
 use Rattle.types.specs.declared.event.Entry.{Entry}
 use Rattle.types.specs.declared.event.Event.TheVariants.{Size}
@@ -20,7 +20,7 @@ abbrev first : Entry
 first = record { thread = 0; event = Size; reply = Value 0 }
 
 abbrev nowhere : Site
-nowhere = record { kind = Plain; code = 0 }
+nowhere = record { kind = Plain; code = 0; is_allowed = false }
 
 pub loop-place-init : goal.loop-place-init
 loop-place-init c =

@@ -9,6 +9,7 @@ returns-clause-asks c = (
     saved_is = c.in_ok-saved.ensures;
     names_is = c.text_if_any.ensures;
     most_is = c.in_ok-most.ensures.found;
+    allow_is = c.in_ok-allow.ensures;
     form_is = c.form_of.ensures;
   },
 )

@@ -16,6 +16,7 @@ returns-clause-asks c = (
     deep = c.is_set.ensures;
     races = c.is_set-races.ensures;
     allow_races = c.is_set-2.ensures;
+    allow = c.in_ok-allow.ensures;
     until = c.text_if_any.ensures;
     save = c.text_if_any-2.ensures;
     form_is = c.form_of.ensures;

@@ -36,7 +36,7 @@ returns-clause-first c =
     let at = subst (λ x. RestsAt s.valid.now b (Going (At x)) c.in-Some.main) (sym (f.calls s.args.items)) (rested b f.func_type f.body refl f.function) in
     let shared = subst (λ l. Shares l c.in_ok-shared.shared (record { memory = record { bytes = l; max = s.max }; queue = first_queue MOST_THREADS }))
     c.as_slice-2.ensures.value c.in_ok-shared.ensures in
-    begun s.valid.now b s.opening.items c.in-Some.main at (record { shared = c.in_ok-shared.shared; threads = c.in_ok-threads.threads })
+    begun s.valid.now b s.opening.items c.in-Some.main at s.allowed (record { shared = c.in_ok-shared.shared; threads = c.in_ok-threads.threads })
     shared c.in_ok-threads.ensures
 
 pub returns-in_default-clause-gives_up : goal.returns-in_default-clause-gives_up

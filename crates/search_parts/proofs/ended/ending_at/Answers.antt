@@ -12,20 +12,20 @@ use Rattle.search_parts.proofs.ended.ending_at.Goals as goal
 pub memory-requires : goal.memory-requires
 memory-requires c =
     let r = c.requires in
-    let at = r.2.2.1 in
+    let at = r.2.3.1 in
     subst (λ (v : Common). IsSized (memory_of c.args.opening.now v.memory)) r.1.0 at.settled_is.shared.sized
 
 pub returns-in_default : goal.returns-in_default
-returns-in_default c = λ flat parts w b.
+returns-in_default c = λ flat parts w b allowed.
     let here = rw c.in_default.is at c.in_ok-outcomes.ensures in
     let one = subst (λ (ts : List HashedThread). IsOneHere ts) (sym parts.1) here in
     record {
-      all = λ z o at end. absurd (not_ended w b c.args.opening.now flat z at c.args.dump one o end);
+      all = λ z o at end. absurd (not_ended w b allowed c.args.opening.now flat z at c.args.dump one o end);
       sound = λ z o at h. absurd (cc h);
     }
 
 pub returns : goal.returns
-returns c = λ flat parts w b.
+returns c = λ flat parts w b allowed.
     let left = rw c.in-Some.is at c.in_ok-outcomes.ensures in
     let have = subst (λ (ts : List HashedThread). HaveLeft ts c.in-Some.outcomes.items) (sym parts.1) left in
     let m = c.in_ok-memory.memory in
@@ -37,8 +37,8 @@ returns c = λ flat parts w b.
     record {
       all = λ z o at end. ap (λ (x : Ending). Some x) (one_ending c.args.dump z e o
           (subst (λ (x : Ending). HasEndedSo c.args.dump z x) (sym same)
-          (ended w b c.args.opening.now flat z at c.args.dump so m have is c.pages.ensures refl)) end);
+          (ended w b allowed c.args.opening.now flat z at c.args.dump so m have is c.pages.ensures refl)) end);
       sound = λ z o at h. subst (HasEndedSo c.args.dump z) (some_same e o h)
           (subst (λ (x : Ending). HasEndedSo c.args.dump z x) (sym same)
-          (ended w b c.args.opening.now flat z at c.args.dump so m have is c.pages.ensures refl));
+          (ended w b allowed c.args.opening.now flat z at c.args.dump so m have is c.pages.ensures refl));
     }

@@ -13,7 +13,7 @@ use Rattle.search_parts.proofs.Events.{calls_of, no_call, sound, free, known, un
 use Rattle.search_parts.proofs.stepping.make_event.Goals as goal
 
 pub returns-in_default : goal.returns-in_default
-returns-in_default c = λ b z t e calls.
+returns-in_default c = λ b allowed z t e calls.
     no_call ((system_of b).wants (z.threads c.args.n)) e (sym c.in_default.is ∙ c.in_ok-event.ensures.wanted b (z.threads c.args.n) t.of t.rested.stands) calls
 
 pub resume-queue-requires : goal.resume-queue-requires
@@ -50,7 +50,7 @@ enter-requires-clause-untold c =
     untold b z t.reached c.args.n c.in-Some.event calls
 
 pub returns : goal.returns
-returns c = λ b z t.
+returns c = λ b allowed z t.
     let n = c.args.n in
     let e = c.in-Some.event in
     let opening = c.args.opening.now in

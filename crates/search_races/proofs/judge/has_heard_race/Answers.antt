@@ -16,11 +16,11 @@ returns c =
     let made = c.args.made.now in
     let places = made.heard.places.items in
     let alike = c.in_ok-rows.ensures ∙ ap (λ (l : List CodePlace). map row_heard l) c.as_slice.ensures.value in
-    IfOk-weaker c.is_racy_by.result _ (SaysOfRun q.parts made.record)
+    IfOk-weaker c.is_racy_by.result _ (SaysOfRun c.args.allowed.now q.parts made.record)
     (λ is says.
-    heard_so q c.requires.find.0 made c.in_ok-rows.rows c.requires.find.1 c.requires.heard alike is
-    (subst (λ (p : Parts). Says made.record.log (sites_of p made.record (map row_heard places)) (opening_of p) is) c.module.ensures
-    (subst (λ (l : List (Option Row)). Says made.record.log (sites_of c.module.result.now.parts made.record l)
+    heard_so c.args.allowed.now q c.requires.find.0 made c.in_ok-rows.rows c.requires.find.1 c.requires.heard alike is
+    (subst (λ (p : Parts). Says made.record.log (sites_of c.args.allowed.now p made.record (map row_heard places)) (opening_of p) is) c.module.ensures
+    (subst (λ (l : List (Option Row)). Says made.record.log (sites_of c.args.allowed.now c.module.result.now.parts made.record l)
     (opening_of c.module.result.now.parts) is)
     (c.as_slice-2.ensures.value ∙ alike) says)))
     c.is_racy_by.ensures

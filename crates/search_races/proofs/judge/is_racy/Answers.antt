@@ -11,7 +11,7 @@ use Rattle.search_races.proofs.judge.is_racy.Goals as goal
 pub races_of-requires-clause-sites : goal.races_of-requires-clause-sites
 races_of-requires-clause-sites c =
     ap (λ (l : List Site). length l) (c.as_slice.ensures.value ∙ c.in_ok-sites.ensures)
-    ∙ (sites_length c.args.shown (length c.args.shown.record.now.log) ∙ ap (λ (l : List Entry). length l) (sym c.as_slice-log.ensures))
+    ∙ (sites_length c.args.allowed.now c.args.shown (length c.args.shown.record.now.log) ∙ ap (λ (l : List Entry). length l) (sym c.as_slice-log.ensures))
 
 pub returns : goal.returns
 returns c =
@@ -19,7 +19,7 @@ returns c =
     let is_cut = c.in_ok-races.races.is_cut in
     let from = c.as_slice-log.result.now in
     let log = c.args.shown.record.now.log in
-    let sites = sites_shown c.args.shown in
+    let sites = sites_shown c.args.allowed.now c.args.shown in
     let opening = opening_shown c.args.shown in
     let made = c.in_ok-opening.opening in
     let opens : made ≡ opening = c.in_ok-opening.ensures ∙ ap opening_of c.parts.ensures in

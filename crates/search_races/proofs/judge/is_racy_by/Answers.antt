@@ -14,7 +14,7 @@ returns c =
     let rows = c.args.rows.now in
     let code = c.in_ok-code.code in
     let shown = c.parts-2.result.now in
-    IfOk-weaker c.is_racy.result _ (Says r.log (sites_of m r rows) (opening_of m))
-    (λ is says. told_of (λ l k o. Says l k o is) shown.log r.log code.parts.now m rows rows
+    IfOk-weaker c.is_racy.result _ (Says r.log (sites_of c.args.allowed.now m r rows) (opening_of m))
+    (λ is says. told_of (λ l k o. Says l k o is) c.args.allowed.now shown.log r.log code.parts.now m rows rows
     (ap (λ (p : RecordParts). p.log) c.parts-2.ensures.parts) (c.in_ok-code.ensures.parts ∙ c.parts.ensures.parts) refl says)
     c.is_racy.ensures

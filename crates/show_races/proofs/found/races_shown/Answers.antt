@@ -14,7 +14,7 @@ returns-clause-races c =
     let told = c.in_ok-told.told.pairs.items in
     let from = subst (λ (l : List Race). All (IsFirstAmong shown story l) told) c.as_slice-2.ensures.value
     c.in_ok-told.ensures.from in
-    some_races shown.record.now.log (sites_shown shown) (opening_shown shown) c.in_ok-all.all.pairs.items told c.in_ok-all.ensures.races
+    some_races shown.record.now.log (sites_shown c.args.allowed.now shown) (opening_shown shown) c.in_ok-all.all.pairs.items told c.in_ok-all.ensures.races
     (among_all shown story c.in_ok-all.all.pairs.items told from)
 
 pub returns-clause-in_order : goal.returns-clause-in_order
@@ -29,7 +29,7 @@ returns-clause-firsts c =
     let from = subst (λ (l : List Race). All (IsFirstAmong shown story l) told) c.as_slice-2.ensures.value
     c.in_ok-told.ensures.from in
     let all = c.in_ok-all.ensures in
-    firsts_all shown story c.in_ok-all.all.pairs.items told c.in_ok-all.all.is_cut 1000000 all.in_order from all.races
+    firsts_all shown story c.args.allowed.now c.in_ok-all.all.pairs.items told c.in_ok-all.all.is_cut 1000000 all.in_order from all.races
     all.each all.cut
 
 pub returns-clause-each : goal.returns-clause-each
@@ -41,7 +41,7 @@ returns-clause-each c =
     subst (λ (l : List Race). All (IsTold shown story told) l) c.as_slice-2.ensures.value
     (c.in_ok-told.ensures.each whole) in
     let all = c.in_ok-all.ensures in
-    λ whole. each_all shown story c.in_ok-all.all.pairs.items told c.in_ok-all.all.is_cut c.in_ok-told.told.is_cut
+    λ whole. each_all shown story c.args.allowed.now c.in_ok-all.all.pairs.items told c.in_ok-all.all.is_cut c.in_ok-told.told.is_cut
     (sym c.either.ensures ∙ whole) all.races all.each tells
 
 pub returns-clause-cut : goal.returns-clause-cut
@@ -53,7 +53,7 @@ returns-clause-cut c =
     subst (λ (l : List Race). IsLeftOut shown story l told c.args.most) c.as_slice-2.ensures.value
     (c.in_ok-told.ensures.cut cut) in
     let all = c.in_ok-all.ensures in
-    λ some. cut_all shown story c.in_ok-all.all.pairs.items told c.in_ok-all.all.is_cut c.in_ok-told.told.is_cut
+    λ some. cut_all shown story c.args.allowed.now c.in_ok-all.all.pairs.items told c.in_ok-all.all.is_cut c.in_ok-told.told.is_cut
     c.args.most (sym c.either.ensures ∙ some) all.races all.cut left
 
 pub returns-clause-none : goal.returns-clause-none
@@ -68,11 +68,11 @@ returns-clause-none c =
     subst (λ (l : List Race). IsLeftOut shown story l told c.args.most) c.as_slice-2.ensures.value
     (c.in_ok-told.ensures.cut cut) in
     let pairs = c.in_ok-all.all.pairs.items in
-    no_race shown.record.now.log (sites_shown shown) (opening_shown shown) pairs told c.in_ok-all.all.is_cut 1000000 (omega arith)
+    no_race shown.record.now.log (sites_shown c.args.allowed.now shown) (opening_shown shown) pairs told c.in_ok-all.all.is_cut 1000000 (omega arith)
     c.in_ok-all.ensures.each c.in_ok-all.ensures.cut
     (some_told shown story pairs told c.in_ok-told.told.is_cut c.args.most c.requires.some tells left)
 
 pub returns-clause-within : goal.returns-clause-within
 returns-clause-within c =
-    races_within c.args.shown.record.now.log (sites_shown c.args.shown) (opening_shown c.args.shown) c.in_ok-told.told.pairs.items
+    races_within c.args.shown.record.now.log (sites_shown c.args.allowed.now c.args.shown) (opening_shown c.args.shown) c.in_ok-told.told.pairs.items
     (returns-clause-races c)
