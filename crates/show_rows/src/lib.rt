@@ -16,6 +16,6 @@ mod rows;
 
 pub use code::CodeMap;
 pub use entries::{PlaceBehind, entry_text};
-pub use listing::{Shown, Story, chosen_entries, write_rows};
+pub use listing::{Shown, Story, call_text, chosen_entries, spot_text, write_rows};
 pub use next::{NextStood, Stood};
 pub use rows::{Row, Rows, number_in};

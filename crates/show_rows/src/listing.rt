@@ -192,7 +192,10 @@ impl Shown<'_, '_, '_, '_, '_> {
 }
 
 /// The text of a place; empty where it isn't known.
-fn spot_text(alloc: Global, code: &CodeMap, place: Option<CodePlace>) -> Result<String, AllocError>
+///
+/// # Errors
+/// Where memory is refused.
+pub fn spot_text(alloc: Global, code: &CodeMap, place: Option<CodePlace>) -> Result<String, AllocError>
     ensures { IfOk result (λ text. IsPlaceText code.now place (string_bytes text)) }
 {
     match place {
@@ -225,8 +228,11 @@ fn in_chain<'a>(spot: Spot<'a>, chain: &'a Chain) -> InlinedSpot<'a>
     }
 }
 
-/// The text of a call; empty where there is none.
-fn call_text(alloc: Global, code: &CodeMap, call: Option<CodePlace>) -> Result<String, AllocError>
+/// The text of a call, as it stands behind the place that it led to; empty where there is none.
+///
+/// # Errors
+/// Where memory is refused.
+pub fn call_text(alloc: Global, code: &CodeMap, call: Option<CodePlace>) -> Result<String, AllocError>
     ensures { IfOk result (λ text. IsCallText code.now call (string_bytes text)) }
 {
     match call {
