@@ -138,8 +138,8 @@ fn stack_of(alloc: Global, thread: &Thread) -> Result<Vec<CodePlace>, AllocError
 }
 
 /// Sets the calls with this number, if there are any.
-fn put(all: &mut [Vec<CodePlace>], seat: usize, calls: Vec<CodePlace>)
-    ensures { all.new ≡ slice_set all.old seat calls }
+fn put(all: &mut Vec<Vec<CodePlace>>, seat: usize, calls: Vec<CodePlace>)
+    ensures { all.new.items ≡ slice_set all.old.items seat calls }
 {
     if seat < all.len() {
         all[seat] = calls;

@@ -1,0 +1,18 @@
+use Rattle.std.proofs.Common.{ℕ, ap}
+use Rattle.std.specs.Global.{Vec}
+use Rattle.show_stacks.proofs.seen.stacks_seen.Goals as goal
+
+pub returns-in-Ok-into_stacks-clause-run : goal.returns-in-Ok-into_stacks-clause-run
+returns-in-Ok-into_stacks-clause-run c = (
+  c.in-Ok-replay_watched.field-0,
+  c.in-Ok-replay_watched.ensures.run,
+  record {
+    first = c.in-Ok.watch;
+    last = c.replay_watched.new.watch;
+    named = ap (λ (v : Vec ℕ). v.items) c.in-Ok.ensures.places;
+    empty = c.in-Ok.ensures.calls;
+    sees = c.in-Ok-replay_watched.ensures.seen;
+    whole = c.in-Ok-into_stacks.ensures.0;
+    filled = c.in-Ok-into_stacks.ensures.1;
+  },
+)
