@@ -3,7 +3,7 @@
 ghost use Rattle.std.specs.Prelude.{IfOk, IfErr};
 ghost use Rattle.spawn_host.specs.declared.end.EndState.{EndState};
 ghost use Rattle.replay.specs.Runs.{IsRunOf, IsReplayFault, ShowsNoRun};
-ghost use Rattle.show_stacks.specs.Seen.{AreStacksOf};
+ghost use Rattle.show_stacks.specs.Seen.{AreStacksOf, HasEach};
 
 use crate::stacks::{EntryStacks, StackWatch};
 use replay::{ReplayFault, replay_watched};
@@ -23,6 +23,7 @@ pub fn stacks_seen(
 ) -> Result<EntryStacks, ReplayFault>
     ensures run { IfOk result (λ stacks. (end : EndState) × IsRunOf «module».now.parts «record».now end
         × AreStacksOf «module».now.parts «record».now end places.items stacks) }
+    ensures each { IfOk result (λ stacks. HasEach «module».now.parts «record».now places.items stacks) }
     ensures fault { IfErr result (λ fault. IsReplayFault «module».now.parts «record».now fault) }
     ensures none { IfErr result (λ fault. ShowsNoRun «module».now.parts «record».now fault) }
 {

@@ -1,5 +1,6 @@
 use Rattle.std.proofs.Common.{ℕ, ap}
 use Rattle.std.specs.Global.{Vec}
+use Rattle.show_stacks.proofs.Each.{has_each}
 use Rattle.show_stacks.proofs.seen.stacks_seen.Goals as goal
 
 pub returns-in-Ok-into_stacks-clause-run : goal.returns-in-Ok-into_stacks-clause-run
@@ -16,3 +17,8 @@ returns-in-Ok-into_stacks-clause-run c = (
     filled = c.in-Ok-into_stacks.ensures.1;
   },
 )
+
+pub returns-in-Ok-into_stacks-clause-each : goal.returns-in-Ok-into_stacks-clause-each
+returns-in-Ok-into_stacks-clause-each c =
+    let run = returns-in-Ok-into_stacks-clause-run c in
+    has_each c.args.module.now.parts c.args.record.now run.0 c.args.places.items c.in-Ok-into_stacks.stacks run.2
