@@ -1,8 +1,10 @@
 -- What a watch has of the entry at one place that is named, as it sees a log.
-use Rattle.std.proofs.Common.{◌≡◌, ◌≢◌, ◌==◌, ◌∙◌, ◌+◌, ◌<◌, ◌⊎◌, inl, inr, ℕ, zero, suc, Bool, true, false, List, [], ◌∷◌, length, map, replicate}
+use Rattle.std.proofs.Common.{◌≡◌, ◌≢◌, ◌==◌, ◌∙◌, ◌+◌, ◌<◌, ◌⊎◌, inl, inr, ℕ, zero, suc, Bool, true, false}
+use Rattle.std.proofs.Common.{List, [], ◌∷◌, length, map, replicate}
 use Rattle.std.proofs.Common.{Option, Some, None, option_map, unwrap_or, slice_set, get_or, ap, arith, refl, subst, sym}
 use Rattle.std.proofs.lemmas.Bool.{eqb-true}
-use Rattle.std.proofs.lemmas.List.{get_or-replicate, get_or-set_other, get_or-set_same, length-map, length-replicate, length-set}
+use Rattle.std.proofs.lemmas.List.{get_or-replicate, get_or-set_other, get_or-set_same}
+use Rattle.std.proofs.lemmas.List.{length-map, length-replicate, length-set}
 use Rattle.std.proofs.lemmas.List.Quantifiers.{position-Some}
 use Rattle.std.proofs.lemmas.Option.{slice_get-get_or, slice_get-map, unwrap_or-slice_get}
 use Rattle.std.specs.Global.{Vec}
@@ -33,20 +35,24 @@ set_here : (all : List (Vec CodePlace)) (k : ℕ) (v : Vec CodePlace) → k < le
     → calls_in (slice_set all k v) (Some k) ≡ v.items
 set_here all k v lt =
     let within : k < length (slice_set all k v) = omega (arith, lt, length-set all k v) in
-    ap items_of (slice_get-get_or (slice_set all k v) k v within ∙ ap (λ (x : Vec CodePlace). Some x) (get_or-set_same all k v v lt))
+    ap items_of (slice_get-get_or (slice_set all k v) k v within
+    ∙ ap (λ (x : Vec CodePlace). Some x) (get_or-set_same all k v v lt))
 
 set_other : (all : List (Vec CodePlace)) (j k : ℕ) (v : Vec CodePlace) → k ≢ j → k < length all
     → calls_in (slice_set all j v) (Some k) ≡ calls_in all (Some k)
 set_other all j k v ne lt =
     let within : k < length (slice_set all j v) = omega (arith, lt, length-set all j v) in
-    ap items_of (slice_get-get_or (slice_set all j v) k v within ∙ ap (λ (x : Vec CodePlace). Some x) (get_or-set_other all j k v v ne)
+    ap items_of (slice_get-get_or (slice_set all j v) k v within
+    ∙ ap (λ (x : Vec CodePlace). Some x) (get_or-set_other all j k v v ne)
     ∙ sym (slice_get-get_or all k v lt))
 
-length_any : (thread : Thread) (o : Option ℕ) (old new : List (Vec CodePlace)) → SetsAny thread o old new → length new ≡ length old
+length_any : (thread : Thread) (o : Option ℕ) (old new : List (Vec CodePlace)) → SetsAny thread o old new
+    → length new ≡ length old
 length_any thread None old new s = ap length s
 length_any thread (Some j) old new s = ap length s.sets ∙ length-set old j s.calls
 
-other_any : (thread : Thread) (o : Option ℕ) (k : ℕ) (old new : List (Vec CodePlace)) → ((j : ℕ) → o ≡ Some j → k ≢ j) → k < length old
+other_any : (thread : Thread) (o : Option ℕ) (k : ℕ) (old new : List (Vec CodePlace))
+    → ((j : ℕ) → o ≡ Some j → k ≢ j) → k < length old
     → SetsAny thread o old new → calls_in new (Some k) ≡ calls_in old (Some k)
 other_any thread None k old new ne lt s = ap (λ (l : List (Vec CodePlace)). calls_in l (Some k)) s
 other_any thread (Some j) k old new ne lt s =
@@ -61,7 +67,8 @@ here_any thread k old new lt s = subst (λ (c : List CodePlace). HasCalls thread
 seat_is : (places : List ℕ) (at k : ℕ) → seat_of places at ≡ Some k → get_or places k 0 ≡ at
 seat_is places at k e = eqb-true _ _ (position-Some (λ place. place == at) places k 0 e).1
 
-other_seat : (places : List ℕ) (at k count j : ℕ) → seat_of places at ≡ Some k → count ≢ at → seat_of places count ≡ Some j → k ≢ j
+other_seat : (places : List ℕ) (at k count j : ℕ) → seat_of places at ≡ Some k → count ≢ at
+    → seat_of places count ≡ Some j → k ≢ j
 other_seat places at k count j is ne there e =
     ne (sym (seat_is places count j there) ∙ ap (λ (n : ℕ). get_or places n 0) (sym e) ∙ seat_is places at k is)
 
@@ -85,7 +92,8 @@ record Shown (Stands : Walk Thread → Type 0) (count : ℕ) (e : Entry) (old ne
   pub sees : SeesWanted (record old { came = count }) thread new
 
 abbrev Step : (Walk Thread → Type 0) → ℕ → Entry → Event → StackWatch → StackWatch → Type 0
-Step Stands count e event old new = ((is_wanted event ≡ false) × Quiet old new) ⊎ ((is_wanted event ≡ true) × Shown Stands count e old new)
+Step Stands count e event old new =
+    ((is_wanted event ≡ false) × Quiet old new) ⊎ ((is_wanted event ≡ true) × Shown Stands count e old new)
 
 module _ (Stands : Walk Thread → Type 0) (limit count : ℕ) (w : Walk Thread) (e : Entry) (old between new : StackWatch)
     (stands : Stands w) (came : between ≡ record old { came = count }) where
@@ -106,7 +114,8 @@ module _ (Stands : Walk Thread → Type 0) (limit count : ℕ) (w : Walk Thread)
     sees = subst (λ (x : StackWatch). SeesWanted x s.thread new) (s.told.tells ∙ came) s.shows;
   }
 
-  stepping : (event : Event) → SeesBy meaning_in StacksSee event limit count w e true between new → Step Stands count e event old new
+  stepping : (event : Event) → SeesBy meaning_in StacksSee event limit count w e true between new
+      → Step Stands count e event old new
   stepping (events.Told answer) s = inl (refl, quiet s)
   stepping (events.Ask questions.Leave) s = inl (refl, quiet s.1.tells)
   stepping (events.Ask (questions.Wait a b c d)) s = inr (refl, shown s)
@@ -132,7 +141,8 @@ module _ (Stands : Walk Thread → Type 0) (count : ℕ) (e : Entry) (old new : 
       → length new.stacks.calls.items ≡ length old.stacks.calls.items
   same_length (inl (_, q)) whole = ap (λ (x : EntryStacks). length x.calls.items) q.stacks
   same_length (inr (_, s)) whole =
-      length_any s.thread (seat_of old.stacks.places.items count) old.stacks.calls.items new.stacks.calls.items (s.sees.sets whole)
+      length_any s.thread (seat_of old.stacks.places.items count) old.stacks.calls.items new.stacks.calls.items
+      (s.sees.sets whole)
 
   module _ (at k : ℕ) (is : seat_of old.stacks.places.items at ≡ Some k) (lt : k < length old.stacks.calls.items)
       (whole : new.is_short ≡ false) where
@@ -140,7 +150,8 @@ module _ (Stands : Walk Thread → Type 0) (count : ℕ) (e : Entry) (old new : 
         → calls_in new.stacks.calls.items (Some k) ≡ calls_in old.stacks.calls.items (Some k)
     elsewhere ne (inl (_, q)) = ap (λ (x : EntryStacks). calls_in x.calls.items (Some k)) q.stacks
     elsewhere ne (inr (_, s)) = other_any s.thread (seat_of old.stacks.places.items count) k old.stacks.calls.items
-        new.stacks.calls.items (λ j there. other_seat old.stacks.places.items at k count j is ne there) lt (s.sees.sets whole)
+        new.stacks.calls.items (λ j there. other_seat old.stacks.places.items at k count j is ne there) lt
+        (s.sees.sets whole)
 
     here : count ≡ at → calls_in old.stacks.calls.items (Some k) ≡ [] → Step Stands count e e.event old new
         → IsStackOf Stands e (calls_in new.stacks.calls.items (Some k))
@@ -164,19 +175,19 @@ module _ (Stands : Walk Thread → Type 0) (count : ℕ) (e : Entry) (old new : 
     }
 
 module _ (near : ℕ → Walk Thread → Type 0) (limit : ℕ) where
-  step_of : (count : ℕ) (e : Entry) (old new : StackWatch) → SeesNext meaning_in StacksSee near limit count e true old new
-      → Step (near count) count e e.event old new
+  step_of : (count : ℕ) (e : Entry) (old new : StackWatch)
+      → SeesNext meaning_in StacksSee near limit count e true old new → Step (near count) count e e.event old new
   step_of count e old new n =
       stepping (near count) limit count n.walk e old n.between new n.stands n.came e.event n.entry
 
-  short_along : (count : ℕ) (log : List Entry) (old new : StackWatch) → SeesLog meaning_in StacksSee near limit count log old new
-      → new.is_short ≡ false → old.is_short ≡ false
+  short_along : (count : ℕ) (log : List Entry) (old new : StackWatch)
+      → SeesLog meaning_in StacksSee near limit count log old new → new.is_short ≡ false → old.is_short ≡ false
   short_along count [] old new s whole = ap (λ (x : StackWatch). x.is_short) (sym s) ∙ whole
   short_along count (e ∷ log) old new s whole = short_back (near count) count e old s.0 (step_of count e old s.0 s.1)
       (short_along (count + 1) log s.0 new s.2 whole)
 
-  places_along : (count : ℕ) (log : List Entry) (old new : StackWatch) → SeesLog meaning_in StacksSee near limit count log old new
-      → new.stacks.places ≡ old.stacks.places
+  places_along : (count : ℕ) (log : List Entry) (old new : StackWatch)
+      → SeesLog meaning_in StacksSee near limit count log old new → new.stacks.places ≡ old.stacks.places
   places_along count [] old new s = ap (λ (x : StackWatch). x.stacks.places) s
   places_along count (e ∷ log) old new s = places_along (count + 1) log s.0 new s.2
       ∙ same_places (near count) count e old s.0 (step_of count e old s.0 s.1)
@@ -239,14 +250,14 @@ none_at_first all count k none lt =
     sym (length-map all (λ (v : Vec CodePlace). v.items)) ∙ ap length none ∙ length-replicate count [] in (
       omega (arith, lt, long),
       ap (λ (o : Option (List CodePlace)). unwrap_or o []) (sym (slice_get-map (λ (v : Vec CodePlace). v.items) all k))
-      ∙ unwrap_or-slice_get (lists all) k [] ∙ ap (λ (l : List (List CodePlace)). get_or l k []) none
-      ∙ get_or-replicate count k [] [] lt,
+          ∙ unwrap_or-slice_get (lists all) k [] ∙ ap (λ (l : List (List CodePlace)). get_or l k []) none
+          ∙ get_or-replicate count k [] [] lt,
     )
 
 -- A log that is seen whole.
-pub each_whole : (near : ℕ → Walk Thread → Type 0) (limit : ℕ) (places : List ℕ) (log : List Entry) (first between : StackWatch)
-    → first.stacks.places.items ≡ places → lists first.stacks.calls.items ≡ replicate (length places) []
-    → between.is_short ≡ false → SeesLog meaning_in StacksSee near limit 0 log first between
+pub each_whole : (near : ℕ → Walk Thread → Type 0) (limit : ℕ) (places : List ℕ) (log : List Entry)
+    (first between : StackWatch) → first.stacks.places.items ≡ places
+    → lists first.stacks.calls.items ≡ replicate (length places) [] → between.is_short ≡ false → SeesLog meaning_in StacksSee near limit 0 log first between
     → (at seat : ℕ) → seat_of places at ≡ Some seat
     → IsStackAt (near at) (slice_get log at) (calls_at between.stacks at)
 each_whole near limit places log first between named none whole sees at seat is =
@@ -256,8 +267,8 @@ each_whole near limit places log first between named none whole sees at seat is 
     let at_last : seat_of between.stacks.places.items at ≡ Some seat =
     ap (λ (v : Vec ℕ). seat_of v.items at) (places_along near limit 0 log first between sees) ∙ there in
     let from : at ≡ 0 + at = omega arith in
-    subst (λ (o : Option ℕ). IsStackAt (near at) (slice_get log at) (calls_in between.stacks.calls.items o)) (sym at_last)
-    (along near limit at at seat 0 log first between from there empty.0 whole empty.1 sees)
+    subst (λ (o : Option ℕ). IsStackAt (near at) (slice_get log at) (calls_in between.stacks.calls.items o))
+    (sym at_last) (along near limit at at seat 0 log first between from there empty.0 whole empty.1 sees)
 
 pub has_each : (m : Parts) (r : RecordParts) (end : EndState) (places : List ℕ) (stacks : EntryStacks)
     → AreStacksOf m r end places stacks → HasEach m r places stacks
@@ -270,6 +281,6 @@ has_each m r end places stacks a =
     record {
       first = run.0;
       begins = run.1;
-      each = λ at seat is. subst (λ (x : EntryStacks). IsStackAt (near at) (slice_get r.log at) (calls_at x at)) (sym same)
-          (each_whole near r.limit places r.log a.first along.0 a.named a.empty whole along.1 at seat is);
+      each = λ at seat is. subst (λ (x : EntryStacks). IsStackAt (near at) (slice_get r.log at) (calls_at x at))
+          (sym same) (each_whole near r.limit places r.log a.first along.0 a.named a.empty whole along.1 at seat is);
     }

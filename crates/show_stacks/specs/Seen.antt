@@ -22,7 +22,8 @@ use Rattle.show_stacks.specs.Stacks.{HasCalls, StacksSee, calls_at, lists, seat_
 
 -- The stacks of the entries at these places, as a replay of the record fills them: none before it, then those of the
 -- thread that wants each. Memory was refused to none of them.
-pub record AreStacksOf (m : Parts) (r : RecordParts) (end : EndState) (places : List ℕ) (stacks : EntryStacks) : Type 0 where
+pub record AreStacksOf (m : Parts) (r : RecordParts) (end : EndState) (places : List ℕ) (stacks : EntryStacks)
+    : Type 0 where
   pub first : StackWatch
   pub last : StackWatch
   pub named : first.stacks.places.items ≡ places

@@ -45,8 +45,8 @@ rows_of s = flat_map (λ (v : Vec CodePlace). map row_of v.items) s.calls.items
 abbrev pub calls_of : List Caller → List CodePlace
 calls_of callers = reverse (map call_by callers)
 
--- In each configuration that the thread stands for, these are the calls of all functions that called there, the innermost
--- first.
+-- In each configuration that the thread stands for, these are the calls of all functions that called there, the
+-- innermost first.
 pub record HasCalls (thread : Thread) (calls : List CodePlace) : Type 0 where
   pub callers : List Caller
   pub called : (c : Config) (left : ℕ) → StandsFor thread (Runs (At c) left) → HasCallers thread.parts.now callers c

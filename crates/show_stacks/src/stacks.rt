@@ -3,7 +3,7 @@
 ghost use Rattle.std.specs.Prelude.{◌≡◌, [], ◌++◌, map, length, replicate, slice_set, false, IfOk, OnOk};
 ghost use Rattle.show_rows.specs.Rows as rows;
 ghost use Rattle.show_stacks.specs.Stacks as specified;
-ghost use Rattle.show_stacks.specs.Stacks.{HasCalls, SeesWanted, calls_in, lists, rows_of};
+ghost use Rattle.show_stacks.specs.Stacks.{HasCalls, SeesWanted, SetsCalls, calls_in, lists, rows_of};
 
 use interp::{CodePlace, Thread};
 use interp_state::Caller;
@@ -189,7 +189,8 @@ impl StackWatch {
 
     /// Keeps the calls of a thread's open functions with this number.
     fn keep(&mut self, seat: usize, thread: &Thread) -> Result<(), AllocError>
-        ensures calls { OnOk result (specified.SetsCalls thread.now seat self.old.stacks.calls.items self.new.stacks.calls.items) }
+        ensures calls { OnOk result
+            (SetsCalls thread.now seat self.old.stacks.calls.items self.new.stacks.calls.items) }
         ensures places { self.new.stacks.places ≡ self.old.stacks.places }
         ensures came { self.new.came ≡ self.old.came }
         ensures short { self.new.is_short ≡ self.old.is_short }

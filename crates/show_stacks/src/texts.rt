@@ -33,12 +33,19 @@ fn push_calls(
 }
 
 impl StacksView<'_, '_, '_> {
-    /// Where the entry at a place was made (`place`), and the calls that led there: `bump+0x11 heap.c:5 < main heap.c:13`.
+    /// Where the entry at a place was made (`place`), and the calls that led there:
+    /// `bump+0x11 heap.c:5 < main heap.c:13`.
     ///
     /// # Errors
     /// Where memory is refused.
-    pub fn text(&self, alloc: Global, place: Option<CodePlace>, at: usize) -> Result<String, AllocError>
-        ensures { IfOk result (λ text. IsStackText self.now.code.now place (calls_at self.now.stacks.now at) (string_bytes text)) }
+    pub fn text(
+        &self,
+        alloc: Global,
+        place: Option<CodePlace>,
+        at: usize,
+    ) -> Result<String, AllocError>
+        ensures { IfOk result (λ text.
+            IsStackText self.now.code.now place (calls_at self.now.stacks.now at) (string_bytes text)) }
     {
         let mut text = spot_text(alloc, self.code, place)?;
         push_calls(alloc, self.code, self.stacks.calls_at(at), &mut text)?;
