@@ -129,7 +129,7 @@ fn add_refused(
         }
         Refused::Line(line, misfit) => add_line(alloc, out, given, *line, misfit),
         Refused::EndLine(line, misfit) => add_line(alloc, out, given, *line, misfit),
-        Refused::Unlaid { .. } | Refused::Absent(_) => Ok(()),
+        Refused::Unlaid { .. } | Refused::Absent(_) | Refused::Allowance(_) => Ok(()),
     }
 }
 
