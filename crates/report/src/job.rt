@@ -171,6 +171,7 @@ where
     match search_module(rt, alloc, request, streams, follower) {
         Ok(done) => Ok(Done {
             is_bare: is_bare(&valid, asked),
+            is_allowing: asked.allow.allows(),
             ..done
         }),
         Err(trouble) => Err(of_trouble(trouble, valid, asked.save, None)),

@@ -165,6 +165,7 @@ fn tell_orders<T: Teller, W: Write, E, S: Write, F: Hears>(
         status,
         advised: advised_of(whole),
         is_bare: false,
+        is_allowing: false,
     })
 }
 
@@ -231,6 +232,7 @@ fn end_without<T: Teller, W: Write>(
         status,
         advised: advised_of_table(drawn.table),
         is_bare: false,
+        is_allowing: false,
     })
 }
 
@@ -289,6 +291,7 @@ fn search_for_endings<T: Teller, R: Threads + Sync, W: Write, E, S: Write, F: He
                 status: 1,
                 advised: advised_of_table(&table),
                 is_bare: false,
+                is_allowing: false,
             })
         }
         halt => end_without(alloc, teller, drawn, None, &halt, out),
@@ -346,6 +349,7 @@ fn search_for_races<T: Teller, R: Threads + Sync, W: Write, E, S: Write, F: Hear
                 status: 1,
                 advised: advised_of_table(&table),
                 is_bare: false,
+                is_allowing: false,
             })
         }
         halt => {

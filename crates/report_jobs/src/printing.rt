@@ -177,6 +177,7 @@ pub(crate) fn print_end<W: Write, E: Write>(
                 status: status_of(&end.threads),
                 advised: Advised::of_reports(&end.threads),
                 is_bare: false,
+                is_allowing: false,
             })
         }
         Err(unwritten) => Err(unwritten),

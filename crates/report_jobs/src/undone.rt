@@ -164,6 +164,8 @@ pub struct Done {
     pub advised: Advised,
     /// Whether a search compared only how threads ended: the function returns nothing, and no bytes belong to an ending.
     pub is_bare: bool,
+    /// Whether races were allowed at some bytes, or of mixed accesses.
+    pub is_allowing: bool,
 }
 
 impl Done {
@@ -175,6 +177,7 @@ impl Done {
             status,
             advised: Advised::none(),
             is_bare: false,
+            is_allowing: false,
         }
     }
 }

@@ -82,10 +82,20 @@ pub fn races_saved<W: Write, E: Write, S: Write>(
         sources: &[],
     };
     match tell_races(alloc, &valid, code, saved, asked, out) {
-        Ok(true) => Ok(Done::with(1)),
-        Ok(false) => Ok(Done::with(0)),
+        Ok(true) => Ok(done_with(asked, 1)),
+        Ok(false) => Ok(done_with(asked, 0)),
         Err(Unshown::Unfit { unfit, stood }) => Err(of_unfit(unfit, valid, stood)),
         Err(Unshown::Absent(absent)) => Err(Undone::Refused(Refused::Allowance(absent))),
+    }
+}
+
+/// Races were told, with this status.
+fn done_with(asked: &RacesJob, status: u8) -> Done
+    ensures { result.status ≡ status }
+{
+    Done {
+        is_allowing: asked.allow.allows(),
+        ..Done::with(status)
     }
 }
 

@@ -87,6 +87,12 @@ fn add_done(
              ended is compared\n"
         )?;
     }
+    if done.is_allowing {
+        write!(
+            out,
+            "note: no race is told of what --allow-race and --allow-mixed name: it counts as atomic\n"
+        )?;
+    }
     add_advice(alloc, out, done.advised)
 }
 
