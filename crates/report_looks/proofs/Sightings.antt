@@ -110,7 +110,7 @@ object_by m r f first shown is sites ps d pair same alike says =
 -- and all in words
 pub found_by : (m : Parts) (r : RecordParts) (f : RacesOfRun) → AreRacesOf m r f → (shown : Shown) → IsShownBy r f shown
     → (stacks : StacksView) → stacks.stacks.now ≡ f.stacks → (old new : Option (List ℕ))
-    → TellsFound shown f.map f.told.story f.told.races stacks old new → WritesFound f.allowed m r (change old new)
+    → TellsFound shown f.map f.told.story stacks f.told.races old new → WritesFound f.allowed m r (change old new)
 found_by m r f first shown is stacks same old new (texts, says, lines) = (
   _,
   lines,

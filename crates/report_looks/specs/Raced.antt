@@ -65,7 +65,7 @@ pub record IsRacy (allow : Allowance) (m : Parts) (saved : List ℕ) : Type 0 wh
 
 -- They are told in lines, or in an object.
 abbrev pub TellsIn : Form → Shown → DataMap → Story → RecordRaces → StacksView → Option (List ℕ) → Option (List ℕ) → Type 0
-TellsIn Lines shown map story races stacks old new = TellsRaces shown map story races stacks old new
+TellsIn Lines shown map story races stacks old new = TellsRaces shown map story stacks races old new
 TellsIn Json shown map story races stacks old new = WritesPairs shown story races old new
 
 -- What was written tells of so many races at most, each one of the run that may not be and by the instructions of its
@@ -135,7 +135,7 @@ pub record SaysFound (allowed : Allowed) (m : Parts) (r : RecordParts) (text : L
   pub stacks : StacksView
   pub stacks_are : AreStacksTold m r found races stacks.stacks.now
   pub texts : List (List ℕ)
-  pub says : AllZip (SaysRace shown map story races.sites.items stacks) races.pairs.items texts
+  pub says : AllZip (SaysRace shown map story stacks races.sites.items) races.pairs.items texts
   pub is : text ≡ concat texts ++ more_text races.is_cut (length races.pairs.items)
 
 -- An object says so.

@@ -1,5 +1,5 @@
 -- A run as it is shown, and the stacks that are told of it.
-use Rattle.std.specs.Prelude.{◌≡◌, List, Option}
+use Rattle.std.specs.Prelude.{ℕ, ◌≡◌, List, Option}
 use Rattle.types.specs.declared.parts.Parts.{Parts}
 use Rattle.replay_text.specs.declared.parts.RecordParts.{RecordParts}
 use Rattle.spawn_host.specs.declared.end.EndState.{EndState}
@@ -11,7 +11,7 @@ use Rattle.show_rows.specs.declared.listing.Story.{Story}
 use Rattle.show_races.specs.declared.found.RecordRaces.{RecordRaces}
 use Rattle.show_stacks.specs.Seen.{AreStacksOf}
 use Rattle.show_stacks.specs.declared.stacks.EntryStacks.{EntryStacks}
-use Rattle.show_race_words.specs.Places.{ArePlaces}
+use Rattle.show_race_words.specs.Stacks.{AreStackPlaces}
 
 -- The record of a run of the module as it is shown, with its rows.
 pub record IsShownOf (m : Parts) (r : RecordParts) (rows : List (Option Row)) (shown : Shown) (story : Story) : Type 0 where
@@ -22,5 +22,6 @@ pub record IsShownOf (m : Parts) (r : RecordParts) (rows : List (Option Row)) (s
 
 -- These are the stacks of a run's record that are told with its races.
 pub record AreStacksTold (m : Parts) (r : RecordParts) (shown : Shown) (races : RecordRaces) (stacks : EntryStacks) : Type 0 where
-  pub places : ArePlaces shown races stacks.places.items
-  pub seen : (end : EndState) × IsRunOf m r end × AreStacksOf m r end stacks.places.items stacks
+  pub places : List ℕ
+  pub places_are : AreStackPlaces shown races.pairs.items places
+  pub seen : (end : EndState) × IsRunOf m r end × AreStacksOf m r end places stacks

@@ -175,7 +175,7 @@ fn write_told<W: Write>(
 {
     let ToldRaces { story, races } = told;
     match form {
-        Form::Lines => write_races(alloc, shown, map, story, races, stacks, out),
+        Form::Lines => write_races(alloc, shown, map, story, stacks, races, out),
         Form::Json => write_pairs(alloc, &shown, story, races, out),
     }
 }

@@ -174,7 +174,7 @@ impl<'m, 'n> RacesOfRun<'m, 'n> {
             code: &self.code,
         };
         let ToldRaces { story, races } = &self.told;
-        write_found(alloc, shown, &self.map, story, races, stacks, out)?;
+        write_found(alloc, shown, &self.map, story, stacks, races, out)?;
         Ok(())
     }
 
