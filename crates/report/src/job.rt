@@ -17,7 +17,9 @@ ghost use Rattle.report.specs.Silent.{writes_file};
 use crate::asked::SearchRequest;
 use crate::searching::search_module;
 use report_command::{Job, Search};
-use report_jobs::{Done, Streams, Undone, load, of_refusal, of_trouble, perform_plain, tell_ended};
+use report_jobs::{
+    Done, LeftOut, Streams, Undone, load, of_refusal, of_trouble, perform_plain, tell_ended,
+};
 use report_looks::{CodeBytes, allowed_of, races_saved, show_saved};
 use search_finds::Hears;
 use spawn_host::own_function;
@@ -171,10 +173,19 @@ where
     match search_module(rt, alloc, request, streams, follower) {
         Ok(done) => Ok(Done {
             is_bare: is_bare(&valid, asked),
-            is_allowing: asked.allow.allows(),
+            left_out: left_out(asked),
             ..done
         }),
         Err(trouble) => Err(of_trouble(trouble, valid, asked.save, None)),
+    }
+}
+
+/// Whether races are left out.
+fn left_out(asked: &Search) -> LeftOut {
+    if asked.allow.allows() {
+        LeftOut::Some
+    } else {
+        LeftOut::Nothing
     }
 }
 

@@ -28,7 +28,7 @@ use crate::table::{DrawnTable, NoneFound, status_of_none};
 use crate::telling::{Conclusion, News, Teller, ToldSearch};
 use crate::whole::{FirstLook, WholeSearch, first_look, whole_of};
 use report_command::{Form, Search};
-use report_jobs::{Advised, Done, Streams, Trouble, args_of, keep, request_of};
+use report_jobs::{Advised, Done, LeftOut, Streams, Trouble, args_of, keep, request_of};
 use report_json::{FoundAs, RunRaces};
 use search_endings::Ending;
 use search_finds::{Crew, EndingTable, Halt, Hears, SearchResult, first_found, first_judged};
@@ -165,7 +165,7 @@ fn tell_orders<T: Teller, W: Write, E, S: Write, F: Hears>(
         status,
         advised: advised_of(whole),
         is_bare: false,
-        is_allowing: false,
+        left_out: LeftOut::Nothing,
     })
 }
 
@@ -232,7 +232,7 @@ fn end_without<T: Teller, W: Write>(
         status,
         advised: advised_of_table(drawn.table),
         is_bare: false,
-        is_allowing: false,
+        left_out: LeftOut::Nothing,
     })
 }
 
@@ -291,7 +291,7 @@ fn search_for_endings<T: Teller, R: Threads + Sync, W: Write, E, S: Write, F: He
                 status: 1,
                 advised: advised_of_table(&table),
                 is_bare: false,
-                is_allowing: false,
+                left_out: LeftOut::Nothing,
             })
         }
         halt => end_without(alloc, teller, drawn, None, &halt, out),
@@ -349,7 +349,7 @@ fn search_for_races<T: Teller, R: Threads + Sync, W: Write, E, S: Write, F: Hear
                 status: 1,
                 advised: advised_of_table(&table),
                 is_bare: false,
-                is_allowing: false,
+                left_out: LeftOut::Nothing,
             })
         }
         halt => {

@@ -155,6 +155,17 @@ impl Advised {
     }
 }
 
+/// Which races aren't told, since they are allowed.
+#[derive(Clone, Copy, PartialEq, Eq, Debug)]
+pub enum LeftOut {
+    /// None is allowed.
+    Nothing,
+    /// Some may be, of runs that weren't all made.
+    Some,
+    /// So many of a run.
+    Races(usize),
+}
+
 /// A job that is done.
 #[derive(Clone, Copy)]
 pub struct Done {
@@ -164,8 +175,7 @@ pub struct Done {
     pub advised: Advised,
     /// Whether a search compared only how threads ended: the function returns nothing, and no bytes belong to an ending.
     pub is_bare: bool,
-    /// Whether races were allowed at some bytes, or of mixed accesses.
-    pub is_allowing: bool,
+    pub left_out: LeftOut,
 }
 
 impl Done {
@@ -177,7 +187,7 @@ impl Done {
             status,
             advised: Advised::none(),
             is_bare: false,
-            is_allowing: false,
+            left_out: LeftOut::Nothing,
         }
     }
 }

@@ -98,6 +98,11 @@ abbrev pub SaysOf : Allowance → Parts → List ℕ → Bool → Type 0
 SaysOf allow m saved true = IsRacy allow m saved
 SaysOf allow m saved false = IsRaceFree allow m saved
 
+-- The status by that answer.
+abbrev pub status_by : Bool → ℕ
+status_by true = 1
+status_by false = 0
+
 abbrev pub OfModule : (Parts → List ℕ → Type 0) → List ℕ → List ℕ → Type 0
 OfModule Is bytes saved = (m : Parts) × IsModuleText bytes m × IsValid m × Is m saved
 

@@ -15,15 +15,16 @@ ghost use Rattle.report_jobs.specs.Prints.{changed};
 ghost use Rattle.show_races.specs.Races.{Says};
 ghost use Rattle.show_races.specs.Rows.{sites_of};
 ghost use Rattle.show_races.specs.Sites.{opening_of};
-ghost use Rattle.report_looks.specs.Raced.{IsRaceFree, IsRacy, OfModule, PrintsRaces, SaysOf, TellsIn, WritesRaces};
+ghost use Rattle.report_looks.specs.Raced.{IsRaceFree, IsRacy, OfModule, PrintsRaces, SaysOf, TellsIn, WritesRaces, status_by};
 
 use crate::allowing::allowed_at;
 use crate::showing::{CodeBytes, SeenRun, UnseenRecord, seen_of, unfit_of};
 use crate::sighting::{ToldRaces, chained_at, races_in, stacks_in};
 use crate::wanted::{Unshown, no_memory};
 use allowed_races::Allowed;
-use report_command::{Form, RacesJob};
-use report_jobs::{Done, Refused, Streams, Undone, load, of_refusal, of_unfit};
+use race_history::Site;
+use report_command::{Allowance, Form, RacesJob};
+use report_jobs::{Done, LeftOut, Refused, Streams, Undone, load, of_refusal, of_unfit};
 use report_objects::write_pairs;
 use show_named::DataMap;
 use show_race_words::write_races;
@@ -34,6 +35,9 @@ use show_text::Unwritten;
 use std::alloc::Global;
 use std::io::Write;
 use validate_module::ValidModule;
+
+/// How many races are counted at most that are left out.
+const MOST_LEFT_OUT: usize = 10_000;
 
 /// Tells the races of the run whose record's text `saved` is, as many at most as are asked for, in lines or as an object.
 /// `names` are the bytes that have the names of functions and data and the lines of source, as for `show_saved`. No path of
@@ -82,20 +86,34 @@ pub fn races_saved<W: Write, E: Write, S: Write>(
         sources: &[],
     };
     match tell_races(alloc, &valid, code, saved, asked, out) {
-        Ok(true) => Ok(done_with(asked, 1)),
-        Ok(false) => Ok(done_with(asked, 0)),
+        Ok(told) => Ok(told.done()),
         Err(Unshown::Unfit { unfit, stood }) => Err(of_unfit(unfit, valid, stood)),
         Err(Unshown::Absent(absent)) => Err(Undone::Refused(Refused::Allowance(absent))),
     }
 }
 
-/// Races were told, with this status.
-fn done_with(asked: &RacesJob, status: u8) -> Done
-    ensures { result.status ≡ status }
-{
-    Done {
-        is_allowing: asked.allow.allows(),
-        ..Done::with(status)
+/// What was told of the races of a run.
+#[derive(Clone, Copy)]
+struct RacesTold {
+    /// Whether there are any.
+    is_racy: bool,
+    left_out: LeftOut,
+}
+
+impl RacesTold {
+    /// The job is done.
+    fn done(self) -> Done
+        ensures { result.status ≡ status_by self.is_racy }
+    {
+        let done = if self.is_racy {
+            Done::with(1)
+        } else {
+            Done::with(0)
+        };
+        Done {
+            left_out: self.left_out,
+            ..done
+        }
     }
 }
 
@@ -107,9 +125,9 @@ fn tell_races<W: Write>(
     saved: &[u8],
     asked: &RacesJob,
     out: &mut W,
-) -> Result<bool, Unshown>
+) -> Result<RacesTold, Unshown>
     requires { 1 ≤ asked.now.most }
-    ensures races { IfOk result (SaysOf asked.now.allow «module».now.parts saved.now) }
+    ensures races { IfOk result (λ told. SaysOf asked.now.allow «module».now.parts saved.now told.is_racy) }
     ensures prints { IfOk result (λ _. PrintsRaces asked.now.allow asked.now.most asked.now.form
         (changed W.contents out.old out.new) «module».now.parts saved.now) }
     ensures unshown { IfErr result (IsUnshown «module».now.parts saved.now) }
@@ -134,7 +152,7 @@ fn tell_races<W: Write>(
         allowed: bytes.allowed(),
     };
     match write_seen(alloc, module, seen, asked, out) {
-        Ok(is_racy) => Ok(is_racy),
+        Ok(told) => Ok(told),
         Err(unwritten) => Err(Unshown::Unfit {
             unfit: unfit_of(unwritten),
             stood: None,
@@ -149,6 +167,36 @@ struct SeenCode<'a, 'n> {
     map: &'a DataMap<'n>,
     code: CodeBytes<'n>,
     allowed: Allowed<'a>,
+}
+
+/// Whether the entry at a place may race.
+fn may_race(sites: &[Site], at: usize) -> bool {
+    match sites.get(at) {
+        Some(site) => site.is_allowed,
+        None => false,
+    }
+}
+
+/// How many races aren't among these, since they are allowed: of those that the run has where none is, at most
+/// `MOST_LEFT_OUT`, those of two entries that may race.
+fn left_out(
+    alloc: Global,
+    shown: Shown,
+    told: &RecordRaces,
+    allow: &Allowance,
+) -> Result<LeftOut, Unwritten> {
+    if !allow.allows() {
+        return Ok(LeftOut::Nothing);
+    }
+    let all = races_in(alloc, shown, &Allowed::nothing(), MOST_LEFT_OUT)?;
+    let sites = told.sites.as_slice();
+    let mut count = 0usize;
+    for race in all.races.pairs.as_slice() {
+        if may_race(sites, race.first) && may_race(sites, race.second) {
+            count = count.saturating_add(1);
+        }
+    }
+    Ok(LeftOut::Races(count))
 }
 
 /// Whether there is a race.
@@ -187,14 +235,14 @@ fn write_seen<W: Write>(
     seen: SeenCode,
     asked: &RacesJob,
     out: &mut W,
-) -> Result<bool, Unwritten>
+) -> Result<RacesTold, Unwritten>
     requires most { 1 ≤ asked.now.most }
     requires allowed { IsAllowedBy asked.now.allow seen.allowed }
     requires run { (end : EndState) × IsRunOf «module».now.parts seen.seen.now.«record» end
         × AreRowsOf «module».now.parts seen.seen.now.«record» end seen.seen.now.rows.items }
-    ensures says { IfOk result (Says seen.entry.seen.now.«record».log
+    ensures says { IfOk result (λ told. Says seen.entry.seen.now.«record».log
         (sites_of seen.entry.allowed «module».now.parts seen.entry.seen.now.«record» seen.entry.seen.now.rows.items)
-        (opening_of «module».now.parts)) }
+        (opening_of «module».now.parts) told.is_racy) }
     ensures writes { IfOk result (λ _. WritesRaces asked.now.allow «module».now.parts seen.entry.seen.now.«record»
         seen.entry.seen.now.rows.items asked.now.most asked.now.form (changed W.contents out.old out.new)) }
 {
@@ -211,6 +259,7 @@ fn write_seen<W: Write>(
         code: &known,
     };
     let told = races_in(alloc, shown, &allowed, asked.most as usize)?;
+    let left_out = left_out(alloc, shown, &told.races, &asked.allow)?;
     let stacks = stacks_in(alloc, module, &run.record, shown, &told.races)?;
     let code = chained_at(alloc, map, known, &run.rows, &stacks)?;
     let shown = Shown {
@@ -223,5 +272,8 @@ fn write_seen<W: Write>(
         code: &code,
     };
     write_told(alloc, shown, map, &told, view, asked.form, out)?;
-    Ok(is_racy(&told.races))
+    Ok(RacesTold {
+        is_racy: is_racy(&told.races),
+        left_out,
+    })
 }
