@@ -2,6 +2,7 @@
 use Rattle.std.proofs.Common.{ℕ, ◌≡◌, ◌∙◌, Bool, true, false, List, Option, Some, None, refl, sym, subst, true≢false}
 use Rattle.std.specs.Prelude.{IfOk, Result, Ok, Err}
 use Rattle.std.specs.Io.KnownBytes.{Appends}
+use Rattle.allowed_races.specs.declared.allowed.Allowed.{Allowed}
 use Rattle.types.specs.declared.parts.Parts.{Parts}
 use Rattle.replay_forms.proofs.Written.{appends_then}
 use Rattle.search_finds.specs.declared.finding.Halt.{Halt}
@@ -41,18 +42,18 @@ all_made_by halts.AllMade unfound untold = refl
 all_made_by halts.Told unfound untold = absurd (true≢false untold)
 
 -- what comes of a search, of every order or of drawn runs
-module _ (m : Parts) (s : Search) (out save : WriterChange) (status : ℕ) where
-  pub orders_searched : (most : ℕ) → s.all ≡ Some most → Finds m s save status → TellsAll m s most out save status → IsWellAt m s status
-      → IsSearched m s out save status
+module _ (m : Parts) (s : Search) (may : Allowed) (out save : WriterChange) (status : ℕ) where
+  pub orders_searched : (most : ℕ) → s.all ≡ Some most → Finds m s may save status → TellsAll m s may most out save status → IsWellAt m s may status
+      → IsSearched m s may out save status
   orders_searched most all finds tells well = record {
     finds = finds;
     well = well;
     drawn = λ none. absurd cc;
     drawn_races = λ none. absurd cc;
-    prints = λ n is. subst (λ (k : ℕ). TellsAll m s k out save status) (cc (sym all ∙ is)) tells;
+    prints = λ n is. subst (λ (k : ℕ). TellsAll m s may k out save status) (cc (sym all ∙ is)) tells;
   }
 
-  pub endings_searched : s.all ≡ None → s.races ≡ false → Finds m s save status → TellsDrawn m s out save status → IsSearched m s out save status
+  pub endings_searched : s.all ≡ None → s.races ≡ false → Finds m s may save status → TellsDrawn m s out save status → IsSearched m s may out save status
   endings_searched none races finds tells = record {
     finds = finds;
     well = λ all. absurd cc;
@@ -61,7 +62,7 @@ module _ (m : Parts) (s : Search) (out save : WriterChange) (status : ℕ) where
     prints = λ n is. absurd (cc (sym none ∙ is));
   }
 
-  pub races_searched : s.all ≡ None → s.races ≡ true → Finds m s save status → TellsDrawnRaces m s out save status → IsSearched m s out save status
+  pub races_searched : s.all ≡ None → s.races ≡ true → Finds m s may save status → TellsDrawnRaces m s may out save status → IsSearched m s may out save status
   races_searched none races finds tells = record {
     finds = finds;
     well = λ all. absurd cc;

@@ -1,5 +1,6 @@
 -- What is so of a search that looks for a drawn run with a race.
 use Rattle.std.proofs.Common.{ℕ, ◌≡◌, IsTrue, true, false, List, refl, subst}
+use Rattle.allowed_races.specs.declared.allowed.Allowed.{Allowed}
 use Rattle.spawn_host.specs.Requests.{Requested}
 use Rattle.search_scheduled.specs.Headers.{IsOfCall}
 use Rattle.search_scheduled.specs.declared.running.MadeRun.{MadeRun}
@@ -20,19 +21,20 @@ use Rattle.report.specs.Searches.{IsRaceKept}
 use Rattle.std.specs.Prelude.{is_some}
 
 -- where the search stops, none that was made has a race
-pub none_races : (q : Requested) (s : Sought) (t : EndingTable) (h : Halt) → ((f : _) → h ≡ halts.Found f → ⊥)
-    → AreNotedBy (IsPassed (SaysRaceOf q) s h) q s t → s.stops ≡ true → AreNotedBy (λ run made. SaysRaceOf q made false) q s t
-none_races q s t (halts.Found f) unfound noted stops = absurd (unfound f refl)
-none_races q s t halts.AllMade unfound noted stops =
-    noted_weaker (λ run made. IsTrue s.stops → SaysRaceOf q made false) (λ run made. SaysRaceOf q made false) (λ run made is. is stops) q s t noted
-none_races q s t halts.Told unfound noted stops =
-    noted_weaker (λ run made. IsTrue s.stops → SaysRaceOf q made false) (λ run made. SaysRaceOf q made false) (λ run made is. is stops) q s t noted
+pub none_races : (q : Requested) (may : Allowed) (s : Sought) (t : EndingTable) (h : Halt) → ((f : _) → h ≡ halts.Found f → ⊥)
+    → AreNotedBy (IsPassed (SaysRaceOf q may) s h) q s t → s.stops ≡ true → AreNotedBy (λ run made. SaysRaceOf q may made false) q s t
+none_races q may s t (halts.Found f) unfound noted stops = absurd (unfound f refl)
+none_races q may s t halts.AllMade unfound noted stops =
+    noted_weaker (λ run made. IsTrue s.stops → SaysRaceOf q may made false) (λ run made. SaysRaceOf q may made false) (λ run made is. is stops) q s t noted
+none_races q may s t halts.Told unfound noted stops =
+    noted_weaker (λ run made. IsTrue s.stops → SaysRaceOf q may made false) (λ run made. SaysRaceOf q may made false) (λ run made is. is stops) q s t noted
 
 -- the run with a race, as it is kept
-pub race_is_kept : (q : Requested) (s : Search) → IsAskedBy s.call q → (made : MadeRun) → IsFind q s.sought.limit made → SaysOfRun q.parts made.record true
+pub race_is_kept : (q : Requested) (s : Search) (may : Allowed) → IsAskedBy s.call q → (made : MadeRun) → IsFind q s.sought.limit made
+    → SaysOfRun may q.parts made.record true
     → (save : WriterChange) → KeepsRecord (is_some s.save) save made.record → s.races ≡ true
-    → IsRaceKept q.parts s save
-race_is_kept q s asked made find said save kept races = record {
+    → IsRaceKept q.parts s may save
+race_is_kept q s may asked made find said save kept races = record {
   looked_for = races;
   args = q.args;
   spelled = asked.spelled;

@@ -1,6 +1,7 @@
 -- What is kept of what was found.
 use Rattle.std.proofs.Common.{ℕ, ◌≡◌, ◌≤◌, ◌∙◌, Bool, true, false, List, Option, Some, None, inl, inr, refl, sym, subst, ap, true≢false}
 use Rattle.std.specs.Prelude.{IfSome, is_some}
+use Rattle.allowed_races.specs.declared.allowed.Allowed.{Allowed}
 use Rattle.spawn_host.specs.Requests.{Requested}
 use Rattle.search_scheduled.specs.Headers.{IsOfCall}
 use Rattle.search_scheduled.specs.declared.running.MadeRun.{MadeRun}
@@ -29,7 +30,7 @@ kept_as : (q : Requested) (s : Search) (a b : Bool) (x y : Option MadeRun) (k : 
 kept_as q s a b x y k same alike kept =
     subst (λ (o : Option MadeRun). IsKeptAs q s b o k) alike (subst (λ (is : Bool). IsKeptAs q s is x k) same kept)
 
-module _ (q : Requested) (s : Search) (asked : IsAskedBy s.call q) (save : WriterChange) where
+module _ (q : Requested) (s : Search) (may : Allowed) (asked : IsAskedBy s.call q) (save : WriterChange) where
   of_call : (made : MadeRun) → IsFind q s.sought.limit made
       → IsOfCall q.parts s.call.invoke.now q.args s.call.fuel s.sought.limit made.record
   of_call made find = subst (λ (name : List ℕ). IsOfCall q.parts name q.args s.call.fuel s.sought.limit made.record) asked.name_is
@@ -63,7 +64,7 @@ module _ (q : Requested) (s : Search) (asked : IsAskedBy s.call q) (save : Write
   -- what was found of every order
   module _ (w : WholeSearch) (status : ℕ) (few : status ≤ 1) where
     first_kept : (f : FoundRun) (k : KeptRun) → status ≡ 1 → HasFirst q s w f → IsKeptOf q s f k → KeepsMade s k.made save
-        → Finds q.parts s save status
+        → Finds q.parts s may save status
     first_kept f k one first is kept = elim first.one [
       | inl met ↦
           let way : can_shrink f.found_as ≡ true = ap can_shrink met.as_is in
@@ -77,7 +78,7 @@ module _ (q : Requested) (s : Search) (asked : IsAskedBy s.call q) (save : Write
     ]
 
     known_kept : (f : FoundRun) (k : KeptRun) → is_some s.all ≡ true → status ≡ 1 → HasKnown q s w f → IsKeptOf q s f k
-        → KeepsMade s k.made save → Finds q.parts s save status
+        → KeepsMade s k.made save → Finds q.parts s may save status
     known_kept f k every one known is kept =
         let has = known.filled.2 in
         let way : can_shrink f.found_as ≡ false = ap can_shrink has.as_is ∙ endless_stays known.filled.0.way has.entries in
@@ -98,7 +99,7 @@ module _ (q : Requested) (s : Search) (asked : IsAskedBy s.call q) (save : Write
         ))
 
     pub found_kept : (o : Option FoundRun) (p : Option KeptRun) → is_some s.all ≡ true → IfSome o (λ f. status ≡ 1) → HasFound q s w o
-        → AreKeptOf q s o p → KeepsFound s p save → Finds q.parts s save status
+        → AreKeptOf q s o p → KeepsFound s p save → Finds q.parts s may save status
     found_kept None None every one has is kept = inl (few, kept)
     found_kept None (Some k) every one has is kept = absurd is
     found_kept (Some f) None every one has is kept = absurd is

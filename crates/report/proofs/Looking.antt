@@ -1,5 +1,6 @@
 -- What a first look at all runs says of races.
 use Rattle.std.proofs.Common.{◌≡◌, ◌∙◌, Bool, true, false, List, refl, sym, ap, subst, true≢false}
+use Rattle.allowed_races.specs.declared.allowed.Allowed.{Allowed}
 use Rattle.spawn_host.specs.Requests.{Requested}
 use Rattle.search_endings.specs.Endings.{Ending}
 use Rattle.search_finds.specs.Finds.{IsLookedFor}
@@ -37,15 +38,15 @@ asked_by s verdicts.Told timed every = asked_unknown s every
 asked_by s verdicts.Sought timed every = asked_unknown s every
 
 -- what is known by a verdict
-pub known_by : (q : Requested) (v : Verdict) (timed : Bool) → (v ≡ verdicts.All → NeverRaces q.parts q.name q.args)
-    → (v ≡ verdicts.All → timed ≡ false → NeverWaitsTimed q.parts q.name q.args) → (timed ≡ true → WaitsTimedSo q.parts q.name q.args)
-    → IsKnownOf q (racing_by v timed)
-known_by q verdicts.All false none untimed some = (none refl, untimed refl refl)
-known_by q verdicts.All true none untimed some = (none refl, some refl)
-known_by q verdicts.TooMany timed none untimed some = tt
-known_by q verdicts.CannotTell timed none untimed some = tt
-known_by q verdicts.Told timed none untimed some = tt
-known_by q verdicts.Sought timed none untimed some = tt
+pub known_by : (q : Requested) (may : Allowed) (v : Verdict) (timed : Bool) → (v ≡ verdicts.All → NeverRaces q.parts q.name q.args may)
+    → (v ≡ verdicts.All → timed ≡ false → NeverWaitsTimed q.parts q.name q.args may)
+    → (timed ≡ true → WaitsTimedSo q.parts q.name q.args may) → IsKnownOf q may (racing_by v timed)
+known_by q may verdicts.All false none untimed some = (none refl, untimed refl refl)
+known_by q may verdicts.All true none untimed some = (none refl, some refl)
+known_by q may verdicts.TooMany timed none untimed some = tt
+known_by q may verdicts.CannotTell timed none untimed some = tt
+known_by q may verdicts.Told timed none untimed some = tt
+known_by q may verdicts.Sought timed none untimed some = tt
 
 none_by : (v : Verdict) (timed : Bool) → v ≡ verdicts.All → AreNone (racing_by v timed)
 none_by verdicts.All false is = tt
@@ -55,10 +56,10 @@ none_by verdicts.CannotTell timed is = absurd cc
 none_by verdicts.Told timed is = absurd cc
 none_by verdicts.Sought timed is = absurd cc
 
-pub whole_by : (q : Requested) (s : Search) (all : Ended Ending) (timed : Bool) → IsFreelyComplete q s.sought.dump all
-    → IsKnownOf q (racing_by all.verdict timed) → s.every_order ≡ false → SaysSought s all.verdict all.endings.keys
-    → IsWhole q s (record { all = all; racing = racing_by all.verdict timed; is_free = true })
-whole_by q s all timed complete known every sought = record {
+pub whole_by : (q : Requested) (s : Search) (may : Allowed) (all : Ended Ending) (timed : Bool) → IsFreelyComplete q may s.sought.dump all
+    → IsKnownOf q may (racing_by all.verdict timed) → s.every_order ≡ false → SaysSought s all.verdict all.endings.keys
+    → IsWhole q s may (record { all = all; racing = racing_by all.verdict timed; is_free = true })
+whole_by q s may all timed complete known every sought = record {
   complete = complete;
   known = known;
   asked = asked_by s all.verdict timed every;

@@ -1,6 +1,7 @@
 -- What comes of all orders, put together of the race that is told first and of what is told behind it.
 use Rattle.std.proofs.Common.{ℕ, ◌≡◌, ◌∙◌, false, List, Option, Some, refl, sym, subst, ap}
 use Rattle.std.specs.Prelude.{is_some}
+use Rattle.allowed_races.specs.declared.allowed.Allowed.{Allowed}
 use Rattle.spawn_host.specs.Requests.{Requested}
 use Rattle.report_command.specs.declared.form.Form.{Form}
 use Rattle.report_command.specs.declared.search.Search.{Search}
@@ -22,7 +23,7 @@ use Rattle.report.proofs.Keeping.{found_kept, quiet_by}
 use Rattle.report.proofs.Pairs.{raced_in, raced_kept}
 use Rattle.report.proofs.Wholly.{finds_all, well_by}
 
-module _ (q : Requested) (s : Search) (asked : IsAskedBy s.call q) (form : Form) (is_form : form ≡ s.form) (met : OrdersMet)
+module _ (q : Requested) (s : Search) (may : Allowed) (asked : IsAskedBy s.call q) (form : Form) (is_form : form ≡ s.form) (met : OrdersMet)
     (every_order : s.all ≡ Some met.most) (before between after a b c : Option (List ℕ))
     (unkept : keeps_race s ≡ false → b ≡ a) (status : ℕ) (rest : TellsRest form q s met (change between after) (change b c) status) where
   abbrev t : ToldSearch
@@ -34,16 +35,16 @@ module _ (q : Requested) (s : Search) (asked : IsAskedBy s.call q) (form : Form)
   abbrev raced : Raced
   raced = t.raced.now
 
-  module _ (whole : IsWhole q s w) (is_raced : IsRacedOf q s w.racing raced) (keeps : KeepsRaced s raced (change a b))
+  module _ (whole : IsWhole q s may w) (is_raced : IsRacedOf q s may w.racing raced) (keeps : KeepsRaced s raced (change a b))
       (told : InLines form (change before between) (SaysRaced q.parts raced)) where
-    finds : Finds q.parts s (change a c) status
-    finds = finds_all q.parts s a b c status s.races refl unkept
+    finds : Finds q.parts s may (change a c) status
+    finds = finds_all q.parts s may a b c status s.races refl unkept
         (quiet_by q s w rest.found t.kept.now (change b c) rest.has rest.is_kept rest.keeps_found)
-        (raced_kept q s asked w.racing raced is_raced (change a b) keeps unkept)
-        (found_kept q s asked (change b c) w status rest.status_is.statuses rest.found t.kept.now (ap is_some every_order) rest.one rest.has
+        (raced_kept q s may asked w.racing raced is_raced (change a b) keeps unkept)
+        (found_kept q s may asked (change b c) w status rest.status_is.statuses rest.found t.kept.now (ap is_some every_order) rest.one rest.has
         rest.is_kept rest.keeps_found) rest.status_is.statuses
 
-    tells : TellsAll q.parts s met.most (change before after) (change a c) status
+    tells : TellsAll q.parts s may met.most (change before after) (change a c) status
     tells = record {
       request = q;
       parts_are = refl;
@@ -61,21 +62,21 @@ module _ (q : Requested) (s : Search) (asked : IsAskedBy s.call q) (form : Form)
       keeps_race = keeps;
       keeps_found = rest.keeps_found;
       tells = subst (λ (f : Form). AllIn f q.parts t rest.found (change before after)) is_form
-          (all_told form q.parts t rest.found before between after told (rest.tells q.parts (raced_in q s w.racing raced is_raced)));
+          (all_told form q.parts t rest.found before between after told (rest.tells q.parts (raced_in q s may w.racing raced is_raced)));
       status_is = rest.status_is;
     }
 
-    searched_so : IsSearched q.parts s (change before after) (change a c) status
-    searched_so = orders_searched q.parts s (change before after) (change a c) status met.most every_order finds tells
-        (well_by q s asked w whole status rest.status_is)
+    searched_so : IsSearched q.parts s may (change before after) (change a c) status
+    searched_so = orders_searched q.parts s may (change before after) (change a c) status met.most every_order finds tells
+        (well_by q s may asked w whole status rest.status_is)
 
-  pub searched_by : IsWhole q s met.whole → (racing : Racing) → met.whole.racing ≡ racing → IsRacedOf q s racing met.raced
+  pub searched_by : IsWhole q s may met.whole → (racing : Racing) → met.whole.racing ≡ racing → IsRacedOf q s may racing met.raced
       → KeepsRaced s met.raced (change a b) → InLines form (change before between) (SaysRaced q.parts met.raced)
-      → IsSearched q.parts s (change before after) (change a c) status
+      → IsSearched q.parts s may (change before after) (change a c) status
   searched_by whole racing racing_is is_raced keeps told =
       let same : met.raced ≡ raced = sym rest.raced_is in
       let racing_same : racing ≡ w.racing = sym racing_is ∙ ap (λ (x : WholeSearch). x.racing) (sym rest.whole_is) in
-      searched_so (subst (IsWhole q s) (sym rest.whole_is) whole)
-      (subst (λ (r : Raced). IsRacedOf q s w.racing r) same (subst (λ (x : Racing). IsRacedOf q s x met.raced) racing_same is_raced))
+      searched_so (subst (IsWhole q s may) (sym rest.whole_is) whole)
+      (subst (λ (r : Raced). IsRacedOf q s may w.racing r) same (subst (λ (x : Racing). IsRacedOf q s may x met.raced) racing_same is_raced))
       (subst (λ (r : Raced). KeepsRaced s r (change a b)) same keeps)
       (subst (λ (r : Raced). InLines form (change before between) (SaysRaced q.parts r)) same told)

@@ -26,6 +26,7 @@ refused_high (refused.RuleInBody kind function place) = omega arith
 refused_high (refused.Unlaid why addr count) = omega arith
 refused_high (refused.Call fault m) = omega arith
 refused_high (refused.Absent absent) = omega arith
+refused_high (refused.Allowance absent) = omega arith
 refused_high (refused.Header line) = omega arith
 refused_high (refused.Unreadable line) = omega arith
 refused_high refused.EndMissing = omega arith

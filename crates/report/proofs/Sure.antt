@@ -1,6 +1,7 @@
 -- Where it is said that every state can end and that every fair run does, the threads of the call are sure to end.
 use Rattle.std.proofs.Common.{◌≡◌, ◌↔◌, ℕ, Bool, true, false, Option, Some, None, subst}
 use Rattle.std.specs.Option.{MatchOption}
+use Rattle.allowed_races.specs.declared.allowed.Allowed.{Allowed}
 use Rattle.spawn_host.specs.Requests.{Requested}
 use Rattle.search_reach.specs.declared.liveness.Liveness.{Liveness}
 use Rattle.search_reach.specs.declared.search.Verdict.{Verdict}
@@ -36,18 +37,20 @@ module _ {S : Type 0} (eq : S → S → Bool) (rests : Searched → S → State 
       }
 
 -- The same of either search.
-pub every_by : (q : Requested) (dump : ℕ) (is_free : Bool) (all : Ended Ending) → IsCompleteBy q dump is_free all → FindsEvery q dump all
-every_by q dump true all c = c.every
-every_by q dump false all c = c.every
+pub every_by : (q : Requested) (may : Allowed) (dump : ℕ) (is_free : Bool) (all : Ended Ending) → IsCompleteBy q may dump is_free all
+    → FindsEvery q dump all
+every_by q may dump true all c = c.every
+every_by q may dump false all c = c.every
 
-pub can_by : (q : Requested) (dump : ℕ) (is_free : Bool) (all : Ended Ending) → IsCompleteBy q dump is_free all → FindsNoOther q dump all
-can_by q dump true all c = c.can
-can_by q dump false all c = c.can
+pub can_by : (q : Requested) (may : Allowed) (dump : ℕ) (is_free : Bool) (all : Ended Ending) → IsCompleteBy q may dump is_free all
+    → FindsNoOther q dump all
+can_by q may dump true all c = c.can
+can_by q may dump false all c = c.can
 
-pub sure_by : (q : Requested) (dump : ℕ) (is_free : Bool) (all : Ended Ending) → IsCompleteBy q dump is_free all → IsSure all
-    → IsSureToEnd q.parts q.name q.args dump
-sure_by q dump true all c is = sure is_same_owned RestsPlainly q dump all.states all.verdict all.liveness is.are_all is.live c.live
-sure_by q dump false all c is = sure is_same_state RestsLater q dump all.states all.verdict all.liveness is.are_all is.live c.live
+pub sure_by : (q : Requested) (may : Allowed) (dump : ℕ) (is_free : Bool) (all : Ended Ending) → IsCompleteBy q may dump is_free all
+    → IsSure all → IsSureToEnd q.parts q.name q.args dump
+sure_by q may dump true all c is = sure is_same_owned (RestsPlainly may) q dump all.states all.verdict all.liveness is.are_all is.live c.live
+sure_by q may dump false all c is = sure is_same_state RestsLater q dump all.states all.verdict all.liveness is.are_all is.live c.live
 
 -- It is sure where what is known says so.
 pub sure_where_known : (all : Ended Ending) (l : Liveness) (b : Bool) → all.verdict ≡ verdicts.All → all.liveness ≡ Some l

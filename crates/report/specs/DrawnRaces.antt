@@ -1,6 +1,7 @@
 -- What is said of a search that looks for a drawn run with a race.
 use Rattle.std.specs.Prelude.{ℕ, ◌≡◌, ◌==◌, if◌then◌else◌, Bool, false, List, [], ◌++◌, Option, Some, None, codes}
 use Rattle.std.specs.Fmt.{decimal}
+use Rattle.allowed_races.specs.declared.allowed.Allowed.{Allowed}
 use Rattle.spawn_host.specs.Requests.{Requested}
 use Rattle.search_scheduled.specs.declared.running.MadeRun.{MadeRun}
 use Rattle.search_finds.specs.Judged.{IsFindBy}
@@ -16,9 +17,9 @@ use Rattle.report.specs.Found.{shrunk_if}
 use Rattle.report.specs.Racing.{IsRacyRun}
 use Rattle.report.specs.declared.raced.KeptRace.{KeptRace}
 
--- Whether two accesses of a run of the call race, as an answer says.
-abbrev pub SaysRaceOf : Requested → MadeRun → Bool → Type 0
-SaysRaceOf q made is = SaysOfRun q.parts made.record is
+-- Whether two accesses of a run of the call race that may not, as an answer says.
+abbrev pub SaysRaceOf : Requested → Allowed → MadeRun → Bool → Type 0
+SaysRaceOf q a made is = SaysOfRun a q.parts made.record is
 
 -- None of so many runs has a race; where some were made.
 abbrev pub no_race_line : ℕ → List ℕ
@@ -47,9 +48,10 @@ text_of_none (Some races) is_told s table = raceless_text is_told s table
 
 -- The run with a race that was found, or where that is asked for one by the call that was shrunk and has one too; the sizes
 -- of both, where it was shrunk; and its races.
-pub record HasRacy (q : Requested) (s : Search) (run : ℕ) (found : MadeRun) (k : KeptRace) : Type 0 where
+pub record HasRacy (q : Requested) (s : Search) (a : Allowed) (run : ℕ) (found : MadeRun) (k : KeptRace) : Type 0 where
   pub number : k.run ≡ run
-  pub find : IsFindBy (SaysRaceOf q) q s.sought.limit k.racy.made
+  pub find : IsFindBy (SaysRaceOf q a) q s.sought.limit k.racy.made
   pub same : s.shrink ≡ false → k.racy.made ≡ found
   pub shrunk_is : k.shrunk ≡ shrunk_if s.shrink (size_in found.record) (size_in k.racy.made.record)
   pub race : IsRacyRun q.parts k.racy
+  pub allowed : k.racy.race.allowed ≡ a

@@ -2,6 +2,7 @@
 use Rattle.std.specs.Prelude.{ℕ, ◌≡◌, ◌↔◌, ◌&&◌, Bool, true, false, None, List, [], ◌++◌, codes, is_some}
 use Rattle.std.specs.Fmt.{decimal}
 use Rattle.std.specs.Io.KnownBytes.{Appends}
+use Rattle.allowed_races.specs.declared.allowed.Allowed.{Allowed}
 use Rattle.types.specs.declared.parts.Parts.{Parts}
 use Rattle.spawn_host.specs.Requests.{Requested}
 use Rattle.search_reach.specs.declared.ending.Ended.{Ended}
@@ -29,13 +30,13 @@ use Rattle.report.specs.declared.whole.WholeSearch.{WholeSearch}
 use Rattle.report.specs.declared.whole.FirstLook.{FirstLook}
 use Rattle.report.specs.declared.whole.FirstLook.TheVariants as looks
 
--- That is so of all runs of the call.
-abbrev pub IsKnownOf : Requested → Racing → Type 0
-IsKnownOf q Unasked = Unit {0}
-IsKnownOf q Never = NeverRaces q.parts q.name q.args × NeverWaitsTimed q.parts q.name q.args
-IsKnownOf q OnlyBehindTimeouts = NeverRaces q.parts q.name q.args × WaitsTimedSo q.parts q.name q.args
-IsKnownOf q (Found r) = CanRaceSo q.parts q.name q.args r
-IsKnownOf q Unknown = Unit {0}
+-- That is so of all runs of the call, where so much may race.
+abbrev pub IsKnownOf : Requested → Allowed → Racing → Type 0
+IsKnownOf q a Unasked = Unit {0}
+IsKnownOf q a Never = NeverRaces q.parts q.name q.args a × NeverWaitsTimed q.parts q.name q.args a
+IsKnownOf q a OnlyBehindTimeouts = NeverRaces q.parts q.name q.args a × WaitsTimedSo q.parts q.name q.args a
+IsKnownOf q a (Found r) = CanRaceSo q.parts q.name q.args a r
+IsKnownOf q a Unknown = Unit {0}
 
 -- Races aren't asked for where every order is gone through at once, and there alone.
 abbrev pub IsAsked : Search → Racing → Type 0
@@ -56,17 +57,17 @@ allows false (Found r) = false
 allows false Unknown = false
 
 -- What is found of all runs of a call by a search that makes plain accesses at once. It doesn't say how far it came.
-pub record IsFreelyComplete (q : Requested) (dump : ℕ) (all : Ended Ending) : Type 0 where
+pub record IsFreelyComplete (q : Requested) (a : Allowed) (dump : ℕ) (all : Ended Ending) : Type 0 where
   pub every : FindsEvery q dump all
   pub can : FindsNoOther q dump all
-  pub count : CountsOwned q all.states
-  pub live : SaysWhereAllFree q dump all.states all.verdict all.liveness
+  pub count : CountsOwned q a all.states
+  pub live : SaysWhereAllFree q a dump all.states all.verdict all.liveness
   pub unsaid : all.levels ≡ None
 
 -- By that search, or by the one through every order.
-abbrev pub IsCompleteBy : Requested → ℕ → Bool → Ended Ending → Type 0
-IsCompleteBy q dump true all = IsFreelyComplete q dump all
-IsCompleteBy q dump false all = IsCompleteOf q dump all
+abbrev pub IsCompleteBy : Requested → Allowed → ℕ → Bool → Ended Ending → Type 0
+IsCompleteBy q a dump true all = IsFreelyComplete q a dump all
+IsCompleteBy q a dump false all = IsCompleteOf q dump all
 
 -- None has one, but for what may come behind waits with a timeout.
 abbrev pub AreNone : Racing → Type 0
@@ -78,9 +79,9 @@ AreNone Unknown = ⊥
 
 -- What is found of all runs, and of their races: where the first search met all, that there are none. Where a search ends
 -- at what is looked for, its verdict says whether it did.
-pub record IsWhole (q : Requested) (s : Search) (w : WholeSearch) : Type 0 where
-  pub complete : IsCompleteBy q s.sought.dump w.is_free w.all
-  pub known : IsKnownOf q w.racing
+pub record IsWhole (q : Requested) (s : Search) (a : Allowed) (w : WholeSearch) : Type 0 where
+  pub complete : IsCompleteBy q a s.sought.dump w.is_free w.all
+  pub known : IsKnownOf q a w.racing
   pub asked : IsAsked s w.racing
   pub never : w.is_free ≡ true → w.all.verdict ≡ verdicts.All → AreNone w.racing
   pub sought : SaysSought s w.all.verdict w.all.endings.keys
@@ -95,11 +96,11 @@ racing_by verdicts.Told timed = Unknown
 racing_by verdicts.Sought timed = Unknown
 
 -- What a first look found, and what it left open.
-abbrev pub IsLooked : Requested → Search → FirstLook → Type 0
-IsLooked q s (looks.Done all timed) =
-    IsFreelyComplete q s.sought.dump all × IsKnownOf q (racing_by all.verdict timed) × (s.every_order ≡ false)
+abbrev pub IsLooked : Requested → Search → Allowed → FirstLook → Type 0
+IsLooked q s a (looks.Done all timed) =
+    IsFreelyComplete q a s.sought.dump all × IsKnownOf q a (racing_by all.verdict timed) × (s.every_order ≡ false)
     × SaysSought s all.verdict all.endings.keys
-IsLooked q s (looks.Open racing way) = IsKnownOf q racing × IsAsked s racing
+IsLooked q s a (looks.Open racing way) = IsKnownOf q a racing × IsAsked s racing
 
 abbrev pub racing_in : FirstLook → Racing
 racing_in (looks.Done all timed) = racing_by all.verdict timed
@@ -131,16 +132,16 @@ CanTell raced.Untold = Unit {0}
 abbrev pub found : ThreadRace → Racing
 found r = Found r
 
--- It is of a run by the call.
-abbrev pub IsRacyRunOf : Requested → Search → RacyRun → Type 0
-IsRacyRunOf q s run = IsFind q s.sought.limit run.made × IsRacyRun q.parts run
+-- It is of a run by the call, and as much may race as in the search.
+abbrev pub IsRacyRunOf : Requested → Search → Allowed → RacyRun → Type 0
+IsRacyRunOf q s a run = IsFind q s.sought.limit run.made × IsRacyRun q.parts run × (run.race.allowed ≡ a)
 
 -- Of a race that is known a run by the call that has one is told, or the threads, and else nothing.
-abbrev pub IsRacedOf : Requested → Search → Racing → Raced → Type 0
-IsRacedOf q s racing (raced.Run run kept) = ((r : ThreadRace) × (racing ≡ Found r)) × IsRacyRunOf q s run
+abbrev pub IsRacedOf : Requested → Search → Allowed → Racing → Raced → Type 0
+IsRacedOf q s a racing (raced.Run run kept) = ((r : ThreadRace) × (racing ≡ Found r)) × IsRacyRunOf q s a run
     × (kept ≡ keeps_race s)
-IsRacedOf q s racing (raced.Threads r) = racing ≡ Found r
-IsRacedOf q s racing raced.Untold = (r : ThreadRace) → racing ≡ Found r → ⊥
+IsRacedOf q s a racing (raced.Threads r) = racing ≡ Found r
+IsRacedOf q s a racing raced.Untold = (r : ThreadRace) → racing ≡ Found r → ⊥
 
 -- How a run with a race can be kept, where it isn't.
 abbrev pub unkept_text : Bool → List ℕ
@@ -149,7 +150,7 @@ unkept_text false = codes "  to keep this run: search --all --races --record OUT
 
 -- Its lines: the races of the run in the words of `races`, and how that can be kept, where it isn't; or the threads alone.
 abbrev pub SaysRaced : Parts → Raced → List ℕ → Type 0
-SaysRaced m (raced.Run run kept) text = (pair : List ℕ) × SaysFound m run.made.record pair × (text ≡ pair ++ unkept_text kept)
+SaysRaced m (raced.Run run kept) text = (pair : List ℕ) × SaysFound run.race.allowed m run.made.record pair × (text ≡ pair ++ unkept_text kept)
 SaysRaced m (raced.Threads r) text = text ≡ threads_line r.one r.other
 SaysRaced m raced.Untold text = text ≡ []
 

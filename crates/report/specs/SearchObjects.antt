@@ -79,7 +79,7 @@ races_alone Unknown = Some said.Unknown
 
 -- The object has a race of the run that was made; or the threads alone; or what is known.
 abbrev pub WritesWith : Parts → Raced → ToldSearch → WriterChange → Type 0
-WritesWith m (raced.Run run kept) t out = (pair : RacePair) × SaysObject m run.made.record pair × WritesTold t (Some (said.Found pair)) out
+WritesWith m (raced.Run run kept) t out = (pair : RacePair) × SaysObject run.race.allowed m run.made.record pair × WritesTold t (Some (said.Found pair)) out
 WritesWith m (raced.Threads r) t out = WritesTold t (Some (said.Between (threads_of r))) out
 WritesWith m raced.Untold t out = WritesTold t (races_alone t.whole.now.racing) out
 
@@ -130,7 +130,7 @@ WritesRacyTable s table k pair out =
     × WritesTable s table 1 (Some (said.Found pair)) (ends.Found found) out
 
 abbrev pub WritesRacy : Parts → Sought → EndingTable → KeptRace → WriterChange → Type 0
-WritesRacy m s table k out = (pair : RacePair) × SaysObject m k.racy.made.record pair × WritesRacyTable s table k pair out
+WritesRacy m s table k out = (pair : RacePair) × SaysObject k.racy.race.allowed m k.racy.made.record pair × WritesRacyTable s table k pair out
 
 -- The table of drawn runs of which none was found.
 abbrev pub WritesNone : DrawnTable → NoneFound → WriterChange → Type 0

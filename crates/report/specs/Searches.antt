@@ -2,6 +2,7 @@
 use Rattle.std.specs.Prelude.{ℕ, ◌≡◌, ◌≢◌, ◌≤◌, ◌⊎◌, All, List, [], true, false, is_some}
 use Rattle.std.specs.Option.{IfSome}
 use Rattle.std.specs.Io.KnownBytes.{Appends}
+use Rattle.allowed_races.specs.declared.allowed.Allowed.{Allowed}
 use Rattle.types.specs.declared.value.Value.{Value}
 use Rattle.types.specs.declared.parts.Parts.{Parts}
 use Rattle.replay_text.specs.declared.parts.RecordParts.{RecordParts}
@@ -62,9 +63,9 @@ KeepsNoneOrFind m s save = (save.new ≡ save.old) ⊎ IsFindKept m s save
 abbrev pub KeepsNoneOrEndless : Parts → Search → WriterChange → Type 0
 KeepsNoneOrEndless m s save = (save.new ≡ save.old) ⊎ IsEndlessKept m s save
 
--- Where races are looked for, a run of the module by the call that was asked for, in which two accesses race; and its
--- record was written, where one is wanted.
-pub record IsRaceKept (m : Parts) (s : Search) (save : WriterChange) : Type 0 where
+-- Where races are looked for, a run of the module by the call that was asked for, in which two accesses race that may not;
+-- and its record was written, where one is wanted.
+pub record IsRaceKept (m : Parts) (s : Search) (a : Allowed) (save : WriterChange) : Type 0 where
   pub looked_for : s.races ≡ true
   pub args : List Value
   pub spelled : AreSpelled (texts_in s.call.args.items) args
@@ -72,20 +73,20 @@ pub record IsRaceKept (m : Parts) (s : Search) (save : WriterChange) : Type 0 wh
   pub end : EndState
   pub run : IsRunOf m record_is end
   pub of_call : IsOfCall m s.call.invoke.now args s.call.fuel s.sought.limit record_is
-  pub races : SaysOfRun m record_is true
+  pub races : SaysOfRun a m record_is true
   pub kept : KeepsRecord (is_some s.save) save record_is
 
-abbrev pub KeepsNoneOrRace : Parts → Search → WriterChange → Type 0
-KeepsNoneOrRace m s save = (save.new ≡ save.old) ⊎ IsRaceKept m s save
+abbrev pub KeepsNoneOrRace : Parts → Search → Allowed → WriterChange → Type 0
+KeepsNoneOrRace m s a save = (save.new ≡ save.old) ⊎ IsRaceKept m s a save
 
 -- Nothing was found and nothing written, or a run was found, and the status is 1; or a run with a race was, which may be
 -- allowed.
 abbrev pub IsKept : Parts → Search → WriterChange → Type 0
 IsKept m s save = IsFindKept m s save ⊎ IsEndlessKept m s save
 
-abbrev pub Finds : Parts → Search → WriterChange → ℕ → Type 0
-Finds m s save status =
-    ((status ≤ 1) × (save.new ≡ save.old)) ⊎ (((status ≡ 1) × IsKept m s save) ⊎ ((status ≤ 1) × IsRaceKept m s save))
+abbrev pub Finds : Parts → Search → Allowed → WriterChange → ℕ → Type 0
+Finds m s a save status =
+    ((status ≤ 1) × (save.new ≡ save.old)) ⊎ (((status ≡ 1) × IsKept m s save) ⊎ ((status ≤ 1) × IsRaceKept m s a save))
 
 -- They are all endings of a call, where that is said; and each is one.
 abbrev pub FindsEvery : Requested → ℕ → Ended Ending → Type 0
@@ -113,8 +114,8 @@ pub record IsSureToEnd (m : Parts) (entry : List ℕ) (args : List Value) (dump 
 
 -- Runs of the module by the call that was asked for can end; each that ends, all its threads with units and room enough,
 -- ends well and otherwise than is looked for: all threads' functions returned; and they are sure to end. No run has a
--- race, where races aren't allowed and every order isn't gone through at once.
-pub record EndWell (m : Parts) (s : Search) : Type 0 where
+-- race of accesses that may not, where races aren't allowed and every order isn't gone through at once.
+pub record EndWell (m : Parts) (s : Search) (a : Allowed) : Type 0 where
   pub args : List Value
   pub spelled : AreSpelled (texts_in s.call.args.items) args
   pub endings : List Ending
@@ -124,11 +125,11 @@ pub record EndWell (m : Parts) (s : Search) : Type 0 where
   pub well : all_end_well endings ≡ true
   pub unsought : All (λ e. IsLookedFor s.sought e → ⊥) endings
   pub sure : IsSureToEnd m s.call.invoke.now args s.sought.dump
-  pub free : s.allow_races ≡ false → s.every_order ≡ false → NeverRaces m s.call.invoke.now args
+  pub free : s.allow_races ≡ false → s.every_order ≡ false → NeverRaces m s.call.invoke.now args a
 
 -- What status 0 says of a search through every order of entries.
-abbrev pub IsWellAt : Parts → Search → ℕ → Type 0
-IsWellAt m s status = is_some s.all ≡ true → status ≡ 0 → EndWell m s
+abbrev pub IsWellAt : Parts → Search → Allowed → ℕ → Type 0
+IsWellAt m s a status = is_some s.all ≡ true → status ≡ 0 → EndWell m s a
 
 -- Something was written behind what stood there.
 abbrev pub Grows : WriterChange → Type 0

@@ -50,7 +50,7 @@ EndsKept Json s table k out = WritesKept s table k out
 -- The sizes of the run, its races in the words of `races`, and its lines.
 pub record TellsRacy (m : Parts) (dump : ℕ) (k : KeptRace) (out : WriterChange) : Type 0 where
   pub pair : List ℕ
-  pub says : SaysFound m k.racy.made.record pair
+  pub says : SaysFound k.racy.race.allowed m k.racy.made.record pair
   pub lines : Appends out.old out.new (shrunk_text k.shrunk ++ (pair ++ run_lines dump k.racy.made))
 
 abbrev pub EndsRacy : Form → Parts → Sought → EndingTable → KeptRace → WriterChange → Type 0

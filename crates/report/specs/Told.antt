@@ -1,6 +1,7 @@
 -- What is told and kept of a search, in the form that is asked for.
 use Rattle.std.specs.Prelude.{ℕ, ◌≡◌, ◌≤◌, ◌<◌, ◌+◌, ◌↔◌, ◌⊎◌, Bool, true, false, List, ◌++◌, Option, Some, None, is_some}
 use Rattle.std.specs.Io.KnownBytes.{Appends}
+use Rattle.allowed_races.specs.declared.allowed.Allowed.{Allowed}
 use Rattle.types.specs.declared.parts.Parts.{Parts}
 use Rattle.spawn_host.specs.Requests.{Requested}
 use Rattle.search_scheduled.specs.declared.running.MadeRun.{MadeRun}
@@ -48,7 +49,7 @@ AllIn Json m t found out = WritesAll m t out
 -- What is told is what was found of all runs of the module by the call that was asked for: the endings, what is known of
 -- races, with a run that has one, and the first ending that is looked for, or a run that never ends; and the records that
 -- were written, where they are wanted, are those of these runs.
-pub record TellsAll (m : Parts) (s : Search) (most : ℕ) (out save : WriterChange) (status : ℕ) : Type 0 where
+pub record TellsAll (m : Parts) (s : Search) (a : Allowed) (most : ℕ) (out save : WriterChange) (status : ℕ) : Type 0 where
   pub request : Requested
   pub parts_are : request.parts ≡ m
   pub asked : IsAskedBy s.call request
@@ -56,8 +57,8 @@ pub record TellsAll (m : Parts) (s : Search) (most : ℕ) (out save : WriterChan
   pub most_is : told.most ≡ most
   pub status_told : told.status ≡ status
   pub dump_is : told.dump ≡ s.sought.dump
-  pub is_whole : IsWhole request s told.whole.now
-  pub is_raced : IsRacedOf request s told.whole.now.racing told.raced.now
+  pub is_whole : IsWhole request s a told.whole.now
+  pub is_raced : IsRacedOf request s a told.whole.now.racing told.raced.now
   pub found : Option FoundRun
   pub has : HasFound request s told.whole.now found
   pub is_kept : AreKeptOf request s found told.kept.now
@@ -118,7 +119,7 @@ pub record TellsDrawn (m : Parts) (s : Search) (out save : WriterChange) (status
 pub record LinesOfRacy (m : Parts) (s : Search) (table : EndingTable) (run : ℕ) (k : KeptRace)
     (out : WriterChange) : Type 0 where
   pub pair : List ℕ
-  pub says : SaysFound m k.racy.made.record pair
+  pub says : SaysFound k.racy.race.allowed m k.racy.made.record pair
   pub lines : Appends out.old out.new (head_lines s.sought table ++ (found_run_line run
       ++ (shrunk_text k.shrunk ++ (pair ++ run_lines s.sought.dump k.racy.made))))
 
@@ -128,33 +129,33 @@ RacyIn Json m s table run k out = WritesRacy m s.sought table k out
 
 -- The last run that was made has a race, and none before it; and the record that was written, where one is wanted, is that
 -- of the run that is told.
-pub record TellsRacyLast (q : Requested) (s : Search) (table : EndingTable) (out save : WriterChange) : Type 0 where
+pub record TellsRacyLast (q : Requested) (s : Search) (a : Allowed) (table : EndingTable) (out save : WriterChange) : Type 0 where
   pub run : ℕ
   pub is_last : run + 1 ≡ s.sought.from + table.runs
   pub found : MadeRun
   pub drawn : IsRunOfNumber q s.sought run found
-  pub races : SaysRaceOf q found true
-  pub first : AreNotedBy (λ before made. before < run → SaysRaceOf q made false) q s.sought table
+  pub races : SaysRaceOf q a found true
+  pub first : AreNotedBy (λ before made. before < run → SaysRaceOf q a made false) q s.sought table
   pub k : KeptRace
-  pub has : HasRacy q s run found k
+  pub has : HasRacy q s a run found k
   pub tells : RacyIn s.form q.parts s table run k out
   pub kept : KeepsRecord (is_some s.save) save k.racy.made.record
 
 -- Of those that were made none has a race, where the search stops at such a one. All were made, or it was told to end.
-pub record TellsNoRace (q : Requested) (s : Search) (table : EndingTable) (out save : WriterChange)
+pub record TellsNoRace (q : Requested) (s : Search) (a : Allowed) (table : EndingTable) (out save : WriterChange)
     (status : ℕ) : Type 0 where
   pub is_told : Bool
   pub all_made : is_told ≡ false → table.runs ≡ s.sought.runs
-  pub none : s.sought.stops ≡ true → AreNotedBy (λ run made. SaysRaceOf q made false) q s.sought table
+  pub none : s.sought.stops ≡ true → AreNotedBy (λ run made. SaysRaceOf q a made false) q s.sought table
   pub tells : NoneIn s.form s.sought table is_told (Some said.Unknown) (raceless_text is_told s.sought table) status out
   pub status_is : IsStatusOfTable s.sought table status
   pub kept : save.new ≡ save.old
 
 -- Such a table of a search that looks for a run with a race; and the one that has one, or that none has.
-pub record TellsDrawnRaces (m : Parts) (s : Search) (out save : WriterChange) (status : ℕ) : Type 0 where
+pub record TellsDrawnRaces (m : Parts) (s : Search) (a : Allowed) (out save : WriterChange) (status : ℕ) : Type 0 where
   pub request : Requested
   pub parts_are : request.parts ≡ m
   pub asked : IsAskedBy s.call request
   pub table : EndingTable
   pub noted : AreNoted request s.sought table
-  pub says : ((status ≡ 1) × TellsRacyLast request s table out save) ⊎ TellsNoRace request s table out save status
+  pub says : ((status ≡ 1) × TellsRacyLast request s a table out save) ⊎ TellsNoRace request s a table out save status

@@ -142,7 +142,7 @@ pub(crate) fn choices_to(
 {
     if is_free {
         let dump = call.search.sought.dump as usize;
-        return turn_choices(alloc, call.request, dump, noted);
+        return turn_choices(alloc, call.request, &call.allowed, dump, noted);
     }
     let mut choices = Vec::new(alloc);
     choices.extend_from_slice(noted)?;

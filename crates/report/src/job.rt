@@ -9,6 +9,7 @@ ghost use Rattle.report_jobs.specs.Told.{TellsRefusal, TellsWhatIsWrong};
 ghost use Rattle.report_jobs.specs.Trapped.{Tells};
 ghost use Rattle.report_jobs.specs.Undone.{ended_status, undone_line, undone_status};
 ghost use Rattle.report_jobs.specs.Why.{RefusesModule, RefusesRecord};
+ghost use Rattle.report_looks.specs.Allowing.{SomeNamed};
 ghost use Rattle.report.specs.Searched.{HasSearchedOn};
 ghost use Rattle.report.specs.Jobs.{Performs};
 ghost use Rattle.report.specs.Silent.{writes_file};
@@ -16,8 +17,10 @@ ghost use Rattle.report.specs.Silent.{writes_file};
 use crate::asked::SearchRequest;
 use crate::searching::search_module;
 use report_command::{Job, Search};
-use report_jobs::{Done, Streams, Undone, load, of_refusal, of_trouble, perform_plain, tell_ended};
-use report_looks::{CodeBytes, races_saved, show_saved};
+use report_jobs::{
+    Done, LeftOut, Streams, Undone, load, of_refusal, of_trouble, perform_plain, tell_ended,
+};
+use report_looks::{CodeBytes, allowed_of, races_saved, show_saved};
 use search_finds::Hears;
 use spawn_host::own_function;
 use std::alloc::Global;
@@ -149,24 +152,40 @@ where
     ensures unwanted { is_some asked.now.save ≡ false → Stays streams.old.save streams.new.save }
     ensures no_memory { Stays streams.old.memory streams.new.memory }
     ensures unsaid { Stays streams.old.err streams.new.err }
-    ensures cannot { ended_status result ≡ 3 → HasNoSuchCall code.entry.«module».now asked.now.call }
+    ensures cannot { ended_status result ≡ 3
+        → HasNoSuchCall code.entry.«module».now asked.now.call ⊎ SomeNamed asked.now.allow.bytes.items }
     ensures status { (ended_status result ≤ 3) ⊎ (ended_status result ≡ 5) }
 {
     let valid = match load(alloc, code.module) {
         Ok(valid) => valid,
         Err(refusal) => return Err(of_refusal(refusal)),
     };
+    let bytes = match allowed_of(alloc, code.names, &asked.allow) {
+        Ok(bytes) => bytes,
+        Err(undone) => return Err(undone),
+    };
     let request = SearchRequest {
         module: &valid,
         code,
         search: &*asked,
+        allowed: bytes.allowed(),
     };
     match search_module(rt, alloc, request, streams, follower) {
         Ok(done) => Ok(Done {
             is_bare: is_bare(&valid, asked),
+            left_out: left_out(asked),
             ..done
         }),
         Err(trouble) => Err(of_trouble(trouble, valid, asked.save, None)),
+    }
+}
+
+/// Whether races are left out.
+fn left_out(asked: &Search) -> LeftOut {
+    if asked.allow.allows() {
+        LeftOut::Some
+    } else {
+        LeftOut::Nothing
     }
 }
 

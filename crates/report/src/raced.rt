@@ -68,21 +68,22 @@ fn racy_run<'a>(
     way: &[usize],
     most_plain: u32,
 ) -> Result<Option<RacyRun<'a, 'a>>, Trouble>
-    ensures run { IfOk result (λ o. IfSome o (IsRacyRunOf call.entry.request.now call.entry.search.now)) }
+    ensures run { IfOk result (λ o. IfSome o (IsRacyRunOf call.entry.request.now call.entry.search.now call.entry.allowed)) }
     ensures trouble { IfErr result IsOfSystem }
 {
     let SearchedCall {
         request,
         code,
         search,
+        allowed,
     } = call;
     let Sought { limit, dump, .. } = search.sought;
-    let choices = race_choices(alloc, request, dump as usize, way, most_plain)?;
+    let choices = race_choices(alloc, request, &allowed, dump as usize, way, most_plain)?;
     let made = match run_round(alloc, request, limit, choices.as_slice(), &[]) {
         Ok(made) => made,
         Err(_) => return Err(Trouble::NoMemory),
     };
-    match races_of_run(alloc, request.module(), &made.record, code) {
+    match races_of_run(alloc, request.module(), &made.record, code, allowed) {
         Ok(Some(race)) => Ok(Some(RacyRun { made, race })),
         Ok(None) => Ok(None),
         Err(unwritten) => Err(trouble_of(unwritten)),
@@ -97,7 +98,7 @@ fn run_of_race<'a>(
     way: &[usize],
 ) -> Result<Raced<'a, 'a>, Trouble>
     ensures raced { IfOk result
-        (IsRacedOf call.entry.request.now call.entry.search.now (specified.found race)) }
+        (IsRacedOf call.entry.request.now call.entry.search.now call.entry.allowed (specified.found race)) }
     ensures trouble { IfErr result IsOfSystem }
 {
     let is_kept = keeps_race(call.search);
@@ -117,7 +118,7 @@ pub(crate) fn raced_of<'a>(
     look: &FirstLook,
 ) -> Result<Raced<'a, 'a>, Trouble>
     ensures raced { IfOk result
-        (IsRacedOf call.entry.request.now call.entry.search.now (specified.racing_in look.now)) }
+        (IsRacedOf call.entry.request.now call.entry.search.now call.entry.allowed (specified.racing_in look.now)) }
     ensures trouble { IfErr result IsOfSystem }
 {
     match look {
@@ -138,9 +139,9 @@ fn smaller_racy<F: Hears>(
     found: MadeRun,
     follower: &mut F,
 ) -> Result<MadeRun, Trouble>
-    requires { IsFindBy (SaysRaceOf call.request.now) call.request.now call.search.now.sought.limit found }
+    requires { IsFindBy (SaysRaceOf call.request.now call.allowed) call.request.now call.search.now.sought.limit found }
     ensures run { IfOk result
-        (IsFindBy (SaysRaceOf call.entry.request.now) call.entry.request.now call.entry.search.now.sought.limit) }
+        (IsFindBy (SaysRaceOf call.entry.request.now call.entry.allowed) call.entry.request.now call.entry.search.now.sought.limit) }
     ensures same { IfOk result (λ made. call.entry.search.now.shrink ≡ false → made ≡ found) }
     ensures trouble { IfErr result IsOfSystem }
 {
@@ -148,7 +149,10 @@ fn smaller_racy<F: Hears>(
         return Ok(found);
     }
     let limit = call.search.sought.limit;
-    let Ok(made) = shrunk_by(alloc, call.request, limit, &RaceJudge, found, follower) else {
+    let judge = RaceJudge {
+        allowed: call.allowed,
+    };
+    let Ok(made) = shrunk_by(alloc, call.request, limit, &judge, found, follower) else {
         return Err(Trouble::NoMemory);
     };
     follower.end();
@@ -162,15 +166,16 @@ pub(crate) fn kept_race<'a, F: Hears>(
     found: NumberedRun,
     follower: &mut F,
 ) -> Result<KeptRace<'a, 'a>, Trouble>
-    requires { IsFindBy (SaysRaceOf call.request.now) call.request.now call.search.now.sought.limit found.made }
-    ensures has { IfOk result (HasRacy call.entry.request.now call.entry.search.now found.run found.made) }
+    requires { IsFindBy (SaysRaceOf call.request.now call.allowed) call.request.now call.search.now.sought.limit found.made }
+    ensures has { IfOk result (HasRacy call.entry.request.now call.entry.search.now call.entry.allowed found.run found.made) }
     ensures trouble { IfErr result IsOfSystem }
 {
     let NumberedRun { run, made } = found;
     let was = size_of(&made.record);
     let made = smaller_racy(alloc, call, made, follower)?;
     let is = size_of(&made.record);
-    match races_of_run(alloc, call.request.module(), &made.record, call.code) {
+    let module = call.request.module();
+    match races_of_run(alloc, module, &made.record, call.code, call.allowed) {
         Ok(Some(race)) => Ok(KeptRace {
             run,
             shrunk: shrunk_if(call.search.shrink, was, is),

@@ -28,7 +28,7 @@ use crate::table::{DrawnTable, NoneFound, status_of_none};
 use crate::telling::{Conclusion, News, Teller, ToldSearch};
 use crate::whole::{FirstLook, WholeSearch, first_look, whole_of};
 use report_command::{Form, Search};
-use report_jobs::{Advised, Done, Streams, Trouble, args_of, keep, request_of};
+use report_jobs::{Advised, Done, LeftOut, Streams, Trouble, args_of, keep, request_of};
 use report_json::{FoundAs, RunRaces};
 use search_endings::Ending;
 use search_finds::{Crew, EndingTable, Halt, Hears, SearchResult, first_found, first_judged};
@@ -81,7 +81,7 @@ fn race_told<'a, T: Teller, W: Write, E, S: Write>(
     streams: &mut Streams<W, E, S>,
 ) -> Result<Raced<'a, 'a>, Trouble>
     ensures raced { IfOk result
-        (IsRacedOf call.entry.request.now call.entry.search.now (racing_in look.now)) }
+        (IsRacedOf call.entry.request.now call.entry.search.now call.entry.allowed (racing_in look.now)) }
     ensures tells { IfOk result (λ raced. InLines T.form (changed W.contents streams.old.out streams.new.out)
         (SaysRaced call.entry.request.now.parts raced)) }
     ensures kept { IfOk result
@@ -165,6 +165,7 @@ fn tell_orders<T: Teller, W: Write, E, S: Write, F: Hears>(
         status,
         advised: advised_of(whole),
         is_bare: false,
+        left_out: LeftOut::Nothing,
     })
 }
 
@@ -183,7 +184,7 @@ fn search_orders<T: Teller, R: Threads + Sync, W: Write, E, S: Write, F: Hears>(
     requires asked { IsAskedBy call.search.now.call call.request.now }
     requires every_order { call.search.now.all ≡ Some orders.now.most }
     ensures searched { IfOk result (λ done. IsSearchedOn W.contents S.contents call.entry.request.now.parts
-        call.entry.search.now streams.old streams.new done.status) }
+        call.entry.search.now call.entry.allowed streams.old streams.new done.status) }
     ensures others { LeavesOthers call.entry.search.now streams.old streams.new }
     ensures trouble { IfErr result IsOfSystem }
 {
@@ -231,6 +232,7 @@ fn end_without<T: Teller, W: Write>(
         status,
         advised: advised_of_table(drawn.table),
         is_bare: false,
+        left_out: LeftOut::Nothing,
     })
 }
 
@@ -251,7 +253,7 @@ fn search_for_endings<T: Teller, R: Threads + Sync, W: Write, E, S: Write, F: He
     requires drawn { call.search.now.all ≡ None }
     requires raceless { call.search.now.races ≡ false }
     ensures searched { IfOk result (λ done. IsSearchedOn W.contents S.contents call.entry.request.now.parts
-        call.entry.search.now streams.old streams.new done.status) }
+        call.entry.search.now call.entry.allowed streams.old streams.new done.status) }
     ensures others { LeavesOthers call.entry.search.now streams.old streams.new }
     ensures trouble { IfErr result IsOfSystem }
 {
@@ -289,6 +291,7 @@ fn search_for_endings<T: Teller, R: Threads + Sync, W: Write, E, S: Write, F: He
                 status: 1,
                 advised: advised_of_table(&table),
                 is_bare: false,
+                left_out: LeftOut::Nothing,
             })
         }
         halt => end_without(alloc, teller, drawn, None, &halt, out),
@@ -310,7 +313,7 @@ fn search_for_races<T: Teller, R: Threads + Sync, W: Write, E, S: Write, F: Hear
     requires drawn { call.search.now.all ≡ None }
     requires races { call.search.now.races ≡ true }
     ensures searched { IfOk result (λ done. IsSearchedOn W.contents S.contents call.entry.request.now.parts
-        call.entry.search.now streams.old streams.new done.status) }
+        call.entry.search.now call.entry.allowed streams.old streams.new done.status) }
     ensures others { LeavesOthers call.entry.search.now streams.old streams.new }
     ensures trouble { IfErr result IsOfSystem }
 {
@@ -318,12 +321,14 @@ fn search_for_races<T: Teller, R: Threads + Sync, W: Write, E, S: Write, F: Hear
     let SearchedCall {
         request,
         search,
+        allowed,
         ..
     } = call;
     let sought = &search.sought;
     let Hands { rt, jobs } = *hands;
     let crew = Crew { rt, jobs };
-    let searched = match first_judged(&crew, alloc, request, sought, &RaceJudge, follower) {
+    let judge = RaceJudge { allowed };
+    let searched = match first_judged(&crew, alloc, request, sought, &judge, follower) {
         Ok(searched) => searched,
         Err(_) => return Err(Trouble::NoMemory),
     };
@@ -344,6 +349,7 @@ fn search_for_races<T: Teller, R: Threads + Sync, W: Write, E, S: Write, F: Hear
                 status: 1,
                 advised: advised_of_table(&table),
                 is_bare: false,
+                left_out: LeftOut::Nothing,
             })
         }
         halt => {
@@ -367,7 +373,7 @@ fn search_call<T: Teller, R: Threads + Sync, W: Write, E, S: Write, F: Hears>(
     requires range { IsSearchInRange call.search.now }
     requires asked { IsAskedBy call.search.now.call call.request.now }
     ensures searched { IfOk result (λ done. IsSearchedOn W.contents S.contents call.entry.request.now.parts
-        call.entry.search.now streams.old streams.new done.status) }
+        call.entry.search.now call.entry.allowed streams.old streams.new done.status) }
     ensures others { LeavesOthers call.entry.search.now streams.old streams.new }
     ensures trouble { IfErr result IsOfSystem }
 {
@@ -406,7 +412,7 @@ pub fn search_module<R: Threads + Sync, W: Write, E, S: Write, F: Hears>(
 ) -> Result<Done, Trouble>
     requires { IsSearchInRange asked.search.now }
     ensures searched { IfOk result (λ done. IsSearchedOn W.contents S.contents asked.entry.«module».now.parts
-        asked.entry.search.now streams.old streams.new done.status) }
+        asked.entry.search.now asked.entry.allowed streams.old streams.new done.status) }
     ensures trouble { IfErr result (IsTroubleOf asked.entry.«module».now.parts asked.entry.search.now.call) }
     ensures silent { IfErr result (λ e. IfRefusedCall e
         (Stays streams.old.out streams.new.out × Stays streams.old.save streams.new.save)) }
@@ -416,6 +422,7 @@ pub fn search_module<R: Threads + Sync, W: Write, E, S: Write, F: Hears>(
         module,
         code,
         search,
+        allowed,
     } = asked;
     let args = args_of(alloc, module, &search.call)?;
     let request = request_of(module, &search.call, &args);
@@ -423,6 +430,7 @@ pub fn search_module<R: Threads + Sync, W: Write, E, S: Write, F: Hears>(
         request: &request,
         code,
         search,
+        allowed,
     };
     match search.form {
         Form::Lines => search_call(rt, alloc, &LinesTeller, call, streams, follower),

@@ -169,12 +169,13 @@ pub(crate) fn first_look<R: Threads + Sync, F: Follows>(
     most: u32,
     follower: &mut F,
 ) -> Result<FirstLook, Trouble>
-    ensures looked { IfOk result (IsLooked call.entry.request.now call.entry.search.now) }
+    ensures looked { IfOk result (IsLooked call.entry.request.now call.entry.search.now call.entry.allowed) }
     ensures trouble { IfErr result IsOfSystem }
 {
     let SearchedCall {
         request,
         search,
+        allowed,
         ..
     } = call;
     if search.every_order {
@@ -189,7 +190,7 @@ pub(crate) fn first_look<R: Threads + Sync, F: Follows>(
         sought: early_of(search),
     };
     let dump = search.sought.dump as usize;
-    let free = race_free_endings(alloc, request, hands, &plan, dump, follower)?;
+    let free = race_free_endings(alloc, request, &allowed, hands, &plan, dump, follower)?;
     let RaceFree {
         mut ended,
         race,
@@ -247,8 +248,8 @@ pub(crate) fn whole_of<F: Follows>(
     look: FirstLook,
     follower: &mut F,
 ) -> Result<WholeSearch, Trouble>
-    requires { IsLooked call.request.now call.search.now look }
-    ensures whole { IfOk result (IsWhole call.entry.request.now call.entry.search.now) }
+    requires { IsLooked call.request.now call.search.now call.allowed look }
+    ensures whole { IfOk result (IsWhole call.entry.request.now call.entry.search.now call.entry.allowed) }
     ensures racing { IfOk result (λ w. w.racing ≡ specified.racing_in look) }
     ensures trouble { IfErr result IsOfSystem }
 {

@@ -18,6 +18,13 @@ pub struct Allowance<'a> {
     pub mixed: bool,
 }
 
+impl Allowance<'_> {
+    /// Whether anything is allowed.
+    pub fn allows(&self) -> bool {
+        self.mixed || !self.bytes.is_empty()
+    }
+}
+
 /// What the words allow.
 ///
 /// # Errors

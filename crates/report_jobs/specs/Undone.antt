@@ -31,7 +31,8 @@ use Rattle.report_jobs.specs.declared.undone.Undone.{Undone}
 use Rattle.report_jobs.specs.declared.undone.Undone.TheVariants as undone
 use Rattle.report_jobs.specs.declared.undone.Done.{Done}
 
--- 2 of a module, 3 of a call, of bytes that can't be laid and of what a record has not, 4 of a record.
+-- 2 of a module, 3 of a call, of bytes that can't be laid, of what a record has not and of data that a module hasn't, 4 of a
+-- record.
 abbrev pub refused_status : Refused → ℕ
 refused_status (refused.Read kind offset) = 2
 refused_status (refused.Rule kind) = 2
@@ -39,6 +40,7 @@ refused_status (refused.RuleInBody kind function place) = 2
 refused_status (refused.Unlaid why addr count) = 3
 refused_status (refused.Call fault m) = 3
 refused_status (refused.Absent absent) = 3
+refused_status (refused.Allowance absent) = 3
 refused_status (refused.Header line) = 4
 refused_status (refused.Unreadable line) = 4
 refused_status refused.EndMissing = 4
@@ -66,6 +68,7 @@ refused_line (refused.RuleInBody kind function place) = refusal_line (Validity (
 refused_line (refused.Unlaid why addr count) = unlaid_line why addr count
 refused_line (refused.Call fault m) = call_line fault
 refused_line (refused.Absent absent) = codes "show refused: " ++ (absent_words absent ++ 10 ∷ [])
+refused_line (refused.Allowance absent) = codes "allowance refused: " ++ (absent_words absent ++ 10 ∷ [])
 refused_line (refused.Header line) = unread_line (records.Header line)
 refused_line (refused.Unreadable line) = unread_line (records.Unreadable line)
 refused_line refused.EndMissing = unread_line records.EndMissing

@@ -37,6 +37,6 @@ pub use running::{Trouble, args_of, keep, request_of};
 pub use streams::Streams;
 pub use telling::{say, say_pieces, tell, tell_ended};
 pub use undone::{
-    Absent, Advised, Done, Failed, JobResult, Misfit, Refused, Undone, of_refusal, of_trouble,
-    of_unfit, status_of,
+    Absent, Advised, Done, Failed, JobResult, LeftOut, Misfit, Refused, Undone, of_refusal,
+    of_trouble, of_unfit, status_of,
 };

@@ -10,7 +10,7 @@ ghost use Rattle.report_jobs.specs.declared.running.Trouble.TheVariants as troub
 
 use crate::running::Trouble;
 use crate::trapped::{Whence, say_traps, traps_of};
-use crate::undone::{Advised, Done};
+use crate::undone::{Advised, Done, LeftOut};
 use report_command::{EndLook, Form};
 use report_json::{RunEndObject, status_of};
 use report_lines::write_run;
@@ -177,6 +177,7 @@ pub(crate) fn print_end<W: Write, E: Write>(
                 status: status_of(&end.threads),
                 advised: Advised::of_reports(&end.threads),
                 is_bare: false,
+                left_out: LeftOut::Nothing,
             })
         }
         Err(unwritten) => Err(unwritten),

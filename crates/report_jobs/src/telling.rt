@@ -124,6 +124,10 @@ fn write_refused<W: Write>(to: &mut W, refused: &Refused) -> io::Result<()>
             let words = absent.words();
             write!(to, "show refused: {words}\n")
         }
+        Refused::Allowance(absent) => {
+            let words = absent.words();
+            write!(to, "allowance refused: {words}\n")
+        }
         Refused::Header(line) => write!(to, "record refused: header line {line}\n"),
         Refused::Unreadable(line) => write!(to, "record refused: line {line} unreadable\n"),
         Refused::EndMissing => to.write_all(b"record refused: end missing\n"),

@@ -79,6 +79,8 @@ pub enum Refused {
     },
     /// A record has not what is asked for.
     Absent(Absent),
+    /// Races are allowed at data that the module hasn't.
+    Allowance(Absent),
     /// Bytes that are no record's text: this line of the header is wrong or missing.
     Header(usize),
     /// This line behind the header is wrong where it stands.
@@ -153,6 +155,17 @@ impl Advised {
     }
 }
 
+/// Which races aren't told, since they are allowed.
+#[derive(Clone, Copy, PartialEq, Eq, Debug)]
+pub enum LeftOut {
+    /// None is allowed.
+    Nothing,
+    /// Some may be, of runs that weren't all made.
+    Some,
+    /// So many of a run.
+    Races(usize),
+}
+
 /// A job that is done.
 #[derive(Clone, Copy)]
 pub struct Done {
@@ -162,6 +175,7 @@ pub struct Done {
     pub advised: Advised,
     /// Whether a search compared only how threads ended: the function returns nothing, and no bytes belong to an ending.
     pub is_bare: bool,
+    pub left_out: LeftOut,
 }
 
 impl Done {
@@ -173,6 +187,7 @@ impl Done {
             status,
             advised: Advised::none(),
             is_bare: false,
+            left_out: LeftOut::Nothing,
         }
     }
 }
@@ -181,13 +196,17 @@ impl Done {
 pub type JobResult<'a> = Result<Done, Undone<'a>>;
 
 impl Refused {
-    /// The status: 2 of a module, 3 of a call, of bytes that can't be laid and of what a record has not, 4 of a record.
+    /// The status: 2 of a module, 3 of a call, of bytes that can't be laid, of what a record has not and of data that a
+    /// module hasn't, 4 of a record.
     pub fn status(&self) -> u8
         ensures { result ≡ refused_status self.now }
     {
         match self {
             Refused::Read { .. } | Refused::Rule(_) | Refused::RuleInBody { .. } => 2,
-            Refused::Unlaid { .. } | Refused::Call { .. } | Refused::Absent(_) => 3,
+            Refused::Unlaid { .. }
+            | Refused::Call { .. }
+            | Refused::Absent(_)
+            | Refused::Allowance(_) => 3,
             Refused::Header(_)
             | Refused::Unreadable(_)
             | Refused::EndMissing

@@ -23,7 +23,13 @@ use Rattle.show_rows.specs.declared.code.CodeMap.{CodeMap}
 use Rattle.show_rows.specs.declared.listing.Shown.{Shown}
 use Rattle.show_rows.specs.declared.rows.Row.{Row}
 use Rattle.report_objects.specs.RaceObjects.{IsPairOf}
-use Rattle.report_looks.specs.Raced.{IsSeen, IsShownOf, SaysObject, SaysOf, WritesFound}
+use Rattle.allowed_races.specs.declared.allowed.Allowed.{Allowed}
+use Rattle.report_command.specs.declared.allowance.Allowance.{Allowance}
+use Rattle.show_stacks.specs.declared.stacks.EntryStacks.{EntryStacks}
+use Rattle.show_stacks.specs.declared.texts.StacksView.{StacksView}
+use Rattle.report_looks.specs.Allowing.{IsAllowedBy}
+use Rattle.report_looks.specs.Seeing.{AreStacksTold, IsShownOf}
+use Rattle.report_looks.specs.Raced.{IsSeen, SaysObject, SaysOf, WritesFound}
 use Rattle.report_looks.specs.Sighted.{AreTold, AreRacesOf, IsShownBy}
 use Rattle.report_looks.specs.declared.sighting.RacesOfRun.{RacesOfRun}
 use Rattle.report_looks.specs.declared.sighting.ToldRaces.{ToldRaces}
@@ -34,32 +40,36 @@ module _ (m : Parts) (r : RecordParts) (rows : List (Option Row)) (seen : (end :
   log : shown.record.now.log ≡ r.log
   log = ap (λ (p : RecordParts). p.log) of_record
 
-  pub races_by : (f : RacesOfRun) → f.rows.items ≡ rows → shown.code.now ≡ f.code → AreTold shown MOST_TOLD f.told
-      → 0 < length f.told.races.pairs.items → AreRacesOf m r f
-  races_by f same code told some =
+  pub races_by : (f : RacesOfRun) → f.rows.items ≡ rows → f.code.parts.now ≡ m → AreTold f.allowed shown MOST_TOLD f.told
+      → AreStacksTold m r shown f.told.races f.stacks → 0 < length f.told.races.pairs.items → AreRacesOf m r f
+  races_by f same code told stacks some =
       let mine = of_rows ∙ sym same in
-      let alike = sites_alike shown.record.now.log r.log shown.code.now.parts.now m shown.rows.now f.rows.items log of_module mine in
+      let alike = sites_alike f.allowed shown.record.now.log r.log shown.code.now.parts.now m shown.rows.now f.rows.items log of_module mine in
       record {
         seen = (seen.0, seen.1, subst (λ (xs : List (Option Row)). AreRowsOf m r seen.0 xs) (sym same) seen.2);
-        of_module = sym (ap (λ (c : CodeMap). c.parts.now) code) ∙ of_module;
+        of_module = code;
         is_story = subst (λ (l : List Entry). IsStoryOf l f.told.story) log told.is_story;
         sites = told.sites ∙ alike;
-        races = told_of (λ l k o. AreRaces l k o f.told.races.pairs.items) shown.record.now.log r.log shown.code.now.parts.now m shown.rows.now
-            f.rows.items log of_module mine told.races;
+        races = told_of (λ l k o. AreRaces l k o f.told.races.pairs.items) f.allowed shown.record.now.log r.log shown.code.now.parts.now m
+            shown.rows.now f.rows.items log of_module mine told.races;
         told = record {
           some = some;
           within = subst (λ (l : List Entry). All (IsWithin l) f.told.races.pairs.items) log told.within;
         };
-        all = (shown, record { of_record = of_record; of_rows = mine; of_code = code }, told);
+        found = shown;
+        is_found = record { of_record = of_record; of_rows = mine; of_module = of_module; is_story = told.is_story };
+        all = told;
+        stacks = stacks;
       }
 
-  pub none_by : (t : ToldRaces) → AreTold shown MOST_TOLD t → t.races.pairs.items ≡ [] → SaysOfRun m r false
-  none_by t told empty = record {
+  pub none_by : (allowed : Allowed) (t : ToldRaces) → AreTold allowed shown MOST_TOLD t → t.races.pairs.items ≡ []
+      → SaysOfRun allowed m r false
+  none_by allowed t told empty = record {
     rows = rows;
     end = seen.0;
     run = seen.1;
     rows_are = seen.2;
-    says = told_of (λ l k o. HasNoRace l k o) shown.record.now.log r.log shown.code.now.parts.now m shown.rows.now rows log of_module of_rows
+    says = told_of (λ l k o. HasNoRace l k o) allowed shown.record.now.log r.log shown.code.now.parts.now m shown.rows.now rows log of_module of_rows
         (told.none empty);
   }
 
@@ -74,13 +84,13 @@ shown_by m r f first shown is = record {
 }
 
 race_of : (m : Parts) (r : RecordParts) (f : RacesOfRun) → AreRacesOf m r f → (d : Race)
-    → IsLastRace r.log (sites_of m r f.rows.items) (opening_of m) (get_or f.told.races.pairs.items 0 d)
+    → IsLastRace r.log (sites_of f.allowed m r f.rows.items) (opening_of m) (get_or f.told.races.pairs.items 0 d)
 race_of m r f first d = first.races (get_or f.told.races.pairs.items 0 d) (Contains-get_or f.told.races.pairs.items 0 d first.told.some)
 
 -- the first one in an object
 pub object_by : (m : Parts) (r : RecordParts) (f : RacesOfRun) → AreRacesOf m r f → (shown : Shown) → IsShownBy r f shown
     → (sites : List Site) (ps : List Race) (d : Race) (pair : RacePair) → sites ≡ f.told.races.sites.items → ps ≡ f.told.races.pairs.items
-    → IsPairOf shown f.told.story sites (get_or ps 0 d) pair → SaysObject m r pair
+    → IsPairOf shown f.told.story sites (get_or ps 0 d) pair → SaysObject f.allowed m r pair
 object_by m r f first shown is sites ps d pair same alike says =
     let there : IsPairOf shown f.told.story sites (get_or f.told.races.pairs.items 0 d) pair =
     subst (λ (rs : List Race). IsPairOf shown f.told.story sites (get_or rs 0 d) pair) alike says in
@@ -99,8 +109,9 @@ object_by m r f first shown is sites ps d pair same alike says =
 
 -- and all in words
 pub found_by : (m : Parts) (r : RecordParts) (f : RacesOfRun) → AreRacesOf m r f → (shown : Shown) → IsShownBy r f shown
-    → (old new : Option (List ℕ)) → TellsFound shown f.map f.told.story f.told.races old new → WritesFound m r (change old new)
-found_by m r f first shown is old new (texts, says, lines) = (
+    → (stacks : StacksView) → stacks.stacks.now ≡ f.stacks → (old new : Option (List ℕ))
+    → TellsFound shown f.map f.told.story stacks f.told.races old new → WritesFound f.allowed m r (change old new)
+found_by m r f first shown is stacks same old new (texts, says, lines) = (
   _,
   lines,
   record {
@@ -108,15 +119,17 @@ found_by m r f first shown is old new (texts, says, lines) = (
     end = first.seen.0;
     run = first.seen.1;
     rows_are = first.seen.2;
-    found = first.all.0;
+    found = first.found;
     story = f.told.story;
-    is_found = shown_by m r f first first.all.0 first.all.1;
+    is_found = first.is_found;
     races = f.told.races;
-    told = first.all.2;
+    told = first.all;
     shown = shown;
     is_shown = shown_by m r f first shown is;
     map = f.map;
     some = first.told.some;
+    stacks = stacks;
+    stacks_are = subst (λ (s : EntryStacks). AreStacksTold m r first.found f.told.races s) (sym same) first.stacks;
     texts = texts;
     says = says;
     is = refl;
@@ -124,7 +137,7 @@ found_by m r f first shown is old new (texts, says, lines) = (
 )
 
 -- a run with a race to tell has one
-pub says_race : (m : Parts) (r : RecordParts) (f : RacesOfRun) → AreRacesOf m r f → (d : Race) → SaysOfRun m r true
+pub says_race : (m : Parts) (r : RecordParts) (f : RacesOfRun) → AreRacesOf m r f → (d : Race) → SaysOfRun f.allowed m r true
 says_race m r f first d = record {
   rows = f.rows.items;
   end = first.seen.0;
@@ -134,10 +147,13 @@ says_race m r f first d = record {
 }
 
 -- what is said of a record's run is said of its text
-pub says_of : (m : Parts) (saved : List ℕ) (r : RecordParts) (rows : List (Option Row)) → IsSeen m saved r rows → (is : Bool)
-    → Says r.log (sites_of m r rows) (opening_of m) is → SaysOf m saved is
-says_of m saved r rows seen true (race, races) = record { record_is = r; rows = rows; seen = seen; race = race; races = races }
-says_of m saved r rows seen false none = record { record_is = r; rows = rows; seen = seen; none = none }
+pub says_of : (allow : Allowance) (allowed : Allowed) → IsAllowedBy allow allowed → (m : Parts) (saved : List ℕ) (r : RecordParts)
+    (rows : List (Option Row)) → IsSeen m saved r rows → (is : Bool) → Says r.log (sites_of allowed m r rows) (opening_of m) is
+    → SaysOf allow m saved is
+says_of allow allowed by m saved r rows seen true (race, races) =
+    record { record_is = r; rows = rows; seen = seen; allowed = allowed; allowed_is = by; race = race; races = races }
+says_of allow allowed by m saved r rows seen false none =
+    record { record_is = r; rows = rows; seen = seen; allowed = allowed; allowed_is = by; none = none }
 
 -- a list that is the same as one without elements
 pub empty_by : (xs ys : List Race) → xs ≡ ys → true ≡ (length xs == 0) → ys ≡ []

@@ -36,6 +36,11 @@ abbrev pub IsUnrefused : Unshown → Type 0
 IsUnrefused (unshown.Unfit unfit stood) = IsNoRefusal unfit
 IsUnrefused (unshown.Absent absent) = Unit {0}
 
+-- The record has not what is asked for, or the module no such data.
+abbrev pub IsAbsent : Unshown → Type 0
+IsAbsent (unshown.Unfit unfit stood) = ⊥
+IsAbsent (unshown.Absent absent) = Unit {0}
+
 -- The statuses of a show: 1 is none of them.
 abbrev pub IsShowStatus : ℕ → Type 0
 IsShowStatus n = (n ≡ 0) ⊎ (n ≡ 2) ⊎ (n ≡ 3) ⊎ (n ≡ 4) ⊎ (n ≡ 5)

@@ -8,6 +8,7 @@ ghost use Rattle.report_looks.specs.Looked.{WritesTraceOf, WritesWanted};
 
 use crate::moments::print_page;
 use crate::wanted::{Here, LookRequest, Wanted};
+use allowed_races::Allowed;
 use race_history::{Race, is_history};
 use replay::replay_watched;
 use replay_text::Record;
@@ -36,7 +37,7 @@ pub(crate) fn races_in(alloc: Global, shown: Shown, most: usize) -> Result<Vec<R
     if !is_history(shown.record.log.as_slice()) {
         return Ok(Vec::new(alloc));
     }
-    racing_pairs(alloc, shown, most)
+    racing_pairs(alloc, shown, &Allowed::nothing(), most)
 }
 
 /// Writes of a record what is asked for.

@@ -8,7 +8,8 @@ ghost use Rattle.report_jobs.specs.declared.replaying.Unfit.TheVariants as unfit
 ghost use Rattle.report_looks.specs.declared.wanted.Unshown.TheVariants as unshown;
 ghost use Rattle.report_looks.specs.Looked as looked;
 ghost use Rattle.report_looks.specs.Looked.{AreAddresses, IsAsked, IsLookAt, IsWanted};
-ghost use Rattle.report_looks.specs.Silent.{IsUnrefused};
+ghost use Rattle.report_looks.specs.Allowing.{IsNamed, SomeNamed};
+ghost use Rattle.report_looks.specs.Silent.{IsAbsent, IsUnrefused};
 
 use dwarf_data::{ByteRange, NamedBytes};
 use replay_text::RecordParts;
@@ -121,6 +122,7 @@ fn addresses_of(place: ByteRange) -> NumberSpan
 pub(crate) fn span_of(alloc: Global, map: &DataMap, data: Data) -> Result<NumberSpan, Unshown>
     ensures addresses { IfOk result (AreAddresses map.now «data».entry) }
     ensures why { IfErr result IsUnrefused }
+    ensures named { IfErr result (λ why. IsAbsent why → IsNamed «data».entry) }
 {
     let words = match data {
         Data::At(addrs) => return Ok(addrs),
@@ -207,9 +209,14 @@ fn put(spans: &mut Vec<NumberSpan>, span: NumberSpan) -> Result<(), AllocError>
 }
 
 /// The addresses of each of these data, in order.
-fn spans_of(alloc: Global, map: &DataMap, all: &[Data]) -> Result<Vec<NumberSpan>, Unshown>
+pub(crate) fn spans_of(
+    alloc: Global,
+    map: &DataMap,
+    all: &[Data],
+) -> Result<Vec<NumberSpan>, Unshown>
     ensures addresses { IfOk result (λ spans. AllZip (AreAddresses map.now) all.now spans.items) }
     ensures why { IfErr result IsUnrefused }
+    ensures named { IfErr result (λ why. IsAbsent why → SomeNamed all.now) }
 {
     let mut spans = Vec::new(alloc);
     for k in 0..all.len() {

@@ -31,6 +31,7 @@ names_behind (refused.RuleInBody kind function instruction) saved old new = λ _
 names_behind (refused.Unlaid why addr count) saved old new = λ _. tt
 names_behind (refused.Call fault valid) saved old new = λ _. tt
 names_behind (refused.Absent absent) saved old new = λ _. tt
+names_behind (refused.Allowance absent) saved old new = λ _. tt
 names_behind refused.EndMissing saved old new = λ _. tt
 
 pub explains_behind : (r : Result Done Undone) (saved old new : List ℕ) → Explains r saved [] new → Explains r saved old (old ++ new)

@@ -40,6 +40,7 @@ told_json (refused.RuleInBody kind function place) = refused_json (objects.RuleI
 told_json (refused.Unlaid why addr count) = call_json (unlaid_words why)
 told_json (refused.Call fault m) = call_json (call_words fault)
 told_json (refused.Absent absent) = call_json (absent_words absent)
+told_json (refused.Allowance absent) = call_json (absent_words absent)
 told_json (refused.Header line) = refused_json (objects.Header line)
 told_json (refused.Unreadable line) = refused_json (objects.Unreadable line)
 told_json refused.EndMissing = refused_json objects.EndMissing

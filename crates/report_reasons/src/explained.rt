@@ -11,7 +11,7 @@ use crate::calls::add_call;
 use crate::records::{UnfitThread, add_header, add_misfit, add_unreadable};
 use crate::validity::{add_in_body, add_rule};
 use report_command::{CallWords, Job, RunJob, Search};
-use report_jobs::{Advised, Done, JobResult, Misfit, Refused, Undone};
+use report_jobs::{Advised, Done, JobResult, LeftOut, Misfit, Refused, Undone};
 use show_rows::{CodeMap, Stood};
 use std::alloc::{AllocError, Global};
 
@@ -87,7 +87,21 @@ fn add_done(
              ended is compared\n"
         )?;
     }
+    add_left_out(out, done.left_out)?;
     add_advice(alloc, out, done.advised)
+}
+
+/// Adds that races aren't told which are allowed.
+fn add_left_out(out: &mut String, left_out: LeftOut) -> Result<(), AllocError> {
+    match left_out {
+        LeftOut::Nothing => Ok(()),
+        LeftOut::Some => out.push_str("note: races that --allow-race or --allow-mixed allows are left out\n"),
+        LeftOut::Races(1) => out.push_str("note: 1 race is left out, which is allowed\n"),
+        LeftOut::Races(count) => {
+            write!(out, "note: {count} races are left out, which are allowed\n")?;
+            Ok(())
+        }
+    }
 }
 
 fn add_advice(alloc: Global, out: &mut String, advised: Advised) -> Result<(), AllocError> {
@@ -129,7 +143,7 @@ fn add_refused(
         }
         Refused::Line(line, misfit) => add_line(alloc, out, given, *line, misfit),
         Refused::EndLine(line, misfit) => add_line(alloc, out, given, *line, misfit),
-        Refused::Unlaid { .. } | Refused::Absent(_) => Ok(()),
+        Refused::Unlaid { .. } | Refused::Absent(_) | Refused::Allowance(_) => Ok(()),
     }
 }
 

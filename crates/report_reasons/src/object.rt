@@ -57,7 +57,9 @@ fn told(refused: &Refused) -> report_json::RefusedObject<'static>
         },
         Refused::Unlaid { why, .. } => report_json::RefusedObject::Call(unlaid_words(*why)),
         Refused::Call { fault, .. } => report_json::RefusedObject::Call(call_words(*fault)),
-        Refused::Absent(absent) => report_json::RefusedObject::Call(absent.words()),
+        Refused::Absent(absent) | Refused::Allowance(absent) => {
+            report_json::RefusedObject::Call(absent.words())
+        }
         Refused::Header(line) => report_json::RefusedObject::Header(*line),
         Refused::Unreadable(line) => report_json::RefusedObject::Unreadable(*line),
         Refused::EndMissing => report_json::RefusedObject::EndMissing,

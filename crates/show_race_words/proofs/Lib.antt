@@ -1,2 +1,4 @@
-pub mod Telling
+pub mod Giving
+pub mod Stacking
 pub mod Starting
+pub mod Telling

@@ -12,10 +12,12 @@ use Rattle.show_rows.specs.declared.listing.Story.{Story}
 use Rattle.show_races.specs.declared.found.RecordRaces.{RecordRaces}
 use Rattle.show_races.specs.Releases.{IsNextWrite}
 use Rattle.show_named.specs.declared.data_map.DataMap.{DataMap}
-use Rattle.show_race_words.specs.Spots.{IsSpot}
+use Rattle.show_stacks.specs.declared.texts.StacksView.{StacksView}
+use Rattle.show_race_words.specs.Spots.{AreAt, IsSpot}
+use Rattle.show_race_words.specs.Stacks.{AreStacks, IsStackLine}
 use Rattle.show_race_words.specs.Starts.{IsStartText}
 use Rattle.show_race_words.specs.Written.{act_at, leads_text, look_text, order_text}
-use Rattle.show_race_words.specs.Written.{AreAt, AreStarts, IsLookText, IsNextText, IsOrderText, SaysRace}
+use Rattle.show_race_words.specs.Written.{AreStarts, IsLookText, IsNextText, IsOrderText, SaysRace}
 use Rattle.show_race_words.specs.Written.{WritesBefore, WritesEach}
 use Rattle.replay_forms.proofs.Written.{appends_then}
 use Rattle.show_rows.proofs.Chosen.{appends_keeps}
@@ -63,6 +65,21 @@ module _ (shown : Shown) (r : Race) (log : List Entry) (d e : Entry) (same : log
     is = is;
   }
 
+  pub stacks_by : (story : Story) (stacks : StacksView) (one other text : List ℕ)
+      → IsStackLine shown story stacks (get_or log r.first d).thread r.first one
+      → IsStackLine shown story stacks (get_or log r.second e).thread r.second other → text ≡ one ++ other
+      → AreStacks shown story stacks r text
+  stacks_by story stacks one other text is_one is_other is = record {
+    first = get_or log r.first d;
+    second = get_or log r.second e;
+    at = are_at;
+    one = one;
+    one_is = is_one;
+    other = other;
+    other_is = is_other;
+    is = is;
+  }
+
 -- Of a next entry, by what it is called in the slice.
 pub next_by : (shown : Shown) (story : Story) (r : Race) (second at : ℕ) (log : List Entry) (act spot text : List ℕ)
     → log ≡ shown.record.now.log → act ≡ act_at log at → IsSpot shown story at spot
@@ -76,17 +93,17 @@ next_by shown story r second at log act spot text same act_is is_spot is = (
 )
 
 -- Of all races, by the slices that were gone through; and with what stands behind them.
-pub told_each : (shown : Shown) (map : DataMap) (story : Story) (races : RecordRaces) (sites : List Site) (pairs : List Race) (n : ℕ)
+pub told_each : (shown : Shown) (map : DataMap) (story : Story) (stacks : StacksView) (races : RecordRaces) (sites : List Site) (pairs : List Race) (n : ℕ)
     (a b : Option (List ℕ)) → sites ≡ races.sites.items → pairs ≡ races.pairs.items → length pairs ≤ n
-    → AreWritten (SaysRace shown map story sites) pairs n a b → WritesEach shown map story races a b
-told_each shown map story races sites pairs n a b same alike all (texts, says, wrote) =
-    subst (λ (ks : List Site). (ts : List (List ℕ)) × AllZip (SaysRace shown map story ks) races.pairs.items ts × Appends a b (concat ts)) same
-    (subst (λ (ps : List Race). (ts : List (List ℕ)) × AllZip (SaysRace shown map story sites) ps ts × Appends a b (concat ts)) alike
-    (texts, subst (λ (ps : List Race). AllZip (SaysRace shown map story sites) ps texts) (take_all n pairs all) says, wrote))
+    → AreWritten (SaysRace shown map story stacks sites) pairs n a b → WritesEach shown map story stacks races a b
+told_each shown map story stacks races sites pairs n a b same alike all (texts, says, wrote) =
+    subst (λ (ks : List Site). (ts : List (List ℕ)) × AllZip (SaysRace shown map story stacks ks) races.pairs.items ts × Appends a b (concat ts)) same
+    (subst (λ (ps : List Race). (ts : List (List ℕ)) × AllZip (SaysRace shown map story stacks sites) ps ts × Appends a b (concat ts)) alike
+    (texts, subst (λ (ps : List Race). AllZip (SaysRace shown map story stacks sites) ps texts) (take_all n pairs all) says, wrote))
 
-pub told_before : (shown : Shown) (map : DataMap) (story : Story) (races : RecordRaces) (text : ℕ → List ℕ) (count : ℕ)
-    (a b c d : Option (List ℕ)) → count ≡ length races.pairs.items → WritesEach shown map story races a b → Appends b c (text count)
-    → Keeps c d → WritesBefore (text (length races.pairs.items)) shown map story races a d
-told_before shown map story races text count a b c d counted (texts, says, wrote) more kept =
-    subst (λ (n : ℕ). WritesBefore (text n) shown map story races a d) counted
+pub told_before : (shown : Shown) (map : DataMap) (story : Story) (stacks : StacksView) (races : RecordRaces) (text : ℕ → List ℕ) (count : ℕ)
+    (a b c d : Option (List ℕ)) → count ≡ length races.pairs.items → WritesEach shown map story stacks races a b → Appends b c (text count)
+    → Keeps c d → WritesBefore (text (length races.pairs.items)) shown map story stacks races a d
+told_before shown map story stacks races text count a b c d counted (texts, says, wrote) more kept =
+    subst (λ (n : ℕ). WritesBefore (text n) shown map story stacks races a d) counted
     (texts, says, appends_keeps a c d (concat texts ++ text count) (appends_then a b c (concat texts) (text count) wrote more) kept)

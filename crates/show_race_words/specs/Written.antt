@@ -18,13 +18,11 @@ use Rattle.show_races.specs.declared.found.RecordRaces.{RecordRaces}
 use Rattle.show_races.specs.Releases.{IsNextWrite, changes_pages}
 use Rattle.show_named.specs.declared.data_map.DataMap.{DataMap}
 use Rattle.show_named.specs.Rows.{IsEntryText}
-use Rattle.show_race_words.specs.Spots.{IsSpot}
+use Rattle.show_stacks.specs.declared.texts.StacksView.{StacksView}
+use Rattle.show_race_words.specs.Blocks.{IsBlockText}
+use Rattle.show_race_words.specs.Spots.{AreAt, IsSpot}
+use Rattle.show_race_words.specs.Stacks.{AreStacks}
 use Rattle.show_race_words.specs.Starts.{IsStartText}
-
--- These entries are at the two places of a race.
-pub record AreAt (log : List Entry) (r : Race) (first second : Entry) : Type 0 where
-  pub first_is : slice_get log r.first ≡ Some first
-  pub second_is : slice_get log r.second ≡ Some second
 
 -- Nothing leads from a write before the second entry to its thread.
 abbrev pub leads_text : Bool → ℕ → List ℕ
@@ -113,21 +111,26 @@ kind_of sites at = option_map (λ s. s.kind) (slice_get sites at)
 abbrev pub name_text : List Site → Race → List ℕ
 name_text sites r = name_of (kind_of sites r.first) (kind_of sites r.second)
 
--- A race: its two entries with the names of their data, what they do with the number of pages, what would have ordered
--- them, and which entries started their threads.
-pub record SaysRace (shown : Shown) (map : DataMap) (story : Story) (sites : List Site) (r : Race) (text : List ℕ) : Type 0 where
+-- A race: its two entries with the names of their data, what they do with the number of pages, the calls that led to them,
+-- the block of the heap in which they touch a byte, what would have ordered them, and which entries started their threads.
+pub record SaysRace (shown : Shown) (map : DataMap) (story : Story) (stacks : StacksView) (sites : List Site) (r : Race)
+    (text : List ℕ) : Type 0 where
   pub one : List ℕ
   pub one_is : IsEntryText shown map story r.first one
   pub other : List ℕ
   pub other_is : IsEntryText shown map story r.second other
   pub look : List ℕ
   pub look_is : IsLookText shown r look
+  pub calls : List ℕ
+  pub calls_are : AreStacks shown story stacks r calls
+  pub block : List ℕ
+  pub block_is : IsBlockText shown stacks r block
   pub order : List ℕ
   pub order_is : IsOrderText shown story sites r order
   pub starts : List ℕ
   pub starts_are : AreStarts shown story r starts
   pub is : text ≡ name_text sites r ++ (codes ": " ++ (one ++ (codes "; " ++ (other ++ (codes "\n"
-      ++ (look ++ (order ++ starts)))))))
+      ++ (look ++ (calls ++ (block ++ (order ++ starts)))))))))
 
 -- Whether that are all, where that isn't clear.
 abbrev pub end_text : Bool → ℕ → List ℕ
@@ -140,20 +143,21 @@ more_text is_cut count = if is_cut then
     codes "not all: more than " ++ (decimal count ++ codes "; `races` tells more of a record\n") else []
 
 -- A paragraph is written for each race, in order; and this behind them.
-abbrev pub WritesEach : Shown → DataMap → Story → RecordRaces → Option (List ℕ) → Option (List ℕ) → Type 0
-WritesEach shown map story races old new = (texts : List (List ℕ))
-    × AllZip (SaysRace shown map story races.sites.items) races.pairs.items texts × Appends old new (concat texts)
+abbrev pub WritesEach : Shown → DataMap → Story → StacksView → RecordRaces → Option (List ℕ) → Option (List ℕ) → Type 0
+WritesEach shown map story stacks races old new = (texts : List (List ℕ))
+    × AllZip (SaysRace shown map story stacks races.sites.items) races.pairs.items texts × Appends old new (concat texts)
 
-abbrev pub WritesBefore : List ℕ → Shown → DataMap → Story → RecordRaces → Option (List ℕ) → Option (List ℕ) → Type 0
-WritesBefore last shown map story races old new = (texts : List (List ℕ))
-    × AllZip (SaysRace shown map story races.sites.items) races.pairs.items texts × Appends old new (concat texts ++ last)
+abbrev pub WritesBefore : List ℕ → Shown → DataMap → Story → StacksView → RecordRaces → Option (List ℕ) → Option (List ℕ)
+    → Type 0
+WritesBefore last shown map story stacks races old new = (texts : List (List ℕ))
+    × AllZip (SaysRace shown map story stacks races.sites.items) races.pairs.items texts × Appends old new (concat texts ++ last)
 
 -- Behind them stands whether that are all.
-abbrev pub TellsRaces : Shown → DataMap → Story → RecordRaces → Option (List ℕ) → Option (List ℕ) → Type 0
-TellsRaces shown map story races old new =
-    WritesBefore (end_text races.is_cut (length races.pairs.items)) shown map story races old new
+abbrev pub TellsRaces : Shown → DataMap → Story → StacksView → RecordRaces → Option (List ℕ) → Option (List ℕ) → Type 0
+TellsRaces shown map story stacks races old new =
+    WritesBefore (end_text races.is_cut (length races.pairs.items)) shown map story stacks races old new
 
 -- Of a run that was found for a race, what tells more.
-abbrev pub TellsFound : Shown → DataMap → Story → RecordRaces → Option (List ℕ) → Option (List ℕ) → Type 0
-TellsFound shown map story races old new =
-    WritesBefore (more_text races.is_cut (length races.pairs.items)) shown map story races old new
+abbrev pub TellsFound : Shown → DataMap → Story → StacksView → RecordRaces → Option (List ℕ) → Option (List ℕ) → Type 0
+TellsFound shown map story stacks races old new =
+    WritesBefore (more_text races.is_cut (length races.pairs.items)) shown map story stacks races old new

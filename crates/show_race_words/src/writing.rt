@@ -4,13 +4,16 @@ ghost use Rattle.std.specs.Prelude.{◌≡◌, ◌<◌, All, IfOk, OnOk, length,
 ghost use Rattle.show_races.specs.Told.{IsWithin};
 ghost use Rattle.show_race_words.specs.Written.{AreStarts, SaysRace, TellsFound, TellsRaces, WritesEach, kind_of, name_text};
 
+use crate::blocks::block_text;
 use crate::looks::look_text;
 use crate::ordering::order_text;
+use crate::stacks::stacks_text;
 use crate::starts::start_text;
 use race_history::{AccessKind, Race, Site};
 use show_named::{DataMap, named_text};
 use show_races::RecordRaces;
 use show_rows::{Shown, Story};
+use show_stacks::StacksView;
 use show_text::Unwritten;
 use std::alloc::{AllocError, Global};
 use std::fmt::{self, Formatter};
@@ -48,26 +51,29 @@ fn starts_text(alloc: Global, shown: Shown, story: &Story, race: Race) -> Result
     Ok(text)
 }
 
-/// A race: its two entries, what they do with the number of pages, what would have ordered them, and which entries started
-/// their threads.
+/// A race: its two entries, what they do with the number of pages, the calls that led to them, the block of the heap in
+/// which they touch a byte, what would have ordered them, and which entries started their threads.
 fn race_text(
     alloc: Global,
     shown: Shown,
     map: &DataMap,
     story: &Story,
+    stacks: StacksView,
     sites: &[Site],
     race: Race,
 ) -> Result<String, AllocError>
     requires { IsWithin shown.record.now.log race }
-    ensures { IfOk result (λ text. SaysRace shown.entry map.now story.now sites.now race (string_bytes text)) }
+    ensures { IfOk result (λ text. SaysRace shown.entry map.now story.now stacks.entry sites.now race (string_bytes text)) }
 {
     let name = name_of(sites, race);
     let one = named_text(alloc, shown, map, story, race.first)?;
     let other = named_text(alloc, shown, map, story, race.second)?;
     let look = look_text(alloc, shown, race)?;
+    let calls = stacks_text(alloc, shown, story, stacks, race)?;
+    let block = block_text(alloc, shown, stacks, race)?;
     let order = order_text(alloc, shown, story, sites, race)?;
     let starts = starts_text(alloc, shown, story, race)?;
-    let text = format!(in alloc; "{name}: {one}; {other}\n{look}{order}{starts}")?;
+    let text = format!(in alloc; "{name}: {one}; {other}\n{look}{calls}{block}{order}{starts}")?;
     Ok(text)
 }
 
@@ -128,16 +134,17 @@ fn write_each<W: Write>(
     shown: Shown,
     map: &DataMap,
     story: &Story,
+    stacks: StacksView,
     races: &RecordRaces,
     out: &mut W,
 ) -> Result<(), Unwritten>
     requires { All (IsWithin shown.record.now.log) races.now.pairs.items }
-    ensures { OnOk result (WritesEach shown.entry map.now story.now races.now (W.contents out.old) (W.contents out.new)) }
+    ensures { OnOk result (WritesEach shown.entry map.now story.now stacks.entry races.now (W.contents out.old) (W.contents out.new)) }
 {
     let pairs = races.pairs.as_slice();
     let sites = races.sites.as_slice();
     for at in 0..pairs.len() {
-        let text = race_text(alloc, shown, map, story, sites, pairs[at])?;
+        let text = race_text(alloc, shown, map, story, stacks, sites, pairs[at])?;
         write!(out, "{text}")?;
     }
     Ok(())
@@ -153,13 +160,14 @@ pub fn write_races<W: Write>(
     shown: Shown,
     map: &DataMap,
     story: &Story,
+    stacks: StacksView,
     races: &RecordRaces,
     out: &mut W,
 ) -> Result<(), Unwritten>
     requires { All (IsWithin shown.record.now.log) races.now.pairs.items }
-    ensures { OnOk result (TellsRaces shown.entry map.now story.now races.now (W.contents out.old) (W.contents out.new)) }
+    ensures { OnOk result (TellsRaces shown.entry map.now story.now stacks.entry races.now (W.contents out.old) (W.contents out.new)) }
 {
-    write_each(alloc, shown, map, story, races, out)?;
+    write_each(alloc, shown, map, story, stacks, races, out)?;
     let pairs = races.pairs.as_slice();
     let end = End {
         is_cut: races.is_cut,
@@ -179,13 +187,14 @@ pub fn write_found<W: Write>(
     shown: Shown,
     map: &DataMap,
     story: &Story,
+    stacks: StacksView,
     races: &RecordRaces,
     out: &mut W,
 ) -> Result<(), Unwritten>
     requires { All (IsWithin shown.record.now.log) races.now.pairs.items }
-    ensures { OnOk result (TellsFound shown.entry map.now story.now races.now (W.contents out.old) (W.contents out.new)) }
+    ensures { OnOk result (TellsFound shown.entry map.now story.now stacks.entry races.now (W.contents out.old) (W.contents out.new)) }
 {
-    write_each(alloc, shown, map, story, races, out)?;
+    write_each(alloc, shown, map, story, stacks, races, out)?;
     let pairs = races.pairs.as_slice();
     let more = More {
         is_cut: races.is_cut,

@@ -1,4 +1,4 @@
--- Places that are the same.
+-- Places that are the same, and calls.
 use Rattle.std.proofs.Common.{◌≡◌, ◌∙◌, Bool, true, false, Option, Some, None, refl, sym, ap, subst, eq-eqb, ℕ}
 use Rattle.std.proofs.lemmas.Bool.{and_from, and_parts, both_ways, eqb-true}
 use Rattle.interp.specs.declared.place.CodePlace.{CodePlace}
@@ -20,12 +20,18 @@ itself (Some a) = and_from _ _ (eq-eqb a.function a.function refl) (eq-eqb a.ins
 
 pub alike_yes : (x y : Places) (b : Bool) → b ≡ is_alike x y → b ≡ true → x ≡ y
 alike_yes x y b is holds =
-    let p = and_parts (is_same x.first y.first) (is_same x.second y.second) (sym is ∙ holds) in
-    ap (λ (k : Option CodePlace). record { first = k; second = x.second }) (same_is x.first y.first p.0)
-    ∙ ap (λ (k : Option CodePlace). record { first = y.first; second = k }) (same_is x.second y.second p.1)
+    let all = and_parts _ _ (sym is ∙ holds) in
+    let three = and_parts _ _ all.0 in
+    let two = and_parts _ _ three.0 in
+    ap (λ (k : Option CodePlace). record x { first = k }) (same_is x.first y.first two.0)
+    ∙ (ap (λ (k : Option CodePlace). record x { first = y.first; second = k }) (same_is x.second y.second two.1)
+    ∙ (ap (λ (k : Option CodePlace). record y { first_call = k; second_call = x.second_call })
+    (same_is x.first_call y.first_call three.1)
+    ∙ ap (λ (k : Option CodePlace). record y { second_call = k }) (same_is x.second_call y.second_call all.1)))
 
 alike_itself : (x : Places) → is_alike x x ≡ true
-alike_itself x = and_from (is_same x.first x.first) (is_same x.second x.second) (itself x.first) (itself x.second)
+alike_itself x = and_from _ _ (and_from _ _ (and_from (is_same x.first x.first) (is_same x.second x.second) (itself x.first)
+    (itself x.second)) (itself x.first_call)) (itself x.second_call)
 
 pub alike_no : (x y : Places) (b : Bool) → b ≡ is_alike x y → b ≡ false → x ≡ y → ⊥
 alike_no x y b is fails same = both_ways b fails (is ∙ subst (λ (z : Places). is_alike x z ≡ true) same (alike_itself x))

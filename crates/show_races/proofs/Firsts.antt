@@ -1,4 +1,4 @@
--- Of races each one that was made at other places in the code than those before it.
+-- Of races each one that is like none before it.
 use Rattle.std.proofs.Common.{ℕ, ◌≡◌, ◌∙◌, ◌⊎◌, ◌≤◌, ◌<◌, ◌+◌, ◌||◌, Bool, true, false, List, [], ◌∷◌, ◌++◌, All}
 use Rattle.std.proofs.Common.{length, get_or, take, inl, inr, refl, sym, subst, arith}
 use Rattle.std.specs.List.{Contains}

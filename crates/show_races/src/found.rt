@@ -1,4 +1,4 @@
-//! The races of a record, each pair of places in the code once.
+//! The races of a record, each pair of places in the code once for the calls that led to both.
 
 ghost use Rattle.std.specs.Prelude.{◌≡◌, ◌≤◌, ◌<◌, ◌⊎◌, ◌||◌, [], All, IfOk, length, true, false};
 ghost use Rattle.shared_memory.specs.History.{AreEntries};
@@ -24,24 +24,27 @@ const MOST_PAIRS: usize = 1_000_000;
 pub struct RecordRaces {
     /// By which instruction each entry was made.
     pub sites: Vec<Site>,
-    /// In the order of their second entries. No two were made at the same two places of the code.
+    /// In the order of their second entries. No two were made at the same two places of the code, called from the same two
+    /// places.
     pub pairs: Vec<Race>,
     /// There are more, or more than are looked at.
     pub is_cut: bool,
 }
 
-/// Of races each one that was made at other places of the code than those before it.
+/// Of races each one that was made at other places of the code, or called from others, than those before it.
 #[derive(Drop)]
 struct Firsts {
     pairs: Vec<Race>,
     is_cut: bool,
 }
 
-/// Where the two entries of a race were made.
+/// Where the two entries of a race were made, and from where the functions were called in which they were.
 #[derive(Clone, Copy)]
 struct Places {
     first: Option<CodePlace>,
     second: Option<CodePlace>,
+    first_call: Option<CodePlace>,
+    second_call: Option<CodePlace>,
 }
 
 /// Whether two places are the same, or neither is known.
@@ -58,7 +61,10 @@ fn is_same(a: Option<CodePlace>, b: Option<CodePlace>) -> bool
 fn is_alike(a: Places, b: Places) -> bool
     ensures { result ≡ told.is_alike a b }
 {
-    is_same(a.first, b.first) && is_same(a.second, b.second)
+    is_same(a.first, b.first)
+        && is_same(a.second, b.second)
+        && is_same(a.first_call, b.first_call)
+        && is_same(a.second_call, b.second_call)
 }
 
 fn places_of(shown: Shown, story: &Story, race: Race) -> Places
@@ -67,10 +73,12 @@ fn places_of(shown: Shown, story: &Story, race: Race) -> Places
     Places {
         first: shown.place_at(story, race.first),
         second: shown.place_at(story, race.second),
+        first_call: shown.caller_at(story, race.first),
+        second_call: shown.caller_at(story, race.second),
     }
 }
 
-/// Whether one of these races was made at the same two places.
+/// Whether one of these races was made at the same two places, called from the same two places.
 fn is_known(shown: Shown, story: &Story, known: &[Race], race: Race) -> bool
     ensures told { result ≡ true → IsTold shown.entry story.now known.now race }
     ensures untold { result ≡ false → IsTold shown.entry story.now known.now race → ⊥ }
@@ -84,7 +92,8 @@ fn is_known(shown: Shown, story: &Story, known: &[Race], race: Race) -> bool
     false
 }
 
-/// Of these races those that were made at other places of the code than each one before, `most` at most.
+/// Of these races those that were made at other places of the code, or called from others, than each one before, `most` at
+/// most.
 fn find_firsts(
     alloc: Global,
     shown: Shown,
@@ -153,7 +162,7 @@ fn either(a: bool, b: bool) -> bool
 }
 
 /// The races of a record's run that aren't allowed, `most` at most: of those that were made at the same two places of the
-/// code the first.
+/// code, called from the same two places, the first.
 ///
 /// # Errors
 /// Where memory is refused.

@@ -1,8 +1,9 @@
 -- A place in a module's code as text: as it is printed, and as a call that led to another one.
-use Rattle.std.specs.Prelude.{ℕ, ◌==◌, Bool, false, if◌then◌else◌, List, [], ◌++◌, codes, Option, Some, None}
+use Rattle.std.specs.Prelude.{ℕ, ◌==◌, ◌||◌, Bool, false, if◌then◌else◌, List, [], ◌++◌, codes, Option, Some, None}
 use Rattle.std.specs.Borrow.{Bor}
 use Rattle.std.specs.List.{slice_get}
 use Rattle.std.specs.Fmt.{decimal, radix_digits}
+use Rattle.std.specs.Str.{bytes_eq}
 use Rattle.show_places.specs.declared.names.FunctionName.{FunctionName}
 use Rattle.show_places.specs.declared.names.FunctionName.TheVariants as called
 use Rattle.show_text.specs.Plain.{plain_text}
@@ -35,10 +36,14 @@ abbrev pub is_underscore : Option ℕ → Bool
 is_underscore None = false
 is_underscore (Some byte) = byte == 95
 
--- A name that C reserves for its implementation (ISO C, section 7.1.3).
+-- A name that C reserves for its implementation (ISO C, section 7.1.3), or that of the function in which each started thread
+-- begins (wasi-threads).
+abbrev pub is_foreign : List ℕ → Bool
+is_foreign name = is_underscore (slice_get name 0) || bytes_eq name (codes "wasi_thread_start")
+
 abbrev pub is_reserved : FunctionName → Bool
-is_reserved (called.Named name) = is_underscore (slice_get name.now 0)
-is_reserved (called.Exported name) = is_underscore (slice_get name.now 0)
+is_reserved (called.Named name) = is_foreign name.now
+is_reserved (called.Exported name) = is_foreign name.now
 is_reserved (called.Numbered index) = false
 
 -- The place of a call, behind the place that it led to. What calls a program or a thread's first function isn't told.

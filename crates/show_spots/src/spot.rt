@@ -2,7 +2,7 @@
 
 ghost use Rattle.std.specs.Fmt.{WritesOnOk};
 ghost use Rattle.std.specs.Prelude.{◌≡◌, ◌++◌};
-ghost use Rattle.show_spots.specs.Spots.{behind_text, is_reserved, name_text, source_text};
+ghost use Rattle.show_spots.specs.Spots.{behind_text, is_foreign, is_reserved, name_text, source_text};
 
 use show_places::FunctionName;
 use show_text::Plain;
@@ -46,7 +46,7 @@ impl fmt::Display for CallSpot<'_> {
     ghost output = { λ c. Some (call_text c.0) };
 
     /// As ` < transfer one.c:8`, or ` < transfer one.c:8 | mutex_lock(&one);`. A function of C's implementation, as the
-    /// one that calls `main`, isn't told.
+    /// one that calls `main`, isn't told, and neither is the one in which a thread begins.
     fn fmt<W: Write>(&self, f: &mut Formatter<W>) -> fmt::Result {
         if is_reserved(self.0.name) {
             return Ok(());
@@ -57,16 +57,24 @@ impl fmt::Display for CallSpot<'_> {
     }
 }
 
-/// Whether a function has a name that C reserves for its implementation: one that begins with an underscore (ISO C,
-/// section 7.1.3).
+/// Whether a function with this name is none of a program's own: C reserves names that begin with an underscore for its
+/// implementation (ISO C, section 7.1.3), and each started thread begins in `wasi_thread_start` (wasi-threads).
+fn is_foreign(name: &str) -> bool
+    ensures { result ≡ is_foreign name.now }
+{
+    let is_underscore = match name.as_bytes().first() {
+        Some(byte) => *byte == b'_',
+        None => false,
+    };
+    is_underscore || name == "wasi_thread_start"
+}
+
+/// The same of a function that has a name.
 fn is_reserved(name: FunctionName) -> bool
     ensures { result ≡ is_reserved name.entry }
 {
     match name {
-        FunctionName::Named(name) | FunctionName::Exported(name) => match name.as_bytes().first() {
-            Some(byte) => *byte == b'_',
-            None => false,
-        },
+        FunctionName::Named(name) | FunctionName::Exported(name) => is_foreign(name),
         FunctionName::Numbered(_) => false,
     }
 }

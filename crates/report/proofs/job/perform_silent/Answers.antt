@@ -33,6 +33,8 @@ returns-in-Races-clause-performs g c =
       free = c.races_saved.ensures.free;
       racy = c.races_saved.ensures.racy;
       refused = c.races_saved.ensures.refused;
+      absent = c.races_saved.ensures.absent;
+      named = c.races_saved.ensures.named;
       unfit = c.races_saved.ensures.none;
       statuses = c.races_saved.ensures.status;
     })

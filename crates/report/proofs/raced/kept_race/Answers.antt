@@ -18,4 +18,5 @@ returns-in-Ok-Some-clause-has g c =
           ∙ ap (λ (is : Size). shrunk_if shrink (size_in c.args.found.made.«record») is) c.size_of-is.ensures);
       race = subst (λ (p : Parts). AreRacesOf p made.«record» c.in-Ok-Some.race) c.module.ensures
           (rw c.in-Ok-Some.field-0-is at c.in-Ok-Some.ensures.race);
+      allowed = rw c.in-Ok-Some.field-0-is at c.in-Ok-Some.ensures.allowed;
     }

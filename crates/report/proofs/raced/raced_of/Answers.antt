@@ -11,11 +11,13 @@ pub returns-in-Done-clause-raced : goal.returns-in-Done-clause-raced
 returns-in-Done-clause-raced c =
     let q = c.args.call.request.now in
     let s = c.args.call.search.now in
-    subst (λ (look : FirstLook). IsRacedOf q s (racing_in look) Untold) (sym c.in-Done.is) (λ r. unfound_by c.in-Done.all.verdict c.in-Done.timed r)
+    let may = c.args.call.allowed in
+    subst (λ (look : FirstLook). IsRacedOf q s may (racing_in look) Untold) (sym c.in-Done.is) (λ r. unfound_by c.in-Done.all.verdict c.in-Done.timed r)
 
 pub returns-in-Found-clause-raced : goal.returns-in-Found-clause-raced
 returns-in-Found-clause-raced c =
     let q = c.args.call.request.now in
     let s = c.args.call.search.now in
-    subst (λ (look : FirstLook). IfOk c.run_of_race.result (IsRacedOf q s (racing_in look))) (sym c.in-Open.is)
-    (subst (λ (racing : Racing). IfOk c.run_of_race.result (IsRacedOf q s racing)) (sym c.in-Found.is) c.run_of_race.ensures.raced)
+    let may = c.args.call.allowed in
+    subst (λ (look : FirstLook). IfOk c.run_of_race.result (IsRacedOf q s may (racing_in look))) (sym c.in-Open.is)
+    (subst (λ (racing : Racing). IfOk c.run_of_race.result (IsRacedOf q s may racing)) (sym c.in-Found.is) c.run_of_race.ensures.raced)

@@ -35,9 +35,9 @@ returns-in-Found-clause-searched g c =
     let k = c.in_ok-kept-in-Found.kept in
     let out = changed contents c.args.streams.now.out c.conclude.new.out in
     let save = changed g.S.Write.contents c.args.streams.now.save c.keep_made.new.save in
-    let finds : Finds q.parts s save 1 = inr (inl (
+    let finds : Finds q.parts s c.args.call.allowed save 1 = inr (inl (
       refl,
-      inl (run_is_kept c.args.call.request.now c.args.call.search.now c.requires.asked save c.in-Found.found.made c.in_ok-kept-in-Found.kept found.1
+      inl (run_is_kept c.args.call.request.now c.args.call.search.now c.args.call.allowed c.requires.asked save c.in-Found.found.made c.in_ok-kept-in-Found.kept found.1
           c.in_ok-kept-in-Found.ensures.kept.kept c.in_ok-keep_made-in-Found.ensures.kept),
     )) in
     let tells : TellsDrawn q.parts s out save 1 = record {
@@ -64,7 +64,7 @@ returns-in-Found-clause-searched g c =
         },
       );
     } in
-    endings_searched q.parts s out save 1 c.requires.drawn c.requires.raceless finds tells
+    endings_searched q.parts s c.args.call.allowed out save 1 c.requires.drawn c.requires.raceless finds tells
 
 pub returns-clause-searched : goal.returns-clause-searched
 returns-clause-searched g c =
@@ -81,8 +81,8 @@ returns-clause-searched g c =
     let after = contents c.end_without.new.out in
     let save = changed g.S.Write.contents c.args.streams.now.save c.args.streams.now.save in
     if_both c.end_without.result (λ (done : Done). EndsNone form s.sought table is_told None text done.status (change headed after))
-    (λ (done : Done). IsStatusOfTable s.sought table done.status) (λ (done : Done). IsSearched q.parts s (change before after) save done.status)
-    (λ done rest is. endings_searched q.parts s (change before after) save done.status c.requires.drawn c.requires.raceless (inl (is.statuses, refl)) (record {
+    (λ (done : Done). IsStatusOfTable s.sought table done.status) (λ (done : Done). IsSearched q.parts s c.args.call.allowed (change before after) save done.status)
+    (λ done rest is. endings_searched q.parts s c.args.call.allowed (change before after) save done.status c.requires.drawn c.requires.raceless (inl (is.statuses, refl)) (record {
       request = q;
       parts_are = refl;
       asked = c.requires.asked;

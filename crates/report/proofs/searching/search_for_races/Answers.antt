@@ -49,11 +49,11 @@ returns-in-Found-clause-searched g c =
     let save = changed g.S.Write.contents c.args.streams.now.save c.keep.new.save in
     let find = c.in_ok-kept-in-Found.ensures.has.find in
     let kept = subst (λ (is : Bool). KeepsRecord is save k.racy.made.record) c.is_some.ensures c.in_ok-keep-in-Found.ensures.kept in
-    let finds : Finds q.parts s save 1 = inr (inr (
+    let finds : Finds q.parts s c.args.call.allowed save 1 = inr (inr (
       omega arith,
-      race_is_kept q s c.requires.asked k.racy.made find.0 find.1 save kept c.requires.races,
+      race_is_kept q s c.args.call.allowed c.requires.asked k.racy.made find.0 find.1 save kept c.requires.races,
     )) in
-    let tells : TellsDrawnRaces q.parts s out save 1 = record {
+    let tells : TellsDrawnRaces q.parts s c.args.call.allowed out save 1 = record {
       request = q;
       parts_are = refl;
       asked = c.requires.asked;
@@ -78,7 +78,7 @@ returns-in-Found-clause-searched g c =
         },
       );
     } in
-    races_searched q.parts s out save 1 c.requires.drawn c.requires.races finds tells
+    races_searched q.parts s c.args.call.allowed out save 1 c.requires.drawn c.requires.races finds tells
 
 pub returns-clause-searched : goal.returns-clause-searched
 returns-clause-searched g c =
@@ -97,8 +97,8 @@ returns-clause-searched g c =
     let save = changed g.S.Write.contents c.args.streams.now.save c.args.streams.now.save in
     let noted = c.in-Ok.ensures.noted in
     if_both c.end_without.result (λ (done : Done). EndsNone form s.sought table is_told races text done.status (change headed after))
-    (λ (done : Done). IsStatusOfTable s.sought table done.status) (λ (done : Done). IsSearched q.parts s (change before after) save done.status)
-    (λ done rest is. races_searched q.parts s (change before after) save done.status c.requires.drawn c.requires.races (inl (is.statuses, refl)) (record {
+    (λ (done : Done). IsStatusOfTable s.sought table done.status) (λ (done : Done). IsSearched q.parts s c.args.call.allowed (change before after) save done.status)
+    (λ done rest is. races_searched q.parts s c.args.call.allowed (change before after) save done.status c.requires.drawn c.requires.races (inl (is.statuses, refl)) (record {
       request = q;
       parts_are = refl;
       asked = c.requires.asked;
@@ -107,7 +107,7 @@ returns-clause-searched g c =
       says = inr (record {
         is_told = is_told;
         all_made = λ untold. c.in-Ok.ensures.all_made (all_made_by halt c.in_default.not-Found untold);
-        none = none_races q s.sought table halt c.in_default.not-Found noted;
+        none = none_races q c.args.call.allowed s.sought table halt c.in_default.not-Found noted;
         tells = subst (λ (f : Form). NoneIn f s.sought table is_told races text done.status (change before after)) c.requires.form
             (none_told form s.sought table is_told races text done.status before headed after (c.in_ok-tell.ensures.tells q.parts tt) rest);
         status_is = is;

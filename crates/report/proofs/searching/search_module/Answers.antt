@@ -15,7 +15,7 @@ returns-in-Lines-clause-searched g c =
     let new = c.search_call.new.streams in
     let out = changed g.W.Write.contents old.out new.out in
     let save = changed g.S.Write.contents old.save new.save in
-    subst (λ (m : Parts). IfOk c.search_call.result (λ done. IsSearched m c.args.asked.search.now out save done.status))
+    subst (λ (m : Parts). IfOk c.search_call.result (λ done. IsSearched m c.args.asked.search.now c.args.asked.allowed out save done.status))
     c.request_of-request.ensures.parts c.search_call.ensures.searched
 
 pub returns-in-Lines-clause-trouble : goal.returns-in-Lines-clause-trouble
@@ -31,7 +31,7 @@ returns-clause-searched g c =
     let new = c.search_call-in-Json.new.streams in
     let out = changed g.W.Write.contents old.out new.out in
     let save = changed g.S.Write.contents old.save new.save in
-    subst (λ (m : Parts). IfOk c.search_call-in-Json.result (λ done. IsSearched m c.args.asked.search.now out save done.status))
+    subst (λ (m : Parts). IfOk c.search_call-in-Json.result (λ done. IsSearched m c.args.asked.search.now c.args.asked.allowed out save done.status))
     c.request_of-request.ensures.parts c.search_call-in-Json.ensures.searched
 
 pub returns-clause-trouble : goal.returns-clause-trouble

@@ -10,7 +10,7 @@ use Rattle.report.proofs.searching.search_orders.Goals as goal
 
 pub tell_orders-requires : goal.tell_orders-requires
 tell_orders-requires g c =
-    (search rules, can_tell c.args.call.request.now c.args.call.search.now _ c.in_ok-raced.raced c.in_ok-raced.ensures.raced)
+    (search rules, can_tell c.args.call.request.now c.args.call.search.now c.args.call.allowed _ c.in_ok-raced.raced c.in_ok-raced.ensures.raced)
 
 pub returns-clause-searched : goal.returns-clause-searched
 returns-clause-searched g c =
@@ -27,8 +27,8 @@ returns-clause-searched g c =
     let met : OrdersMet = record { whole = c.in_ok-whole.whole; raced = c.in_ok-raced.raced; most = c.args.orders.now.most } in
     IfOk-weaker c.tell_orders.result
     (λ done. TellsRest g.T.Teller.form q s met (change between after) (change b last) done.status)
-    (λ done. IsSearched q.parts s (change before after) (change a last) done.status)
-    (λ done rest. searched_by q s c.requires.asked g.T.Teller.form c.requires.form met c.requires.every_order before between after a b last
+    (λ done. IsSearched q.parts s c.args.call.allowed (change before after) (change a last) done.status)
+    (λ done rest. searched_by q s c.args.call.allowed c.requires.asked g.T.Teller.form c.requires.form met c.requires.every_order before between after a b last
     (λ no. ap saved (c.race_told.ensures.unkept no)) done.status rest c.in_ok-whole.ensures.whole _ c.in_ok-whole.ensures.racing
     c.in_ok-raced.ensures.raced c.in_ok-raced.ensures.kept c.in_ok-raced.ensures.tells) c.tell_orders.ensures.tells
 

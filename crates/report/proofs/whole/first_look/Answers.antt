@@ -20,7 +20,7 @@ returns-clause-looked g c =
     let free = c.in_ok-free.ensures in
     let none = free.none in (
       record { every = free.found.all; can = free.found.sound; count = free.count; live = free.live; unsaid = refl },
-      known_by q all.verdict c.in_ok-free.free.timed none free.untimed free.timed,
+      known_by q c.args.call.allowed all.verdict c.in_ok-free.free.timed none free.untimed free.timed,
       c.if-search.false,
       sought_as s _ _ _ _ c.early_of.ensures.sought c.early_of.ensures.wanted free.seeks,
     )

@@ -8,17 +8,18 @@ pub returns-in-Done-clause-whole : goal.returns-in-Done-clause-whole
 returns-in-Done-clause-whole g c =
     let q = c.args.call.request.now in
     let s = c.args.call.search.now in
+    let may = c.args.call.allowed in
     let all = c.in-Done.all in
-    let looked = subst (IsLooked q s) c.in-Done.is c.requires in
-    subst (λ (racing : Racing). IsWhole q s (record { all = all; racing = racing; is_free = true })) (sym c.racing_by-racing.ensures)
-    (whole_by q s all c.in-Done.timed looked.0 looked.1 looked.2 looked.3)
+    let looked = subst (IsLooked q s may) c.in-Done.is c.requires in
+    subst (λ (racing : Racing). IsWhole q s may (record { all = all; racing = racing; is_free = true })) (sym c.racing_by-racing.ensures)
+    (whole_by q s may all c.in-Done.timed looked.0 looked.1 looked.2 looked.3)
 
 pub returns-in-Done-clause-racing : goal.returns-in-Done-clause-racing
 returns-in-Done-clause-racing g c = c.racing_by-racing.ensures ∙ sym (ap racing_in c.in-Done.is)
 
 pub returns-clause-whole : goal.returns-clause-whole
 returns-clause-whole g c =
-    let looked = subst (IsLooked c.args.call.request.now c.args.call.search.now) c.in-Open.is c.requires in
+    let looked = subst (IsLooked c.args.call.request.now c.args.call.search.now c.args.call.allowed) c.in-Open.is c.requires in
     record {
       complete = c.in_ok-all-in-Open.ensures.complete;
       known = looked.0;
