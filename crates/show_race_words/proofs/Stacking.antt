@@ -1,9 +1,9 @@
 -- Places of entries, and the lines of their calls, by what was read.
-use Rattle.std.proofs.Common.{◌≡◌, ◌∙◌, ◌<◌, ◌≤◌, ◌+◌, ◌==◌, ◌++◌, ℕ, Bool, true, false, List, [], ◌∷◌, Option, None, Some}
-use Rattle.std.proofs.Common.{append_assoc, ap, arith, codes, get_or, length, refl, subst, sym, take}
+use Rattle.std.proofs.Common.{◌≡◌, ◌∙◌, ◌<◌, ◌≤◌, ◌+◌, ◌==◌, ◌++◌, ℕ, Bool, true, false, List, [], ◌∷◌, Option}
+use Rattle.std.proofs.Common.{ap, codes, get_or, length, refl, subst, sym, take}
 use Rattle.std.specs.List.{concat}
 use Rattle.std.specs.Fmt.{decimal}
-use Rattle.std.proofs.lemmas.Bool.{both_ways, eqb-true}
+use Rattle.std.proofs.lemmas.Bool.{both_ways}
 use Rattle.std.proofs.lemmas.List.{append-nil, take_all}
 use Rattle.std.proofs.lemmas.List.Folds.{concat-append}
 use Rattle.types.specs.declared.event.Entry.{Entry}
@@ -17,34 +17,12 @@ use Rattle.show_stacks.specs.declared.texts.StacksView.{StacksView}
 use Rattle.show_stacks.specs.Stacks.{calls_at}
 use Rattle.show_stacks.specs.Texts.{IsStackText}
 use Rattle.show_race_words.specs.declared.blocks.Block.{Block}
-use Rattle.show_race_words.specs.Blocks.{IsBlockLine, IsBlockOf, block_line, own_place}
+use Rattle.show_race_words.specs.Blocks.{IsBlockLine, block_line, own_place}
 use Rattle.show_race_words.specs.Stacks.{AddsPlaces, ArePlacesOf, AreStackPlaces, IsLineOfCalls, IsStackLine}
 use Rattle.show_race_words.proofs.Telling.{stands}
 
-module _ (shown : Shown) (r : Race) where
-  pub adds_two : (a b c : List ℕ) → IsBlockOf shown r None → b ≡ a ++ r.first ∷ [] → c ≡ b ++ r.second ∷ []
-      → AddsPlaces shown r a c
-  adds_two a b c none first second = (
-    r.first ∷ r.second ∷ [],
-    (None, none, refl),
-    second ∙ (ap (λ (l : List ℕ). l ++ r.second ∷ []) first ∙ append_assoc a (r.first ∷ []) (r.second ∷ [])),
-  )
-
-  pub adds_three : (a b c d : List ℕ) (block : Block) → IsBlockOf shown r (Some block) → b ≡ a ++ r.first ∷ []
-      → c ≡ b ++ r.second ∷ [] → d ≡ c ++ block.at ∷ [] → AddsPlaces shown r a d
-  adds_three a b c d block is first second third = (
-    r.first ∷ r.second ∷ block.at ∷ [],
-    (Some block, is, refl),
-    third ∙ (ap (λ (l : List ℕ). l ++ block.at ∷ [])
-        (second ∙ (ap (λ (l : List ℕ). l ++ r.second ∷ []) first ∙ append_assoc a (r.first ∷ []) (r.second ∷ [])))
-        ∙ append_assoc a (r.first ∷ r.second ∷ []) (block.at ∷ [])),
-  )
-
 -- Those of the first so many races.
 module _ (shown : Shown) (pairs : List Race) where
-  pub none_yet : AreStackPlaces shown (take 0 pairs) []
-  none_yet = ([], tt, refl)
-
   pub places_next : (k : ℕ) (z r : Race) (old new : List ℕ) → k < length pairs → r ≡ get_or pairs k z
       → AreStackPlaces shown (take k pairs) old → AddsPlaces shown r old new
       → AreStackPlaces shown (take (k + 1) pairs) new
@@ -76,16 +54,6 @@ module _ (shown : Shown) (story : Story) (stacks : StacksView) (thread at : ℕ)
   line_by read b place stack text same test some there is e = line_of (calls_at stacks.stacks.now at) stack text
       (ap (λ (l : List CodePlace). length l == 0) (sym same) ∙ (sym test ∙ some))
       (subst (λ (p : Option CodePlace). IsStackText stacks.code.now p (calls_at stacks.stacks.now at) stack) there is) e
-
-  no_line_of : (calls : List CodePlace) (text : List ℕ) → (length calls == 0) ≡ true → text ≡ []
-      → IsLineOfCalls shown story stacks thread at calls text
-  no_line_of [] text none e = e
-  no_line_of (call ∷ calls) text none e = absurd (omega (arith, eqb-true (length (call ∷ calls)) 0 none))
-
-  pub no_line : (read : List CodePlace) (b : Bool) (text : List ℕ) → read ≡ calls_at stacks.stacks.now at
-      → b ≡ (length read == 0) → b ≡ true → text ≡ [] → IsStackLine shown story stacks thread at text
-  no_line read b text same test none e = no_line_of (calls_at stacks.stacks.now at) text
-      (ap (λ (l : List CodePlace). length l == 0) (sym same) ∙ (sym test ∙ none)) e
 
 -- The line of a block, by the entry that was read.
 pub block_line_by : (shown : Shown) (stacks : StacksView) (block : Block) (log : List Entry) (d : Entry)
