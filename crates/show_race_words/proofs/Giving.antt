@@ -1,18 +1,14 @@
 -- The last entry that gives a block out, by going through the log.
-use Rattle.std.proofs.Common.{◌≡◌, ◌<◌, ◌+◌, ℕ, List, Option, None, Some, inl, inr, ap, refl, subst, arith}
+use Rattle.std.proofs.Common.{◌≡◌, ◌<◌, ◌+◌, ℕ, Option, None, Some, inl, inr}
+use Rattle.std.proofs.Common.{refl, subst, arith}
 use Rattle.std.proofs.lemmas.Bool.{cases_lt}
-use Rattle.types.specs.declared.parts.Export.{Export}
-use Rattle.show_places.specs.declared.names.Named.{Named}
-use Rattle.show_places.specs.declared.names.FunctionName.{FunctionName}
-use Rattle.show_places.specs.declared.names.FunctionName.TheVariants.{Named as ByName, Exported, Numbered}
-use Rattle.show_places.specs.Names.{IsCalledBy}
 use Rattle.show_rows.specs.declared.listing.Shown.{Shown}
 use Rattle.show_race_words.specs.declared.blocks.Block.{Block}
-use Rattle.show_race_words.specs.Blocks.{IsLastGiven, into_given, name_by, text_of}
+use Rattle.show_race_words.specs.Blocks.{IsLastGiven, into_given}
 
 module _ (shown : Shown) (byte : ℕ) where
-  none_more : (first : ℕ) → into_given shown byte first ≡ None → (k : ℕ) → (k < first → into_given shown byte k ≡ None)
-      → k < first + 1 → into_given shown byte k ≡ None
+  none_more : (first : ℕ) → into_given shown byte first ≡ None → (k : ℕ)
+      → (k < first → into_given shown byte k ≡ None) → k < first + 1 → into_given shown byte k ≡ None
   none_more first here k before within = elim (cases_lt k first) [
     | inl lt ↦ before lt
     | inr ge ↦ subst (λ (n : ℕ). into_given shown byte n ≡ None) (omega (arith, ge, within)) here
@@ -38,16 +34,3 @@ module _ (shown : Shown) (byte : ℕ) where
     into_is = is;
     last = λ k behind within. absurd (omega (arith, behind, within));
   }
-
--- A name is that of the function.
-pub called_so : (named : Option Named) (export : Option Export) (index : ℕ) (name : FunctionName)
-    → IsCalledBy named export index name → text_of name ≡ name_by named export
-called_so (Some n) export index (ByName text) is = ap (λ (t : List ℕ). Some t) is
-called_so (Some n) export index (Exported text) is = absurd is
-called_so (Some n) export index (Numbered i) is = absurd is
-called_so None (Some e) index (ByName text) is = absurd is
-called_so None (Some e) index (Exported text) is = ap (λ (t : List ℕ). Some t) is
-called_so None (Some e) index (Numbered i) is = absurd is
-called_so None None index (ByName text) is = absurd is
-called_so None None index (Exported text) is = absurd is
-called_so None None index (Numbered i) is = refl

@@ -1,49 +1,31 @@
 -- Places of entries, and the lines of their calls, by what was read.
-use Rattle.std.proofs.Common.{◌≡◌, ◌∙◌, ◌<◌, ◌≤◌, ◌+◌, ◌==◌, ◌++◌, ℕ, Bool, true, false, List, [], ◌∷◌, None, Some, length, take, get_or, ap}
-use Rattle.std.proofs.Common.{append_assoc, refl, sym, subst, codes}
+use Rattle.std.proofs.Common.{◌≡◌, ◌∙◌, ◌<◌, ◌≤◌, ◌+◌, ◌==◌, ◌++◌, ℕ, Bool, true, false, List, [], ◌∷◌, Option}
+use Rattle.std.proofs.Common.{ap, codes, get_or, length, refl, subst, sym, take}
 use Rattle.std.specs.List.{concat}
 use Rattle.std.specs.Fmt.{decimal}
 use Rattle.std.proofs.lemmas.Bool.{both_ways}
 use Rattle.std.proofs.lemmas.List.{append-nil, take_all}
 use Rattle.std.proofs.lemmas.List.Folds.{concat-append}
+use Rattle.types.specs.declared.event.Entry.{Entry}
 use Rattle.interp.specs.declared.place.CodePlace.{CodePlace}
 use Rattle.race_history.specs.declared.race.Race.{Race}
 use Rattle.show_rows.specs.declared.listing.Shown.{Shown}
 use Rattle.show_rows.specs.declared.listing.Story.{Story}
-use Rattle.show_rows.specs.Listing.{place_of}
+use Rattle.show_rows.specs.Listing.{line_at, place_of}
 use Rattle.show_rows.proofs.Zipped.{zip_next}
 use Rattle.show_stacks.specs.declared.texts.StacksView.{StacksView}
 use Rattle.show_stacks.specs.Stacks.{calls_at}
 use Rattle.show_stacks.specs.Texts.{IsStackText}
 use Rattle.show_race_words.specs.declared.blocks.Block.{Block}
-use Rattle.show_race_words.specs.Blocks.{IsBlockOf}
+use Rattle.show_race_words.specs.Blocks.{IsBlockLine, block_line, own_place}
 use Rattle.show_race_words.specs.Stacks.{AddsPlaces, ArePlacesOf, AreStackPlaces, IsLineOfCalls, IsStackLine}
-
-module _ (shown : Shown) (r : Race) where
-  pub adds_two : (a b c : List ℕ) → IsBlockOf shown r None → b ≡ a ++ r.first ∷ [] → c ≡ b ++ r.second ∷ [] → AddsPlaces shown r a c
-  adds_two a b c none first second = (
-    r.first ∷ r.second ∷ [],
-    (None, none, refl),
-    second ∙ (ap (λ (l : List ℕ). l ++ r.second ∷ []) first ∙ append_assoc a (r.first ∷ []) (r.second ∷ [])),
-  )
-
-  pub adds_three : (a b c d : List ℕ) (block : Block) → IsBlockOf shown r (Some block) → b ≡ a ++ r.first ∷ [] → c ≡ b ++ r.second ∷ []
-      → d ≡ c ++ block.at ∷ [] → AddsPlaces shown r a d
-  adds_three a b c d block is first second third = (
-    r.first ∷ r.second ∷ block.at ∷ [],
-    (Some block, is, refl),
-    third ∙ (ap (λ (l : List ℕ). l ++ block.at ∷ [])
-        (second ∙ (ap (λ (l : List ℕ). l ++ r.second ∷ []) first ∙ append_assoc a (r.first ∷ []) (r.second ∷ [])))
-        ∙ append_assoc a (r.first ∷ r.second ∷ []) (block.at ∷ [])),
-  )
+use Rattle.show_race_words.proofs.Telling.{stands}
 
 -- Those of the first so many races.
 module _ (shown : Shown) (pairs : List Race) where
-  pub none_yet : AreStackPlaces shown (take 0 pairs) []
-  none_yet = ([], tt, refl)
-
   pub places_next : (k : ℕ) (z r : Race) (old new : List ℕ) → k < length pairs → r ≡ get_or pairs k z
-      → AreStackPlaces shown (take k pairs) old → AddsPlaces shown r old new → AreStackPlaces shown (take (k + 1) pairs) new
+      → AreStackPlaces shown (take k pairs) old → AddsPlaces shown r old new
+      → AreStackPlaces shown (take (k + 1) pairs) new
   places_next k z r old new lt is (each, all, are) (places, places_are, adds) = (
     each ++ places ∷ [],
     zip_next (ArePlacesOf shown) pairs each k z r places lt is all places_are,
@@ -61,23 +43,29 @@ module _ (shown : Shown) (story : Story) (stacks : StacksView) (thread at : ℕ)
       → IsStackText stacks.code.now (place_of shown story at) calls stack
       → text ≡ codes "  t" ++ (decimal thread ++ (codes " was in " ++ (stack ++ codes "\n")))
       → IsLineOfCalls shown story stacks thread at calls text
-  line_of [] stack text some is e = absurd (both_ways true refl some)
+  line_of [] stack text some is e = absurd (both_ways true some refl)
   line_of (call ∷ calls) stack text some is e = (stack, is, e)
 
-  pub line_by : (read : List CodePlace) (b : Bool) (stack text : List ℕ) → read ≡ calls_at stacks.stacks.now at
-      → b ≡ (length read == 0) → b ≡ false
-      → IsStackText stacks.code.now (place_of shown story at) (calls_at stacks.stacks.now at) stack
+  pub line_by : (read : List CodePlace) (b : Bool) (place : Option CodePlace) (stack text : List ℕ)
+      → read ≡ calls_at stacks.stacks.now at → b ≡ (length read == 0) → b ≡ false → place ≡ place_of shown story at
+      → IsStackText stacks.code.now place (calls_at stacks.stacks.now at) stack
       → text ≡ codes "  t" ++ (decimal thread ++ (codes " was in " ++ (stack ++ codes "\n")))
       → IsStackLine shown story stacks thread at text
-  line_by read b stack text same test some is e = line_of (calls_at stacks.stacks.now at) stack text
-      (ap (λ (l : List CodePlace). length l == 0) (sym same) ∙ (sym test ∙ some)) is e
+  line_by read b place stack text same test some there is e = line_of (calls_at stacks.stacks.now at) stack text
+      (ap (λ (l : List CodePlace). length l == 0) (sym same) ∙ (sym test ∙ some))
+      (subst (λ (p : Option CodePlace). IsStackText stacks.code.now p (calls_at stacks.stacks.now at) stack) there is) e
 
-  no_line_of : (calls : List CodePlace) (text : List ℕ) → (length calls == 0) ≡ true → text ≡ []
-      → IsLineOfCalls shown story stacks thread at calls text
-  no_line_of [] text none e = e
-  no_line_of (call ∷ calls) text none e = absurd (both_ways false refl none)
-
-  pub no_line : (read : List CodePlace) (b : Bool) (text : List ℕ) → read ≡ calls_at stacks.stacks.now at
-      → b ≡ (length read == 0) → b ≡ true → text ≡ [] → IsStackLine shown story stacks thread at text
-  no_line read b text same test none e = no_line_of (calls_at stacks.stacks.now at) text
-      (ap (λ (l : List CodePlace). length l == 0) (sym same) ∙ (sym test ∙ none)) e
+-- The line of a block, by the entry that was read.
+pub block_line_by : (shown : Shown) (stacks : StacksView) (block : Block) (log : List Entry) (d : Entry)
+    (place : Option CodePlace) (line : ℕ) (stack text : List ℕ) → log ≡ shown.record.now.log
+    → block.at < length shown.record.now.log → place ≡ own_place shown block.at → line ≡ line_at shown block.at
+    → IsStackText stacks.code.now place (calls_at stacks.stacks.now block.at) stack
+    → text ≡ block_line block.byte block.into (get_or log block.at d).thread line stack → IsBlockLine shown stacks block text
+block_line_by shown stacks block log d place line stack text same within there counted is_stack is = record {
+  made = get_or log block.at d;
+  stands = stands log shown.record.now.log block.at d same within;
+  stack = stack;
+  stack_is = subst (λ (p : Option CodePlace). IsStackText stacks.code.now p (calls_at stacks.stacks.now block.at) stack) there
+      is_stack;
+  is = is ∙ ap (λ (n : ℕ). block_line block.byte block.into (get_or log block.at d).thread n stack) counted;
+}

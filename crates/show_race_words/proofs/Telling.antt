@@ -23,7 +23,7 @@ use Rattle.replay_forms.proofs.Written.{appends_then}
 use Rattle.show_rows.proofs.Chosen.{appends_keeps}
 use Rattle.show_rows.proofs.Texts.{AreWritten}
 
-stands : (log whole : List Entry) (at : ℕ) (d : Entry) → log ≡ whole → at < length whole → slice_get whole at ≡ Some (get_or log at d)
+pub stands : (log whole : List Entry) (at : ℕ) (d : Entry) → log ≡ whole → at < length whole → slice_get whole at ≡ Some (get_or log at d)
 stands log whole at d same within = subst (λ (l : List Entry). slice_get l at ≡ Some (get_or log at d)) same
     (slice_get-get_or log at d (subst (λ (l : List Entry). at < length l) (sym same) within))
 

@@ -1,5 +1,6 @@
 -- The blocks of the heap that wathread-cc's malloc gives out, and in which of them a byte lies.
-use Rattle.std.specs.Prelude.{ℕ, ◌≡◌, ◌<◌, ◌+◌, ◌-◌, ◌==◌, ◌&&◌, ◌||◌, not, nat_le, nat_lt, max, bit_and, if◌then◌else◌, Bool, false}
+use Rattle.std.specs.Prelude.{ℕ, ◌≡◌, ◌<◌, ◌+◌, ◌-◌, ◌==◌, ◌&&◌, ◌||◌, not, nat_le, nat_lt, max, bit_and}
+use Rattle.std.specs.Prelude.{if◌then◌else◌, Bool, false}
 use Rattle.std.specs.Prelude.{List, [], ◌++◌, codes, find, Option, Some, None, option_map, option_and_then}
 use Rattle.std.specs.List.{slice_get}
 use Rattle.std.specs.Fmt.{decimal}
@@ -75,9 +76,11 @@ is_by_giver shown at = not (is_atomic_row shown (row_at shown at)) && is_in_give
 
 -- How far a byte lies into the block that the entry at a place gives out.
 abbrev pub into_given : Shown → ℕ → ℕ → Option ℕ
-into_given shown byte at = if is_by_giver shown at then into_written (slice_get shown.record.now.log at) byte else None
+into_given shown byte at =
+    if is_by_giver shown at then into_written (slice_get shown.record.now.log at) byte else None
 
--- The entry at the block's place is before this one and gives it out, and none between them gives out one in which the byte lies.
+-- The entry at the block's place is before this one and gives it out, and none between them gives out one in which the
+-- byte lies.
 pub record IsLastBlock (shown : Shown) (byte first : ℕ) (block : Block) : Type 0 where
   pub byte_is : block.byte ≡ byte
   pub before : block.at < first
@@ -95,7 +98,8 @@ first_touched log at = option_map (λ span. span.first) (option_and_then (λ mad
 
 -- and that both entries of a race touch.
 abbrev pub shared_byte : List Entry → Race → Option ℕ
-shared_byte log r = option_and_then (λ a. option_map (λ b. max a b) (first_touched log r.second)) (first_touched log r.first)
+shared_byte log r =
+    option_and_then (λ a. option_map (λ b. max a b) (first_touched log r.second)) (first_touched log r.first)
 
 abbrev pub IsBlockFor : Shown → ℕ → Option ℕ → Option Block → Type 0
 IsBlockFor shown first None block = block ≡ None
@@ -124,4 +128,5 @@ IsBlockLineOf shown stacks (Some block) text = IsBlockLine shown stacks block te
 
 -- That line; nothing where the byte lies in no block.
 abbrev pub IsBlockText : Shown → StacksView → Race → List ℕ → Type 0
-IsBlockText shown stacks r text = (block : Option Block) × IsBlockOf shown r block × IsBlockLineOf shown stacks block text
+IsBlockText shown stacks r text =
+    (block : Option Block) × IsBlockOf shown r block × IsBlockLineOf shown stacks block text

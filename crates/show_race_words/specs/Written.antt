@@ -111,8 +111,9 @@ kind_of sites at = option_map (λ s. s.kind) (slice_get sites at)
 abbrev pub name_text : List Site → Race → List ℕ
 name_text sites r = name_of (kind_of sites r.first) (kind_of sites r.second)
 
--- A race: its two entries with the names of their data, what they do with the number of pages, the calls that led to them,
--- the block of the heap in which they touch a byte, what would have ordered them, and which entries started their threads.
+-- A race: its two entries with the names of their data, what they do with the number of pages, the calls that led to
+-- them, the block of the heap in which they touch a byte, what would have ordered them, and which entries started their
+-- threads.
 pub record SaysRace (shown : Shown) (map : DataMap) (story : Story) (stacks : StacksView) (sites : List Site) (r : Race)
     (text : List ℕ) : Type 0 where
   pub one : List ℕ
@@ -143,7 +144,8 @@ more_text is_cut count = if is_cut then
     codes "not all: more than " ++ (decimal count ++ codes "; `races` tells more of a record\n") else []
 
 -- A paragraph is written for each race, in order; and this behind them.
-abbrev pub WritesEach : Shown → DataMap → Story → StacksView → RecordRaces → Option (List ℕ) → Option (List ℕ) → Type 0
+abbrev pub WritesEach : Shown → DataMap → Story → StacksView → RecordRaces → Option (List ℕ) → Option (List ℕ)
+    → Type 0
 WritesEach shown map story stacks races old new = (texts : List (List ℕ))
     × AllZip (SaysRace shown map story stacks races.sites.items) races.pairs.items texts × Appends old new (concat texts)
 
@@ -153,11 +155,13 @@ WritesBefore last shown map story stacks races old new = (texts : List (List ℕ
     × AllZip (SaysRace shown map story stacks races.sites.items) races.pairs.items texts × Appends old new (concat texts ++ last)
 
 -- Behind them stands whether that are all.
-abbrev pub TellsRaces : Shown → DataMap → Story → StacksView → RecordRaces → Option (List ℕ) → Option (List ℕ) → Type 0
+abbrev pub TellsRaces : Shown → DataMap → Story → StacksView → RecordRaces → Option (List ℕ) → Option (List ℕ)
+    → Type 0
 TellsRaces shown map story stacks races old new =
     WritesBefore (end_text races.is_cut (length races.pairs.items)) shown map story stacks races old new
 
 -- Of a run that was found for a race, what tells more.
-abbrev pub TellsFound : Shown → DataMap → Story → StacksView → RecordRaces → Option (List ℕ) → Option (List ℕ) → Type 0
+abbrev pub TellsFound : Shown → DataMap → Story → StacksView → RecordRaces → Option (List ℕ) → Option (List ℕ)
+    → Type 0
 TellsFound shown map story stacks races old new =
     WritesBefore (more_text races.is_cut (length races.pairs.items)) shown map story stacks races old new

@@ -83,7 +83,7 @@ fn bytes_into(given: Given, byte: u64) -> Option<u64>
 
 /// How far into the block that an entry gives out a byte lies, whoever makes the entry.
 fn into_written(made: Option<&Entry>, byte: u64) -> Option<u64>
-    ensures { result ≡ specified.into_written (option_copied made) byte }
+    ensures { result ≡ specified.into_written (option_copied made.entry) byte }
 {
     let entry = made?;
     let given = given_by(entry.event)?;
@@ -92,7 +92,7 @@ fn into_written(made: Option<&Entry>, byte: u64) -> Option<u64>
 
 /// Whether a function gives blocks out, by what it is called.
 fn is_giver(name: FunctionName) -> bool
-    ensures { result ≡ specified.is_giver (specified.text_of name) }
+    ensures { result ≡ specified.is_giver (specified.text_of name.entry) }
 {
     match name {
         FunctionName::Named(name) => name == "malloc" || name == "aligned_alloc",

@@ -23,8 +23,8 @@ fn add_places(places: &mut Vec<usize>, shown: Shown, race: Race) -> Result<(), A
     Ok(())
 }
 
-/// The places of the entries whose stacks are told: the two of each race, and those by which the blocks were got in which
-/// they touch bytes.
+/// The places of the entries whose stacks are told: the two of each race, and those by which the blocks were got in
+/// which they touch bytes.
 ///
 /// # Errors
 /// Where memory is refused.

@@ -2,7 +2,8 @@
 
 ghost use Rattle.std.specs.Prelude.{◌≡◌, ◌<◌, All, IfOk, OnOk, length, string_bytes};
 ghost use Rattle.show_races.specs.Told.{IsWithin};
-ghost use Rattle.show_race_words.specs.Written.{AreStarts, SaysRace, TellsFound, TellsRaces, WritesEach, kind_of, name_text};
+ghost use Rattle.show_race_words.specs.Written.{AreStarts, SaysRace, TellsFound, TellsRaces, WritesEach};
+ghost use Rattle.show_race_words.specs.Written.{kind_of, name_text};
 
 use crate::blocks::block_text;
 use crate::looks::look_text;
@@ -63,7 +64,8 @@ fn race_text(
     race: Race,
 ) -> Result<String, AllocError>
     requires { IsWithin shown.record.now.log race }
-    ensures { IfOk result (λ text. SaysRace shown.entry map.now story.now stacks.entry sites.now race (string_bytes text)) }
+    ensures { IfOk result
+        (λ text. SaysRace shown.entry map.now story.now stacks.entry sites.now race (string_bytes text)) }
 {
     let name = name_of(sites, race);
     let one = named_text(alloc, shown, map, story, race.first)?;
@@ -139,7 +141,8 @@ fn write_each<W: Write>(
     out: &mut W,
 ) -> Result<(), Unwritten>
     requires { All (IsWithin shown.record.now.log) races.now.pairs.items }
-    ensures { OnOk result (WritesEach shown.entry map.now story.now stacks.entry races.now (W.contents out.old) (W.contents out.new)) }
+    ensures { OnOk result
+        (WritesEach shown.entry map.now story.now stacks.entry races.now (W.contents out.old) (W.contents out.new)) }
 {
     let pairs = races.pairs.as_slice();
     let sites = races.sites.as_slice();
@@ -165,7 +168,8 @@ pub fn write_races<W: Write>(
     out: &mut W,
 ) -> Result<(), Unwritten>
     requires { All (IsWithin shown.record.now.log) races.now.pairs.items }
-    ensures { OnOk result (TellsRaces shown.entry map.now story.now stacks.entry races.now (W.contents out.old) (W.contents out.new)) }
+    ensures { OnOk result
+        (TellsRaces shown.entry map.now story.now stacks.entry races.now (W.contents out.old) (W.contents out.new)) }
 {
     write_each(alloc, shown, map, story, stacks, races, out)?;
     let pairs = races.pairs.as_slice();
@@ -192,7 +196,8 @@ pub fn write_found<W: Write>(
     out: &mut W,
 ) -> Result<(), Unwritten>
     requires { All (IsWithin shown.record.now.log) races.now.pairs.items }
-    ensures { OnOk result (TellsFound shown.entry map.now story.now stacks.entry races.now (W.contents out.old) (W.contents out.new)) }
+    ensures { OnOk result
+        (TellsFound shown.entry map.now story.now stacks.entry races.now (W.contents out.old) (W.contents out.new)) }
 {
     write_each(alloc, shown, map, story, stacks, races, out)?;
     let pairs = races.pairs.as_slice();

@@ -75,8 +75,8 @@ abbrev pub IsFirstThere : Allowed → Shown → Story → Race → Type 0
 IsFirstThere allowed shown story r =
     (s : Race) → IsLastShown allowed shown s → AreAlike shown story s r → (r ≡ s) ⊎ IsEarlier r s
 
--- Of a race by these accesses: with the last entry that makes the first one, and the same second entry, it or one like it is
--- told.
+-- Of a race by these accesses: with the last entry that makes the first one, and the same second entry, it or one like
+-- it is told.
 pub record IsToldOf (allowed : Allowed) (shown : Shown) (story : Story) (told : List Race) (a b : ThreadAccess) (second : ℕ) : Type 0 where
   pub race : Race
   pub is : IsRaceOf shown.record.now.log (sites_shown allowed shown) (opening_shown shown) race a b

@@ -24,8 +24,8 @@ const MOST_PAIRS: usize = 1_000_000;
 pub struct RecordRaces {
     /// By which instruction each entry was made.
     pub sites: Vec<Site>,
-    /// In the order of their second entries. No two were made at the same two places of the code, called from the same two
-    /// places.
+    /// In the order of their second entries. No two were made at the same two places of the code, called from the same
+    /// two places.
     pub pairs: Vec<Race>,
     /// There are more, or more than are looked at.
     pub is_cut: bool,
@@ -92,8 +92,8 @@ fn is_known(shown: Shown, story: &Story, known: &[Race], race: Race) -> bool
     false
 }
 
-/// Of these races those that were made at other places of the code, or called from others, than each one before, `most` at
-/// most.
+/// Of these races those that were made at other places of the code, or called from others, than each one before, `most`
+/// at most.
 fn find_firsts(
     alloc: Global,
     shown: Shown,
@@ -161,8 +161,8 @@ fn either(a: bool, b: bool) -> bool
     a || b
 }
 
-/// The races of a record's run that aren't allowed, `most` at most: of those that were made at the same two places of the
-/// code, called from the same two places, the first.
+/// The races of a record's run that aren't allowed, `most` at most: of those that were made at the same two places of
+/// the code, called from the same two places, the first.
 ///
 /// # Errors
 /// Where memory is refused.
