@@ -11,11 +11,11 @@ use Rattle.interp.specs.declared.place.CodePlace.{CodePlace}
 use Rattle.race_history.specs.declared.race.Race.{Race}
 use Rattle.show_rows.specs.declared.listing.Shown.{Shown}
 use Rattle.show_rows.specs.declared.listing.Story.{Story}
-use Rattle.show_rows.specs.Listing.{line_at, place_of}
+use Rattle.show_rows.specs.Listing.{IsPlaceText, line_at, place_of}
 use Rattle.show_rows.proofs.Zipped.{zip_next}
 use Rattle.show_stacks.specs.declared.texts.StacksView.{StacksView}
 use Rattle.show_stacks.specs.Stacks.{calls_at}
-use Rattle.show_stacks.specs.Texts.{IsStackText}
+use Rattle.show_stacks.specs.Texts.{IsCallsText, IsStackText}
 use Rattle.show_race_words.specs.declared.blocks.Block.{Block}
 use Rattle.show_race_words.specs.Blocks.{IsBlockLine, block_line, own_place}
 use Rattle.show_race_words.specs.Stacks.{AddsPlaces, ArePlacesOf, AreStackPlaces, IsLineOfCalls, IsStackLine}
@@ -39,21 +39,27 @@ module _ (shown : Shown) (pairs : List Race) where
       subst (λ (l : List Race). AreStackPlaces shown l places) (take_all n pairs le ∙ same) are
 
 module _ (shown : Shown) (story : Story) (stacks : StacksView) (thread at : ℕ) where
-  line_of : (calls : List CodePlace) (stack text : List ℕ) → (length calls == 0) ≡ false
-      → IsStackText stacks.code.now (place_of shown story at) calls stack
-      → text ≡ codes "  t" ++ (decimal thread ++ (codes " was in " ++ (stack ++ codes "\n")))
-      → IsLineOfCalls shown story stacks thread at calls text
-  line_of [] stack text some is e = absurd (both_ways true some refl)
-  line_of (call ∷ calls) stack text some is e = (stack, is, e)
+  line_of : (calls spot text : List ℕ) → (length calls == 0) ≡ false → IsPlaceText stacks.code.now (place_of shown story at) spot
+      → text ≡ codes "  t" ++ (decimal thread ++ (codes " was in " ++ (spot ++ (calls ++ codes "\n"))))
+      → IsLineOfCalls stacks.code.now (place_of shown story at) thread calls text
+  line_of [] spot text some is e = absurd (both_ways true some refl)
+  line_of (c ∷ calls) spot text some is e = (spot, is, e)
 
-  pub line_by : (read : List CodePlace) (b : Bool) (place : Option CodePlace) (stack text : List ℕ)
-      → read ≡ calls_at stacks.stacks.now at → b ≡ (length read == 0) → b ≡ false → place ≡ place_of shown story at
-      → IsStackText stacks.code.now place (calls_at stacks.stacks.now at) stack
-      → text ≡ codes "  t" ++ (decimal thread ++ (codes " was in " ++ (stack ++ codes "\n")))
+  -- no call is told
+  pub none_by : (calls text : List ℕ) → IsCallsText stacks.code.now (calls_at stacks.stacks.now at) calls
+      → (length calls == 0) ≡ true → text ≡ [] → IsStackLine shown story stacks thread at text
+  none_by [] text led none e = ([], led, e)
+  none_by (c ∷ calls) text led none e = absurd cc
+
+  pub line_by : (place : Option CodePlace) (calls spot text : List ℕ) → IsCallsText stacks.code.now (calls_at stacks.stacks.now at) calls
+      → (length calls == 0) ≡ false → place ≡ place_of shown story at → IsPlaceText stacks.code.now place spot
+      → text ≡ codes "  t" ++ (decimal thread ++ (codes " was in " ++ (spot ++ (calls ++ codes "\n"))))
       → IsStackLine shown story stacks thread at text
-  line_by read b place stack text same test some there is e = line_of (calls_at stacks.stacks.now at) stack text
-      (ap (λ (l : List CodePlace). length l == 0) (sym same) ∙ (sym test ∙ some))
-      (subst (λ (p : Option CodePlace). IsStackText stacks.code.now p (calls_at stacks.stacks.now at) stack) there is) e
+  line_by place calls spot text led some there is e = (
+    calls,
+    led,
+    line_of calls spot text some (subst (λ (p : Option CodePlace). IsPlaceText stacks.code.now p spot) there is) e,
+  )
 
 -- The line of a block, by the entry that was read.
 pub block_line_by : (shown : Shown) (stacks : StacksView) (block : Block) (log : List Entry) (d : Entry)

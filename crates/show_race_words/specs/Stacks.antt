@@ -5,12 +5,13 @@ use Rattle.std.specs.Fmt.{decimal}
 use Rattle.types.specs.declared.event.Entry.{Entry}
 use Rattle.interp.specs.declared.place.CodePlace.{CodePlace}
 use Rattle.race_history.specs.declared.race.Race.{Race}
+use Rattle.show_rows.specs.declared.code.CodeMap.{CodeMap}
 use Rattle.show_rows.specs.declared.listing.Shown.{Shown}
 use Rattle.show_rows.specs.declared.listing.Story.{Story}
-use Rattle.show_rows.specs.Listing.{place_of}
+use Rattle.show_rows.specs.Listing.{IsPlaceText, place_of}
 use Rattle.show_stacks.specs.declared.texts.StacksView.{StacksView}
 use Rattle.show_stacks.specs.Stacks.{calls_at}
-use Rattle.show_stacks.specs.Texts.{IsStackText}
+use Rattle.show_stacks.specs.Texts.{IsCallsText}
 use Rattle.show_race_words.specs.declared.blocks.Block.{Block}
 use Rattle.show_race_words.specs.Blocks.{IsBlockOf}
 use Rattle.show_race_words.specs.Spots.{AreAt}
@@ -31,16 +32,17 @@ abbrev pub AreStackPlaces : Shown → List Race → List ℕ → Type 0
 AreStackPlaces shown pairs places =
     (each : List (List ℕ)) × AllZip (ArePlacesOf shown) pairs each × (places ≡ concat each)
 
--- The text of where an entry was made and of these calls; nothing where there are no calls.
-abbrev pub IsLineOfCalls : Shown → Story → StacksView → ℕ → ℕ → List CodePlace → List ℕ → Type 0
-IsLineOfCalls shown story stacks thread at [] text = text ≡ []
-IsLineOfCalls shown story stacks thread at (call ∷ calls) text = (stack : List ℕ)
-    × IsStackText stacks.code.now (place_of shown story at) (call ∷ calls) stack
-    × (text ≡ codes "  t" ++ (decimal thread ++ (codes " was in " ++ (stack ++ codes "\n"))))
+-- The text of a place, and behind it this text of calls; nothing where that is empty.
+abbrev pub IsLineOfCalls : CodeMap → Option CodePlace → ℕ → List ℕ → List ℕ → Type 0
+IsLineOfCalls code place thread [] text = text ≡ []
+IsLineOfCalls code place thread (c ∷ calls) text = (spot : List ℕ) × IsPlaceText code place spot
+    × (text ≡ codes "  t" ++ (decimal thread ++ (codes " was in " ++ (spot ++ ((c ∷ calls) ++ codes "\n")))))
 
+-- Where an entry was made, and the calls that led there.
 abbrev pub IsStackLine : Shown → Story → StacksView → ℕ → ℕ → List ℕ → Type 0
-IsStackLine shown story stacks thread at text =
-    IsLineOfCalls shown story stacks thread at (calls_at stacks.stacks.now at) text
+IsStackLine shown story stacks thread at text = (calls : List ℕ)
+    × IsCallsText stacks.code.now (calls_at stacks.stacks.now at) calls
+    × IsLineOfCalls stacks.code.now (place_of shown story at) thread calls text
 
 -- In which calls the threads of the two entries were when they made them.
 pub record AreStacks (shown : Shown) (story : Story) (stacks : StacksView) (r : Race) (text : List ℕ) : Type 0 where

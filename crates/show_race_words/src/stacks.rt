@@ -6,7 +6,7 @@ ghost use Rattle.show_race_words.specs.Stacks.{AddsPlaces, AreStackPlaces, AreSt
 use crate::blocks::block_of;
 use race_history::Race;
 use show_races::RecordRaces;
-use show_rows::{Shown, Story};
+use show_rows::{Shown, Story, spot_text};
 use show_stacks::StacksView;
 use std::alloc::{AllocError, Global};
 
@@ -43,7 +43,7 @@ pub fn stack_places(
     Ok(places)
 }
 
-/// In which calls a thread was when it made the entry at a place; empty where none of them is known.
+/// In which calls a thread was when it made the entry at a place; empty where none of them is told.
 fn stack_line(
     alloc: Global,
     shown: Shown,
@@ -54,11 +54,12 @@ fn stack_line(
 ) -> Result<String, AllocError>
     ensures { IfOk result (λ text. IsStackLine shown.entry story.now stacks.entry thread at (string_bytes text)) }
 {
-    if stacks.stacks.calls_at(at).is_empty() {
+    let calls = stacks.calls_text(alloc, at)?;
+    if calls.is_empty() {
         return Ok(String::new(alloc));
     }
-    let stack = stacks.text(alloc, shown.place_at(story, at), at)?;
-    let text = format!(in alloc; "  t{thread} was in {stack}\n")?;
+    let spot = spot_text(alloc, stacks.code, shown.place_at(story, at))?;
+    let text = format!(in alloc; "  t{thread} was in {spot}{calls}\n")?;
     Ok(text)
 }
 

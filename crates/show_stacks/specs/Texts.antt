@@ -10,6 +10,10 @@ AddsCalls code [] old new = new ≡ old
 AddsCalls code (call ∷ calls) old new =
     (text : List ℕ) × IsCallText code (Some call) text × AddsCalls code calls (old ++ text) new
 
+-- The text of these calls alone.
+abbrev pub IsCallsText : CodeMap → List CodePlace → List ℕ → Type 0
+IsCallsText code calls text = AddsCalls code calls [] text
+
 -- The text of a place, and behind it that of each call that led there.
 abbrev pub IsStackText : CodeMap → Option CodePlace → List CodePlace → List ℕ → Type 0
 IsStackText code place calls text =

@@ -2,7 +2,7 @@
 
 ghost use Rattle.std.specs.Prelude.{IfOk, OnOk, string_bytes};
 ghost use Rattle.show_stacks.specs.Stacks.{calls_at};
-ghost use Rattle.show_stacks.specs.Texts.{AddsCalls, IsStackText};
+ghost use Rattle.show_stacks.specs.Texts.{AddsCalls, IsCallsText, IsStackText};
 
 use crate::stacks::EntryStacks;
 use interp::CodePlace;
@@ -33,6 +33,18 @@ fn push_calls(
 }
 
 impl StacksView<'_, '_, '_> {
+    /// The calls that led to the entry at a place, as they stand behind it: ` < main heap.c:13`; empty where none is told.
+    ///
+    /// # Errors
+    /// Where memory is refused.
+    pub fn calls_text(&self, alloc: Global, at: usize) -> Result<String, AllocError>
+        ensures { IfOk result (λ text. IsCallsText self.now.code.now (calls_at self.now.stacks.now at) (string_bytes text)) }
+    {
+        let mut text = String::new(alloc);
+        push_calls(alloc, self.code, self.stacks.calls_at(at), &mut text)?;
+        Ok(text)
+    }
+
     /// Where the entry at a place was made (`place`), and the calls that led there:
     /// `bump+0x11 heap.c:5 < main heap.c:13`.
     ///

@@ -1,7 +1,11 @@
-use Rattle.show_race_words.proofs.Stacking.{line_by}
+use Rattle.std.proofs.Common.{◌∙◌, refl, sym}
+use Rattle.show_race_words.proofs.Stacking.{line_by, none_by}
 use Rattle.show_race_words.proofs.stacks.stack_line.Goals as goal
 
+pub returns-then-is_empty : goal.returns-then-is_empty
+returns-then-is_empty c = none_by c.args.shown c.args.story.now c.args.stacks c.args.thread c.args.at _ _ c.in_ok-calls.ensures
+    (sym c.is_empty.ensures ∙ c.if-is_empty.true) refl
+
 pub returns : goal.returns
-returns c = line_by c.args.shown c.args.story.now c.args.stacks c.args.thread c.args.at c.calls_at.result.now
-    c.is_empty.result c.place_at.result _ _ c.calls_at.ensures c.is_empty.ensures c.if-is_empty.false c.place_at.ensures
-    c.in_ok-stack.ensures c.in_ok-text.ensures.ok
+returns c = line_by c.args.shown c.args.story.now c.args.stacks c.args.thread c.args.at c.place_at.result _ _ _ c.in_ok-calls.ensures
+    (sym c.is_empty.ensures ∙ c.if-is_empty.false) c.place_at.ensures c.in_ok-spot.ensures c.in_ok-text.ensures.ok
