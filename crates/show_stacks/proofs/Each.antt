@@ -1,6 +1,6 @@
 -- What a watch has of the entry at one place that is named, as it sees a log.
 use Rattle.std.proofs.Common.{◌≡◌, ◌≢◌, ◌==◌, ◌∙◌, ◌+◌, ◌<◌, ◌⊎◌, inl, inr, ℕ, zero, suc, Bool, true, false}
-use Rattle.std.proofs.Common.{List, [], ◌∷◌, length, map, replicate}
+use Rattle.std.proofs.Common.{List, [], ◌∷◌, length, replicate}
 use Rattle.std.proofs.Common.{Option, Some, None, option_map, unwrap_or, slice_set, get_or, ap, arith, refl, subst, sym}
 use Rattle.std.proofs.lemmas.Bool.{eqb-true}
 use Rattle.std.proofs.lemmas.List.{get_or-replicate, get_or-set_other, get_or-set_same}
