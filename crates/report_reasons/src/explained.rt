@@ -95,7 +95,9 @@ fn add_done(
 fn add_left_out(out: &mut String, left_out: LeftOut) -> Result<(), AllocError> {
     match left_out {
         LeftOut::Nothing => Ok(()),
-        LeftOut::Some => out.push_str("note: races that --allow-race or --allow-mixed allows are left out\n"),
+        LeftOut::Some => out.push_str(
+            "note: races that --allow-race or --allow-mixed allows are left out\n",
+        ),
         LeftOut::Races(1) => out.push_str("note: 1 race is left out, which is allowed\n"),
         LeftOut::Races(count) => {
             write!(out, "note: {count} races are left out, which are allowed\n")?;

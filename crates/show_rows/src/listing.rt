@@ -195,7 +195,11 @@ impl Shown<'_, '_, '_, '_, '_> {
 ///
 /// # Errors
 /// Where memory is refused.
-pub fn spot_text(alloc: Global, code: &CodeMap, place: Option<CodePlace>) -> Result<String, AllocError>
+pub fn spot_text(
+    alloc: Global,
+    code: &CodeMap,
+    place: Option<CodePlace>,
+) -> Result<String, AllocError>
     ensures { IfOk result (λ text. IsPlaceText code.now place (string_bytes text)) }
 {
     match place {
@@ -232,7 +236,11 @@ fn in_chain<'a>(spot: Spot<'a>, chain: &'a Chain) -> InlinedSpot<'a>
 ///
 /// # Errors
 /// Where memory is refused.
-pub fn call_text(alloc: Global, code: &CodeMap, call: Option<CodePlace>) -> Result<String, AllocError>
+pub fn call_text(
+    alloc: Global,
+    code: &CodeMap,
+    call: Option<CodePlace>,
+) -> Result<String, AllocError>
     ensures { IfOk result (λ text. IsCallText code.now call (string_bytes text)) }
 {
     match call {
