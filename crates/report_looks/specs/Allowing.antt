@@ -12,7 +12,7 @@ use Rattle.report_looks.specs.declared.allowing.AllowedBytes.{AllowedBytes}
 
 -- Data are at these addresses, by what bytes of a module say of it.
 abbrev pub IsSpanOf : Data → NumberSpan → Type 0
-IsSpanOf data span = (map : DataMap) × AreAddresses map data span
+IsSpanOf d span = (map : DataMap) × AreAddresses map d span
 
 -- Accesses to these bytes may race, and atomic ones of different widths where that is asked for.
 pub record IsAllowedBy (allow : Allowance) (allowed : Allowed) : Type 0 where
@@ -30,4 +30,4 @@ IsNamed (Named words) = Unit {0}
 
 -- Some of these are.
 abbrev pub SomeNamed : List Data → Type 0
-SomeNamed all = (data : Data) × Contains all data × IsNamed data
+SomeNamed all = (d : Data) × Contains all d × IsNamed d
