@@ -31,11 +31,12 @@ PLACE = re.compile(rb'\x0C(....)[\x9B\xE0]', re.S)
 # is: none of a segment, so many of a symbol.
 MAPPED, SYMBOL = re.compile(r' *([0-9a-f]+|-) +[0-9a-f]+ +([0-9a-f]+) ( *)(.*)'), 16
 
-# How values are spelled, by their forms: in so many bytes; as a number; as bytes behind their count, of so many bytes.
-VARIABLE, LOCATION, STRING, CONSTANT = 0x34, 0x02, 0x08, 0x21
-FIXED = {form: size for size, forms in {0: (0x19, CONSTANT), 1: (0x0B, 0x0C, 0x11, 0x25, 0x29), 2: (0x05, 0x12, 0x26, 0x2A),
-                                        3: (0x27, 0x2B), 4: (0x01, 0x06, 0x0E, 0x10, 0x13, 0x17, 0x1C, 0x1D, 0x1F, 0x28, 0x2C),
-                                        8: (0x07, 0x14, 0x20, 0x24), 16: (0x1E,)}.items() for form in forms}
+VARIABLE, LOCATION = 0x34, 0x02
+# How values are spelled, by their forms: in so many bytes, as numbers, as bytes behind their count, which has so many.
+STRING, CONSTANT = 0x08, 0x21
+SIZES = {0: (0x19, CONSTANT), 1: (0x0B, 0x0C, 0x11, 0x25, 0x29), 2: (0x05, 0x12, 0x26, 0x2A), 3: (0x27, 0x2B),
+         4: (0x01, 0x06, 0x0E, 0x10, 0x13, 0x17, 0x1C, 0x1D, 0x1F, 0x28, 0x2C), 8: (0x07, 0x14, 0x20, 0x24), 16: (0x1E,)}
+FIXED = {form: size for size, forms in SIZES.items() for form in forms}
 NUMBERS, COUNTED, COUNTED_BY = {0x0D, 0x0F, 0x15, 0x1A, 0x1B, 0x22, 0x23}, {0x09, 0x18}, {0x03: 2, 0x04: 4, 0x0A: 1}
 
 
@@ -63,7 +64,8 @@ def read_value(reader, form):
     elif form == STRING:
         reader.at = reader.data.index(0, reader.at) + 1
     else:
-        reader.at += reader.little(COUNTED_BY[form])
+        size = reader.little(COUNTED_BY[form])
+        reader.at += size
     return b''
 
 
@@ -117,11 +119,11 @@ class Own:
     def __init__(self, stack, size, image, entries, others):
         self.out, self.types, self.structures = bytearray(b'\x01\x02char\0\x01\x08'), {1: HEADER + 1}, {}
         self.stack, self.size = stack, size
-        self.members = [(place - image, b'\x07' + entry.to_bytes(4, 'little')) for place, entry in entries.items()
-                        if 0 <= place - image < size]
-        self.members += [(place - image, self.member(name, its_size)) for place, its_size, name in others
-                         if place not in entries and its_size]
-        self.members += [(0, self.member('thread_local', size))] * (size > 0)
+        members = [(place - image, b'\x07' + entry.to_bytes(4, 'little')) for place, entry in entries.items()]
+        members += [(place - image, self.member(name, its_size)) for place, its_size, name in others
+                    if place not in entries and its_size]
+        members += [(0, self.member('thread_local', size))] * (size > 0)
+        self.members = [(at, member) for at, member in members if 0 <= at < size]
 
     def add(self, more):
         """Adds an entry, and gives its offset."""

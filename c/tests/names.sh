@@ -18,10 +18,11 @@ build() { # words of wathread-cc
     "$here/wathread-cc" --threads 2 --stack 1024 --pool 64 "$@" "$here/tests/names.c" -o "$m" || say build
 }
 
-# Where the accesses of a race of `change` are, by what drawn runs say.
+# Where both accesses of a race of `change` are, by what drawn runs say.
 races() {
-    "$wathread" search "$m" --invoke main --races --runs 1000 2>&1 |
-        sed -nE 's/^race: .* 1 .had 0.( at (.*))?, entry [0-9]*, change.*; .* = 1( at (.*))?, entry .*/\2 \4/p' | head -n 1
+    "$wathread" search "$m" --invoke main --races --runs 1000 2>&1 | sed -nE \
+        's/^race: [^,]*[0-9)]( at ([^,]*))?, entry [0-9]*, change[^;]*; [^,]*[0-9)]( at ([^,]*))?, entry [0-9]*, change.*/\2 \4/p' |
+        head -n 1
 }
 
 # names WAY WANTED: both accesses have this name, a pattern.
@@ -30,7 +31,7 @@ names() {
     build "${shape[@]}" -DWAY="$1"
     found=$(races)
     # shellcheck disable=SC2053
-    [[ ${found% *} = $2 && ${found#* } = "${found% *}" ]] || say "'$found' and not '$2'"
+    [[ -n $found && ${found% *} = $2 && ${found#* } = "${found% *}" ]] || say "'$found' and not '$2'"
 }
 
 # shown NAME WANTED: so many rows of a run are at data of this name.
@@ -57,7 +58,8 @@ words=-g0
 "$here/wathread-cc" -g0 -DWAY=1 "$here/tests/names.c" -o "$m"
 grep -q debug_info "$m" && say "debug information"
 words='-Wl,-Map'
-"$here/wathread-cc" -DWAY=1 "-Wl,-Map=$work/users" "$here/tests/names.c" -o "$m" && grep -q tdata "$work/users" || say "no map"
+"$here/wathread-cc" -DWAY=1 "-Wl,-Map=$work/users" "$here/tests/names.c" -o "$m" && grep -q tdata "$work/users" ||
+    say "no map"
 
 echo "$tried modules, $wrong wrong"
 [ $wrong = 0 ]
