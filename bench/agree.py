@@ -1,6 +1,6 @@
 #!/usr/bin/env python3
-"""agree.py [--modules N] [--seed S] [--from I] [--runs R] [--states N] [--program PATH] [--channels|--alone]: whether
-races of all runs and of one run agree.
+"""agree.py [--modules N] [--seed S] [--from I] [--runs R] [--states N] [--program PATH] [--allow] [--channels|--alone]:
+whether races of all runs and of one run agree.
 
 `search --all` says `no race` by races of neighbours, and `races` tells those of a run by what happens before what. This
 draws N modules of few threads (2,000 where it isn't said; agree_modules.py), from the I-th of seed S on, and asks both:
@@ -22,6 +22,13 @@ a run in which two threads touch a byte, not both atomically, one writing, in an
 many the drawn runs met each ending. The status is 1 where there is a disagreement. With --channels it asks
 the same of modules made by hand (agree_channels.py), and prints what both say. With --alone it asks the enumeration
 alone, which has both definitions, and needs no program.
+
+With --allow some races of each drawn module are meant (`--allow-race` and `--allow-mixed` of the program): those to
+some bytes that are drawn too, and in a third of the modules those of atomic accesses of different bytes. In half of
+them some accesses are made plain before, or get other bytes. What the two definitions are known to say otherwise of
+such a module is counted, and no disagreement: a race with what a thread would write by a compare-exchange, where
+another one stored over a part of that alone (MEMORY_MODEL.md, "Races that are meant"). The enumeration has the first
+definition with such parts, too (agree_runs.py), and only what that has is counted so.
 """
 import argparse
 import collections
@@ -58,18 +65,24 @@ def answer(words):
     return json.loads(got.stdout)
 
 
+def words_of(allowed):
+    """The program's words for what may race."""
+    spans = ",".join(f"{first}-{last}" if first < last else str(first) for first, last in allowed.spans)
+    return (["--allow-race", spans] if spans else []) + ["--allow-mixed"] * allowed.mixed
+
+
 class Module:
     """A drawn module, in a folder, and the words that ask of it."""
 
-    def __init__(self, options, folder, name, kind, bodies, most):
-        self.name, self.kind, self.bodies, self.most = name, kind, bodies, most
+    def __init__(self, options, folder, name, kind, bodies, most, allowed=agree_modules.NOTHING):
+        self.name, self.kind, self.bodies, self.most, self.allowed = name, kind, bodies, most, allowed
         self.file, self.record = f"{folder}/{name}.wasm", f"{folder}/{name}.record"
         self.options, self.said = options, []
         with open(self.file, "wb") as file:
             file.write(agree_modules.bytes_of(bodies, most))
 
     def ask(self, command, *words):
-        return answer([self.options.program, command, self.file, *words])
+        return answer([self.options.program, command, self.file, *words, *words_of(self.allowed)])
 
     def search(self, *words):
         return self.ask("search", "--invoke", "f", "--jobs", "1", "--limit", LIMIT, *words)
@@ -142,9 +155,9 @@ def ask_all(module, counts):
     return said
 
 
-def enumerate_runs(bodies, most, counts):
+def enumerate_runs(bodies, most, allowed, counts):
     """What all runs come to by an enumeration, or None where they are too many."""
-    runs = agree_runs.Runs(bodies, most, MOST_ENUMERATED)
+    runs = agree_runs.Runs(bodies, most, MOST_ENUMERATED, allowed)
     try:
         runs.go()
     except agree_runs.TooMany:
@@ -154,7 +167,12 @@ def enumerate_runs(bodies, most, counts):
     return runs
 
 
-def look_on(module, counts):
+def is_known(own):
+    """Whether by the enumeration no run has a race but with what was written over in part."""
+    return bool(own and own.meet_in_part and not own.meet)
+
+
+def look_on(module, counts, own):
     """Goes through the drawn runs of a module of which no run has a race: the kinds of races that they have all the
     same, and how many endings the last of them had."""
     first, kinds, met = 1, set(), 0
@@ -166,7 +184,8 @@ def look_on(module, counts):
             break
         kinds |= set(kinds_of(module))
         if "race in a run" in kinds:
-            report(module, counts, "race in a run")
+            if not is_known(own):
+                report(module, counts, "race in a run")
             break
         first = said["found"]["run"] + 1
         if first > module.options.runs:
@@ -178,18 +197,19 @@ def report(module, counts, kind):
     counts[f"FOUND: {kind}"] += 1
     print(f"\n{module.name} ({module.kind}): {kind}")
     print(agree_modules.wat_of(module.bodies, module.most))
-    program, kept = module.options.program, module.name
+    program, kept, allowed = module.options.program, module.name, words_of(module.allowed)
     shutil.copy(module.file, f"{kept}.wasm")
-    print(f"{program} search {kept}.wasm --invoke f --all")
-    print(f"{program} search {kept}.wasm --invoke f --races --runs {module.options.runs} --limit {LIMIT}", flush=True)
+    drawn = ["--races", "--runs", module.options.runs, "--limit", LIMIT]
+    print(program, "search", f"{kept}.wasm", "--invoke f --all", *allowed)
+    print(program, "search", f"{kept}.wasm", "--invoke f", *drawn, *allowed, flush=True)
     if os.path.exists(module.record):
         shutil.copy(module.record, f"{kept}.record")
-        print(f"{program} races {kept}.wasm {kept}.record", flush=True)
-        subprocess.run([program, "races", module.file, module.record])
+        print(program, "races", f"{kept}.wasm", f"{kept}.record", *allowed, flush=True)
+        subprocess.run([program, "races", module.file, module.record, *allowed])
 
 
 def judge(module, counts):
-    said, own = ask_all(module, counts), enumerate_runs(module.bodies, module.most, counts)
+    said, own = ask_all(module, counts), enumerate_runs(module.bodies, module.most, module.allowed, counts)
     if said["races"] != "unknown" and own and own.said() != said["races"]:
         report(module, counts, f"races of all runs: {said['races']}, enumerated {own.said()}")
     if said["races"] == "unknown":
@@ -203,7 +223,10 @@ def judge(module, counts):
 
 
 def judge_free(module, counts, said, own):
-    kinds, met = look_on(module, counts)
+    kinds, met = look_on(module, counts, own)
+    if is_known(own):
+        counts["race with what was written over in part" + ", drawn" * ("race in a run" in kinds)] += 1
+        return
     if own and "race" in own.kinds:
         report(module, counts, "race in a run that was enumerated")
     if own and kinds - {"race in a run"} - own.kinds:
@@ -238,27 +261,37 @@ def try_channels(options):
     return int(wrong > 0)
 
 
-def enumerate_alone(drawn, counts):
-    kind, bodies, most = drawn
-    own = enumerate_runs(bodies, most, counts)
+def enumerate_alone(kind, bodies, most, allowed, counts):
+    own = enumerate_runs(bodies, most, allowed, counts)
     if own is None:
         return
-    if own.meet != ("race" in own.kinds) or own.kinds and not own.meet and not own.timed:
+    meet = own.meet or own.meet_in_part
+    if meet != ("race" in own.kinds) or own.kinds and not meet and not own.timed:
         counts["FOUND: race by one definition"] += 1
-        print(f"{kind}: threads meet: {own.meet}, races: {own.kinds}", agree_modules.wat_of(bodies, most), sep="\n")
-    elif own.meet:
+        print(f"{kind}: threads meet: {own.meet}, in part: {own.meet_in_part}, races: {own.kinds}", *words_of(allowed))
+        print(agree_modules.wat_of(bodies, most), flush=True)
+    elif is_known(own):
+        counts["race with what was written over in part"] += 1
+    elif meet:
         counts["race by both"] += 1
     else:
         counts["none by both" if not own.kinds else "none, and one behind a timeout"] += 1
         counts["none by both, though two threads touch a byte"] += own.ordered and not own.kinds
+        if allowed != agree_modules.NOTHING and not own.kinds:
+            bare = enumerate_runs(bodies, most, agree_modules.NOTHING, collections.Counter())
+            counts["none by both, and races if nothing may"] += bool(bare and bare.kinds)
 
 
 def judge_drawn(options, counts, folder, number):
-    drawn = agree_modules.draw_module(f"{options.seed} {number}")
-    counts[f"drawn, {drawn[0]}"] += 1
+    kind, bodies, most = agree_modules.draw_module(f"{options.seed} {number}")
+    counts[f"drawn, {kind}"] += 1
+    allowed = agree_modules.NOTHING
+    if options.allow:
+        bodies, allowed = agree_modules.draw_allowance(f"{options.seed} {number} allow", bodies)
+        counts["drawn, mixed accesses may race"] += allowed.mixed
     if options.alone:
-        return enumerate_alone(drawn, counts)
-    module = Module(options, folder, f"agree-{options.seed}-{number}", *drawn)
+        return enumerate_alone(kind, bodies, most, allowed, counts)
+    module = Module(options, folder, f"agree-{options.seed}-{number}", kind, bodies, most, allowed)
     judge(module, counts)
     for path in [module.file, module.record]:
         if os.path.exists(path):
@@ -270,8 +303,8 @@ def main():
     for name, default in [("--modules", 2000), ("--seed", 1), ("--runs", 1000), ("--states", 30000), ("--from", 0)]:
         words.add_argument(name, type=int, default=default, dest=name.strip("-") + "_" * (name == "--from"))
     words.add_argument("--program", default=BUILT)
-    words.add_argument("--channels", action="store_true")
-    words.add_argument("--alone", action="store_true")
+    for name in ["--allow", "--channels", "--alone"]:
+        words.add_argument(name, action="store_true")
     options, counts = words.parse_args(), collections.Counter()
     if options.channels:
         return try_channels(options)

@@ -13,6 +13,10 @@ from endings import leb_of, signed_leb
 
 PAGE = 65536
 
+# What may race: spans of addresses, both ends among them, and whether atomic accesses of different bytes may.
+Allowed = collections.namedtuple("Allowed", "spans mixed")
+NOTHING = Allowed((), False)
+
 # `kind` is load, store, add, xchg, cas, size, grow, wait, notify, spawn or fence. What it gives is put into the one
 # local of the thread, r; where `test` isn't None, `then` is made if that is `test`, else `other`; with `spin` the
 # operation is made until it is. `value` is what is stored or added, or the count; the letter r stands for the local.
@@ -389,3 +393,50 @@ def draw_module(seed):
         bodies[0] = bodies[0][:place] + spawns(threads) + bodies[0][place:]
     bodies.append([data_op(draw, 8)] if draw.random() < 0.2 else [])
     return pattern.__name__, bodies, draw.choice([2, 3, 3])
+
+
+# What may race in it.
+
+
+def touched_by(ops):
+    """The bytes of each access, where it begins and how many they are, nested ones too."""
+    for op in ops:
+        if op.kind in ("load", "store", "add", "xchg", "cas", "wait"):
+            yield op.addr, op.width
+        yield from touched_by(op.then + op.other)
+
+
+def span_by(draw, addr, width):
+    """The bytes of an access mostly; or some of them, the aligned eight bytes there, or some at or beside them."""
+    how = draw.choice(["all"] * 4 + ["part", "part", "eight", "beside"])
+    if how == "part":
+        first = draw.randrange(addr, addr + width)
+        return first, draw.randrange(first, addr + width)
+    if how == "beside":
+        first = draw.randrange(max(addr - 4, 0), addr + width)
+        return first, first + draw.randrange(8)
+    return (addr & ~7, addr | 7) if how == "eight" else (addr, addr + width - 1)
+
+
+def loosened(draw, ops):
+    """Some atomic accesses are plain now, and some have other bytes, so that much hangs on what may race."""
+    for op in ops:
+        if op.kind in ("load", "store") and draw.random() < 0.4:
+            op = op._replace(atomic=False)
+        if op.kind in ("load", "store", "add", "xchg", "cas") and draw.random() < 0.3:
+            addr, width = op.addr + draw.choice([0, 0, 1, 2, 3]), draw.choice([1, 2, 4, 8])
+            op = op._replace(addr=addr - addr % width, width=width)
+        yield op._replace(then=tuple(loosened(draw, op.then)), other=tuple(loosened(draw, op.other)))
+
+
+def draw_allowance(seed, bodies):
+    """The bodies, of half of the modules loosened; and what may race in them: some spans of what they touch, and in a
+    third mixed accesses."""
+    draw = random.Random(seed)
+    if draw.random() < 0.5:
+        bodies = [list(loosened(draw, ops)) for ops in bodies]
+    touched = sorted({access for ops in bodies for access in touched_by(ops)})
+    mixed = draw.random() < 1 / 3
+    count = draw.choice([0, 1, 2, 3] if mixed else [1, 1, 2, 2, 3, 4]) if touched else 0
+    spans = {span_by(draw, *draw.choice(touched)) for _ in range(count)}
+    return bodies, Allowed(tuple(sorted(spans)), mixed)

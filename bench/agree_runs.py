@@ -4,13 +4,26 @@ write by a compare-exchange, had no store come over it; and whether a thread wai
 operations themselves, in every order, and shares no code with the program. Runs that differ in the order of entries
 alone that nothing orders are one.
 
-The definitions are those of MEMORY_MODEL.md, "Races", written down plainly. A thread knows of each thread how many of
-its epochs happened before; an epoch ends with what another thread may read.
+The definitions are those of MEMORY_MODEL.md, "Races", written down plainly, with those that are meant. A thread knows
+of each thread how many of its epochs happened before; an epoch ends with what another thread may read.
+
+Of a compare-exchange of which a store covers a part alone the definition by neighbours says nothing. `meet_in_part`
+says whether threads would meet in a race if it did: until another thread reads of the bytes that are left.
 """
-from agree_modules import PAGE
+import collections
+
+from agree_modules import NOTHING, PAGE
 
 MASK = 0xFFFFFFFF
 BYTES, PAGES, LIST, THREADS = "bytes", "pages", "list", "threads"
+
+
+# What a thread does next with the memory, by neighbours. One that is allowed may meet others that are.
+Next = collections.namedtuple("Next", "plain reads writes conditional allowed addr width")
+
+# What a thread would write by a compare-exchange, over which another one stored: all of it at once, or a part; and the
+# bytes that are left, of which none was read since.
+Over = collections.namedtuple("Over", "thread access at_once left")
 
 
 class TooMany(Exception):
@@ -18,10 +31,11 @@ class TooMany(Exception):
 
 
 class World:
-    """Memory, queue and threads, who knows what, and all accesses. What is put into `key` are values alone."""
+    """Memory, queue and threads, what these want, who knows what, and all accesses. What is put into `key` are values
+    alone."""
 
     def __init__(self, ops):
-        self.memory, self.pages, self.sleepers, self.alive = {}, 1, (), (0,)
+        self.memory, self.pages, self.sleepers, self.alive, self.wants = {}, 1, (), (0,), {}
         # of each thread the operations that are left, as pairs, its local, and the low part of a load over two words
         self.threads, self.knows = [(linked(ops), 0, None)], [(0,)]
         # of each byte the last write: its range, whether it was atomic, and what its thread knew
@@ -83,21 +97,38 @@ def has_space(world, op, r, most):
     return world.pages + (operand(op, r) & MASK) <= most
 
 
-def wanted(world, n, most):
-    """What a thread does next with the memory, by neighbours: (plain, writes, address, width)."""
+class May:
+    """What may race: accesses all of whose bytes are named, and, with `mixed`, atomic ones."""
+
+    def __init__(self, allowed):
+        self.named = {byte for first, last in allowed.spans for byte in range(first, last + 1)}
+        self.mixed = allowed.mixed
+
+    def has(self, addr, width):
+        return addr in self.named and self.named.issuperset(range(addr, addr + width))
+
+
+def wanted(world, n, most, may):
+    """What a thread does next with the memory, by neighbours. Growths and looks pass all that can be named."""
     ops, r, low = world.threads[n]
     if ops is None or n not in world.alive or any(s[0] == n for s in world.sleepers):
         return None
     op = ops[0]
     if op.kind == "grow":
-        return (False, True, PAGE, 2 ** 32 + 1) if has_space(world, op, r, most) else None
-    if op.kind in ("size", "spawn", "fence"):
+        return Next(False, True, True, False, False, PAGE, 2 ** 32 + 1) if has_space(world, op, r, most) else None
+    if op.kind in ("size", "spawn", "fence") or is_unaligned(op):
         return None
     if end_of(op) > world.pages * PAGE or op.kind == "notify":
-        return (False, False, 2 ** 32, 1) if end_of(op) > PAGE else None
+        return Next(False, True, False, False, False, 2 ** 32, 1) if end_of(op) > PAGE else None
     addr, width = part_of(op, low is not None)
     writes = op.kind in ("store", "add", "xchg") or op.kind == "cas" and loaded(world, addr, width) == op.expected
-    return (not op.atomic, writes, addr, width)
+    named = may.has(addr, width)
+    plain = not op.atomic and not named
+    return Next(plain, op.kind != "store", writes, op.kind == "cas", named or may.mixed, addr, width)
+
+
+def spawns_in(ops):
+    return any(op.kind == "spawn" or spawns_in(op.then + op.other) for op in ops)
 
 
 def is_timed(world, n):
@@ -106,15 +137,50 @@ def is_timed(world, n):
     return op.kind == "wait" and op.timeout > 0
 
 
+def are_met(a, b):
+    return a.addr < b.addr + b.width and b.addr < a.addr + a.width
+
+
+def are_matched(a, b):
+    alike = a.allowed == b.allowed and (a.allowed or (a.addr, a.width) == (b.addr, b.width))
+    return alike and not a.plain and not b.plain
+
+
 def are_racing(a, b):
-    meet = a[2] < b[2] + b[3] and b[2] < a[2] + a[3]
-    return meet and (a[1] or b[1]) and (a[0] or b[0] or a[2:] != b[2:])
+    return are_met(a, b) and (a.writes or b.writes) and not are_matched(a, b)
+
+
+def writes_over(over, a):
+    """Whether one stores over what the other would write, and may not where it finds something else; or over a part."""
+    stores = over.writes and not over.reads
+    return stores and a.writes and a.conditional and are_met(over, a) and are_matched(over, a)
+
+
+def covers(a, b):
+    return a.addr <= b.addr and b.addr + b.width <= a.addr + a.width
+
+
+def left_behind(access, bytes):
+    """The bytes, but for those that the access has."""
+    return tuple(byte for byte in bytes if not access.addr <= byte < access.addr + access.width)
+
+
+def split(may, access):
+    """What an access to bytes is by what happens before what: one, or, where it may race, an atomic one to each of its
+    bytes."""
+    location, addr, width, reads, writes, atomic = access
+    if not may.has(addr, width) and not (may.mixed and atomic):
+        return [access]
+    return [(location, byte, 1, reads, writes, True) for byte in range(addr, addr + width)]
 
 
 class Runs:
-    def __init__(self, bodies, most, limit=100000):
-        self.bodies, self.most, self.limit = bodies, most, limit
-        self.meet, self.timed, self.kinds, self.ordered, self.states = False, False, set(), False, 0
+    def __init__(self, bodies, most, limit=100000, allowed=NOTHING):
+        self.bodies, self.most, self.limit, self.may = bodies, most, limit, May(allowed)
+        self.meet, self.meet_in_part, self.timed = False, False, False
+        self.kinds, self.ordered, self.states = set(), False, 0
+        # what is the same to all other threads, now or later: a fence, and a spawn where thread 0 alone makes any
+        self.own = ("fence",) if any(spawns_in(ops) for ops in bodies[1:]) else ("fence", "spawn")
 
     def go(self):
         first = World(self.bodies[0])
@@ -122,16 +188,24 @@ class Runs:
         while open and not self.is_settled():
             world = open.pop()
             self.look(world)
-            for n in world.alive:
-                if all(s[0] != n for s in world.sleepers):
-                    after = self.step(world, n)
-                    key = after.key()
-                    if key not in seen:
-                        seen.add(key)
-                        open.append(after)
+            for n in self.next_threads(world):
+                after = self.step(world, n)
+                key = after.key()
+                if key not in seen:
+                    seen.add(key)
+                    open.append(after)
             if len(seen) > self.limit:
                 raise TooMany
         self.states = len(seen)
+
+    def next_threads(self, world):
+        """Who goes on: each that isn't asleep; or one alone that ends, traps or makes what is its own."""
+        awake = [n for n in world.alive if all(s[0] != n for s in world.sleepers)]
+        for n in awake:
+            ops = world.threads[n][0]
+            if ops is None or ops[0].kind in self.own or is_unaligned(ops[0]):
+                return [n]
+        return awake
 
     def said(self):
         """What `search --all` is to say of races."""
@@ -142,22 +216,29 @@ class Runs:
         return self.meet and "race" in self.kinds
 
     def look(self, world):
-        wants = [(n, a) for n in world.alive if (a := wanted(world, n, self.most))]
-        self.meet |= any(n < m and are_racing(a, b) for n, a in wants for m, b in wants)
-        self.meet |= any(n != m and are_racing(a, (False, True, *over)) for n, a in wants for m, *over in world.over)
-        self.timed |= any(is_timed(world, n) for n, _ in wants)
+        """Notes what each thread wants, and whether that races."""
+        wants = world.wants = {n: a for n in world.alive if (a := wanted(world, n, self.most, self.may))}
+        self.meet |= any(n < m and are_racing(a, b) for n, a in wants.items() for m, b in wants.items())
+        for over in world.over:
+            if any(n != over.thread and are_racing(a, over.access) for n, a in wants.items()):
+                self.meet |= over.at_once
+                self.meet_in_part = True
+        self.timed |= any(is_timed(world, n) for n in wants)
 
     # What an entry does. An access is (thread, epoch, location, address, width, writes, atomic, marks).
 
     def write_over(self, world, n):
-        """Who would write by a compare-exchange where thread n stores over it, whatever is there, until it goes on."""
-        made, (ops, _, _) = wanted(world, n, self.most), world.threads[n]
-        world.over = frozenset(over for over in world.over if over[0] != n)
-        if not made or not ops[0].atomic or ops[0].kind != "store" or is_unaligned(ops[0]):
-            return
-        would = {(m, *a[2:]) for m in world.alive if m != n and world.threads[m][0] and world.threads[m][0][0].kind == "cas"
-                 if (a := wanted(world, m, self.most)) and a == (False, True, *made[2:])}
-        world.over |= would
+        """Who would write by a compare-exchange where thread n stores over it, whatever is there, until it goes on; or
+        where it stores over a part, until another thread reads of the rest, too."""
+        made, kept = world.wants.get(n), set()
+        for over in world.over:
+            left = left_behind(made, over.left) if made else over.left
+            if over.thread != n and (left == over.left or not made.reads):
+                kept.add(over._replace(left=left))
+        for m, a in world.wants.items() if made else ():
+            if m != n and writes_over(made, a):
+                kept.add(Over(m, a, covers(made, a), left_behind(made, range(a.addr, a.addr + a.width))))
+        world.over = frozenset(kept)
 
     def step(self, before, n):
         world = before.copy()
@@ -187,15 +268,18 @@ class Runs:
         world.threads[n] = (rest, r, None)
 
     def entry(self, world, n, accesses):
-        """Joins what they read from, tells races with what was made before, and notes them. An access is (location,
-        address, width, reads, writes, atomic)."""
+        """Joins what they read from, tells races with what was made before, notes them, and hands on what they write.
+        An access is (location, address, width, reads, writes, atomic)."""
         for location, addr, width, reads, writes, atomic in accesses:
             if reads and atomic:
                 self.join(world, n, self.source(world, location, addr, width))
         for one in accesses:
             self.tell(world, n, *one)
-        for one in accesses:
-            self.note(world, n, *one)
+        self.note(world, n, accesses)
+        clock = self.release(world, n) if any(writes and atomic for *_, writes, atomic in accesses) else None
+        for location, addr, width, reads, writes, atomic in accesses:
+            if writes:
+                self.writes(world, location, addr, width, atomic, clock if atomic else None)
 
     def tell(self, world, n, location, addr, width, reads, writes, atomic):
         for a in world.accesses:
@@ -207,12 +291,12 @@ class Runs:
             else:
                 self.kinds.add("timeout" if "slept" in a[7] else "race")
 
-    def note(self, world, n, location, addr, width, reads, writes, atomic):
-        what = (location, addr, width, writes, atomic)
-        others = frozenset(a for a in world.accesses if a[0] != n or a[2:7] != what or a[7])
-        world.accesses = others | {(n, world.knows[n][n], *what, frozenset())}
-        if writes:
-            self.writes(world, n, location, addr, width, atomic)
+    def note(self, world, n, accesses):
+        """An earlier access that is the same, with no more marks, needn't be known any longer."""
+        made = {(location, addr, width, writes, atomic) for location, addr, width, _, writes, atomic in accesses}
+        others = [a for a in world.accesses if a[0] != n or a[7] or a[2:7] not in made]
+        epoch = world.knows[n][n]
+        world.accesses = frozenset(others + [(n, epoch, *what, frozenset()) for what in made])
 
     def source(self, world, location, addr, width):
         if location != BYTES:
@@ -231,8 +315,7 @@ class Runs:
         world.knows[n] = tuple(k + (m == n) for m, k in enumerate(world.knows[n]))
         return world.knows[n]
 
-    def writes(self, world, n, location, addr, width, atomic):
-        clock = self.release(world, n) if atomic else None
+    def writes(self, world, location, addr, width, atomic, clock):
         if location == BYTES:
             world.written.update({addr + i: (addr, width, atomic, clock) for i in range(width)})
         else:
@@ -252,8 +335,8 @@ class Runs:
         addr, width = part_of(op, low is not None)
         old, value = loaded(world, addr, width), operand(op, r) & (1 << 8 * op.width) - 1
         writes = op.kind in ("store", "add", "xchg") or op.kind == "cas" and old == op.expected & (1 << 64) - 1
-        access = (BYTES, addr, width, op.kind != "store", writes, op.atomic)
-        if not self.within(world, n, op, [access]):
+        accesses = split(self.may, (BYTES, addr, width, op.kind != "store", writes, op.atomic))
+        if not self.within(world, n, op, accesses):
             return
         if writes:
             stored(world, addr, width, (old + value if op.kind == "add" else value >> 8 * (addr - op.addr)))
@@ -288,7 +371,8 @@ class Runs:
         self.goes_on(world, n, number)
 
     def do_wait(self, world, n, op, r):
-        asked = [(BYTES, op.addr, op.width, True, False, True), (LIST, op.addr, 1, True, True, True)]
+        asked = split(self.may, (BYTES, op.addr, op.width, True, False, True))
+        asked.append((LIST, op.addr, 1, True, True, True))
         if not self.within(world, n, op, asked):
             return
         if loaded(world, op.addr, op.width) != op.expected:
