@@ -1,9 +1,9 @@
 -- Places of entries, and the lines of their calls, by what was read.
 use Rattle.std.proofs.Common.{◌≡◌, ◌∙◌, ◌<◌, ◌≤◌, ◌+◌, ◌==◌, ◌++◌, ℕ, Bool, true, false, List, [], ◌∷◌, Option}
-use Rattle.std.proofs.Common.{ap, codes, get_or, length, refl, subst, sym, take}
+use Rattle.std.proofs.Common.{ap, arith, codes, get_or, length, refl, subst, sym, take}
 use Rattle.std.specs.List.{concat}
 use Rattle.std.specs.Fmt.{decimal}
-use Rattle.std.proofs.lemmas.Bool.{both_ways}
+use Rattle.std.proofs.lemmas.Bool.{both_ways, eqb-true}
 use Rattle.std.proofs.lemmas.List.{append-nil, take_all}
 use Rattle.std.proofs.lemmas.List.Folds.{concat-append}
 use Rattle.types.specs.declared.event.Entry.{Entry}
@@ -49,7 +49,8 @@ module _ (shown : Shown) (story : Story) (stacks : StacksView) (thread at : ℕ)
   pub none_by : (calls text : List ℕ) → IsCallsText stacks.code.now (calls_at stacks.stacks.now at) calls
       → (length calls == 0) ≡ true → text ≡ [] → IsStackLine shown story stacks thread at text
   none_by [] text led none e = ([], led, e)
-  none_by (c ∷ calls) text led none e = absurd cc
+  none_by (c ∷ calls) text led none e =
+      let same : length (c ∷ calls) ≡ 0 = eqb-true (length (c ∷ calls)) 0 none in absurd (omega arith)
 
   pub line_by : (place : Option CodePlace) (calls spot text : List ℕ) → IsCallsText stacks.code.now (calls_at stacks.stacks.now at) calls
       → (length calls == 0) ≡ false → place ≡ place_of shown story at → IsPlaceText stacks.code.now place spot

@@ -55,7 +55,7 @@ fn stack_line(
     ensures { IfOk result (λ text. IsStackLine shown.entry story.now stacks.entry thread at (string_bytes text)) }
 {
     let calls = stacks.calls_text(alloc, at)?;
-    if calls.is_empty() {
+    if calls.as_bytes().is_empty() {
         return Ok(String::new(alloc));
     }
     let spot = spot_text(alloc, stacks.code, shown.place_at(story, at))?;
