@@ -1,4 +1,5 @@
 mod Silent
+mod Spanned
 mod Printed
 mod RunMoments
 pub mod Sightings

@@ -7,7 +7,7 @@ use Rattle.report_command.specs.declared.allowance.Allowance.{Allowance}
 use Rattle.report_command.specs.declared.places.Data.{Data}
 use Rattle.report_command.specs.declared.places.Data.TheVariants.{At, Named}
 use Rattle.show_named.specs.declared.data_map.DataMap.{DataMap}
-use Rattle.report_looks.specs.Looked.{AreAddresses}
+use Rattle.report_looks.specs.Addresses.{AreAddresses}
 use Rattle.report_looks.specs.declared.allowing.AllowedBytes.{AllowedBytes}
 
 -- Data are at these addresses, by what bytes of a module say of it.

@@ -5,4 +5,5 @@ pub mod Raced
 pub mod Sighted
 pub mod Silent
 pub mod Looked
+pub mod Addresses
 pub mod Allowing

@@ -52,6 +52,7 @@ use Rattle.report_looks.specs.declared.wanted.Wanted.TheVariants as wanted
 use Rattle.report_looks.specs.PageMoments.{AreOfPage}
 use Rattle.report_objects.specs.RaceObjects.{WritesObject}
 use Rattle.report_looks.specs.RunMoments.{IsMomentIn, WritesHere}
+use Rattle.report_looks.specs.Addresses.{AreAddresses}
 use Rattle.report_looks.specs.Raced.{IsSeen}
 use Rattle.report_objects.specs.Scenes.{WritesLastObject}
 
@@ -78,12 +79,6 @@ abbrev pub place_in : RecordParts → When → Option ℕ
 place_in r (Line line) = Some (min (line - (header_count r.version + 1)) (length r.log))
 place_in r End = Some (length r.log)
 place_in r Trap = position (leaves_trapped r.ends) r.log
-
--- The addresses are those, or all of the bytes of static data that words name.
-abbrev pub AreAddresses : DataMap → Data → NumberSpan → Type 0
-AreAddresses map (At addrs) span = span ≡ addrs
-AreAddresses map (Named words) span = (place : ByteRange) × IsWithinOne map.spans.items.items place
-    × (span ≡ span_of place.start place.size)
 
 abbrev pub is_end : When → Bool
 is_end (Line line) = false

@@ -57,7 +57,7 @@ pub(crate) fn allowed_at(
 fn unallowed(why: Unshown) -> Undone<'static>
     requires { IsUnrefused why }
     ensures status { (undone_status result ≡ 3) ⊎ (undone_status result ≡ 5) }
-    ensures absent { undone_status result ≡ 3 → IsAbsent why.entry }
+    ensures absent { undone_status result ≡ 3 → IsAbsent why }
 {
     match why {
         Unshown::Unfit { .. } => Undone::Failed(Failed::Memory),

@@ -1,5 +1,5 @@
 //! The races that a run has, with what they are told by.
-ghost use Rattle.std.specs.Prelude.{◌≤◌, false, IfOk, IfNone, IfSome};
+ghost use Rattle.std.specs.Prelude.{◌≡◌, ◌≤◌, false, IfOk, IfNone, IfSome};
 ghost use Rattle.types.specs.declared.parts.Parts.{Parts};
 ghost use Rattle.replay_text.specs.declared.parts.RecordParts.{RecordParts};
 ghost use Rattle.show_races.specs.Races.{SaysOfRun};
@@ -112,7 +112,7 @@ pub fn races_of_run<'m, 'n>(
     allowed: Allowed<'n>,
 ) -> Result<Option<RacesOfRun<'m, 'n>>, Unwritten>
     ensures race { IfOk result (λ o. IfSome o (AreRacesOf «module».now.parts «record».now)) }
-    ensures allowed { IfOk result (λ o. IfSome o (λ f. f.allowed ≡ allowed)) }
+    ensures allowed { IfOk result (λ o. IfSome o (λ f. f.allowed ≡ allowed.entry)) }
     ensures none { IfOk result (λ o. IfNone o (SaysOfRun allowed.entry «module».now.parts «record».now false)) }
 {
     let Ok(rows) = watched(alloc, module, record) else {

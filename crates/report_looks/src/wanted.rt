@@ -7,7 +7,8 @@ ghost use Rattle.show_named.specs.declared.data_map.DataMap.{DataMap};
 ghost use Rattle.report_jobs.specs.declared.replaying.Unfit.TheVariants as unfits;
 ghost use Rattle.report_looks.specs.declared.wanted.Unshown.TheVariants as unshown;
 ghost use Rattle.report_looks.specs.Looked as looked;
-ghost use Rattle.report_looks.specs.Looked.{AreAddresses, IsAsked, IsLookAt, IsWanted};
+ghost use Rattle.report_looks.specs.Looked.{IsAsked, IsLookAt, IsWanted};
+ghost use Rattle.report_looks.specs.Addresses.{AreAddresses};
 ghost use Rattle.report_looks.specs.Allowing.{IsNamed, SomeNamed};
 ghost use Rattle.report_looks.specs.Silent.{IsAbsent, IsUnrefused};
 

@@ -1,9 +1,9 @@
 use Rattle.std.proofs.Common.{◌≡◌, sym, subst}
-use Rattle.report_jobs.specs.Jobs.{IsNoValidModule}
+use Rattle.report_jobs.specs.Jobs.{IsNoRecordOf, IsNoValidModule}
 use Rattle.report_jobs.specs.Undone.{undone_status}
 use Rattle.report_jobs.specs.Why.{RefusesRecord}
 use Rattle.report_jobs.specs.declared.undone.Undone.{Undone}
-use Rattle.report_jobs.proofs.Outcomes.{no_module, refuses_record}
+use Rattle.report_jobs.proofs.Outcomes.{no_module, no_record, refuses_record}
 use Rattle.report_looks.proofs.racing.races_saved.Goals as goal
 
 pub returns-in-Err-clause-refused : goal.returns-in-Err-clause-refused
@@ -11,11 +11,24 @@ returns-in-Err-clause-refused g c =
     subst (λ (why : Undone). undone_status why ≡ 2 → IsNoValidModule c.args.module.now) (sym c.of_refusal.ensures)
     (no_module c.args.module.now c.in-Err.refusal c.in-Err.ensures.err)
 
-pub returns-clause-wrong : goal.returns-clause-wrong
-returns-clause-wrong g c =
+pub returns-in-Err-Unfit-clause-none : goal.returns-in-Err-Unfit-clause-none
+returns-in-Err-Unfit-clause-none g c =
+    let e = rw c.in-Err-Unfit.field-0-is at c.in-Err-Unfit.ensures.unshown in
     let bytes = c.args.module.now in
     let saved = c.args.saved.now in
-    let e = c.in-Err-tell_races.field-0 in
+    let v = c.in-Ok.valid in
+    subst (λ (why : Undone). undone_status why ≡ 4 → IsNoRecordOf bytes saved) (sym c.of_unfit.ensures) λ four. record {
+      parts = v.parts;
+      text = c.in-Ok.ensures.ok.0;
+      valid = c.in-Ok.ensures.ok.1.valid;
+      none = no_record v c.in-Err-Unfit.stood v.parts saved c.in-Err-Unfit.unfit e four;
+    }
+
+pub returns-in-Err-Unfit-clause-wrong : goal.returns-in-Err-Unfit-clause-wrong
+returns-in-Err-Unfit-clause-wrong g c =
+    let e = rw c.in-Err-Unfit.field-0-is at c.in-Err-Unfit.ensures.unshown in
+    let bytes = c.args.module.now in
+    let saved = c.args.saved.now in
+    let v = c.in-Ok.valid in
     subst (λ (why : Undone). undone_status why ≡ 4 → RefusesRecord bytes saved why) (sym c.of_unfit.ensures)
-    (refuses_record c.in-Ok.valid e.stood bytes saved c.in-Ok.valid.parts c.in-Ok.ensures.ok.0 c.in-Ok.ensures.ok.1.valid e.unfit
-    c.in-Err-tell_races.ensures.unfit)
+    (refuses_record v c.in-Err-Unfit.stood bytes saved v.parts c.in-Ok.ensures.ok.0 c.in-Ok.ensures.ok.1.valid c.in-Err-Unfit.unfit e)

@@ -1,7 +1,7 @@
 use Rattle.std.proofs.Common.{◌+◌, List, sym, subst, take}
 use Rattle.std.specs.List.{AllZip}
 use Rattle.selection.specs.declared.choice.NumberSpan.{NumberSpan}
-use Rattle.report_looks.specs.Looked.{AreAddresses}
+use Rattle.report_looks.specs.Addresses.{AreAddresses}
 use Rattle.show_rows.proofs.Zipped.{zipped_more}
 use Rattle.report_looks.proofs.wanted.spans_of.Goals as goal
 

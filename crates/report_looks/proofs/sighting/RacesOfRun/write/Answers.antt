@@ -4,4 +4,4 @@ use Rattle.report_looks.proofs.sighting.RacesOfRun.write.Goals as goal
 
 pub returns : goal.returns
 returns g c = λ m first.
-    found_by m c.args.record.now c.args.self.now first c.shown.result c.shown.ensures _ refl _ _ c.in_ok-write_found.ensures
+    found_by m c.args.record.now c.args.self.now first c.shown-shown.result c.shown-shown.ensures _ refl _ _ c.in_ok-write_found.ensures
