@@ -16,10 +16,10 @@ CALLED = "crates/report_runs/specs/Called.antt"
 PAGE = "docs/HEADLINE.md"
 
 FOUND = """    ensures found { IfOk result
-        (λ r. AreListed (race_free_claims_of request.now dump) plan.now.most (F.wish follower.new) r.ended) }
+        (λ r. AreListed (race_free_claims_of request.now allowed.now dump) plan.now.most (F.wish follower.new) r.ended) }
 """
 LIVE = """    ensures live { IfOk result
-        (λ r. SaysWhereAllFree request.now dump r.ended.states r.ended.verdict r.ended.liveness) }
+        (λ r. SaysWhereAllFree request.now allowed.now dump r.ended.states r.ended.verdict r.ended.liveness) }
 """
 CALL = """    requires fuel { call.fuel ≤ MOST_FUEL }
 """
@@ -48,10 +48,11 @@ TRIES = [
      "Liveness.{CountsOwned, SaysWhereAll as SaysWhereAllFree}", "`race_free_endings`"),
     ("the claims of race_free_endings are no claims", RACES,
      "  complete = HasEveryEnding r.parts r.name r.args dump;", "  complete = λ l. Unit {0};", "`race_free_claims_of`"),
-    ("what is live is said of nothing", LIVENESS, "SaysWhereAllFree = SaysWhereAllBy is_same_owned RestsPlainly",
-     "SaysWhereAllFree r dump states verdict o = Unit {0}", "`SaysWhereAllFree`"),
-    ("states with what is owned stand for none", LIVENESS, "RestsPlainly s c w = (turns",
-     "RestsPlainly s c w = ⊥ × (turns", "`RestsPlainly`"),
+    ("what is live is said of nothing", LIVENESS,
+     "SaysWhereAllFree r allowed = SaysWhereAllBy is_same_owned (RestsPlainly allowed) r",
+     "SaysWhereAllFree r allowed dump states verdict o = Unit {0}", "`SaysWhereAllFree`"),
+    ("states with what is owned stand for none", LIVENESS, "RestsPlainly allowed s c w = (turns",
+     "RestsPlainly allowed s c w = ⊥ × (turns", "`RestsPlainly`"),
     ("a state stands for fewer", REDUCED, "    pub kept : IsKept s\n", "    pub kept : IsKept s\n    pub none : ⊥\n",
      "`StandsBefore`"),
     ("what is said of states is under a premise", LIVENESS, "    pub every : l.endless",
