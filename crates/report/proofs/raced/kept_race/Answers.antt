@@ -16,7 +16,7 @@ returns-in-Ok-Some-clause-has g c =
       same = c.in_ok-made.ensures.same;
       shrunk_is = c.shrunk_if.ensures ∙ (ap (λ (was : Size). shrunk_if shrink was c.size_of-is.result) c.size_of-was.ensures
           ∙ ap (λ (is : Size). shrunk_if shrink (size_in c.args.found.made.«record») is) c.size_of-is.ensures);
-      race = subst (λ (p : Parts). AreRacesOf p made.«record» c.in-Ok-Some.race) c.module.ensures
+      race = subst (λ (p : Parts). AreRacesOf p made.«record» c.in-Ok-Some.race) c.module-module.ensures
           (rw c.in-Ok-Some.field-0-is at c.in-Ok-Some.ensures.race);
       allowed = rw c.in-Ok-Some.field-0-is at c.in-Ok-Some.ensures.allowed;
     }
