@@ -1,0 +1,3 @@
+mod Marks
+mod Other
+mod Going

@@ -1,0 +1,19 @@
+//! Which locals are live at each place of a valid module's code: those that may be read there before they are written.
+//! What isn't live is dead, and whatever it is, the thread goes on alike.
+//!
+//! Proved: `is_sound` accepts the tables that are sound and no others, and those that `live_tables` gives are sound,
+//! whatever the analysis found that it takes them from.
+//!
+//! `specs/Live.antt` says what a sound table is, without saying how to come by one: what an instruction reads is live
+//! before it, and so is what is live at each place where it may go, but for what it writes. What a table has no mark for
+//! is live, so one without rows is sound, and stands in where memory or time would not do.
+#![tactic(auto)]
+
+mod analysis;
+mod checking;
+mod instructions;
+mod rows;
+mod tables;
+
+pub use checking::is_sound;
+pub use tables::{LiveTables, MOST_MARKS, live_tables};
