@@ -1,3 +1,4 @@
 mod Marks
 mod Other
 mod Going
+mod States

@@ -1,14 +1,13 @@
 -- Marks of what is live, and locals that agree by them.
-use Rattle.std.proofs.Common.{◌≡◌, ◌≢◌, ℕ, zero, suc, ◌+◌, ◌<◌, ◌≤◌, ◌⊎◌, Bool, true, false, List, [], ◌∷◌, length, map}
-use Rattle.std.proofs.Common.{Option, Some, None, slice_get, slice_set, refl, sym, ◌∙◌, ap, subst, inl, inr, arith}
+use Rattle.std.proofs.Common.{◌≡◌, ℕ, zero, suc, ◌⊎◌, Bool, List, [], ◌∷◌, length, map}
+use Rattle.std.proofs.Common.{Some, None, slice_get, slice_set, refl, sym, ◌∙◌, ap, subst, inl, inr, arith}
 use Rattle.std.proofs.lemmas.Bool.{cases_eq}
 use Rattle.types.specs.declared.value.ValType.{ValType}
 use Rattle.types.specs.declared.value.Value.{Value}
-use Rattle.types.specs.declared.instr.PlainInstr.{PlainInstr}
 use Rattle.types.specs.Nesting.{Code, Empty, Then, BlockThen, LoopThen, IfThen, IfElseThen}
 use Rattle.types.specs.Values.{type_of}
 use Rattle.live_locals.specs.Live.{IsLive, Covers}
-use Rattle.live_laws.specs.Lives.{Includes, IsLiveBefore, Lives}
+use Rattle.live_laws.specs.Lives.{Includes, Lives}
 use Rattle.live_laws.specs.Alike.{Agree}
 
 -- ---- Rows

@@ -1,6 +1,7 @@
 -- A configuration with other locals, and what comes next of both, value by value.
-use Rattle.std.proofs.Common.{◌≡◌, ℕ, ◌+◌, ◌≤◌, nat_le, List, [], ◌∷◌, ◌++◌, length, map, sum_by, Option, Some, None, Bool, true, false}
-use Rattle.std.proofs.Common.{if◌then◌else◌, take, drop, refl, sym, ◌∙◌, ap, subst}
+use Rattle.std.proofs.Common.{◌≡◌, ℕ, ◌+◌, nat_le, List, [], ◌∷◌, length, sum_by, Option, Some, None, Bool, true, false}
+use Rattle.std.proofs.Common.{suc, if◌then◌else◌, take, drop, refl, sym, ◌∙◌, ap, subst}
+use Rattle.std.proofs.lemmas.List.Sums.{sum_by-cons}
 use Rattle.types.specs.declared.value.ValType.{ValType}
 use Rattle.types.specs.declared.value.ValType.TheVariants as types
 use Rattle.types.specs.declared.value.Value.{Value}
@@ -13,7 +14,7 @@ use Rattle.interp_machine.specs.Config.{Label, Frame, Config, values_in, values_
 use Rattle.interp_machine.specs.Step.{on_top, on_number, on_some, on_front, limited}
 use Rattle.live_laws.specs.Lives.{IsLiveFrame}
 use Rattle.live_laws.specs.Alike.{Agree, AreFramesAlike, AreCallersAlike, AreAlike, AreNextAlike}
-use Rattle.live_laws.proofs.Marks.{agree_itself, agree_back, agree_long}
+use Rattle.live_laws.proofs.Marks.{agree_long}
 
 -- ---- With operands
 
@@ -53,7 +54,7 @@ either_config_alike false this that these those h k = k
 -- the same option in two places
 pub on_same_alike : {A : Type 0} (o q : Option A) (go on : A → Next) → o ≡ q → ((x : A) → AreNextAlike (go x) (on x)) →
     AreNextAlike (on_some o go) (on_some q on)
-on_same_alike o q go on e h = subst (λ (y : Option A). AreNextAlike (on_some o go) (on_some y on)) e (on_some_alike o go on h)
+on_same_alike {A = A} o q go on e h = subst (λ (y : Option A). AreNextAlike (on_some o go) (on_some y on)) e (on_some_alike o go on h)
 
 -- ---- Values
 
@@ -71,7 +72,7 @@ callers_values (f ∷ fs) [] a = absurd a
 callers_values (f ∷ fs) (g ∷ gs) a =
     let h = frames_long f g a.0 in
     let t = callers_values fs gs a.1 in
-    λ i. h i + t i
+    sum_by-cons values_in f fs ∙ (λ i. h i + t i) ∙ sym (sum_by-cons values_in g gs)
 
 pub callers_long : (fs gs : List Frame) → AreCallersAlike fs gs → length fs ≡ length gs
 callers_long [] [] a = refl
@@ -93,40 +94,80 @@ room_alike c d go on a h =
     (if nat_le n MOST_VALUES then on else Traps traps.StackExhausted)) (as_many_values c d a)
     (either_alike (nat_le (values_of c) MOST_VALUES) go (Traps traps.StackExhausted) on (Traps traps.StackExhausted) h refl)
 
+-- what is so of two that are alike, by what comes next
+module _ (P : Next → Next → Type 0) (stuck : P Stuck Stuck) (goes : (c d : Config) → AreAlike c d → P (Goes c) (Goes d))
+    (traps : (trap : Trap) → P (Traps trap) (Traps trap)) (finishes : (result : Option Value) → P (Finishes result) (Finishes result))
+    (asks : (event : Event) (go on : ℕ → Config) → ((n : ℕ) → AreAlike (go n) (on n)) → P (Asks event go) (Asks event on))
+    (hears : (go on : ℕ → Config) → ((n : ℕ) → AreAlike (go n) (on n)) → P (Hears go) (Hears on)) where
+  pub next_cases : (n m : Next) → AreNextAlike n m → P n m
+  next_cases Stuck Stuck h = stuck
+  next_cases Stuck (Goes d) h = absurd h
+  next_cases Stuck (Traps u) h = absurd h
+  next_cases Stuck (Finishes q) h = absurd h
+  next_cases Stuck (Asks f on) h = absurd h
+  next_cases Stuck (Hears on) h = absurd h
+  next_cases (Goes c) Stuck h = absurd h
+  next_cases (Goes c) (Goes d) h = goes c d h
+  next_cases (Goes c) (Traps u) h = absurd h
+  next_cases (Goes c) (Finishes q) h = absurd h
+  next_cases (Goes c) (Asks f on) h = absurd h
+  next_cases (Goes c) (Hears on) h = absurd h
+  next_cases (Traps t) Stuck h = absurd h
+  next_cases (Traps t) (Goes d) h = absurd h
+  next_cases (Traps t) (Traps u) h = subst (λ y. P (Traps t) (Traps y)) h (traps t)
+  next_cases (Traps t) (Finishes q) h = absurd h
+  next_cases (Traps t) (Asks f on) h = absurd h
+  next_cases (Traps t) (Hears on) h = absurd h
+  next_cases (Finishes r) Stuck h = absurd h
+  next_cases (Finishes r) (Goes d) h = absurd h
+  next_cases (Finishes r) (Traps u) h = absurd h
+  next_cases (Finishes r) (Finishes q) h = subst (λ y. P (Finishes r) (Finishes y)) h (finishes r)
+  next_cases (Finishes r) (Asks f on) h = absurd h
+  next_cases (Finishes r) (Hears on) h = absurd h
+  next_cases (Asks e go) Stuck h = absurd h
+  next_cases (Asks e go) (Goes d) h = absurd h
+  next_cases (Asks e go) (Traps u) h = absurd h
+  next_cases (Asks e go) (Finishes q) h = absurd h
+  next_cases (Asks e go) (Asks f on) h = subst (λ y. P (Asks e go) (Asks y on)) h.0 (asks e go on h.1)
+  next_cases (Asks e go) (Hears on) h = absurd h
+  next_cases (Hears go) Stuck h = absurd h
+  next_cases (Hears go) (Goes d) h = absurd h
+  next_cases (Hears go) (Traps u) h = absurd h
+  next_cases (Hears go) (Finishes q) h = absurd h
+  next_cases (Hears go) (Asks f on) h = absurd h
+  next_cases (Hears go) (Hears on) h = hears go on h
+
 pub limited_alike : (n m : Next) → AreNextAlike n m → AreNextAlike (limited n) (limited m)
-limited_alike Stuck Stuck h = tt
-limited_alike Stuck (Goes d) h = absurd h
-limited_alike Stuck (Traps u) h = absurd h
-limited_alike Stuck (Finishes s) h = absurd h
-limited_alike Stuck (Asks f on) h = absurd h
-limited_alike Stuck (Hears on) h = absurd h
-limited_alike (Goes c) (Goes d) h = room_alike c d (Goes c) (Goes d) h h
-limited_alike (Goes c) Stuck h = absurd h
-limited_alike (Goes c) (Traps u) h = absurd h
-limited_alike (Goes c) (Finishes s) h = absurd h
-limited_alike (Goes c) (Asks f on) h = absurd h
-limited_alike (Goes c) (Hears on) h = absurd h
-limited_alike (Traps t) (Traps u) h = h
-limited_alike (Traps t) Stuck h = absurd h
-limited_alike (Traps t) (Goes d) h = absurd h
-limited_alike (Traps t) (Finishes s) h = absurd h
-limited_alike (Traps t) (Asks f on) h = absurd h
-limited_alike (Traps t) (Hears on) h = absurd h
-limited_alike (Finishes r) (Finishes s) h = h
-limited_alike (Finishes r) Stuck h = absurd h
-limited_alike (Finishes r) (Goes d) h = absurd h
-limited_alike (Finishes r) (Traps u) h = absurd h
-limited_alike (Finishes r) (Asks f on) h = absurd h
-limited_alike (Finishes r) (Hears on) h = absurd h
-limited_alike (Asks e go) (Asks f on) h = room_alike (go 0) (on 0) (Asks e go) (Asks f on) (h.1 0) h
-limited_alike (Asks e go) Stuck h = absurd h
-limited_alike (Asks e go) (Goes d) h = absurd h
-limited_alike (Asks e go) (Traps u) h = absurd h
-limited_alike (Asks e go) (Finishes s) h = absurd h
-limited_alike (Asks e go) (Hears on) h = absurd h
-limited_alike (Hears go) (Hears on) h = h
-limited_alike (Hears go) Stuck h = absurd h
-limited_alike (Hears go) (Goes d) h = absurd h
-limited_alike (Hears go) (Traps u) h = absurd h
-limited_alike (Hears go) (Finishes s) h = absurd h
-limited_alike (Hears go) (Asks f on) h = absurd h
+limited_alike = next_cases (λ n m. AreNextAlike (limited n) (limited m)) tt (λ c d a. room_alike c d (Goes c) (Goes d) a a) (λ trap. refl) (λ result. refl)
+    (λ event go on h. room_alike (go 0) (on 0) (Asks event go) (Asks event on) (h 0) (refl, h)) (λ go on h. h)
+
+-- ---- A configuration with other locals
+
+-- other locals in the innermost frame, and other calling frames
+abbrev pub other : Config → List Value → List Frame → Config
+other c ys gs = record c { frame = record c.frame { locals = ys }; callers = gs }
+
+pub frame_alike : (row : List Bool) (f : Frame) (ys : List Value) → IsLiveFrame row f → Agree row f.locals ys → AreFramesAlike f (record f { locals = ys })
+frame_alike row f ys live agree =
+    record { row = row; live = live; locals = agree; code = refl; operands = refl; labels = refl; arity = refl }
+
+pub config_alike : (c : Config) (ys : List Value) (gs : List Frame) (row : List Bool) → IsLiveFrame row c.frame → Agree row c.frame.locals ys →
+    AreCallersAlike c.callers gs → AreAlike c (other c ys gs)
+config_alike c ys gs row live agree callers =
+    record { globals = refl; frame = frame_alike row c.frame ys live agree; callers = callers; progress = refl }
+
+-- each of two that are alike is the other one with other locals
+pub other_is : (c d : Config) → AreAlike c d → other c d.frame.locals d.callers ≡ d
+other_is c d a =
+    let g = a.globals in
+    let o = a.frame.code in
+    let s = a.frame.operands in
+    let l = a.frame.labels in
+    let n = a.frame.arity in
+    let p = a.progress in
+    λ i. record {
+      globals = g i;
+      frame = record { locals = d.frame.locals; code = o i; operands = s i; labels = l i; arity = n i };
+      callers = d.callers;
+      progress = p i;
+    }

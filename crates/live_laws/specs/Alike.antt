@@ -1,8 +1,7 @@
 -- Configurations of a thread that are the same but for locals that are dead where their frames stand.
-use Rattle.std.specs.Prelude.{◌≡◌, ℕ, List, [], ◌∷◌, map}
+use Rattle.std.specs.Prelude.{◌≡◌, ℕ, Bool, List, [], ◌∷◌, map}
 use Rattle.std.specs.List.{slice_get}
 use Rattle.types.specs.declared.value.Value.{Value}
-use Rattle.types.specs.declared.outcome.Outcome.{Outcome}
 use Rattle.types.specs.Values.{type_of}
 use Rattle.interp_machine.specs.Config.{Frame, Config, Next, Stuck, Goes, Traps, Finishes, Asks, Hears}
 use Rattle.interp_machine.specs.State.{State, At, Over}

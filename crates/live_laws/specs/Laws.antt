@@ -1,5 +1,5 @@
 -- What is so of configurations that are alike, of whatever program.
-use Rattle.std.specs.Prelude.{◌≡◌, ℕ}
+use Rattle.std.specs.Prelude.{◌≡◌}
 use Rattle.types.specs.declared.event.Reply.{Reply}
 use Rattle.types.specs.declared.event.Answer.{Answer}
 use Rattle.interp_machine.specs.Config.{Config}

@@ -1,5 +1,5 @@
 -- Nested code with the locals that are live before it, behind it and at its labels, each as a row of marks.
-use Rattle.std.specs.Prelude.{◌≡◌, ℕ, List, [], ◌∷◌, Option, Some, None, true, Contains}
+use Rattle.std.specs.Prelude.{◌≡◌, ℕ, Bool, List, [], ◌∷◌, Option, Some, None, true, Contains}
 use Rattle.std.specs.List.{slice_get}
 use Rattle.types.specs.declared.instr.PlainInstr.{PlainInstr}
 use Rattle.types.specs.declared.instr.Instr.TheVariants as instrs

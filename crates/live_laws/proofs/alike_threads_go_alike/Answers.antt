@@ -1,0 +1,6 @@
+use Rattle.live_laws.proofs.Going.{alike}
+use Rattle.live_laws.proofs.States.{states}
+use Rattle.live_laws.proofs.alike_threads_go_alike.Goals as goal
+
+pub returns : goal.returns
+returns c = record { configs = alike; states = states }
