@@ -60,11 +60,13 @@ resumed : (results : List Value) (f g : Frame) → AreFramesAlike f g →
 resumed results f g a = record {
   row = a.row;
   live = record { outs = a.live.outs; behind = a.live.behind; code = a.live.code; opens = a.live.opens };
-  locals = a.locals;
-  code = a.code;
-  operands = ap (λ (os : List Value). results ++ os) a.operands;
-  labels = a.labels;
-  arity = a.arity;
+  same = record {
+    locals = a.same.locals;
+    code = a.same.code;
+    operands = ap (λ (os : List Value). results ++ os) a.same.operands;
+    labels = a.same.labels;
+    arity = a.same.arity;
+  };
 }
 
 module _ (p : Program) (c : Config) (ys : List Value) (gs : List Frame) (callers : AreCallersAlike c.callers gs) (row : List Bool)
@@ -318,4 +320,4 @@ pub alike : (p : Program) (c d : Config) → AreAlike c d → AreNextAlike (next
 alike p c d a =
     let f = a.frame in
     subst (λ e. AreNextAlike (next p c) (next p e)) (other_is c d a)
-    (going p c d.frame.locals d.callers a.callers f.row f.locals f.live.outs f.live.behind f.live.opens f.live.code c.progress)
+    (going p c d.frame.locals d.callers a.callers f.row f.same.locals f.live.outs f.live.behind f.live.opens f.live.code c.progress)

@@ -2,3 +2,6 @@ mod Marks
 mod Other
 mod Going
 mod States
+mod Both
+mod Placed
+mod Dead

@@ -60,9 +60,9 @@ on_same_alike {A = A} o q go on e h = subst (λ (y : Option A). AreNextAlike (on
 
 frames_long : (f g : Frame) → AreFramesAlike f g → values_in f ≡ values_in g
 frames_long f g a =
-    let l = agree_long a.row f.locals g.locals a.locals in
-    let o = a.operands in
-    let b = a.labels in
+    let l = agree_long a.row f.locals g.locals a.same.locals in
+    let o = a.same.operands in
+    let b = a.same.labels in
     λ i. l i + (length (o i) + sum_by (λ (y : Label). length y.below) (b i))
 
 callers_values : (fs gs : List Frame) → AreCallersAlike fs gs → sum_by values_in fs ≡ sum_by values_in gs
@@ -149,7 +149,7 @@ other c ys gs = record c { frame = record c.frame { locals = ys }; callers = gs 
 
 pub frame_alike : (row : List Bool) (f : Frame) (ys : List Value) → IsLiveFrame row f → Agree row f.locals ys → AreFramesAlike f (record f { locals = ys })
 frame_alike row f ys live agree =
-    record { row = row; live = live; locals = agree; code = refl; operands = refl; labels = refl; arity = refl }
+    record { row = row; live = live; same = record { locals = agree; code = refl; operands = refl; labels = refl; arity = refl } }
 
 pub config_alike : (c : Config) (ys : List Value) (gs : List Frame) (row : List Bool) → IsLiveFrame row c.frame → Agree row c.frame.locals ys →
     AreCallersAlike c.callers gs → AreAlike c (other c ys gs)
@@ -160,10 +160,10 @@ config_alike c ys gs row live agree callers =
 pub other_is : (c d : Config) → AreAlike c d → other c d.frame.locals d.callers ≡ d
 other_is c d a =
     let g = a.globals in
-    let o = a.frame.code in
-    let s = a.frame.operands in
-    let l = a.frame.labels in
-    let n = a.frame.arity in
+    let o = a.frame.same.code in
+    let s = a.frame.same.operands in
+    let l = a.frame.same.labels in
+    let n = a.frame.same.arity in
     let p = a.progress in
     λ i. record {
       globals = g i;

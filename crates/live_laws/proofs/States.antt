@@ -1,5 +1,5 @@
 -- States of a thread that are alike go alike.
-use Rattle.std.proofs.Common.{◌≡◌, ℕ, refl}
+use Rattle.std.proofs.Common.{◌≡◌, ℕ, zero, suc, refl}
 use Rattle.types.specs.declared.event.Reply.{Reply}
 use Rattle.types.specs.declared.event.Reply.TheVariants as replies
 use Rattle.types.specs.declared.event.Answer.{Answer}
@@ -8,7 +8,7 @@ use Rattle.types.specs.declared.event.Event.{Event}
 use Rattle.interp_machine.specs.Config.{Config, Next, Asks, Hears}
 use Rattle.interp_machine.specs.Program.{Program}
 use Rattle.interp_machine.specs.Step.{next}
-use Rattle.interp_machine.specs.State.{State, At, Over, gone_by, wanted_by, replied_by, heard_by}
+use Rattle.interp_machine.specs.State.{State, At, Over, gone, gone_times, gone_by, wanted_by, replied_by, heard_by}
 use Rattle.live_laws.specs.Alike.{AreAlike, AreNextAlike, AreStatesAlike}
 use Rattle.live_laws.specs.Laws.{StatesGoAlike}
 use Rattle.live_laws.proofs.Other.{next_cases}
@@ -42,15 +42,26 @@ module _ (c d : Config) (a : AreAlike c d) where
       heard go on h (answers.Number n) = h n
       heard go on h answers.ForGood = refl
 
+goes_alike : (p : Program) (s t : State) → AreStatesAlike s t → AreStatesAlike (gone p s) (gone p t)
+goes_alike p (At c) (At d) a = gone_alike c d a (next p c) (next p d) (alike p c d a)
+goes_alike p (At c) (Over outcome) a = absurd a
+goes_alike p (Over outcome) (At c) a = absurd a
+goes_alike p (Over outcome) (Over other) a = a
+
+turns_alike : (n : ℕ) (p : Program) (s t : State) → AreStatesAlike s t → AreStatesAlike (gone_times n p s) (gone_times n p t)
+turns_alike zero p s t a = a
+turns_alike (suc n) p s t a = turns_alike n p (gone p s) (gone p t) (goes_alike p s t a)
+
 pub states : (p : Program) (s t : State) → AreStatesAlike s t → StatesGoAlike p s t
 states p (At c) (At d) a =
     let n = alike p c d a in
     record {
       wants = wants_alike (next p c) (next p d) n;
       goes = gone_alike c d a (next p c) (next p d) n;
+      turns = λ n. turns_alike n p (At c) (At d) a;
       replies = λ reply. replied_alike c d a reply (next p c) (next p d) n;
       hears = λ answer. heard_alike c d a answer (next p c) (next p d) n;
     }
 states p (At c) (Over outcome) a = absurd a
 states p (Over outcome) (At c) a = absurd a
-states p (Over outcome) (Over other) a = record { wants = refl; goes = a; replies = λ reply. a; hears = λ answer. a }
+states p (Over outcome) (Over other) a = record { wants = refl; goes = a; turns = λ n. turns_alike n p (Over outcome) (Over other) a; replies = λ reply. a; hears = λ answer. a }

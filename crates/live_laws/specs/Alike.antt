@@ -13,15 +13,19 @@ pub record Agree (row : List Bool) (xs ys : List Value) : Type 0 where
   pub types : map type_of xs ≡ map type_of ys
   pub same : (local : ℕ) → IsLive row local → slice_get xs local ≡ slice_get ys local
 
--- Two frames are the same but for dead locals.
-pub record AreFramesAlike (f g : Frame) : Type 0 where
-  pub row : List Bool
-  pub live : IsLiveFrame row f
+-- Two frames are the same but for locals that aren't live by a row.
+pub record AreSameBy (row : List Bool) (f g : Frame) : Type 0 where
   pub locals : Agree row f.locals g.locals
   pub code : f.code ≡ g.code
   pub operands : f.operands ≡ g.operands
   pub labels : f.labels ≡ g.labels
   pub arity : f.arity ≡ g.arity
+
+-- Two frames are the same but for dead locals.
+pub record AreFramesAlike (f g : Frame) : Type 0 where
+  pub row : List Bool
+  pub live : IsLiveFrame row f
+  pub same : AreSameBy row f g
 
 abbrev pub AreCallersAlike : List Frame → List Frame → Type 0
 AreCallersAlike [] [] = Unit {0}

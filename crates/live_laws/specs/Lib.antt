@@ -1,3 +1,4 @@
 pub mod Lives
 pub mod Alike
+pub mod Dead
 pub mod Laws
