@@ -4,4 +4,4 @@ mod Going
 mod States
 mod Both
 mod Placed
-mod Dead
+pub mod Dead

@@ -16,4 +16,5 @@ mod rows;
 mod tables;
 
 pub use checking::is_sound;
+pub use rows::is_live;
 pub use tables::{LiveTables, MOST_MARKS, live_tables};

@@ -1,0 +1,3 @@
+mod Words
+mod Opened
+mod Standing
