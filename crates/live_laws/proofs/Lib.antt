@@ -1,7 +1,7 @@
-mod Marks
-mod Other
-mod Going
-mod States
-mod Both
-mod Placed
+pub mod Marks
+pub mod Other
+pub mod Going
+pub mod States
+pub mod Both
+pub mod Placed
 pub mod Dead
