@@ -12,6 +12,7 @@ use Rattle.validate_typing.specs.Placed.{Flat}
 use Rattle.validate_typing.specs.Tabled.{WithTables}
 use Rattle.std.specs.Global.{Vec}
 use Rattle.interp_machine.specs.Config.{Frame, Config, Progress as Reached}
+use Rattle.live_laws.proofs.Both.{in_turn}
 use Rattle.live_laws.proofs.Dead.{dead}
 use Rattle.interp_state.specs.declared.state.Caller.{Caller}
 use Rattle.interp_state.specs.declared.state.State.{State}
@@ -22,10 +23,11 @@ use Rattle.interp_state.specs.Words.{word_of}
 use Rattle.interp_state.proofs.Words.{map_reversed, means_turned}
 use Rattle.interp_state.proofs.Views.{view_plain}
 use Rattle.interp.specs.declared.kept.Kept.{Kept}
+use Rattle.interp.specs.Kept.{IsKept}
 use Rattle.live_locals.specs.Live.{AreSound, row_at}
 use Rattle.live_laws.specs.Alike.{AreAlike}
 use Rattle.live_kept.specs.Cleared.{cleared_at, running, cleared_words}
-use Rattle.live_kept.specs.Clearing.{IsClearedOf, StandsForAlike}
+use Rattle.live_kept.specs.Clearing.{IsClearedOf, IsKeptUpToDead, StandsForAlike}
 use Rattle.live_kept.proofs.Words.{cleared_open, folded}
 use Rattle.live_kept.proofs.Opened.{cleared_frame, cleared_stands, cleared_same, as_many_locals, range_on, range_lower, words_long, values_many, within_callers, HasCleared, words_on}
 use Rattle.live_kept.proofs.Opened.{callers_cleared}
@@ -165,8 +167,9 @@ module _ (w : WithTables) (tables : List (List (List Bool))) (sound : AreSound w
 
 -- ---- What is kept
 
-pub clears : (tables : List (List (List Bool))) (old new : Kept) → IsClearedOf tables old new → StandsForAlike tables old new
-clears tables old new h w c sound k =
+kept_cleared : (tables : List (List (List Bool))) (old new : Kept) → IsClearedOf tables old new → (w : WithTables) (c : Config) → AreSound w tables →
+    IsKept w old c → IsKeptUpToDead w new c
+kept_cleared tables old new h w c sound k =
     let s = k.state in
     let o = k.is_of in
     let f = o.function in
@@ -197,3 +200,8 @@ clears tables old new h w c sound k =
       },
       alike_now w tables sound s c k.stands,
     )
+
+pub clears : (tables : List (List (List Bool))) (old new : Kept) → IsClearedOf tables old new → StandsForAlike tables old new
+clears tables old new h w c sound k =
+    let r = kept_cleared tables old new h w k.0 sound k.1 in
+    (r.0, r.1, in_turn r.0 k.0 c r.2 k.2)

@@ -20,8 +20,12 @@ pub record IsClearedOf (tables : List (List (List Bool))) (old new : Kept) : Typ
   pub callers : new.callers.items ≡ old.callers.items
   pub progress : new.progress ≡ old.progress
 
--- It stands for a configuration that is alike to each one for which the other stands, of whichever valid module for
--- which the tables are sound.
+-- It stands for a configuration that is alike to this one.
+abbrev pub IsKeptUpToDead : WithTables → Kept → Config → Type 0
+IsKeptUpToDead w k c = (d : Config) × IsKept w k d × AreAlike d c
+
+-- For what the one stands up to dead locals, the other stands, of whichever valid module for which the tables are
+-- sound.
 abbrev pub StandsForAlike : List (List (List Bool)) → Kept → Kept → Type 0
-StandsForAlike tables old new = (w : WithTables) (c : Config) → AreSound w tables → IsKept w old c →
-    (d : Config) × IsKept w new d × AreAlike d c
+StandsForAlike tables old new = (w : WithTables) (c : Config) → AreSound w tables → IsKeptUpToDead w old c →
+    IsKeptUpToDead w new c
