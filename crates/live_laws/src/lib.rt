@@ -3,7 +3,8 @@
 //!
 //! Proved: of every program, what comes next of configurations that are alike is alike: the same trap, result or event,
 //! and with the same reply or answer alike configurations; so it is with states. Being alike is an equivalence. Where
-//! tables of marks are sound for a valid module, configurations of a thread that differ in what they call dead are alike.
+//! tables of marks are sound for a valid module, configurations of a thread that differ in what they call dead are
+//! alike.
 //!
 //! `specs/Lives.antt` says of nested code which locals are live, by recursion on the code, as the typing rules do with
 //! operands; `specs/Alike.antt` says which configurations are alike, and `specs/Dead.antt` which differ in what is dead

@@ -40,8 +40,10 @@ fn covers_targets(
     targets: &[Target],
     written: Option<u32>,
 ) -> bool
-    ensures accepts { IsTrue result → (t : Target) → Contains targets.now t → Covers row.now (row_at rows.now t.to) written }
-    ensures refuses { ((t : Target) → Contains targets.now t → Covers row.now (row_at rows.now t.to) written) → IsTrue result }
+    ensures accepts { IsTrue result → (t : Target) → Contains targets.now t
+        → Covers row.now (row_at rows.now t.to) written }
+    ensures refuses { ((t : Target) → Contains targets.now t → Covers row.now (row_at rows.now t.to) written)
+        → IsTrue result }
 {
     for target in targets {
         if !covers(row, row_at(rows, target.to as usize), written) {

@@ -5,8 +5,8 @@
 //! whatever the analysis found that it takes them from.
 //!
 //! `specs/Live.antt` says what a sound table is, without saying how to come by one: what an instruction reads is live
-//! before it, and so is what is live at each place where it may go, but for what it writes. What a table has no mark for
-//! is live, so one without rows is sound, and stands in where memory or time would not do.
+//! before it, and so is what is live at each place where it may go, but for what it writes. What a table has no mark
+//! for is live, so one without rows is sound, and stands in where memory or time would not do.
 #![tactic(auto)]
 
 mod analysis;
