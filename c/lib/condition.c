@@ -40,7 +40,7 @@ int pthread_cond_destroy(pthread_cond_t *c) {
 
 static inline __attribute__((always_inline)) int wait_for_signal(pthread_cond_t *c, pthread_mutex_t *m, int64_t deadline) {
     _Atomic int *word = signals_of(c);
-    int signals = *word, in_vain = fails_for_nothing();
+    int signals = *word, in_vain = fails_for_nothing(WAITS);
     int wrong = pthread_mutex_unlock(m);
     if (wrong) /* a mutex that looks for errors is another's */
         return wrong;

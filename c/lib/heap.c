@@ -48,7 +48,7 @@ static void *take_of_pool(size_t size) {
 }
 
 void *malloc(size_t n) {
-    if (n > POOL || fails_for_nothing())
+    if (n > POOL || fails_for_nothing(MALLOC))
         return errno = ENOMEM, (void *)0;
     size_t size = (n + 2 * FRONT - 1) & -FRONT;
     void *block = take_freed(size);
@@ -67,7 +67,7 @@ void *aligned_alloc(size_t alignment, size_t n) {
     if (alignment <= FRONT)
         return malloc(n);
     size_t size = (n + 2 * FRONT - 1) & -FRONT;
-    char *block = n > POOL || alignment > POOL || fails_for_nothing() ? 0 : take_of_pool(size + alignment - FRONT);
+    char *block = n > POOL || alignment > POOL || fails_for_nothing(MALLOC) ? 0 : take_of_pool(size + alignment - FRONT);
     if (!block)
         return errno = ENOMEM, (void *)0;
     block = (char *)(((size_t)block + alignment - 1) & -alignment);

@@ -39,7 +39,7 @@ static inline __attribute__((always_inline)) int write_until(pthread_rwlock_t *l
     return 0;
 }
 
-int pthread_rwlock_tryrdlock(pthread_rwlock_t *l) { return fails_for_nothing() ? EBUSY : try_reading(l); }
+int pthread_rwlock_tryrdlock(pthread_rwlock_t *l) { return fails_for_nothing(TRIALS) ? EBUSY : try_reading(l); }
 int pthread_rwlock_rdlock(pthread_rwlock_t *l) { return read_until(l, FOR_EVER); }
 int pthread_rwlock_wrlock(pthread_rwlock_t *l) { return write_until(l, FOR_EVER); }
 
@@ -53,7 +53,7 @@ int pthread_rwlock_timedwrlock(pthread_rwlock_t *l, const struct timespec *until
 
 int pthread_rwlock_trywrlock(pthread_rwlock_t *l) {
     int state = FREE;
-    if (fails_for_nothing())
+    if (fails_for_nothing(TRIALS))
         return EBUSY;
     if (atomic_compare_exchange_strong(&l->state, &state, WRITER))
         return 0;
@@ -96,7 +96,7 @@ static int try_spin(pthread_spinlock_t *l) { return atomic_exchange(l, HELD) == 
 
 int pthread_spin_init(pthread_spinlock_t *l, int shared) { (void)shared; set_plainly(l, FREE); return 0; }
 int pthread_spin_destroy(pthread_spinlock_t *l) { return destroy_word(l, FREE); }
-int pthread_spin_trylock(pthread_spinlock_t *l) { return fails_for_nothing() ? EBUSY : try_spin(l); }
+int pthread_spin_trylock(pthread_spinlock_t *l) { return fails_for_nothing(TRIALS) ? EBUSY : try_spin(l); }
 int pthread_spin_lock(pthread_spinlock_t *l) { while (try_spin(l)) {} return 0; }
 int pthread_spin_unlock(pthread_spinlock_t *l) { *l = FREE; return 0; }
 
@@ -132,7 +132,7 @@ static inline __attribute__((always_inline)) int take_until(sem_t *s, int64_t de
     return 0;
 }
 
-int sem_trywait(sem_t *s) { return fails_for_nothing() || take(s) ? errno = EAGAIN, -1 : 0; }
+int sem_trywait(sem_t *s) { return fails_for_nothing(TRIALS) || take(s) ? errno = EAGAIN, -1 : 0; }
 int sem_wait(sem_t *s) { return take_until(s, FOR_EVER); }
 
 int sem_timedwait(sem_t *s, const struct timespec *until) {

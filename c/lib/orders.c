@@ -422,7 +422,7 @@ void __wathread_fence(int order) {
 static u32 detached;        /* bits by slots */
 static u8 joiner[THREADS];  /* who waits for a thread's end: its slot, plus 1 */
 static u32 results[NUMBERS];
-static u64 joined;          /* bits by numbers: its end was taken, and may be asked for again */
+static u64 joined;          /* bits by numbers: its end was taken, or nobody's, and may be asked for again */
 static int chosen;          /* the slot of the thread that is started */
 static int will_end;        /* `main` was invoked, so orders_ends is called at its end */
 
@@ -525,12 +525,32 @@ void orders_ends(int thread, unsigned result) {
         take_end(by, t);
         end_parallel(by);
     } else if (detached >> t & 1) {
+        joined |= 1ull << thread;
         detached &= ~(1u << t);
         ended &= ~(1u << t);
         forget_views(t);
     }
     if (by >= 0)
         wakes(by);
+    end_operation();
+}
+
+/* Who joins it then waits no more. */
+void orders_main_left(unsigned result) {
+    if (!is_parallel())
+        return;
+    begin_operation(0, OTHERS);
+    int t = me(), by = joiner[t] - 1;
+    results[0] = result;
+    joined |= 1;
+    detached |= 1u << t;
+    if (by >= 0) {
+        joiner[t] = 0;
+        joining &= ~(1u << by);
+        sleeping &= ~(1u << by);
+        add(&orders.current[by], &orders.current[t]);
+        wakes(by);
+    }
     end_operation();
 }
 
@@ -560,9 +580,11 @@ static int is_late(int t, int of) {
 int orders_joins(int thread, unsigned *result, long long nanoseconds) {
     begin_operation(0, OTHERS);
     int t = me(), of = slots[thread];
-    if (joined >> thread & 1)
-        leave(t);
-    else if (ended >> of & 1) {
+    if (joined >> thread & 1) {
+        if (!thread) /* main, which is there still */
+            add(&orders.current[t], &orders.current[of]);
+        end_access(t);
+    } else if (ended >> of & 1) {
         joined |= 1ull << thread;
         take_end(t, of);
         end_parallel(t);
@@ -585,6 +607,7 @@ void orders_detached(int thread) {
     begin_operation(0, OTHERS);
     int t = slots[thread];
     if (ended >> t & 1) {
+        joined |= 1ull << thread;
         ended &= ~(1u << t);
         forget_views(t);
     } else

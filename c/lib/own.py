@@ -24,8 +24,9 @@ KINDS = (b'\x11\x01',                                   # 1, the unit
 TABLE = b''.join(number(code) + kind + b'\0\0' for code, kind in enumerate(KINDS, 1)) + b'\0'
 HEADER = 11                                             # bytes in front of the entries
 
-# The place of a thread-local variable: a number of 4 bytes, and the operation that makes an address of it.
-PLACE = re.compile(rb'\x0C(....)[\x9B\xE0]', re.S)
+# The place of a thread-local variable: a number of 4 bytes, and the operation that makes an address of it; or, of later
+# versions, the global variable __tls_base, and that number added to it.
+PLACE = re.compile(rb'\x0C(....)[\x9B\xE0]|\xED\x03....\x03(....)\x22', re.S)
 
 # A line of the linker's map: an address or none, an offset, a size, and spaces in front of what it is about, by what that
 # is: none of a segment, so many of a symbol.
@@ -79,7 +80,7 @@ def read_unit(unit, end, table):
         for attribute, form in specs:
             value = read_value(unit, form)
             if tag == VARIABLE and attribute == LOCATION and (found := PLACE.fullmatch(value)):
-                yield int.from_bytes(found[1], 'little'), entry
+                yield int.from_bytes(found[1] or found[2], 'little'), entry
 
 
 def thread_locals(info, tables):

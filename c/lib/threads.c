@@ -34,7 +34,9 @@ static _Thread_local uint64_t joined; /* a bit for each that stays */
 
 /* What keys and atexit have called at the end, and behind it: nothing is linked of them where nobody asks for it. */
 static _Thread_local void (*at_its_end)(void), (*behind_its_end)(void);
-static void (*at_mains_exit)(void); /* by pthread_exit: a return from main is an end of the program, where keys call nothing */
+/* main's, by pthread_exit: a return from main is an end of the program, where keys call nothing, and atexit at once. */
+static void (*at_mains_exit)(void), (*at_programs_end)(void);
+static uint32_t mains_result; /* of pthread_exit, for who joins it */
 
 /* ---- Null pointers: nothing lies in the first bytes of the memory, so that they are zero in a right program. They are
    read by plain loads, which cost a search nothing ---- */
@@ -99,13 +101,17 @@ EXPORT("main") int __wathread_main(void) {
     int result = __main_void ? __main_void() : __main_argc_argv(0, &none);
     result = __wathread_leaving() ? __wathread_result() : result;
     call_at_end();
-    orders_ends(0, result);
+#ifdef ORDERS
+    orders_ends(0, mains_result);
+#endif
     return result;
 }
 
 /* ---- Threads ---- */
 
 #ifdef ORDERS
+enum { HELPERS = 1 };
+
 static int start(enum type type, void *function, void *arg) {
     orders_start_begins();
     int place = ++last_start, made = -1;
@@ -125,6 +131,7 @@ static int stays(int thread) {
     return thread > __wathread_most() - __wathread_most() / 4 && __wathread_values_size() < __wathread_stack() / 2;
 }
 
+enum { HELPERS };
 static uint64_t starts_anew[MOST_THAT_STAY];
 
 static __attribute__((noinline)) int start_anew(uint64_t word) {
@@ -327,7 +334,12 @@ int pthread_setcanceltype(int type, int *before) { return set_cancel(&cancel_typ
 
 /* ---- Keys: thread-local data. A number comes once, so that a new key is null in all threads ---- */
 
-static _Thread_local void *values[PTHREAD_KEYS_MAX];
+enum { NEAR_KEYS = 32 };
+
+/* The near keys' values are the thread's own. As many others' are made where it first puts one there, so that few bytes lie
+   on each stack. */
+static _Thread_local void *values[NEAR_KEYS], **far_values[PTHREAD_KEYS_MAX / NEAR_KEYS - 1];
+static _Thread_local int values_end; /* behind the last one that the thread has put there */
 static void (*_Atomic destructors[PTHREAD_KEYS_MAX])(void *);
 static _Atomic int keys;
 
@@ -348,13 +360,21 @@ int pthread_key_delete(pthread_key_t key) {
     return 0;
 }
 
+static void **value_of(int key) {
+    if (key < NEAR_KEYS)
+        return &values[key];
+    void **far = far_values[key / NEAR_KEYS - 1];
+    return far ? &far[key % NEAR_KEYS] : 0;
+}
+
 /* A destructor may put values there again. */
 static void call_destructors(void) {
     for (int round = 0, any = 1; any && round < PTHREAD_DESTRUCTOR_ITERATIONS; round++) {
         any = 0;
-        for (int key = 0; key < PTHREAD_KEYS_MAX; key++) {
-            void *value = values[key], (*destructor)(void *) = value ? destructors[key] : 0;
-            values[key] = 0;
+        for (int key = 0; key < values_end; key++) {
+            void **at = value_of(key), *value = at ? *at : 0, (*destructor)(void *) = value ? destructors[key] : 0;
+            if (at)
+                *at = 0;
             if (destructor) {
                 any = 1;
                 destructor(value);
@@ -366,7 +386,17 @@ static void call_destructors(void) {
 int pthread_setspecific(pthread_key_t key, const void *value) {
     if ((unsigned)key >= PTHREAD_KEYS_MAX)
         return EINVAL;
-    values[key] = (void *)value;
+    void **at = value_of(key);
+    if (!at) {
+        void **far = calloc(NEAR_KEYS, sizeof *far);
+        if (!far)
+            return ENOMEM;
+        far_values[key / NEAR_KEYS - 1] = far;
+        at = value_of(key);
+    }
+    *at = (void *)value;
+    if (key >= values_end)
+        values_end = key + 1;
     if (thread_self())
         call_then(call_destructors);
     else
@@ -374,7 +404,10 @@ int pthread_setspecific(pthread_key_t key, const void *value) {
     return 0;
 }
 
-void *pthread_getspecific(pthread_key_t key) { return (unsigned)key < PTHREAD_KEYS_MAX ? values[key] : 0; }
+void *pthread_getspecific(pthread_key_t key) {
+    void **at = (unsigned)key < PTHREAD_KEYS_MAX ? value_of(key) : 0;
+    return at ? *at : 0;
+}
 
 /* ---- The end of a thread, from within ---- */
 
@@ -389,10 +422,47 @@ static void leave(uint32_t result) {
     __wathread_leave(result);
 }
 
-/* main's answer is 0 then, and what atexit was given isn't called: that is for the end of the program. */
+static uint32_t result_of(int thread);
+
+/* A thread is started by one with a lesser number, but where it begins anew: once that may be, nobody is started any more
+   where nobody was in two rounds. */
+static void wait_for_all(void) {
+    int most = __wathread_most() - HELPERS, rounds = 0;
+    do {
+        int before = last_start;
+        for (int thread = 1; thread <= last_start && thread <= most; thread++)
+            result_of(thread);
+        rounds = last_start == before ? rounds + 1 : 0;
+    } while (last_start > most && rounds < 2);
+}
+
+/* Others may join main. The program ends with the last of its threads. */
+static void leave_main(void) {
+    at_its_end = behind_its_end = 0;
+    if (at_mains_exit)
+        at_mains_exit();
+#ifndef ORDERS
+    if (last_start) {
+        ends[0] = (uint64_t)ENDED << 32 | mains_result;
+        notify_all(&ends[0]);
+    }
+#endif
+    if (at_programs_end) {
+        orders_main_left(mains_result);
+        wait_for_all();
+        at_programs_end();
+    }
+}
+
+/* main's answer is 0 then. */
 void pthread_exit(void *result) {
-    if (!thread_self())
-        at_its_end = at_mains_exit;
+    if (!thread_self()) {
+        mains_result = (uint32_t)result;
+        if (!at_its_end || at_its_end == at_programs_end)
+            at_its_end = leave_main;
+        else
+            behind_its_end = leave_main;
+    }
     leave(thread_self() ? (uint32_t)result : 0);
 }
 
@@ -431,6 +501,7 @@ int atexit(void (*function)(void)) {
     if (add_at_exit(&normal, function))
         return -1;
     call_then(call_normal);
+    at_programs_end = call_normal;
     return 0;
 }
 

@@ -37,7 +37,9 @@ static void sleep_for(int64_t nanoseconds) {
 static int is_wrong(const struct timespec *t) { return t->tv_nsec < 0 || t->tv_nsec >= NANOSECONDS; }
 
 /* ---- With --spurious a thread of the library's own sets this word for a while, once, at any time: as long as it is
-   set, waits and trials fail for nothing, wherever POSIX permits it ---- */
+   set, what was asked for fails for nothing, wherever POSIX permits it ---- */
+
+enum in_vain { WAITS = 1, TRIALS = 2, EXCHANGES = 4, TIMEOUTS = 8, MALLOC = 16 };
 
 #ifdef SPURIOUS
 static _Atomic int luck_is_out;
@@ -48,11 +50,11 @@ static void change_luck(int unused) {
     luck_is_out = 0;
 }
 
-static int fails_for_nothing(void) { return luck_is_out; }
+static int fails_for_nothing(enum in_vain what) { return (SPURIOUS) & what && luck_is_out; }
 #else
-static int fails_for_nothing(void) { return 0; }
+static int fails_for_nothing(enum in_vain what) { (void)what; return 0; }
 #endif
-int __wathread_fails(void) { return fails_for_nothing(); } /* what a weak compare-exchange asks (blocks.py) */
+int __wathread_fails(void) { return fails_for_nothing(EXCHANGES); } /* what a weak compare-exchange asks (blocks.py) */
 
 /* Sleeps while *word is value. Answers 1 where the deadline has come: then no more is asked. */
 static inline __attribute__((always_inline)) int sleep_while(_Atomic int *word, int value, int64_t deadline) {
@@ -60,7 +62,7 @@ static inline __attribute__((always_inline)) int sleep_while(_Atomic int *word, 
         wait_while(word, value);
         return 0;
     }
-    if (deadline <= BEGIN || deadline <= now || fails_for_nothing())
+    if (deadline <= BEGIN || deadline <= now || fails_for_nothing(TIMEOUTS))
         return 1;
     if (wait_while_for(word, value, deadline) != 2)
         return 0;
@@ -73,7 +75,7 @@ static inline __attribute__((always_inline)) int sleep_while(_Atomic int *word, 
 /* ---- Linux's futex ---- */
 
 static long wait_by_futex(_Atomic int *word, int value, int64_t deadline) {
-    if (fails_for_nothing())
+    if (fails_for_nothing(WAITS))
         return errno = EINTR, -1;
     if (deadline < 0)
         return wait_while(word, value) == 1 ? errno = EAGAIN, -1 : 0;

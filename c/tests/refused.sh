@@ -126,6 +126,9 @@ refuses '--threads wants a value' "$cc_" good.c -o m.wasm --threads
 for value in 0 64 -1 many '' 07 99999999999999999999; do
     refuses "--threads $value: it takes 1 to 63" "$cc_" good.c -o m.wasm --threads "$value"
 done
+for value in wait waits, '' waits,mallocs ,; do
+    refuses "--spurious=$value: it takes waits, trials, exchanges, timeouts and malloc" "$cc_" good.c "--spurious=$value"
+done
 refuses '--orders tso: it takes c11 or sc' "$cc_" good.c -o m.wasm --orders tso
 refuses '--threads 63: with --orders c11 it takes 1 to 62' "$cc_" good.c -o m.wasm --orders=c11 --threads 63
 for option in stack pool; do
@@ -222,7 +225,7 @@ refuses 'in take: a compare-exchange of 8 bits by an expected value that may be 
     "$cc_" taker.c byte.o -o m.wasm
 "$cc_" -c byte.c -o byte.o || say "-c byte.c"
 makes m.wasm "$cc_" taker.c byte.o -o m.wasm
-for option in --spurious --reuse --volatile-atomic '--orders c11'; do makes m.wasm "$cc_" $option good.c -o m.wasm; done
+for option in --spurious --spurious=waits,malloc --reuse --volatile-atomic '--orders c11'; do makes m.wasm "$cc_" $option good.c -o m.wasm; done
 "$cc_" --orders c11 -c object.c -o orders.o || say "--orders c11 -c"
 makes m.wasm "$cc_" --orders c11 good.c orders.o -o m.wasm
 refuses 'orders.o was made with --orders c11' "$cc_" good.c orders.o -o m.wasm
