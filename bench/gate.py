@@ -1,7 +1,8 @@
 #!/usr/bin/env python3
 """gate.py [NAME..]: runs the gate, `rt ci`, at the top of the repository, and says at the end what it cost by crate and kind of check, in
 seconds of a processor, dearest first: the crate's own proof, the proof of its tests, and the checks with planted bugs (their first, of the
-crate as it stands, among them). `gate.py --table FILE..` makes the table of earlier runs' files alone.
+crate as it stands, among them). `gate.py --table FILE..` makes the table of earlier runs' files alone. RT_JOBS is how many crates are
+checked at once, JOBS how many functions of each, where it is there.
 
 What `rt ci` kept from earlier runs costs nothing and is no part of the table. Each check is a process, whose time is measured from outside:
 rt's words before a command are its own and those of this script, which runs the command and writes a line to the file that it names at first.
@@ -14,6 +15,7 @@ import time
 from importlib import machinery, util
 
 KINDS = ("proof", "tests", "bugs")
+ITSELF = os.path.abspath(__file__)
 
 
 def run_measured(file, words):
@@ -44,7 +46,10 @@ def gate(file, names):
     """Runs rt ci with this script before each command."""
     rt = rt_module()
     before = rt.rtlib.guarded
-    rt.rtlib.guarded = lambda: [*before(), sys.executable, os.path.abspath(__file__), "--run", file]
+    rt.rtlib.guarded = lambda: [*before(), sys.executable, ITSELF, "--run", file]
+    if "JOBS" in os.environ:
+        check = rt.Crate.ci
+        rt.Crate.ci = lambda self, flags, *more: check(self, ["--jobs", os.environ["JOBS"]], *more)
     return rt.main(["ci", *names])
 
 

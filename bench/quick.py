@@ -5,8 +5,8 @@ nothing below it is proved again. No verdict rests on it: the gate is `rt ci`.
     quick.py TREE check CRATE [flags of rattle check]    proves it, over what its last check kept in out/quick
     quick.py TREE build CRATE                            the same, and builds its library for the crates above
 
-GATES names, with colons, the trees (of those above all a copy of one in which `rt ci` ended, `cp -rl` of its crates/
-with crates.txt) whose libraries are taken for crates that are textually the same in TREE.
+GATES names, with colons, the trees whose libraries are taken for crates that are textually the same in TREE: above all
+one that keep.py fills while a gate runs.
 """
 import importlib.machinery
 import importlib.util
@@ -40,7 +40,7 @@ def take(crate, gates):
         at = f"{gate}/crates/{crate.name}"
         if os.path.isfile(f"{at}/out/rlib/{crate.name}.rlib/format") and are_same(crate.folder, at):
             os.makedirs(os.path.dirname(crate.rlib), exist_ok=True)
-            subprocess.run(["cp", "-rl", f"{at}/out/rlib/{crate.name}.rlib", crate.rlib], check=True)
+            subprocess.run(["cp", "-r", f"{at}/out/rlib/{crate.name}.rlib", crate.rlib], check=True)
             return True
     return False
 
