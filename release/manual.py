@@ -34,7 +34,8 @@ EXAMPLES = [
 
 
 class Option:
-    """An option of a command: its names, the word behind it, what it is for, and the words that it may be."""
+    """An option of a command: its names, the word behind it, what it is for, the words that it may be, and whether it may be
+    given several times."""
 
     def __init__(self, names, value, text):
         self.short = next((it for it in names if not it.startswith("--")), None)
@@ -43,6 +44,7 @@ class Option:
         words = re.search(r" \[possible values: (.*)\]$", text)
         self.words = words.group(1).split(", ") if words else []
         self.text = text
+        self.is_list = text.endswith("; may be given several times")
 
     @property
     def is_file(self):
@@ -176,7 +178,7 @@ def zsh(commands):
         out += [f"        {it.name})", "            _arguments \\"]
         for option in it.options:
             text = option.text.replace("\\", "\\\\").replace("[", "\\[").replace("]", "\\]").replace(":", "\\:")
-            spec = f"{option.long}[{text}]"
+            spec = f"{'*' * option.is_list}{option.long}[{text}]"
             if option.value:
                 action = f"({' '.join(option.words)})" if option.words else "_files" if option.is_file else ""
                 spec += f":{option.value.replace(':', ' ').replace('[', '').replace(']', '')}:{action}"

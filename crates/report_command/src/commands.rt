@@ -5,7 +5,7 @@ use crate::table::{
     UNTIL_HELP,
 };
 use clap::builder::ValueRange;
-use clap::{Arg, Command};
+use clap::{Arg, ArgAction, Command};
 use std::alloc::{AllocError, Global};
 
 /// The commands by their names.
@@ -113,7 +113,9 @@ fn arg_of<'a>(alloc: Global, row: &CommandArgument<'static>) -> Result<Arg<'a>, 
         Position::Own => arg,
         Position::Rest => arg.allow_negative_numbers(true),
         Position::Option | Position::Required if argument.kind.is_list() => {
-            arg.long(argument.name).value_delimiter(',')
+            arg.long(argument.name)
+                .value_delimiter(',')
+                .action(ArgAction::Append)
         }
         Position::Option | Position::Required => arg.long(argument.name),
     };

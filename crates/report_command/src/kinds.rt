@@ -53,7 +53,7 @@ impl<'r> ArgumentKind<'r> {
         }
     }
 
-    /// Whether it is several values, with commas between.
+    /// Whether it is several values, with commas between, or each behind its name.
     pub(crate) fn is_list(self) -> bool {
         matches!(
             self,

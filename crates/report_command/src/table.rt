@@ -171,11 +171,12 @@ pub(crate) static OF_A_SEARCH: [OptionRow; 13] = [
 /// What of a record is shown.
 pub(crate) static OF_A_RECORD: [OptionRow; 7] = [
     row!(LINES, for [Show],
-    "Only the entries on these lines of the record; A- goes to its end"),
+    "Only the entries on these lines of the record; A- goes to its end; may be given several times"),
     row!(THREADS, for [Show],
-    "Only the entries of these threads, 0 to 63, as 2 or t2"),
+    "Only the entries of these threads, 0 to 63, as 2 or t2; may be given several times"),
     row!(ADDRESSES, for [Show],
-    "Only the entries at these addresses, decimal or behind 0x, or at the data of these names, as queue.head"),
+    "Only the entries at these addresses, decimal or behind 0x, or at the data of these names, as queue.head; may be \
+    given several times"),
     row!(UNFOLD, for [Show],
     "A row for each entry, also for rounds that a thread makes again and again, and for answers",
     conflicts: &["at", "last-write", "html", "trace", "json"]),
