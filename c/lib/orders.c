@@ -420,6 +420,7 @@ void __wathread_fence(int order) {
 /* ---- Threads ---- */
 
 static u32 detached;        /* bits by slots */
+static u32 left;            /* main's bit, while it has left and waits until all others have ended */
 static u8 joiner[THREADS];  /* who waits for a thread's end: its slot, plus 1 */
 static u32 results[NUMBERS];
 static u64 joined;          /* bits by numbers: its end was taken, or nobody's, and may be asked for again */
@@ -501,6 +502,12 @@ static void end_parallel(int t) {
         helper = 0;
 }
 
+static void wake_main(void) {
+    joining &= ~left;
+    left = 0;
+    wakes(slots[0]);
+}
+
 void orders_ends(int thread, unsigned result) {
     if (!is_parallel()) {
         tell_helper(OVER);
@@ -512,6 +519,8 @@ void orders_ends(int thread, unsigned result) {
     ended |= 1u << t;
     if (by >= 0)
         sleeping &= ~(1u << by);
+    if ((running & ~(1u << t)) == left)
+        sleeping &= ~left;
     is_gone(t);
     clear(&orders.acquirable[t]);
     clear(&orders.released[t]);
@@ -524,7 +533,7 @@ void orders_ends(int thread, unsigned result) {
         joined |= 1ull << thread;
         take_end(by, t);
         end_parallel(by);
-    } else if (detached >> t & 1) {
+    } else if (detached >> t & 1 && !left) {
         joined |= 1ull << thread;
         detached &= ~(1u << t);
         ended &= ~(1u << t);
@@ -532,10 +541,12 @@ void orders_ends(int thread, unsigned result) {
     }
     if (by >= 0)
         wakes(by);
+    if (left && running == left)
+        wake_main();
     end_operation();
 }
 
-/* Who joins it then waits no more. */
+/* Who joins it waits no more. What others knew whose ends nobody took, main knows in the end. */
 void orders_main_left(unsigned result) {
     if (!is_parallel())
         return;
@@ -543,7 +554,6 @@ void orders_main_left(unsigned result) {
     int t = me(), by = joiner[t] - 1;
     results[0] = result;
     joined |= 1;
-    detached |= 1u << t;
     if (by >= 0) {
         joiner[t] = 0;
         joining &= ~(1u << by);
@@ -551,6 +561,22 @@ void orders_main_left(unsigned result) {
         add(&orders.current[by], &orders.current[t]);
         wakes(by);
     }
+    if (running != 1u << t) {
+        left = 1u << t;
+        joining |= left;
+        falls_asleep(t, NUMBERS + 1);
+        end_operation();
+        sleeps(t, NUMBERS + 1, -1);
+        begin_operation(0, OTHERS);
+    }
+    for (int thread = NUMBERS; --thread;)
+        if (ended >> slots[thread] & 1) {
+            joined |= 1ull << thread;
+            take_end(t, slots[thread]);
+        }
+    detached = 1u << t;
+    end_parallel(t);
+    __wathread_set_parallel(simulates);
     end_operation();
 }
 
@@ -593,9 +619,9 @@ int orders_joins(int thread, unsigned *result, long long nanoseconds) {
     } else {
         joiner[of] = t + 1;
         joining |= 1u << t;
-        falls_asleep(t, thread);
+        falls_asleep(t, thread + 1);
         end_access(t);
-        if (sleeps(t, thread, nanoseconds) == 2 && is_late(t, of))
+        if (sleeps(t, thread + 1, nanoseconds) == 2 && is_late(t, of))
             return 2;
         __wathread_set_parallel(simulates);
     }
@@ -606,7 +632,7 @@ int orders_joins(int thread, unsigned *result, long long nanoseconds) {
 void orders_detached(int thread) {
     begin_operation(0, OTHERS);
     int t = slots[thread];
-    if (ended >> t & 1) {
+    if (ended >> t & 1 && !left) {
         joined |= 1ull << thread;
         ended &= ~(1u << t);
         forget_views(t);

@@ -14,7 +14,7 @@ void orders_start_ends(int thread);
 /* Where a thread begins, the helper at place 0: the place of the start that it is to be, or -1 where nothing is left. */
 int orders_begins(int thread, int place);
 
-/* main has left by pthread_exit, and stays until all have ended. */
+/* main has left by pthread_exit: who joins it has this result, and main waits until all others have ended. */
 void orders_main_left(unsigned result);
 
 /* A thread's end, with its result. The joins answer 0, or 2 where the time was over first; the look whether it has ended. */
@@ -33,7 +33,6 @@ void orders_taken(void *block, unsigned size);
 
 #else
 static inline void orders_main(void) {}
-static inline void orders_main_left(unsigned result) { (void)result; }
 static inline void orders_detached(int thread) { (void)thread; }
 static inline void orders_reads(const void *from, unsigned size) { (void)from, (void)size; }
 static inline void orders_writes(void *to, unsigned size) { (void)to, (void)size; }

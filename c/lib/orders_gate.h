@@ -192,7 +192,7 @@ static int choose(int many) {
 
 /* ---- Sleep: the helper rests where all sleep, so that a deadlock is one ---- */
 
-static u32 asleep[THREADS]; /* by slots: what is waited for, an address or a thread's number */
+static u32 asleep[THREADS]; /* by slots: what is waited for, an address or a thread's number plus 1 */
 
 static void falls_asleep(int t, u32 what) {
     asleep[t] = what;

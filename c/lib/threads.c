@@ -110,7 +110,7 @@ EXPORT("main") int __wathread_main(void) {
 /* ---- Threads ---- */
 
 #ifdef ORDERS
-enum { HELPERS = 1 };
+/* The runtime starts the thread, or has its helper become that one. */
 
 static int start(enum type type, void *function, void *arg) {
     orders_start_begins();
@@ -131,7 +131,7 @@ static int stays(int thread) {
     return thread > __wathread_most() - __wathread_most() / 4 && __wathread_values_size() < __wathread_stack() / 2;
 }
 
-enum { HELPERS };
+static uint32_t result_of(int thread);
 static uint64_t starts_anew[MOST_THAT_STAY];
 
 static __attribute__((noinline)) int start_anew(uint64_t word) {
@@ -422,12 +422,17 @@ static void leave(uint32_t result) {
     __wathread_leave(result);
 }
 
-static uint32_t result_of(int thread);
-
+/* Others may join main. The program ends with the last of its threads: what atexit was given is called then. */
+#ifdef ORDERS
+static void end_main(void) {
+    if (at_programs_end)
+        orders_main_left(mains_result);
+}
+#else
 /* A thread is started by one with a lesser number, but where it begins anew: once that may be, nobody is started any more
    where nobody was in two rounds. */
 static void wait_for_all(void) {
-    int most = __wathread_most() - HELPERS, rounds = 0;
+    int most = __wathread_most(), rounds = 0;
     do {
         int before = last_start;
         for (int thread = 1; thread <= last_start && thread <= most; thread++)
@@ -436,22 +441,23 @@ static void wait_for_all(void) {
     } while (last_start > most && rounds < 2);
 }
 
-/* Others may join main. The program ends with the last of its threads. */
-static void leave_main(void) {
-    at_its_end = behind_its_end = 0;
-    if (at_mains_exit)
-        at_mains_exit();
-#ifndef ORDERS
+static void end_main(void) {
     if (last_start) {
         ends[0] = (uint64_t)ENDED << 32 | mains_result;
         notify_all(&ends[0]);
     }
-#endif
-    if (at_programs_end) {
-        orders_main_left(mains_result);
+    if (at_programs_end)
         wait_for_all();
+}
+#endif
+
+static void leave_main(void) {
+    at_its_end = behind_its_end = 0;
+    if (at_mains_exit)
+        at_mains_exit();
+    end_main();
+    if (at_programs_end)
         at_programs_end();
-    }
 }
 
 /* main's answer is 0 then. */
