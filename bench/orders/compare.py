@@ -1,18 +1,24 @@
 #!/usr/bin/env python3
-"""compare.py [--runs N | --all STATES] [--random N] [--seed S] [NAME ..]: litmus tests by RC11's axioms beside wathread.
+"""compare.py [--runs N | --all STATES] [--random N] [--seed S] [--jobs J] [NAME ..]: litmus tests by RC11's axioms beside
+wathread: the classic ones, or those that are named, or N drawn ones, `randomS.1` and so on.
 
-All tests go into one module of `wathread-cc --orders c11`, each a function of its own. A line for each: how many outcomes
-the axioms allow and how many wathread finds, by --all or by drawn runs; then the outcomes that are in one of both alone.
-`c NAME` prints the C of a test, `axioms NAME` its outcomes, `known` compares the axioms with what the literature says of the
-classic ones. The status is 1 where wathread finds what the axioms forbid,
-or where --all doesn't find what they allow and DIFFER below doesn't name it. FLAGS in the environment go to wathread-cc."""
+The tests go into modules of `wathread-cc --orders c11`, each a function of its own, whose last thread is thread 0. A line
+for each: how many outcomes the axioms allow and how many wathread finds, by --all or by drawn runs; then the outcomes that
+are in one of both alone. Where --all meets more than STATES states it says `not all`; of drawn tests others take the place
+of these, so that N are compared. J tests are looked at at a time. `c NAME` prints the C of a test, `axioms NAME` its
+outcomes, `known` compares the axioms with what the literature says of the classic ones. The status is 1 where wathread
+finds what the axioms forbid, or where --all doesn't find what they allow and DIFFER below doesn't name it. FLAGS in the
+environment go to wathread-cc."""
 import argparse
+import itertools
 import os
 import random
 import re
 import subprocess
 import sys
 import tempfile
+from collections import Counter
+from concurrent.futures import ThreadPoolExecutor
 from axioms import outcomes, places_of
 from tests import KNOWN, classic, random_test
 
@@ -67,10 +73,10 @@ def to_c(test, name):
         out.insert(0, f'static int {", ".join(results)};')
     last = [p if p in plain else f'atomic_load_explicit(&{p}, memory_order_relaxed)' for p in places_of(test)]
     value = digits_of(results + last)
-    threads = range(len(test))
+    started = range(len(test) - 1)
     out += [f'EXPORT("{name}") int {name}(void) {{', f'    pthread_t p[{len(test)}];',
-            *[f'    pthread_create(&p[{t}], 0, {name}_{t}, 0);' for t in threads],
-            *[f'    pthread_join(p[{t}], 0);' for t in threads], f'    return {value};', '}']
+            *[f'    pthread_create(&p[{t}], 0, {name}_{t}, 0);' for t in started], f'    {name}_{len(test) - 1}(0);',
+            *[f'    pthread_join(p[{t}], 0);' for t in started], f'    return {value};', '}']
     return '\n'.join(out) + '\n'
 
 
@@ -86,6 +92,7 @@ def digits(value, many):
 
 
 def build(tests, folder):
+    """A module of some tests: the function of test I is `tI`."""
     path = folder + '/tests.c'
     with open(path, 'w') as file:
         file.write('#include <pthread.h>\n#include <stdatomic.h>\n#include <wathread.h>\n')
@@ -113,6 +120,7 @@ def found_by_wathread(wasm, name, test, how):
 
 
 def compare(wasm, number, name, test, how):
+    """What is said of a test, and the line that is printed."""
     want = outcomes(test)
     found, states, odd = found_by_wathread(wasm, f't{number}', test, how)
     extra, missing = found - want, want - found
@@ -126,8 +134,31 @@ def compare(wasm, number, name, test, how):
     for title, some in ('extra', extra), ('missing', missing):
         if some:
             line += f'  {title} {" ".join(sorted(map(str, some))[:4])}'
-    print(line + (f'  {odd[0]}' if odd else ''), flush=True)
-    return word
+    return word, line + (f'  {odd[0]}' if odd else '')
+
+
+def compare_all(tests, how, jobs):
+    """Of each test what is said of it, in a line that is printed too."""
+    words = {}
+    with tempfile.TemporaryDirectory() as folder, ThreadPoolExecutor(jobs) as pool:
+        wasm = build(tests, folder)
+        found = pool.map(lambda item: compare(wasm, item[0], *item[1], how), enumerate(tests.items()))
+        for name, (word, line) in zip(tests, found):
+            print(line, flush=True)
+            words[name] = word
+    return words
+
+
+def drawn(seed):
+    """Tests that are drawn, without an end, in batches."""
+    rng, number = random.Random(seed), itertools.count(1)
+    while True:
+        batch = {}
+        while len(batch) < 25:
+            test = random_test(rng)
+            if len(places_of(test)) > 1:
+                batch[f'random{seed}.{next(number)}'] = test
+        yield batch
 
 
 def known(tests):
@@ -142,33 +173,43 @@ def known(tests):
     return wrong != 0
 
 
+def compare_drawn(many, seed, how, jobs):
+    """The same of so many drawn tests, beside those that have too many states."""
+    words = {}
+    for batch in drawn(seed):
+        missing = many - sum(word != 'not all' for word in words.values())
+        if missing <= 0:
+            return words
+        words |= compare_all(dict(itertools.islice(batch.items(), missing)), how, jobs)
+
+
+def named(name, tests):
+    """A test by its name, a drawn one too."""
+    found = re.fullmatch(r'random(\d+)\.(\d+)', name)
+    if not found:
+        return tests[name]
+    return next(batch[name] for batch in drawn(int(found[1])) if name in batch)
+
+
 def main():
     parser = argparse.ArgumentParser()
-    for name, default in ('--runs', 0), ('--all', 40000), ('--random', 0), ('--seed', 1):
+    for name, default in ('--runs', 0), ('--all', 60000), ('--random', 0), ('--seed', 1), ('--jobs', 1):
         parser.add_argument(name, type=int, default=default)
     parser.add_argument('names', nargs='*')
     options = parser.parse_args()
-    tests, rng = classic(), random.Random(options.seed)
-    while options.random and len(tests) < len(classic()) + options.random:
-        test = random_test(rng)
-        if len({i[1] for t in test for i in t if i[0] != 'F'}) > 1:
-            tests[f'random{options.seed}.{len(tests) - len(classic()) + 1}'] = test
-    names = options.names
+    tests, names = classic(), options.names
     if names == ['known']:
         return known(tests)
     if names and names[0] in ('c', 'axioms'):
-        print(to_c(tests[names[1]], 't') if names[0] == 'c' else '\n'.join(map(str, outcomes(tests[names[1]]))))
+        test = named(names[1], tests)
+        print(to_c(test, 't') if names[0] == 'c' else '\n'.join(map(str, outcomes(test))))
         return 0
-    tests = {name: tests[name] for name in names} if names else tests
     how = ['--runs', str(options.runs)] if options.runs else ['--all', '--states', str(options.all)]
-    counts = {}
-    with tempfile.TemporaryDirectory() as folder:
-        wasm = build(tests, folder)
-        for number, (name, test) in enumerate(tests.items()):
-            word = compare(wasm, number, name, test, how)
-            counts.setdefault(word, []).append(name)
-    print(', '.join(f'{len(found)} {word}' for word, found in counts.items()))
-    return 1 if 'WEAKER' in counts or set(counts.get('stronger', [])) - DIFFER and not options.runs else 0
+    words = compare_drawn(options.random, options.seed, how, options.jobs) if options.random else \
+        compare_all({name: named(name, tests) for name in names} if names else tests, how, options.jobs)
+    print(', '.join(f'{many} {word}' for word, many in Counter(words.values()).items()))
+    stronger = {name for name, word in words.items() if word == 'stronger'}
+    return 1 if 'WEAKER' in words.values() or stronger - DIFFER and not options.runs else 0
 
 
 sys.exit(main())

@@ -111,21 +111,28 @@ def classic():
     return out | SINGLE
 
 
+def random_access(rng, place, is_plain, value):
+    """An access of a place; a store's value, or a compare-exchange's new one, is VALUE."""
+    orders = ['rlx', 'acq', 'rel', 'ar', 'sc']
+    kind = rng.choice('RRRWWW' if is_plain else 'RRRWWWUAC')
+    return {'R': lambda: R(place, 'na' if is_plain else rng.choice(LOADS)),
+            'W': lambda: W(place, value, 'na' if is_plain else rng.choice(STORES)),
+            'U': lambda: U(place, value, rng.choice(orders)), 'A': lambda: A(place, rng.choice(orders)),
+            'C': lambda: C(place, rng.choice([0, 0, *range(1, value)]), value, rng.choice(orders))}[kind]()
+
+
 def random_test(rng):
+    """Two or three threads of few accesses and fences; in one of five tests a place is plain."""
     threads = rng.choice([2, 2, 3])
     places = ['x', 'y', 'z'][:rng.choice([2, 2, 3])]
+    plain = rng.choice(places) if rng.random() < 0.2 else ''
     test, value = [], 0
     for _ in range(threads):
         thread = []
-        for _ in range(rng.choice([2, 3]) if threads == 2 else 2):
+        for _ in range(rng.choice([2, 3, 3] if threads == 2 else [1, 2, 2])):
             place = rng.choice(places)
-            kind = rng.choice('RRWWWU' if threads == 2 else 'RRWWU')
-            if kind == 'R':
-                thread.append(R(place, rng.choice(LOADS)))
-            else:
-                value += 1
-                thread.append(W(place, value, rng.choice(STORES)) if kind == 'W' else
-                              U(place, value, rng.choice(['rlx', 'acq', 'rel', 'ar', 'sc'])))
+            value += 1
+            thread.append(random_access(rng, place, place == plain, value))
             if rng.random() < 0.15:
                 thread.append(F(rng.choice(FENCES)))
         test.append(thread)

@@ -440,7 +440,7 @@ void orders_start_begins(void) {
         slots[thread_self()] = 0;
         fences = __wathread_fences();
     } else
-        begin_operation(0, OTHERS);
+        begin_operation(0, THREADS_OWN);
     for (chosen = 0; (running | ended) >> chosen & 1; chosen++)
         ;
     if (chosen >= THREADS)
@@ -513,7 +513,7 @@ void orders_ends(int thread, unsigned result) {
         tell_helper(OVER);
         return;
     }
-    begin_operation(0, OTHERS);
+    begin_operation(0, THREADS_OWN);
     int t = slots[thread], by = joiner[t] - 1;
     results[thread] = result;
     ended |= 1u << t;
@@ -550,7 +550,7 @@ void orders_ends(int thread, unsigned result) {
 void orders_main_left(unsigned result) {
     if (!is_parallel())
         return;
-    begin_operation(0, OTHERS);
+    begin_operation(0, THREADS_OWN);
     int t = me(), by = joiner[t] - 1;
     results[0] = result;
     joined |= 1;
@@ -604,7 +604,7 @@ static int is_late(int t, int of) {
 }
 
 int orders_joins(int thread, unsigned *result, long long nanoseconds) {
-    begin_operation(0, OTHERS);
+    begin_operation(0, nanoseconds < 0 ? THREADS_OWN : OTHERS);
     int t = me(), of = slots[thread];
     if (joined >> thread & 1) {
         if (!thread) /* main, which is there still */

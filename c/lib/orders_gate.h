@@ -44,7 +44,7 @@ enum { PLACES = ORDERS_PLACES, MESSAGES = ORDERS_MESSAGES, THREADS = ORDERS_THRE
 #define OWN(name) int __wathread_get_##name(void); void __wathread_set_##name(int);
 OWN(slot)     /* its number here */
 OWN(parallel) /* 0 while `main` is alone: then nothing has to be simulated */
-OWN(stays)    /* it starts a thread, and stays inside until its next operation: that commutes with what the new thread does */
+OWN(stays)    /* it started a thread, and stays inside until its next operation, of which it may be a part */
 OWN(tolds)    /* how much it was told */
 OWN(often)    /* what it may have done twice */
 OWN(failed)   /* its last weak compare-exchange, until that is asked for */
@@ -95,11 +95,8 @@ static __attribute__((noinline)) int tries(int t, u64 mine) {
 }
 
 static void enter(int t, int again) {
-    if (__wathread_get_stays())
-        __wathread_set_stays(0);
-    else
-        while (!tries(t, again ? HELD | OPEN : HELD))
-            ;
+    while (!tries(t, again ? HELD | OPEN : HELD))
+        ;
 }
 
 /* What the gate is once T has left: the turn of the next one who asked. */
@@ -126,6 +123,19 @@ static void leave(int t) {
             ;
     else
         gate = same;
+}
+
+/* The same for who may have stayed inside since it started a thread. Where it comes to the same whether the new thread goes
+   first or not, both are one operation. */
+static void enter_behind_start(int t, int again, int commutes) {
+    int stays = __wathread_get_stays();
+    if (stays)
+        __wathread_set_stays(0);
+    if (stays && commutes)
+        return;
+    if (stays)
+        leave(t);
+    enter(t, again);
 }
 
 /* ---- The helper: a thread that makes choices come either way ----
@@ -231,7 +241,7 @@ static void fails_inside(void) {
 /* In front of a trap that the program or the library asks for. */
 void __wathread_traps(void) {
     if (is_parallel()) {
-        enter(me(), 0);
+        enter_behind_start(me(), 0, 0);
         fails_inside();
     } else
         tell_helper(OVER);

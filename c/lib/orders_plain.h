@@ -110,7 +110,8 @@ static void look_at_noted(void) {
         noted = 0;
 }
 
-enum operation { LOADS, STORES, CHANGES, COMPARES, FENCES, WAITS, OTHERS };
+/* THREADS_OWN: starts, joins and ends, which come to the same in front of what a new thread does and behind it. */
+enum operation { LOADS, STORES, CHANGES, COMPARES, FENCES, WAITS, OTHERS, THREADS_OWN };
 
 /* What a thread may have done to a place before, by a number below 64. */
 static _Thread_local u64 done;
@@ -138,11 +139,12 @@ static void forget_what_was_told(void);
 static int begin_operation(u32 at, enum operation what) {
     int t = me();
     u32 number = number_of(at, what);
-    enter(t, what == LOADS ? __wathread_get_tolds() == TOLD : what != OTHERS && __wathread_get_often() & often_bit(number));
+    int again = what == LOADS ? __wathread_get_tolds() == TOLD : what < OTHERS && __wathread_get_often() & often_bit(number);
+    enter_behind_start(t, again, what == THREADS_OWN);
     if (!(inside & SAME(t)))
         forget_what_was_told();
     look_at_noted();
-    return what != OTHERS && is_again(number, what);
+    return what < OTHERS && is_again(number, what);
 }
 
 /* Whether it's said already, or by more: a write says more than a read. */
