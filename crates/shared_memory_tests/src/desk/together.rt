@@ -1,8 +1,8 @@
 //! Two threads at one desk.
 ghost use Rattle.std.specs.Prelude.{OnSome};
-ghost use Rattle.waiters_tests.specs.Standing.{StandsFree, StandsNew, StandsWaiting};
+ghost use Rattle.shared_memory_tests.specs.Standing.{StandsFree, StandsNew, StandsWaiting};
 
-use crate::calls::{begins, collects, notifies, sleeps, spawns};
+use crate::desk::calls::{begins, collects, notifies, sleeps, spawns};
 use shared_memory::SharedMemory;
 use std::sync::Wait;
 use std::thread;

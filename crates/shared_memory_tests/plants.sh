@@ -1,7 +1,7 @@
 #!/bin/sh
 # Plants faults of waking in a copy of the desk, and runs the tests of the desk over each, unproved. They are of the one
 # line that wakes, of which no contract can say whom it wakes: each has to fail a test, or to hang there for ten seconds.
-# usage: crates/waiters_tests/plants.sh
+# usage: crates/shared_memory_tests/plants.sh
 set -u
 top=$(cd "$(dirname "$0")/../.." && pwd)
 room=$(mktemp -d)
@@ -19,7 +19,7 @@ plant() {
         missed=1
         return
     fi
-    said=$(cd "$room/crates/waiters_tests" && rt try --test --seconds 10 2>&1)
+    said=$(cd "$room/crates/shared_memory_tests" && rt try --test --seconds 10 2>&1)
     if failed=$(echo "$said" | grep '^test [^ ]* ... FAILED'); then
         echo "$1: seen"
         echo "$failed"

@@ -1,7 +1,7 @@
 use Rattle.std.proofs.Common.{reverse}
 use Rattle.shared_memory_on_table.specs.Callers.{fresh, fresh_from}
-use Rattle.waiters_tests.proofs.Dealing.{popped, turned_callers}
-use Rattle.waiters_tests.proofs.dealt.deal.Goals as goal
+use Rattle.shared_memory_script.proofs.Dealing.{popped, turned_callers}
+use Rattle.shared_memory_script.proofs.dealt.deal.Goals as goal
 
 pub returns-clause-desk : goal.returns-clause-desk
 returns-clause-desk g c =

@@ -1,8 +1,8 @@
 //! The seats of a trial's threads, and how it begins.
 ghost use Rattle.std.specs.Prelude.{OnSome};
-ghost use Rattle.waiters_tests.specs.Standing.{StandsFree, StandsNew};
+ghost use Rattle.shared_memory_tests.specs.Standing.{StandsFree, StandsNew};
 
-use crate::calls::{begins, spawns};
+use crate::desk::calls::{begins, spawns};
 use shared_memory::SharedMemory;
 use std::sync::Wait;
 use waiters_desk::Desk;

@@ -1,5 +1,5 @@
-use Rattle.waiters_tests.specs.Standing.{StandsFree}
-use Rattle.waiters_tests.proofs.together.notify_late.Given as goal
+use Rattle.shared_memory_tests.specs.Standing.{StandsFree}
+use Rattle.shared_memory_tests.proofs.desk.together.notify_late.Given as goal
 
 -- thread 0 goes on
 abbrev pub invariant-loop : goal.invariant-loop

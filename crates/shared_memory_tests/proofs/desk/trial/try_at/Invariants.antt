@@ -1,4 +1,4 @@
-use Rattle.waiters_tests.proofs.tests.try_at.Given as goal
+use Rattle.shared_memory_tests.proofs.desk.trial.try_at.Given as goal
 
 -- the recorder that was just prepared
 abbrev pub ghosts-make_at_recorder : goal.ghosts-make_at_recorder

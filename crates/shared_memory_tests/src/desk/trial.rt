@@ -1,13 +1,14 @@
 //! What the calls of a desk answer, over a recorder.
 ghost use Rattle.std.specs.Prelude.{◌≡◌};
-ghost use Rattle.waiters_tests.specs.Standing.{StandsFree, StandsNew};
+ghost use Rattle.shared_memory_tests.specs.Standing.{StandsFree, StandsNew};
 
-use crate::blocked::{Told, begin_beside, sleep_beside, wake_in_turn};
-use crate::dealt::{Dealt, deal};
-use crate::script::ThreadSeats;
-use crate::together::{Together, notify_beside};
+use crate::desk::blocked::{Told, begin_beside, sleep_beside, wake_in_turn};
+use crate::desk::script::ThreadSeats;
+use crate::desk::together::{Together, notify_beside};
+use crate::trial::PAGE;
 use locked_recorder::{Finished, LockedRecorder, Naming, Prepared};
 use shared_memory::SharedMemory;
+use shared_memory_script::{Dealt, deal};
 use std::alloc::Global;
 use std::marker::Brand;
 use std::sync::Wait;
@@ -15,11 +16,8 @@ use std::test::Fail;
 use std::thread::Threads;
 use std::time::Clock;
 use test_cases::hold;
-use types::{Answer, PAGE_SIZE};
+use types::Answer;
 use waiters_desk::{Desk, Full, Notified};
-
-/// A page of zeros.
-const PAGE: [u8; PAGE_SIZE] = [0; PAGE_SIZE];
 
 /// What is tried at a desk.
 #[derive(Clone, Copy)]

@@ -2,7 +2,7 @@
 ghost use Rattle.std.specs.Prelude.{◌≡◌, ◌%◌, true, OnSome};
 ghost use Rattle.types.specs.declared.event.Question.TheVariants.{Wait};
 ghost use Rattle.shared_memory.specs.Events.{IsQuestion};
-ghost use Rattle.waiters_tests.specs.Standing.{StandsFree, StandsNew, StandsWaiting};
+ghost use Rattle.shared_memory_tests.specs.Standing.{StandsFree, StandsNew, StandsWaiting};
 
 use shared_memory::SharedMemory;
 use std::sync::Wait;

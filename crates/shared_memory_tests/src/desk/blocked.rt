@@ -1,10 +1,10 @@
 //! Threads that are blocked at a desk, each in a system thread of its own, until a call of another one lets them go on.
 //! Whoever comes first there is blocked last, so a call that lets only one of them look would let the wrong one.
 ghost use Rattle.std.specs.Prelude.{OnSome};
-ghost use Rattle.waiters_tests.specs.Standing.{StandsFree, StandsNew, StandsWaiting};
+ghost use Rattle.shared_memory_tests.specs.Standing.{StandsFree, StandsNew, StandsWaiting};
 
-use crate::calls::{begins, collects, notifies, sleeps, spawns};
-use crate::script::{ThreadSeats, spawn_two};
+use crate::desk::calls::{begins, collects, notifies, sleeps, spawns};
+use crate::desk::script::{ThreadSeats, spawn_two};
 use shared_memory::SharedMemory;
 use std::sync::Wait;
 use std::thread;
