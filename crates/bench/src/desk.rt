@@ -183,7 +183,6 @@ pub fn run<B: Naming + Send + Sync, R: Threads + Wait + Sync + Clock>(
         mut zero,
         mut one,
         two: _,
-        three: _,
     } = dealt;
     let desk = Desk::open(rt, &memory, desk);
     let start = Instant::now(rt)?;

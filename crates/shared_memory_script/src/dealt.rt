@@ -1,18 +1,17 @@
-//! The seats of a recorder, dealt to the desk and to threads 0 to 3.
+//! The seats of a recorder, dealt to the desk and to threads 0 to 2.
 ghost use Rattle.std.specs.Prelude.{◌≡◌, map, IfSome};
 ghost use Rattle.types.specs.declared.limits.TheConstants.{DESK_NAME, SEATS};
 ghost use Rattle.shared_memory_on_table.specs.Callers.{fresh, fresh_from};
 
 use locked_recorder::{LockedSeat, Naming};
 
-/// Five seats.
+/// Four seats.
 #[derive(Drop)]
 pub struct Dealt<S> {
     pub desk: S,
     pub zero: S,
     pub one: S,
     pub two: S,
-    pub three: S,
 }
 
 /// Deals the seats of a new recorder.
@@ -22,19 +21,16 @@ pub fn deal<B: Naming>(mut seats: Vec<LockedSeat<B>>) -> Option<Dealt<LockedSeat
     ensures zero { IfSome result (λ d. d.zero.caller ≡ fresh 0) }
     ensures one { IfSome result (λ d. d.one.caller ≡ fresh 1) }
     ensures two { IfSome result (λ d. d.two.caller ≡ fresh 2) }
-    ensures three { IfSome result (λ d. d.three.caller ≡ fresh 3) }
 {
     let desk = seats.pop()?;
     seats.reverse();
     let zero = seats.pop()?;
     let one = seats.pop()?;
     let two = seats.pop()?;
-    let three = seats.pop()?;
     Some(Dealt {
         desk,
         zero,
         one,
         two,
-        three,
     })
 }

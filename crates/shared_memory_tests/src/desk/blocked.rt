@@ -4,7 +4,7 @@ ghost use Rattle.std.specs.Prelude.{OnSome};
 ghost use Rattle.shared_memory_tests.specs.Standing.{StandsFree, StandsNew, StandsWaiting};
 
 use crate::desk::calls::{begins, collects, notifies, sleeps, spawns};
-use crate::desk::script::{ThreadSeats, spawn_two};
+use crate::desk::script::spawn_two;
 use shared_memory::SharedMemory;
 use std::sync::Wait;
 use std::thread;
@@ -60,73 +60,36 @@ where
         rt,
         move || -> Told
             requires { StandsWaiting (M.name one.now) (M.seen one.now) }
-        { collect_and_notify(rt, desk, memory, one, 2) },
+        { collect_and_notify(rt, desk, memory, one, 1) },
         move || -> Told
             requires { StandsWaiting (M.name two.now) (M.seen two.now) }
-        { collect_and_notify(rt, desk, memory, two, 1) },
+        { collect_and_notify(rt, desk, memory, two, 0) },
     )
 }
 
-/// A third is blocked, and thread 0 notifies one.
-fn one_collects<M, W, R>(
-    rt: &R,
-    desk: &Desk<M, W>,
-    memory: &M,
-    zero: &mut M::Seat,
-    three: &mut M::Seat,
-) -> (Told, Result<Notified, Full>)
-where
-    M: SharedMemory + Sync,
-    W: Wait + Drop + Sync,
-    R: Threads + Clock + Sync,
-    requires zero { StandsFree (M.name zero.old) (M.seen zero.old) }
-    requires three { StandsWaiting (M.name three.old) (M.seen three.old) }
-{
-    thread::join(
-        rt,
-        move || -> Told
-            requires { StandsWaiting (M.name three.now) (M.seen three.now) }
-        { collect_and_notify(rt, desk, memory, three, 0) },
-        move || -> Result<Notified, Full>
-            requires { StandsFree (M.name zero.now) (M.seen zero.now) }
-        {
-            pause(rt, 3);
-            notifies(desk, memory, zero, 8, 1)
-        },
-    )
-}
-
-/// Three threads are spawned, begin and fall asleep at 8.
-fn sleep_all<M: SharedMemory, W: Wait + Drop>(
+/// Two threads are spawned, begin and fall asleep at 8.
+fn sleep_both<M: SharedMemory, W: Wait + Drop>(
     desk: &Desk<M, W>,
     memory: &M,
     zero: &mut M::Seat,
     one: &mut M::Seat,
     two: &mut M::Seat,
-    three: &mut M::Seat,
 ) -> Option<()>
     requires zero { StandsFree (M.name zero.old) (M.seen zero.old) }
     requires one { StandsNew (M.name one.old) (M.seen one.old) }
     requires two { StandsNew (M.name two.old) (M.seen two.old) }
-    requires three { StandsNew (M.name three.old) (M.seen three.old) }
     ensures zero { OnSome result (StandsFree (M.name zero.new) (M.seen zero.new)) }
     ensures one { OnSome result (StandsWaiting (M.name one.new) (M.seen one.new)) }
     ensures two { OnSome result (StandsWaiting (M.name two.new) (M.seen two.new)) }
-    ensures three { OnSome result (StandsWaiting (M.name three.new) (M.seen three.new)) }
 {
     let _ = spawn_two(desk, memory, zero, one, two)?;
-    spawns(desk, memory, zero, 11).ok()?;
-    begins(desk, memory, three)?;
-    if !sleeps(desk, memory, one, 4, -1)
-        || !sleeps(desk, memory, two, 4, -1)
-        || !sleeps(desk, memory, three, 4, -1)
-    {
+    if !sleeps(desk, memory, one, 4, -1) || !sleeps(desk, memory, two, 4, -1) {
         return None;
     }
     Some(())
 }
 
-/// Three threads are blocked, and one is notified. It wakes the next, and so on.
+/// Two threads are blocked, and one is notified. It wakes the other.
 pub fn wake_in_turn<M, W, R>(
     rt: &R,
     desk: &Desk<M, W>,
@@ -134,8 +97,7 @@ pub fn wake_in_turn<M, W, R>(
     zero: &mut M::Seat,
     one: &mut M::Seat,
     two: &mut M::Seat,
-    three: &mut M::Seat,
-) -> Option<(Result<Notified, Full>, [Told; 3])>
+) -> Option<(Result<Notified, Full>, [Told; 2])>
 where
     M: SharedMemory + Sync,
     W: Wait + Drop + Sync,
@@ -143,21 +105,22 @@ where
     requires zero { StandsFree (M.name zero.old) (M.seen zero.old) }
     requires one { StandsNew (M.name one.old) (M.seen one.old) }
     requires two { StandsNew (M.name two.old) (M.seen two.old) }
-    requires three { StandsNew (M.name three.old) (M.seen three.old) }
 {
-    sleep_all(desk, memory, zero, one, two, three)?;
-    let ((first, second), (third, woke)) = thread::join(
+    sleep_both(desk, memory, zero, one, two)?;
+    let ((first, second), woke) = thread::join(
         rt,
         move || -> (Told, Told)
             requires one { StandsWaiting (M.name one.now) (M.seen one.now) }
             requires two { StandsWaiting (M.name two.now) (M.seen two.now) }
         { two_collect(rt, desk, memory, one, two) },
-        move || -> (Told, Result<Notified, Full>)
-            requires zero { StandsFree (M.name zero.now) (M.seen zero.now) }
-            requires three { StandsWaiting (M.name three.now) (M.seen three.now) }
-        { one_collects(rt, desk, memory, zero, three) },
+        move || -> Result<Notified, Full>
+            requires { StandsFree (M.name zero.now) (M.seen zero.now) }
+        {
+            pause(rt, 2);
+            notifies(desk, memory, zero, 8, 1)
+        },
     );
-    Some((woke, [first, second, third]))
+    Some((woke, [first, second]))
 }
 
 /// Takes the answer, and ends when the other one is blocked.
@@ -256,94 +219,59 @@ where
         rt,
         move || -> Option<u32>
             requires { StandsNew (M.name one.now) (M.seen one.now) }
-        { begin_late(rt, desk, memory, one, 2) },
+        { begin_late(rt, desk, memory, one, 1) },
         move || -> Option<u32>
             requires { StandsNew (M.name two.now) (M.seen two.now) }
-        { begin_late(rt, desk, memory, two, 1) },
+        { begin_late(rt, desk, memory, two, 0) },
     )
 }
 
-/// Spawns three threads, or ends.
+/// Spawns two threads, or ends.
 fn spawn_or_end<M: SharedMemory, W: Wait + Drop, R: Clock>(
     rt: &R,
     desk: &Desk<M, W>,
     memory: &M,
     zero: &mut M::Seat,
-    spawns_three: bool,
+    spawns_both: bool,
 )
     requires { StandsFree (M.name zero.old) (M.seen zero.old) }
 {
-    pause(rt, 3);
-    if spawns_three {
+    pause(rt, 2);
+    if spawns_both {
         let _ = spawns(desk, memory, zero, 100);
         let _ = spawns(desk, memory, zero, 101);
-        let _ = spawns(desk, memory, zero, 102);
     } else {
         desk.end(memory, zero);
     }
 }
 
-/// A third is blocked until thread 0 has spawned three, or has ended.
-fn one_begins<M, W, R>(
+/// Two threads are blocked until they are spawned, or until thread 0 has ended: with what each begins.
+pub fn begin_beside<M, W, R>(
     rt: &R,
     desk: &Desk<M, W>,
     memory: &M,
     zero: &mut M::Seat,
-    three: &mut M::Seat,
-    spawns_three: bool,
-) -> Option<u32>
+    one: &mut M::Seat,
+    two: &mut M::Seat,
+    spawns_both: bool,
+) -> [Option<u32>; 2]
 where
     M: SharedMemory + Sync,
     W: Wait + Drop + Sync,
     R: Threads + Clock + Sync,
     requires zero { StandsFree (M.name zero.old) (M.seen zero.old) }
-    requires three { StandsNew (M.name three.old) (M.seen three.old) }
+    requires one { StandsNew (M.name one.old) (M.seen one.old) }
+    requires two { StandsNew (M.name two.old) (M.seen two.old) }
 {
-    let (begun, ()) = thread::join(
-        rt,
-        move || -> Option<u32>
-            requires { StandsNew (M.name three.now) (M.seen three.now) }
-        { begin_late(rt, desk, memory, three, 0) },
-        move || -> ()
-            requires { StandsFree (M.name zero.now) (M.seen zero.now) }
-        { spawn_or_end(rt, desk, memory, zero, spawns_three) },
-    );
-    begun
-}
-
-/// Three threads are blocked until they are spawned, or until thread 0 has ended: with what each begins.
-pub fn begin_beside<M, W, R>(
-    rt: &R,
-    desk: &Desk<M, W>,
-    memory: &M,
-    seats: &mut ThreadSeats<M::Seat>,
-    spawns_three: bool,
-) -> [Option<u32>; 3]
-where
-    M: SharedMemory + Sync,
-    W: Wait + Drop + Sync,
-    R: Threads + Clock + Sync,
-    requires zero { StandsFree (M.name seats.old.zero) (M.seen seats.old.zero) }
-    requires one { StandsNew (M.name seats.old.one) (M.seen seats.old.one) }
-    requires two { StandsNew (M.name seats.old.two) (M.seen seats.old.two) }
-    requires three { StandsNew (M.name seats.old.three) (M.seen seats.old.three) }
-{
-    let ThreadSeats {
-        zero,
-        one,
-        two,
-        three,
-    } = seats;
-    let ((first, second), third) = thread::join(
+    let ((first, second), ()) = thread::join(
         rt,
         move || -> (Option<u32>, Option<u32>)
             requires one { StandsNew (M.name one.now) (M.seen one.now) }
             requires two { StandsNew (M.name two.now) (M.seen two.now) }
         { two_begin(rt, desk, memory, one, two) },
-        move || -> Option<u32>
-            requires zero { StandsFree (M.name zero.now) (M.seen zero.now) }
-            requires three { StandsNew (M.name three.now) (M.seen three.now) }
-        { one_begins(rt, desk, memory, zero, three, spawns_three) },
+        move || -> ()
+            requires { StandsFree (M.name zero.now) (M.seen zero.now) }
+        { spawn_or_end(rt, desk, memory, zero, spawns_both) },
     );
-    [first, second, third]
+    [first, second]
 }

@@ -7,13 +7,12 @@ use shared_memory::SharedMemory;
 use std::sync::Wait;
 use waiters_desk::Desk;
 
-/// The seats of threads 0 to 3.
+/// The seats of threads 0 to 2.
 #[derive(Drop)]
 pub struct ThreadSeats<S> {
     pub zero: S,
     pub one: S,
     pub two: S,
-    pub three: S,
 }
 
 /// Thread 0 spawns two threads, which begin: both ids, and both arguments. Gives `None` where a call answers in another

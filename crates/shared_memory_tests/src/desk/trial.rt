@@ -33,12 +33,12 @@ enum Trial {
 #[derive(Clone, Copy, PartialEq)]
 enum Heard {
     Together(Option<Together>),
-    InTurn(Option<(Result<Notified, Full>, [Told; 3])>),
+    InTurn(Option<(Result<Notified, Full>, [Told; 2])>),
     Asleep(Option<(Answer, Option<Answer>)>),
-    Begun([Option<u32>; 3]),
+    Begun([Option<u32>; 2]),
 }
 
-/// Makes a trial with threads 0 to 3.
+/// Makes a trial with threads 0 to 2.
 fn make<M, W, R>(
     rt: &R,
     trial: Trial,
@@ -53,20 +53,14 @@ where
     requires zero { StandsFree (M.name seats.old.zero) (M.seen seats.old.zero) }
     requires one { StandsNew (M.name seats.old.one) (M.seen seats.old.one) }
     requires two { StandsNew (M.name seats.old.two) (M.seen seats.old.two) }
-    requires three { StandsNew (M.name seats.old.three) (M.seen seats.old.three) }
 {
-    let ThreadSeats {
-        zero,
-        one,
-        two,
-        three,
-    } = seats;
+    let ThreadSeats { zero, one, two } = seats;
     match trial {
         Trial::Together => Heard::Together(notify_beside(rt, desk, memory, zero, one)),
-        Trial::InTurn => Heard::InTurn(wake_in_turn(rt, desk, memory, zero, one, two, three)),
+        Trial::InTurn => Heard::InTurn(wake_in_turn(rt, desk, memory, zero, one, two)),
         Trial::Asleep => Heard::Asleep(sleep_beside(rt, desk, memory, zero, one)),
-        Trial::Spawned => Heard::Begun(begin_beside(rt, desk, memory, seats, true)),
-        Trial::Over => Heard::Begun(begin_beside(rt, desk, memory, seats, false)),
+        Trial::Spawned => Heard::Begun(begin_beside(rt, desk, memory, zero, one, two, true)),
+        Trial::Over => Heard::Begun(begin_beside(rt, desk, memory, zero, one, two, false)),
     }
 }
 
@@ -90,23 +84,12 @@ fn make_at_recorder<B: Naming + Send + Sync, R: Threads + Wait + Clock + Sync>(
         zero,
         one,
         two,
-        three,
     } = dealt;
     let desk = Desk::open(rt, &memory, desk);
-    let mut seats = ThreadSeats {
-        zero,
-        one,
-        two,
-        three,
-    };
+    let mut seats = ThreadSeats { zero, one, two };
     let heard = make(rt, trial, &desk, &memory, &mut seats);
-    let ThreadSeats {
-        zero,
-        one,
-        two,
-        three,
-    } = seats;
-    let seats = Vec::from_array(alloc, [desk.close(), zero, one, two, three])?;
+    let ThreadSeats { zero, one, two } = seats;
+    let seats = Vec::from_array(alloc, [desk.close(), zero, one, two])?;
     Ok((heard, memory.finish(seats)))
 }
 
@@ -159,11 +142,10 @@ fn a_blocked_thread_is_woken_by_another(rt: HostRuntime) -> Result<(), Fail> {
 fn blocked_threads_are_woken_in_turn(rt: HostRuntime) -> Result<(), Fail> {
     let told = [
         (Answer::Number(0), Ok(Notified::Woke(1))),
-        (Answer::Number(0), Ok(Notified::Woke(1))),
         (Answer::Number(0), Ok(Notified::Woke(0))),
     ];
     let in_turn = Heard::InTurn(Some((Ok(Notified::Woke(1)), told)));
-    hears(&rt, rt.alloc(), 1000, Trial::InTurn, in_turn, 20)
+    hears(&rt, rt.alloc(), 1000, Trial::InTurn, in_turn, 14)
 }
 
 #[test]
@@ -181,8 +163,8 @@ fn a_timeout_ends_when_another_sleeps(rt: HostRuntime) -> Result<(), Fail> {
 
 #[test]
 fn blocked_threads_begin_when_spawned(rt: HostRuntime) -> Result<(), Fail> {
-    let begun = Heard::Begun([Some(100), Some(101), Some(102)]);
-    hears(&rt, rt.alloc(), 1000, Trial::Spawned, begun, 6)
+    let begun = Heard::Begun([Some(100), Some(101)]);
+    hears(&rt, rt.alloc(), 1000, Trial::Spawned, begun, 4)
 }
 
 #[test]
@@ -192,7 +174,7 @@ fn blocked_threads_go_home_when_all_is_over(rt: HostRuntime) -> Result<(), Fail>
         rt.alloc(),
         1000,
         Trial::Over,
-        Heard::Begun([None, None, None]),
+        Heard::Begun([None, None]),
         2,
     )
 }

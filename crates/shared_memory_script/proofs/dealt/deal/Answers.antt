@@ -31,13 +31,3 @@ returns-clause-two g c =
     let p3 = popped (λ s. s.caller) _ _ _ (reverse (fresh_from 62 2)) (fresh 1) p2.left c.in_ok-one.ensures.items in
     let p4 = popped (λ s. s.caller) _ _ _ (reverse (fresh_from 61 3)) (fresh 2) p3.left c.in_ok-two.ensures.items in
     p4.taken
-
-pub returns-clause-three : goal.returns-clause-three
-returns-clause-three g c =
-    let p1 = popped (λ s. s.caller) _ _ _ (fresh_from 64 0) (fresh 64) c.requires c.in_ok-desk.ensures.items in
-    let around = turned_callers (λ s. s.caller) _ _ (fresh_from 64 0) p1.left c.reverse.ensures.items in
-    let p2 = popped (λ s. s.caller) _ _ _ (reverse (fresh_from 63 1)) (fresh 0) around c.in_ok-zero.ensures.items in
-    let p3 = popped (λ s. s.caller) _ _ _ (reverse (fresh_from 62 2)) (fresh 1) p2.left c.in_ok-one.ensures.items in
-    let p4 = popped (λ s. s.caller) _ _ _ (reverse (fresh_from 61 3)) (fresh 2) p3.left c.in_ok-two.ensures.items in
-    let p5 = popped (λ s. s.caller) _ _ _ (reverse (fresh_from 60 4)) (fresh 3) p4.left c.in_ok-three.ensures.items in
-    p5.taken
