@@ -1,4 +1,4 @@
-use Rattle.report_tests.proofs.schedules.agrees.Goals as goal
+use Rattle.host_tests.proofs.machine.agrees.Goals as goal
 
 pub schedule_of-requires : goal.schedule_of-requires
 schedule_of-requires c = (_, _, c.in_ok-scout.ensures.at)

@@ -112,7 +112,7 @@ fn run_plain<G: Gate + Send + Sync, R: Threads + Wait + Sync>(
 }
 
 /// Runs a module's function behind a gate.
-pub(crate) fn run_valid<G: Gate + Send + Sync, R: Threads + Wait + Sync>(
+fn run_valid<G: Gate + Send + Sync, R: Threads + Wait + Sync>(
     rt: &R,
     alloc: Global,
     valid: &ValidModule,
