@@ -7,6 +7,7 @@ use crate::plan::{DeskPlan, Kind};
 use anyhow::{Result, anyhow};
 use locked_recorder::{LockedRecorder, Naming, Prepared};
 use shared_memory::SharedMemory;
+use shared_memory_script::{Dealt, deal};
 use std::alloc::Global;
 use std::sync::Wait;
 use std::thread;
@@ -14,7 +15,6 @@ use std::thread::Threads;
 use std::time::{Clock, Instant};
 use types::Event;
 use waiters_desk::{Asked, Desk, Full};
-use waiters_tests::{Dealt, deal};
 
 /// What a run was: the entries of its log, and the nanoseconds of all calls.
 #[derive(Drop)]
@@ -183,7 +183,6 @@ pub fn run<B: Naming + Send + Sync, R: Threads + Wait + Sync + Clock>(
         mut zero,
         mut one,
         two: _,
-        three: _,
     } = dealt;
     let desk = Desk::open(rt, &memory, desk);
     let start = Instant::now(rt)?;

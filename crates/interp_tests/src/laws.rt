@@ -5,6 +5,7 @@ use schedule_examples::{
     a_branch_costs_one_unit, a_store_over_two_words_has_two_parts, an_empty_arm_costs_its_end,
     an_indirect_call_is_tested, either_arm_costs_the_same, the_thousandth_call_traps,
 };
+use validate_typing::expression_stands_for_one_nesting;
 
 #[test]
 fn laws_of_the_machine_ask_for_nothing() {
@@ -15,6 +16,7 @@ fn laws_of_the_machine_ask_for_nothing() {
     the_thousandth_call_traps();
     a_store_over_two_words_has_two_parts();
     an_indirect_call_is_tested();
+    expression_stands_for_one_nesting();
 }
 
 #[test]

@@ -39,19 +39,6 @@ fn no_more_is_read_than_was_asked(rt: HostRuntime) -> Result<(), Fail> {
     Ok(())
 }
 
-/// Whether at most so many of three bytes are read as these.
-fn reads_front(alloc: Global, most: u64, wanted: &[u8]) -> Result<bool, Fail> {
-    Ok(read_front(alloc, b"abc".as_slice(), most)?.as_slice() == wanted)
-}
-
-#[test]
-fn all_is_read_of_a_short_file(rt: HostRuntime) -> Result<(), Fail> {
-    hold(&[
-        ("more than there is", reads_front(rt.alloc(), 4, b"abc")?),
-        ("less than there is", reads_front(rt.alloc(), 2, b"ab")?),
-    ])
-}
-
 /// Files by their length, and how much is read of each: as a module, and as a record that begins as none.
 static LENGTHS: [(usize, usize, usize); 5] = [
     (0, 0, 0),

@@ -75,9 +75,25 @@ fn running<'a>(alloc: Global, file: &'a str, save: &'a str) -> Job<'a> {
     })
 }
 
+/// What came of a run.
+#[derive(Clone, Copy)]
+enum Came {
+    Refused,
+    Well,
+    Trapped,
+}
+
+fn result_of(came: Came) -> JobResult<'static> {
+    match came {
+        Came::Refused => Err(Undone::Refused(Refused::EndMissing)),
+        Came::Well => Ok(Done::with(0)),
+        Came::Trapped => Ok(Done::with(1)),
+    }
+}
+
 /// Ends a run of which this came, and that wrote a record, where standard output has so much room. Answers the status, if
 /// it was begun.
-fn end_with(rt: &HostRuntime, job: &Job, ended: &JobResult, room: usize) -> Result<u8, Fail> {
+fn end_with(rt: &HostRuntime, job: &Job, came: Came, room: usize) -> Result<u8, Fail> {
     let stdout = Narrow::new(rt.alloc(), room, 64);
     let mut task = match open_task(rt, stdout, job, false) {
         Ok(task) => task,
@@ -85,7 +101,7 @@ fn end_with(rt: &HostRuntime, job: &Job, ended: &JobResult, room: usize) -> Resu
     };
     task.streams.out.write_all(b"lines")?;
     task.streams.save.write_all(b"a record")?;
-    Ok(task.end(rt, job, ended))
+    Ok(task.end(rt, job, &result_of(came)))
 }
 
 /// Whether the record is there, with its text, beside the module.
@@ -97,16 +113,16 @@ fn is_kept(rt: &HostRuntime, room: &PathBuf, path: &str) -> Result<bool, Fail> {
 }
 
 /// Ends runs in a room with a module.
-fn end_all(rt: &HostRuntime, room: &PathBuf, file: &str, path: &str) -> Result<(), Fail> {
-    let job = running(rt.alloc(), file, path);
-    let refused: JobResult = Err(Undone::Refused(Refused::EndMissing));
-    let (well, trapped): (JobResult, JobResult) = (Ok(Done::with(0)), Ok(Done::with(1)));
+fn end_all(rt: &HostRuntime, job: &Job, room: &PathBuf, path: &str) -> Result<(), Fail> {
     hold(&[
-        ("a refusal", end_with(rt, &job, &refused, 64)? == 4),
+        ("a refusal", end_with(rt, job, Came::Refused, 64)? == 4),
         ("it leaves no record", count_in(rt, room)? == 1),
-        ("no room for the lines", end_with(rt, &job, &well, 4)? == 5),
+        (
+            "no room for the lines",
+            end_with(rt, job, Came::Well, 4)? == 5,
+        ),
         ("they leave no record", count_in(rt, room)? == 1),
-        ("a trap", end_with(rt, &job, &trapped, 64)? == 1),
+        ("a trap", end_with(rt, job, Came::Trapped, 64)? == 1),
         ("its record", is_kept(rt, room, path)?),
     ])
 }
@@ -117,7 +133,8 @@ fn a_record_is_kept_where_the_lines_are_out(rt: HostRuntime) -> Result<(), Fail>
     let file = path_in(&rt, &room, "a.wasm")?;
     let path = path_in(&rt, &room, "a.record")?;
     fs::write(&rt, file.as_str(), ATOMIC_ADD)?;
-    end_all(&rt, &room, &file, &path)?;
+    let job = running(rt.alloc(), &file, &path);
+    end_all(&rt, &job, &room, &path)?;
     Ok(fs::remove_dir_all(&rt, room.as_path())?)
 }
 
@@ -154,7 +171,7 @@ fn a_memory_without_bytes_leaves_an_empty_file(rt: HostRuntime) -> Result<(), Fa
 fn status_of_link(rt: &HostRuntime, file: &str, link: &str) -> Result<u8, Fail> {
     symlink(rt, file, link)?;
     let job = running(rt.alloc(), file, link);
-    end_with(rt, &job, &Ok(Done::with(0)), 64)
+    end_with(rt, &job, Came::Well, 64)
 }
 
 #[test]

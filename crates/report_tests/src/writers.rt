@@ -14,7 +14,7 @@ use test_modules::ATOMIC_ADD;
 const OUT: &[u8] = b"thread 0: ok i32:0\npages 1\nbytes 05 00 00 00 00 00 00 00\n";
 
 /// The record of the atomic add.
-const RECORD: &[u8] = b"\
+pub(crate) const RECORD: &[u8] = b"\
 wathread-record 2\nmodule 46\nthreads 64\nmax-pages 256\ninvoke 66\nargs\nfuel 1000000000\nlimit 100000\n\
 0 rmw add 0 4 5 = 0\n0 leave = done\n0 told 0 = done\n\
 end 0 ok i32:0 4\npages 1\nfinish\n";

@@ -21,7 +21,10 @@ pub(crate) fn follow_script<M: SharedMemory>(
     let events = script(alloc)?;
     let mut one = OneMemory::open(alloc, &IMAGE, THREE_PAGES)?;
     let differs = agree(memory, seat, &mut one, &events);
-    hold(&[("each reply", differs.is_none())])
+    hold(&[
+        ("each reply", differs.is_none()),
+        ("how many events", events.len() == 717),
+    ])
 }
 
 /// The sequential memory after the script.

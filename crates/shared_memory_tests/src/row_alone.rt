@@ -1,13 +1,12 @@
-//! A row of words by one caller: the faults of opening, and a row opened, used and closed.
+//! A row of words by one caller: opened, used and closed.
 
 use crate::steps::follow;
-use crate::trial::{PAGE, Trial, try_at_row};
+use crate::trial::{Trial, try_at_row};
 use shared_memory::SharedMemory;
 use std::alloc::Global;
 use std::test::Fail;
 use test_cases::hold;
-use types::{Event, PAGE_SIZE, Reply};
-use word_row::{OpenFault, Prepared};
+use types::{Event, Reply};
 
 /// Two pages, of which the byte before the last is 7.
 fn image(alloc: Global) -> Result<Vec<u8>, Fail> {
@@ -67,30 +66,5 @@ fn one_caller(rt: HostRuntime) -> Result<(), Fail> {
         ("the first new byte", end.byte(131_072) == Some(0)),
         ("the last byte", end.byte(196_607) == Some(0)),
         ("no byte behind it", end.byte(196_608).is_none()),
-    ])
-}
-
-/// Lengths of an image of zeros, and the most pages, where no row can be prepared.
-static PAST_LIMITS: [(usize, u32); 3] = [(1, 1), (PAGE_SIZE, 0), (PAGE_SIZE, 257)];
-
-/// Whether a row is refused over so many bytes and so many pages, as past a limit.
-fn is_past_limit(alloc: Global, length: usize, max: u32) -> bool {
-    match PAGE.get(..length) {
-        Some(image) => matches!(Prepared::new(alloc, image, max), Err(OpenFault::PastLimit)),
-        None => false,
-    }
-}
-
-#[test]
-fn faults_of_opening(rt: HostRuntime) -> Result<(), Fail> {
-    let alloc = rt.alloc();
-    for (length, max) in &PAST_LIMITS {
-        if !is_past_limit(alloc, *length, *max) {
-            return Err(Fail::new(format_args!("{length} bytes, {max} pages")));
-        }
-    }
-    hold(&[
-        ("256 pages", Prepared::new(alloc, &PAGE, 256).is_ok()),
-        ("no page", Prepared::new(alloc, &[], 0).is_ok()),
     ])
 }

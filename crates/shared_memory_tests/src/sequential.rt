@@ -1,4 +1,4 @@
-//! The words and numbers of the faults of opening a memory.
+//! The words of the faults of opening a memory.
 
 use shared_memory_sequential::OpenFault;
 use std::alloc::Global;
@@ -14,12 +14,10 @@ fn is_printed(alloc: Global, fault: OpenFault, text: &str) -> Result<bool, Fail>
 fn faults(rt: HostRuntime) -> Result<(), Fail> {
     let alloc = rt.alloc();
     hold(&[
-        ("the number of no memory", OpenFault::NoMemory.number() == 1),
         (
             "no memory",
             is_printed(alloc, OpenFault::NoMemory, "no memory")?,
         ),
-        ("the number of a limit", OpenFault::PastLimit.number() == 2),
         (
             "a limit",
             is_printed(alloc, OpenFault::PastLimit, "past a limit")?,

@@ -1,28 +1,20 @@
 //! Runs of two callers over one recorder, with the expected values written out by hand.
 
+use crate::adding::add;
 use crate::steps::follow;
 use crate::trial::{PAGE, Trial, try_at_recorder};
-use locked_recorder::{Finished, OpenFault, Prepared};
+use locked_recorder::Finished;
 use shared_memory::SharedMemory;
-use std::alloc::Global;
 use std::test::Fail;
 use std::thread;
 use std::thread::Threads;
 use test_cases::hold;
-use types::{Event, PAGE_SIZE, Reply, RmwOp};
+use types::{Event, Reply};
 
 /// Adds 1 to byte 0, so many times.
 fn add_all<M: SharedMemory>(memory: &M, seat: &mut M::Seat, times: u32) {
     for _ in 0..times {
-        let _ = memory.access(
-            seat,
-            Event::Rmw {
-                op: RmwOp::Add,
-                addr: 0,
-                width: 1,
-                value: 1,
-            },
-        );
+        let _ = memory.access(seat, add(0, 1));
     }
 }
 
@@ -134,42 +126,4 @@ fn a_meeting_tells(rt: HostRuntime) -> Result<(), Fail> {
 fn a_full_log_holds_back(rt: HostRuntime) -> Result<(), Fail> {
     let end = try_at_recorder(&rt, rt.alloc(), &PAGE, 1, 3, Trial::FourLoads)?;
     hold(&[("the log's length", end.log.len() == 3)])
-}
-
-/// Lengths of an image of zeros, the most pages, and the limit of the log, where no recorder can be prepared.
-static PAST_LIMITS: [(usize, u32, u32); 5] = [
-    (1, 1, 3),
-    (PAGE_SIZE, 0, 3),
-    (PAGE_SIZE, 257, 3),
-    (PAGE_SIZE, 1, 0),
-    (PAGE_SIZE, 1, 1_000_001),
-];
-
-/// Whether a recorder is refused over so many bytes, so many pages and so many entries, as past a limit.
-fn is_past_limit(alloc: Global, length: usize, max: u32, limit: u32) -> bool {
-    match PAGE.get(..length) {
-        Some(image) => matches!(
-            Prepared::new(alloc, image, max, limit),
-            Err(OpenFault::PastLimit)
-        ),
-        None => false,
-    }
-}
-
-#[test]
-fn faults_of_opening(rt: HostRuntime) -> Result<(), Fail> {
-    let alloc = rt.alloc();
-    for (length, max, limit) in &PAST_LIMITS {
-        if !is_past_limit(alloc, *length, *max, *limit) {
-            return Err(Fail::new(format_args!("{length} bytes, {max} pages, {limit} entries")));
-        }
-    }
-    hold(&[
-        (
-            "a million entries",
-            Prepared::new(alloc, &PAGE, 1, 1_000_000).is_ok(),
-        ),
-        ("the number of no memory", OpenFault::NoMemory.number() == 1),
-        ("the number of a limit", OpenFault::PastLimit.number() == 2),
-    ])
 }

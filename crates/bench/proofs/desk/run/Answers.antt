@@ -1,6 +1,6 @@
 use Rattle.std.proofs.Common.{ap}
 use Rattle.shared_memory_on_table.specs.declared.view.Caller.{Caller}
-use Rattle.waiters_tests.proofs.Beginning.{first_stands}
+use Rattle.shared_memory_script.proofs.Beginning.{first_stands}
 use Rattle.bench.proofs.desk.run.Goals as goal
 
 pub notify_all-requires-clause-free : goal.notify_all-requires-clause-free

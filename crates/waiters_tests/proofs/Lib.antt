@@ -1,2 +1,0 @@
-pub mod Dealing
-pub mod Beginning
