@@ -39,18 +39,15 @@ impl EndSignal<'_> {
             Err(_) => false,
         }
     }
-
-    fn has_file(&self) -> bool {
-        match self.until.path {
-            Some(path) => fs::exists(self.rt, path).unwrap_or(false),
-            None => false,
-        }
-    }
 }
 
 impl EndWatch for EndSignal<'_> {
     fn is_over(&self) -> bool {
-        self.is_late() || self.has_file()
+        self.is_late()
+            || self
+                .until
+                .path
+                .is_some_and(|path| fs::exists(self.rt, path).unwrap_or(false))
     }
 }
 
@@ -92,50 +89,30 @@ fn resident(rt: &HostRuntime) -> Option<u64> {
 impl<'a> SearchProgress<'a> {
     /// No line is written yet, and none ever where standard error is no terminal.
     pub(crate) fn new(rt: &'a HostRuntime, search: Option<&Search<'a>>) -> SearchProgress<'a> {
-        match search {
-            Some(search) => SearchProgress::of(rt, search),
-            None => SearchProgress::idle(rt),
-        }
-    }
-
-    /// Of no search.
-    fn idle(rt: &'a HostRuntime) -> SearchProgress<'a> {
-        SearchProgress {
-            rt,
-            times: None,
-            until: Until {
-                path: None,
-                time: None,
-            },
-            save: None,
-            shrink: Duration::from_secs(0),
-            is_shown: rt.stderr().is_terminal(),
-            is_written: false,
-            wish: Wish::GoOn,
-            told_at: 0,
-        }
-    }
-
-    /// Of a search that begins.
-    fn of(rt: &'a HostRuntime, search: &Search<'a>) -> SearchProgress<'a> {
-        let now = Instant::now(rt).ok();
-        let times = match now {
-            Some(now) => Some((now, now)),
+        let is_shown = rt.stderr().is_terminal();
+        let now = match search {
+            Some(_) => Instant::now(rt).ok(),
             None => None,
         };
-        let time = match (now, search.time) {
+        let seconds = search.and_then(|search| search.time);
+        let time = match (now, seconds) {
             (Some(now), Some(seconds)) => Some((now, Duration::from_secs(u64::from(seconds)))),
             _ => None,
         };
+        let shrink = search.map_or(0, |search| search.shrink_time);
         SearchProgress {
-            times,
+            rt,
+            times: now.map(|now| (now, now)),
             until: Until {
-                path: search.until,
+                path: search.and_then(|search| search.until),
                 time,
             },
-            save: search.save,
-            shrink: Duration::from_secs(u64::from(search.shrink_time)),
-            ..SearchProgress::idle(rt)
+            save: search.and_then(|search| search.save),
+            shrink: Duration::from_secs(u64::from(shrink)),
+            is_shown,
+            is_written: false,
+            wish: Wish::GoOn,
+            told_at: 0,
         }
     }
 
