@@ -59,32 +59,23 @@ void __cxa_guard_release(_Atomic char *guard) {
 void __cxa_guard_abort(_Atomic char *guard) { end_guard(guard, NOT_YET); }
 
 /* Destructors of static variables that main's thread made are called at its end. */
-static struct { void (*function)(void *); void *arg; } destroys[MOST_AT_EXIT];
-static int destroys_left;
 void *__dso_handle;
-
-static void call_destroys(void) {
-    while (destroys_left) {
-        int last = --destroys_left;
-        destroys[last].function(destroys[last].arg);
-    }
-}
 
 static __attribute__((noinline)) _Noreturn void too_many_destructors(void) { __builtin_trap(); }
 
 int __cxa_atexit(void (*function)(void *), void *arg, void *handle) {
     (void)handle;
-    if (thread_self() || (!destroys_left && atexit(call_destroys)))
+    if (thread_self())
         return -1;
-    if (destroys_left == MOST_AT_EXIT)
+    if (add_normal(function, arg))
         too_many_destructors();
-    destroys[destroys_left].function = function;
-    destroys[destroys_left++].arg = arg;
     return 0;
 }
 
+enum { MOST_OWN_DESTROYS = 32 };
+
 /* Those of thread-local variables at the end of their thread, before what keys and atexit have called. */
-static _Thread_local struct { void (*function)(void *); void *arg; } own_destroys[MOST_AT_EXIT];
+static _Thread_local struct { void (*function)(void *); void *arg; } own_destroys[MOST_OWN_DESTROYS];
 static _Thread_local int own_destroys_left;
 
 static void call_own_destroys(void) {
@@ -98,7 +89,7 @@ static void call_own_destroys(void) {
 
 int __cxa_thread_atexit(void (*function)(void *), void *arg, void *handle) {
     (void)handle;
-    if (own_destroys_left == MOST_AT_EXIT)
+    if (own_destroys_left == MOST_OWN_DESTROYS)
         too_many_destructors();
     if (at_its_end != call_own_destroys) {
         behind_its_end = at_its_end;

@@ -387,6 +387,8 @@ int pthread_setspecific(pthread_key_t key, const void *value) {
     if ((unsigned)key >= PTHREAD_KEYS_MAX)
         return EINVAL;
     void **at = value_of(key);
+    if (!at && !value)
+        return 0;
     if (!at) {
         void **far = calloc(NEAR_KEYS, sizeof *far);
         if (!far)
@@ -477,10 +479,10 @@ void thrd_exit(int result) { pthread_exit((void *)result); }
 /* ---- The end of the program: main's is a return from main. No thread can end another one: elsewhere, and where something
    is wrong, it is a trap, whose name says what was wanted ---- */
 
-enum { MOST_AT_EXIT = 32 };
+enum { MOST_AT_EXIT = 64 };
 
 struct at_exit {
-    void (*functions[MOST_AT_EXIT])(void);
+    struct { void (*function)(void *); void *arg; } calls[MOST_AT_EXIT];
     int count;
 };
 static struct at_exit normal, quick;
@@ -489,29 +491,35 @@ static __attribute__((noinline)) _Noreturn void exit_with_success(void) { __buil
 static __attribute__((noinline)) _Noreturn void exit_with_failure(void) { __builtin_trap(); }
 
 /* Only main's: so these words are one thread's, and no order is in them. */
-static int add_at_exit(struct at_exit *list, void (*function)(void)) {
+static int add_at_exit(struct at_exit *list, void (*function)(void *), void *arg) {
     if (thread_self() || list->count == MOST_AT_EXIT)
         return -1;
-    list->functions[list->count++] = function;
+    list->calls[list->count].function = function;
+    list->calls[list->count++].arg = arg;
     return 0;
 }
 
 static void call_at_exit(struct at_exit *list) {
-    while (list->count)
-        list->functions[--list->count]();
+    while (list->count) {
+        int last = --list->count;
+        list->calls[last].function(list->calls[last].arg);
+    }
 }
 
+static void call_plain(void *function) { ((void (*)(void))function)(); }
 static void call_normal(void) { call_at_exit(&normal); }
 
-int atexit(void (*function)(void)) {
-    if (add_at_exit(&normal, function))
+/* What atexit and C++ have called is one list, from the last one to the first. */
+static int add_normal(void (*function)(void *), void *arg) {
+    if (add_at_exit(&normal, function, arg))
         return -1;
     call_then(call_normal);
     at_programs_end = call_normal;
     return 0;
 }
 
-int at_quick_exit(void (*function)(void)) { return add_at_exit(&quick, function); }
+int atexit(void (*function)(void)) { return add_normal(call_plain, (void *)function); }
+int at_quick_exit(void (*function)(void)) { return add_at_exit(&quick, call_plain, (void *)function); }
 
 static void end(int status) {
     if (status)
@@ -526,9 +534,12 @@ void _exit(int status) { _Exit(status); }
 void quick_exit(int status) { call_at_exit(&quick); _Exit(status); }
 _Noreturn void abort(void) { __builtin_trap(); }
 
+/* Before main's functions have returned, since what is called may look at their variables. */
 void exit(int status) {
-    if (!thread_self())
-        call_normal();
+    if (!thread_self() && at_its_end)
+        at_its_end();
+    if (!thread_self() && at_programs_end)
+        at_programs_end();
     end(status);
 }
 

@@ -171,7 +171,7 @@ int pthread_timedjoin_np(pthread_t thread, void **result, const struct timespec 
     if (wrong || is_wrong(until))
         return wrong ? wrong : EINVAL;
     while (runs(number_of(thread)))
-        if (runs_until(number_of(thread), deadline_of(until)))
+        if (fails_for_nothing(TIMEOUTS) || runs_until(number_of(thread), deadline_of(until)))
             return ETIMEDOUT;
     return pthread_join(thread, result);
 }
