@@ -36,13 +36,13 @@ use validate_module::ValidModule;
 ///
 /// # Errors
 /// The refusal; or that memory or a stream failed.
-pub fn show_saved<W: Write, E: Write, S: Write>(
+pub fn show_saved<'a, W: Write, E: Write, S: Write>(
     alloc: Global,
     code: CodeBytes,
     saved: &[u8],
-    how: &ShowLook,
+    how: &ShowLook<'a>,
     streams: &mut Streams<W, E, S>,
-) -> Result<Done, Undone<'static>>
+) -> Result<Done, Undone<'a>>
     ensures shown { ended_status result ≡ 0 → IsRecordOf code.entry.«module».now saved.now }
     ensures prints { ended_status result ≡ 0
         → OfModule (PrintsShow how.now (shown_on W.contents S.contents how.now streams.old streams.new))
@@ -69,13 +69,13 @@ pub fn show_saved<W: Write, E: Write, S: Write>(
 }
 
 /// The same on one of the streams.
-fn show_to<W: Write>(
+fn show_to<'a, W: Write>(
     alloc: Global,
     code: CodeBytes,
     saved: &[u8],
-    how: &ShowLook,
+    how: &ShowLook<'a>,
     out: &mut W,
-) -> Result<Done, Undone<'static>>
+) -> Result<Done, Undone<'a>>
     ensures shown { ended_status result ≡ 0 → IsRecordOf code.entry.«module».now saved.now }
     ensures prints { ended_status result ≡ 0
         → OfModule (PrintsShow how.now (changed W.contents out.old out.new)) code.entry.«module».now saved.now }
@@ -128,14 +128,14 @@ fn code_of<'a>(
 }
 
 /// Shows of the record whose text `saved` is what is asked for.
-fn show_record<W: Write>(
+fn show_record<'a, W: Write>(
     alloc: Global,
     module: &ValidModule,
     code: CodeBytes,
     saved: &[u8],
-    how: &ShowLook,
+    how: &ShowLook<'a>,
     out: &mut W,
-) -> Result<(), Unshown>
+) -> Result<(), Unshown<'a>>
     ensures shown { IfOk result (λ _. IsOfRun «module».now.parts saved.now) }
     ensures prints { IfOk result
         (λ _. PrintsShow how.now (changed W.contents out.old out.new) «module».now.parts saved.now) }
