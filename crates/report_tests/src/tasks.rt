@@ -48,7 +48,13 @@ fn what_is_held_back_gets_out_or_is_lost(rt: HostRuntime) -> Result<(), Fail> {
         ),
         (
             "no room for the file",
-            ends(alloc, true, (64, 12), Some(Lost::File(ErrorKind::StorageFull)), 12)?,
+            ends(
+                alloc,
+                true,
+                (64, 12),
+                Some(Lost::File(ErrorKind::StorageFull)),
+                12,
+            )?,
         ),
         (
             "a refusal keeps nothing",
