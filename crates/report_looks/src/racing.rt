@@ -261,7 +261,8 @@ fn write_seen<W: Write>(
     let told = races_in(alloc, shown, &allowed, asked.most as usize)?;
     let left_out = left_out(alloc, shown, &told.races, &asked.allow)?;
     let stacks = stacks_in(alloc, module, &run.record, shown, &told.races)?;
-    let code = chained_at(alloc, map, known, &run.rows, &stacks)?;
+    let log = run.record.parts().log.as_slice();
+    let code = chained_at(alloc, map, known, log, &run.rows, &stacks)?;
     let shown = Shown {
         record: run.record.parts(),
         rows: run.rows.as_slice(),

@@ -111,19 +111,20 @@ pub struct CodeBytes<'a> {
     pub sources: &'a [SourceFile],
 }
 
-/// The code of a module, with what it is called, the text of its source, and the functions that were put in the place of
-/// their calls at the places of these rows.
+/// The code of a module, with what it is called, the text of its source, and of a run the functions that were put in the
+/// place of their calls, and the data of signed types that it touches.
 fn code_of<'a>(
     alloc: Global,
     module: &'a ValidModule,
     code: CodeBytes<'a>,
     map: &DataMap,
-    rows: &[Option<Row>],
+    seen: &SeenRun,
 ) -> Result<CodeMap<'a, 'a>, AllocError>
     ensures { IfOk result (λ c. c.parts.now ≡ «module».now.parts) }
 {
     let known = CodeMap::read(alloc, module.parts(), code.module, code.names)?;
-    let chained = map.chained(alloc, known, rows)?;
+    let signed = map.signed(alloc, known, seen.record.parts().log.as_slice())?;
+    let chained = map.chained(alloc, signed, &seen.rows)?;
     Ok(chained.with_sources(Sources::new(alloc, code.sources)?))
 }
 
@@ -150,7 +151,7 @@ fn show_record<'a, W: Write>(
         Ok(map) => map,
         Err(_) => return Err(no_memory()),
     };
-    let places = match code_of(alloc, module, code, &map, &seen.rows) {
+    let places = match code_of(alloc, module, code, &map, &seen) {
         Ok(places) => places,
         Err(_) => return Err(no_memory()),
     };
