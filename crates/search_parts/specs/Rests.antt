@@ -25,6 +25,8 @@ use Rattle.search_settled.specs.Settled.{MakesTurns}
 use Rattle.search_runs.specs.Called.{Called, Walker, system_of}
 use Rattle.search_parts.specs.Walkers.{IsOf, RestsAt, StandsForThread, MayBeGiven, given_to, patience}
 use Rattle.search_parts.specs.declared.walker.RestingThread.{RestingThread}
+use Rattle.search_parts.specs.declared.walker.RestingThread.TheVariants as standings
+use Rattle.live_kept.specs.Clearing.{IsClearedOf}
 
 -- A thread makes more turns of its own than there is patience for.
 abbrev pub RunsOn : Called → Walker → Type 0
@@ -38,6 +40,14 @@ OfRunning t so = (w : WithTables) (b : Called) (x : State) (left : ℕ) → IsOf
 -- It comes to rest so, where these tables of live locals are sound for its module.
 abbrev pub ComesToRestAt : List (List (List Bool)) → Thread → RestingThread → Type 0
 ComesToRestAt live t s = OfRunning t (λ w b x left. AreSound w live → RestsAt w b (Going x) s)
+
+-- What is kept of it has the locals cleared that are dead by these tables.
+abbrev pub IsCleared : List (List (List Bool)) → RestingThread → Type 0
+IsCleared live (standings.Going k) = (old : Kept) × IsClearedOf live old k
+IsCleared live standings.Missing = Unit {0}
+IsCleared live (standings.Ended o) = Unit {0}
+IsCleared live (standings.Leaving o) = Unit {0}
+IsCleared live (standings.Away o) = Unit {0}
 
 abbrev pub SpendsAll : Thread → Type 0
 SpendsAll t = OfRunning t (λ w b x left. MakesTurns (system_of b) left (Going x))

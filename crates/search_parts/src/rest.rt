@@ -4,7 +4,7 @@ ghost use Rattle.std.specs.Prelude.{◌≡◌, ◌<◌, ℕ, None, IfOk, IfSome}
 ghost use Rattle.schedule.specs.Machine.{Thread.Runs};
 ghost use Rattle.interp_machine.specs.State.{State};
 ghost use Rattle.interp.specs.Threads.{StandsFor, meaning_in};
-ghost use Rattle.search_parts.specs.Rests.{ComesToRestAt, SpendsAll};
+ghost use Rattle.search_parts.specs.Rests.{ComesToRestAt, IsCleared, SpendsAll};
 
 use crate::walker::RestingThread;
 use interp::Thread;
@@ -27,6 +27,7 @@ pub(crate) fn rest(
     requires fuel { thread.fuel ≡ FUEL }
     requires stands { (x : State) × (left : ℕ) × StandsFor thread (Runs x left) }
     ensures rests { IfOk result (λ o. IfSome o (ComesToRestAt live.now thread.entry)) }
+    ensures cleared { IfOk result (λ o. IfSome o (IsCleared live.now)) }
     ensures gives_up { IfOk result (λ o. o ≡ None → SpendsAll thread.entry) }
 {
     let mut thread = thread;

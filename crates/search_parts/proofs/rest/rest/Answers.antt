@@ -62,3 +62,6 @@ returns-clause-rests c = λ w b x left of by s sound.
       settles = k.settles;
       stands = (at.0, ap Going at.1, c.clear_dead.ensures.alike w at.0 sound (at.0, kept, itself at.0));
     }
+
+pub returns-clause-cleared : goal.returns-clause-cleared
+returns-clause-cleared c = (c.in_ok-kept.kept, c.clear_dead.ensures.cleared)
