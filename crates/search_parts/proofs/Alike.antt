@@ -55,7 +55,7 @@ going_alike : (w : WithTables) (k : Kept) (c : Config) (u : Walker) → AreWalke
     → StandsForThread w (Going k) u
 going_alike w k c u a kept =
     let at = at_alike c u a in
-    (at.0, at.1, kept.0, kept.1, in_turn kept.0 c at.0 kept.2 at.2)
+    (at.0, at.1, (kept.0, kept.1, in_turn kept.0 c at.0 kept.2 at.2))
 
 pub stands_alike : (w : WithTables) (s : RestingThread) (v u : Walker) → AreWalkersAlike v u → StandsForThread w s v → StandsForThread w s u
 stands_alike w Missing v u a st = none_alike u (subst (λ x. AreWalkersAlike x u) st a)

@@ -17,7 +17,7 @@ wanted_by-requires c =
 pub returns-in-Going-clause-wanted : goal.returns-in-Going-clause-wanted
 returns-in-Going-clause-wanted c =
     let w = c.args.valid.now in
-    IfOk-weaker c.wanted_by.result (IsWantedAt w c.in-Going.kept.now) (IsWantedOf w c.args.standing.now)
+    IfOk-weaker c.wanted_by.result (IsWantedAt w c.in-Going.kept) (IsWantedOf w c.args.standing.now)
     (λ o at b v of stands.
     let is = subst (λ s. StandsForThread w s v) c.in-Going.is stands in
     at b is.2.0 of is.2.1 ∙ ap called (walkers b (Going (At is.2.0)) v (kept_alike w c.in-Going.kept v is)).wants)
