@@ -56,7 +56,7 @@ static int atomic_place(int t, u32 at, int log, int writes) {
     if (writes && p->readers)
         check_readers(t, l);
     if (!p->count) {
-        orders.messages[l][0].value = load_real(at, log);
+        orders.near[l][0].value = load_real(at, log);
         p->count = 1;
     }
     return l;
@@ -73,9 +73,9 @@ static int least_of(int t, int l, int order) {
 static void read_message(int t, int l, int p, int order) {
     set_position(&orders.current[t], l, p);
     if (acquires(order))
-        add(&orders.current[t], &orders.messages[l][p].view);
+        add(&orders.current[t], &message_at(l, p)->view);
     else if (fences)
-        add(&orders.acquirable[t], &orders.messages[l][p].view);
+        add(&orders.acquirable[t], &message_at(l, p)->view);
 }
 
 /* What a message carries, beside what the one that a read-modify-write read does. */
@@ -96,24 +96,22 @@ static void release_view(int t, int l, view *v, int order) {
 /* A new message at position P; those from there on go up. Its value is put in by who calls, whose row in a trace has
    the line of source. */
 static void write_message(int t, int l, int p, int order, int glued) {
-    place *at = &orders.places[l];
-    message *messages = orders.messages[l];
+    int count = orders.places[l].count;
     news = 1;
-    if (at->count == MESSAGES)
-        orders_full_of_messages__use_DORDERS_MESSAGES();
-    if (p < at->count) {
+    add_room(l);
+    if (p < count) {
         raise_all(l, p);
-        for (int m = at->count; m > p; m--)
-            copy_message(&messages[m], &messages[m - 1]);
+        for (int m = count; m > p; m--)
+            copy_message(message_at(l, m), message_at(l, m - 1));
     }
-    at->count++;
-    messages[p].glued = glued;
+    message *made = message_at(l, p);
+    made->glued = glued;
     if (glued)
-        copy(&messages[p].view, &messages[p - 1].view);
+        copy(&made->view, &message_at(l, p - 1)->view);
     else
-        clear(&messages[p].view);
+        clear(&made->view);
     set_position(&orders.current[t], l, p);
-    release_view(t, l, &messages[p].view, order);
+    release_view(t, l, &made->view, order);
     if (order == SEQ_CST && p > position(&orders.psc, l))
         set_position(&orders.psc, l, p);
 }
@@ -122,16 +120,16 @@ static void write_message(int t, int l, int p, int order, int glued) {
 
 INLINE int is_patient(int t, int l) {
     cell c = orders.reads[t].at[l];
-    return !ORDERS_PATIENCE || (c & 255) != position(&orders.current[t], l) || c >> 8 < ORDERS_PATIENCE;
+    return !ORDERS_PATIENCE || (int)(c & POSITION) != position(&orders.current[t], l) || c >> POSITION_BITS < ORDERS_PATIENCE;
 }
 
 static _Thread_local int counted; /* whether anything is */
 
 static void count_read(int t, int l, int p, int for_nothing) {
     view *reads = &orders.reads[t];
-    cell many = position(reads, l) == p ? reads->at[l] >> 8 : 0;
+    cell many = position(reads, l) == p ? reads->at[l] >> POSITION_BITS : 0;
     if (ORDERS_PATIENCE && (for_nothing || p < orders.places[l].count - 1)) {
-        put_cell(reads, l, (cell)p | (many < ORDERS_PATIENCE ? many + 1 : many) << 8);
+        put_cell(reads, l, (cell)p | (many < ORDERS_PATIENCE ? many + 1 : many) << POSITION_BITS);
         if (!counted)
             counted = 1;
     }
@@ -203,10 +201,11 @@ static void end_access(int t) {
    has the user's line behind those alone. The newest one is read at the variable's own place ---- */
 
 /* A message in one number, since a struct would be on the stack. */
-enum { PLACE_SHIFT = 8, PLACE_MASK = 0xFFFF, FAILED = 1 << 24, TELLS = 1 << 25 };
+enum { PLACE_SHIFT = 15, PLACE_MASK = 511, FAILED = 1 << 24, TELLS = 1 << 25 };
+_Static_assert(POSITION_BITS <= PLACE_SHIFT && PLACES <= PLACE_MASK + 1, "a number has room for place and position");
 INLINE int place_in(int found) { return found >> PLACE_SHIFT & PLACE_MASK; }
-INLINE message *message_of(int found) { return &orders.messages[place_in(found)][found & 255]; }
-INLINE int is_newest(int found) { return (found & 255) == orders.places[place_in(found)].count - 1; }
+INLINE message *message_of(int found) { return message_at(place_in(found), found & POSITION); }
+INLINE int is_newest(int found) { return (found & POSITION) == orders.places[place_in(found)].count - 1; }
 
 /* TELLS where the thread was here before, and had no choice. */
 static int begin_load(u32 at, int log, int order) {
@@ -253,9 +252,9 @@ INLINE u64 load(u32 at, int log, int order) {
 static int position_of_store(int t, int l, int order) {
     int count = orders.places[l].count, p = count, least = least_of(t, l, order), many = 1;
     for (int q = least + 1; q < count; q++)
-        many += !orders.messages[l][q].glued;
+        many += !message_at(l, q)->glued;
     for (int skip = many > 1 ? choose(many) : 0; skip; skip--)
-        while (orders.messages[l][--p].glued)
+        while (message_at(l, --p)->glued)
             ;
     return p;
 }
@@ -306,8 +305,8 @@ static u64 result(enum kind kind, u64 had, u64 x, int log) {
 
 /* Whether a message may be read by one that succeeds: no other may have read it. */
 static int can_change(int l, int q, enum kind kind, u64 expected, int least) {
-    const message *m = orders.messages[l];
-    return q >= least && (kind < COMPARE || m[q].value == expected) && (q == orders.places[l].count - 1 || !m[q + 1].glued);
+    return q >= least && (kind < COMPARE || message_at(l, q)->value == expected) &&
+           (q == orders.places[l].count - 1 || !message_at(l, q + 1)->glued);
 }
 
 /* The same of one that fails, which is a load: of another value, or for nothing where it's weak. */
@@ -315,7 +314,7 @@ static int can_fail(int t, int l, int q, enum kind kind, u64 expected, int least
     int oldest = position(&orders.current[t], l);
     if (kind < COMPARE || q < least)
         return 0;
-    if (orders.messages[l][q].value == expected)
+    if (message_at(l, q)->value == expected)
         return kind == COMPARE_WEAK && (q != oldest || is_patient(t, l)) && !over;
     return q == orders.places[l].count - 1 || q != oldest || is_patient(t, l);
 }
@@ -347,7 +346,7 @@ static int begin_change(u32 at, int log, enum kind kind, u64 expected, int order
     if (!fails)
         write_message(t, l, p + 1, order, 1);
     else if (again)
-        count_read(t, l, p, orders.messages[l][p].value == expected);
+        count_read(t, l, p, message_at(l, p)->value == expected);
     return l << PLACE_SHIFT | p | fails; /* fails: FAILED and TELLS */
 }
 
@@ -379,7 +378,7 @@ INLINE u64 change_value(u32 at, int log, enum kind kind, u64 x, u64 expected, in
         else if (found & TELLS && had != expected)
             tell(at, told_how(log, failing), had);
     } else {
-        m[1].value = value;
+        message_of(found + 1)->value = value;
         if (is_newest(found + 1))
             store_real(at, log, value);
     }
@@ -443,13 +442,13 @@ void orders_start_begins(void) {
         begin_operation(0, THREADS_OWN);
     for (chosen = 0; (running | ended) >> chosen & 1; chosen++)
         ;
-    if (chosen >= THREADS)
-        orders_full_of_threads__use_DORDERS_THREADS();
 }
 
 int orders_spawn(int place) {
     if (place >= __wathread_most()) /* one is the helper's */
         return -1;
+    if (chosen >= THREADS)
+        orders_full_of_threads__join_some_before();
     slots_of_starts[place] = chosen;
     int made = helper;
     if (!made)
@@ -732,8 +731,6 @@ static void put_in_freed(u32 at, u32 size) {
         i--;
         size += at - orders.freed[i].at;
     } else {
-        if (many == FREED)
-            orders_full_of_freed_blocks__use_DORDERS_FREED();
         for (int k = many; k > i; k--) {
             orders.freed[k].at = orders.freed[k - 1].at;
             orders.freed[k].size = orders.freed[k - 1].size;
@@ -762,7 +759,8 @@ void orders_freed(void *block, unsigned size) {
         return;
     begin_operation(0, OTHERS);
     forget_places((u32)block, size, 1);
-    put_in_freed((u32)block, size);
+    if (size) /* malloc(0) has a front alone */
+        put_in_freed((u32)block, size);
     leave(me());
 }
 
@@ -772,7 +770,7 @@ void orders_taken(void *block, unsigned size) {
     if (!is_parallel())
         return;
     begin_operation(0, OTHERS);
-    for (int i = 0; i < FREED; i++) {
+    for (int i = 0; i < FREED && orders.freed[i].size; i++) {
         u32 first = orders.freed[i].at, had = orders.freed[i].size;
         if (at - first >= had)
             continue;

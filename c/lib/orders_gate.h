@@ -6,19 +6,13 @@ typedef uint16_t u16;
 typedef uint8_t u8;
 #define INLINE __attribute__((always_inline)) static inline
 
-/* ---- Limits: each is set by a switch of wathread-cc, as -DORDERS_PLACES=128 ---- */
+/* ---- Limits: tables are as large as malloc's pool, and as there may be threads. wathread-cc says both ---- */
 
-#ifndef ORDERS_PLACES
-#define ORDERS_PLACES 64      /* places that threads share at a time, a multiple of 4 */
+#ifndef ORDERS_POOL
+#define ORDERS_POOL 16384     /* --pool: bytes that malloc has */
 #endif
-#ifndef ORDERS_MESSAGES
-#define ORDERS_MESSAGES 16    /* of one place that somebody may still read, up to 120 */
-#endif
-#ifndef ORDERS_THREADS
-#define ORDERS_THREADS 7      /* that aren't joined yet, with main; up to 23 */
-#endif
-#ifndef ORDERS_FREED
-#define ORDERS_FREED 16       /* blocks that were freed while threads run */
+#ifndef ORDERS_STARTS
+#define ORDERS_STARTS 15      /* --threads: how many may be started */
 #endif
 #ifndef ORDERS_PATIENCE
 #define ORDERS_PATIENCE 1     /* how often a thread is told what is old where it has asked before; 0: any number */
@@ -26,18 +20,19 @@ typedef uint8_t u8;
 #ifndef ORDERS_C11_SEQUENCES
 #define ORDERS_C11_SEQUENCES 0 /* 1: a release sequence has later stores of the same thread too, as before C++20 */
 #endif
-#if ORDERS_PLACES % 4 || ORDERS_PLACES < 4
-#error "ORDERS_PLACES is a multiple of 4"
-#endif
-#if ORDERS_MESSAGES < 2 || ORDERS_MESSAGES > 120
-#error "ORDERS_MESSAGES is 2 to 120"
-#endif
-#if ORDERS_THREADS < 2 || ORDERS_THREADS > 23
-#error "ORDERS_THREADS is 2 to 23"
-#endif
+#define FROM_TO(least, most, n) ((n) < (least) ? (least) : (n) > (most) ? (most) : (n))
 
-enum { PLACES = ORDERS_PLACES, MESSAGES = ORDERS_MESSAGES, THREADS = ORDERS_THREADS, FREED = ORDERS_FREED,
-       NUMBERS = 64, FRONT = 16 /* in front of each block of malloc's */ };
+enum {
+    MOST_THREADS = 28,   /* that aren't joined yet, with main: for so many the gate has bits */
+    MOST_PLACES = ORDERS_C11_SEQUENCES ? 128 : 512,
+    THREADS = FROM_TO(2, MOST_THREADS, ORDERS_STARTS + 1),
+    PLACES = FROM_TO(64, MOST_PLACES, ORDERS_POOL / 128 / 4 * 4), /* that threads share at a time */
+    NEAR = 4,                                 /* messages of a place that lie beside it */
+    FAR = FROM_TO(64, 4096, ORDERS_POOL / 64), /* messages behind these, of all places together */
+    FREED = ORDERS_POOL / 32 + 1,             /* blocks that were freed: a block in between, with its front, has as many bytes */
+    NUMBERS = 64,
+    FRONT = 16                                /* in front of each block of malloc's */
+};
 
 /* Numbers that each thread has for itself, and no memory (start.s): what a thread touches in front of an event is a part
    of a state, so an operation that comes first or tries again would be two of them. */
@@ -253,7 +248,6 @@ void __wathread_traps(void) {
 TRAPS data_race(u32 at) { (void)*(volatile u8 *)at; fails_inside(); __builtin_trap(); }
 TRAPS use_after_free(void) FAILS
 TRAPS atomics_of_mixed_sizes(void) FAILS
-TRAPS orders_full_of_places__use_DORDERS_PLACES(void) FAILS
-TRAPS orders_full_of_messages__use_DORDERS_MESSAGES(void) FAILS
-TRAPS orders_full_of_threads__use_DORDERS_THREADS(void) FAILS
-TRAPS orders_full_of_freed_blocks__use_DORDERS_FREED(void) FAILS
+TRAPS orders_full_of_places__use_a_greater_pool(void) FAILS
+TRAPS orders_full_of_messages__use_a_greater_pool(void) FAILS
+TRAPS orders_full_of_threads__join_some_before(void) FAILS

@@ -46,12 +46,11 @@ static void touch_reading(int t, int l) {
 static void begin_anew(int l) {
     place *p = &orders.places[l];
     news = 1;
-    lower_all(l, 127);
-    for (int m = p->count; --m;)
-        clear_message(&orders.messages[l][m]);
-    clear_message(&orders.messages[l][0]);
-    orders.messages[l][0].value = load_real(p->at, p->log);
-    p->count = 1;
+    lower_all(l, POSITION);
+    for (int m = p->count; m--;)
+        clear_message(message_at(l, m));
+    take_room(l, 1);
+    orders.near[l][0].value = load_real(p->at, p->log);
 }
 
 static void touch(int l, int writes) {
@@ -67,7 +66,7 @@ static void touch(int l, int writes) {
     if (p->count)
         begin_anew(l);
     p->readers = 0;
-    forget_all(l, (cell)~255);
+    forget_all(l, ALL_KNOWN);
     orders.current[t].at[l] |= WRITE_KNOWN;
 }
 

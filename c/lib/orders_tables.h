@@ -1,19 +1,27 @@
 /* Places, messages and views. All tables are sorted by address, and cleaned of what nobody can read any more, so that
    what comes to the same is the same state of a search. */
 
-/* What is known of a place, in a view: in the low byte how old a message may be, by its position in modification order;
-   above it bits for what happens before, of the last plain write and of each thread's last plain read. */
-#if ORDERS_THREADS <= 7
-typedef u16 cell;
-#define ONES 0x0001000100010001u
-#else
+/* What is known of a place, in a view: in the low bits how old a message may be, by its position in modification order;
+   above them bits for what happens before, of the last plain write and of each thread's last plain read. */
+#if ORDERS_STARTS <= 15
 typedef u32 cell;
 #define ONES 0x0000000100000001u
+#else
+typedef u64 cell;
+#define ONES 1ull
 #endif
-enum { PER_WORD = 8 / sizeof(cell), WORDS = PLACES / PER_WORD, CELL_BITS = 8 * sizeof(cell) };
-#define POSITIONS (ONES * 255)
-#define WRITE_KNOWN ((cell)0x100)
-#define READ_KNOWN(thread) ((cell)(0x200u << (thread)))
+enum {
+    CELL_BITS = 8 * sizeof(cell),
+    PER_WORD = 64 / CELL_BITS,
+    WORDS = PLACES / PER_WORD,
+    POSITION_BITS = 15, /* the highest one is there to compare by */
+    POSITION = (1 << POSITION_BITS) - 1
+};
+_Static_assert(NEAR + FAR <= POSITION >> 1 && POSITION_BITS + 1 + THREADS <= CELL_BITS, "a cell has room for all");
+#define POSITIONS (ONES * POSITION)
+#define WRITE_KNOWN ((cell)1 << POSITION_BITS)
+#define READ_KNOWN(thread) (WRITE_KNOWN << 1 << (thread))
+#define ALL_KNOWN (~(cell)POSITION)
 
 typedef union { cell at[PLACES]; u64 words[WORDS]; } view;
 
@@ -23,14 +31,15 @@ typedef struct { u64 value; u32 glued; view view; } message;
 typedef struct {
     u32 at;
     u8 log;      /* 1 << log bytes */
-    u8 count;    /* of messages; 0: no atomic access yet */
+    u16 count;   /* of messages; 0: no atomic access yet */
     u32 readers; /* a bit by each slot: plain reads since the last plain write */
 } place;
 
 static struct {
     int count; /* of places */
     place places[PLACES];
-    message messages[PLACES][MESSAGES];
+    message near[PLACES][NEAR];                /* the oldest messages of each place */
+    message far[FAR];                          /* those behind them, place by place */
     view current[THREADS];                     /* what each thread knows */
     view acquirable[THREADS], released[THREADS]; /* by its next acquire fence; since its last release fence */
     view psc;                                  /* positions alone: where sequentially consistent ones have come to */
@@ -48,7 +57,7 @@ static int fences;  /* whether the program has any */
 /* ---- Views ---- */
 
 INLINE int words_used(void) { return (orders.count + PER_WORD - 1) / PER_WORD; }
-INLINE int position(const view *v, int l) { return v->at[l] & 255; }
+INLINE int position(const view *v, int l) { return v->at[l] & POSITION; }
 INLINE int knows(const view *v, int l, cell what) { return (v->at[l] & what) == what; }
 
 /* A word is written only where it changes: each write is an entry of a record. */
@@ -60,11 +69,11 @@ INLINE void put_cell(view *v, int l, cell value) {
     if (v->at[l] != value)
         v->at[l] = value;
 }
-INLINE void set_position(view *v, int l, int p) { put_cell(v, l, (v->at[l] & ~(cell)255) | p); }
+INLINE void set_position(view *v, int l, int p) { put_cell(v, l, (v->at[l] & ALL_KNOWN) | p); }
 
-/* The positions of two words, lane by lane: each is below 128. */
+/* The positions of two words, lane by lane. */
 INLINE u64 greater(u64 a, u64 b) {
-    u64 mask = (((a | ONES << 7) - b) >> 7 & ONES) * 255;
+    u64 mask = (((a | ONES << (POSITION_BITS - 1)) - b) >> (POSITION_BITS - 1) & ONES) * POSITION;
     return (a & mask) | (b & ~mask);
 }
 INLINE u64 lesser(u64 a, u64 b) { return a + b - greater(a, b); }
@@ -94,17 +103,72 @@ static void clear(view *v) { /* behind the places that are there all is zero */
         put(&v->words[w], 0);
 }
 
+/* ---- Messages: few of a place lie beside it, so that those of other places stay where they are ---- */
+
+INLINE int far_of(int count) { return count > NEAR ? count - NEAR : 0; }
+
+/* How many of the far messages are of the places in front of one. */
+static int far_before(int l) {
+    int many = 0;
+    while (l--)
+        many += far_of(orders.places[l].count);
+    return many;
+}
+
+INLINE message *message_at(int l, int m) {
+    return m < NEAR ? &orders.near[l][m] : &orders.far[far_before(l) + m - NEAR];
+}
+
+static void clear_message(message *m) {
+    m->value = m->glued = 0;
+    clear(&m->view);
+}
+
+static void copy_message(message *to, const message *from) {
+    to->value = from->value;
+    to->glued = from->glued;
+    copy(&to->view, &from->view);
+}
+
+/* Makes room for one more behind the last message of a place. */
+static void add_room(int l) {
+    int count = orders.places[l].count;
+    if (count >= NEAR) {
+        int all = far_before(orders.count), at = far_before(l) + count - NEAR;
+        if (all == FAR)
+            orders_full_of_messages__use_a_greater_pool();
+        for (int m = all; m > at; m--)
+            copy_message(&orders.far[m], &orders.far[m - 1]);
+    }
+    orders.places[l].count = count + 1;
+}
+
+/* Leaves a place so many messages of those that it has. The others' are zero already. */
+static void take_room(int l, int count) {
+    int less = far_of(orders.places[l].count) - far_of(count);
+    orders.places[l].count = count;
+    if (!less)
+        return;
+    int all = far_before(orders.count), at = far_before(l + 1);
+    for (int m = at; m < all; m++)
+        copy_message(&orders.far[m], &orders.far[m + less]);
+    for (int m = all; m < all + less; m++)
+        clear_message(&orders.far[m]);
+}
+
 /* ---- What is done to all views ---- */
 
 enum change { RAISE, LOWER, FORGET, PUT_IN, TAKE_OUT, SAME_AS_BEFORE }; /* a place comes in at L, or goes */
 
 /* By words, since each access is an entry of a record. The cells of the word in front of the one that comes stay. */
 INLINE u64 mask_below(int l) { return (1ull << CELL_BITS * (l % PER_WORD)) - 1; }
+INLINE u64 cell_down(u64 word) { return PER_WORD > 1 ? word >> (CELL_BITS & 63) : 0; }
+INLINE u64 cell_up(u64 word) { return PER_WORD > 1 ? word << (CELL_BITS & 63) : 0; }
 
 static void put_in_cell(view *v, int l) {
     u64 stay = mask_below(l), over = 0;
     for (int w = l / PER_WORD, end = words_used(); w < end; w++) {
-        u64 had = v->words[w], now = (had & stay) | (had & ~stay) << CELL_BITS | over;
+        u64 had = v->words[w], now = (had & stay) | cell_up(had & ~stay) | over;
         if (had != now)
             v->words[w] = now;
         over = had >> (64 - CELL_BITS);
@@ -116,7 +180,7 @@ static void take_out_cell(view *v, int l) {
     u64 stay = mask_below(l);
     int w = l / PER_WORD, end = words_used();
     for (u64 had = v->words[w]; w < end; w++) {
-        u64 next = w + 1 < end ? v->words[w + 1] : 0, now = (had & stay) | (had >> CELL_BITS & ~stay) | next << (64 - CELL_BITS);
+        u64 next = w + 1 < end ? v->words[w + 1] : 0, now = (had & stay) | (cell_down(had) & ~stay) | next << (64 - CELL_BITS);
         if (had != now)
             v->words[w] = now;
         had = next;
@@ -124,13 +188,12 @@ static void take_out_cell(view *v, int l) {
     }
 }
 
-INLINE void change(view *v, enum change what, int l, int n) {
+INLINE void change(view *v, enum change what, int l, cell n) {
     if (what == PUT_IN || what == TAKE_OUT) {
         what == PUT_IN ? put_in_cell(v, l) : take_out_cell(v, l);
         return;
     }
-    cell had = v->at[l];
-    int p = had & 255;
+    cell had = v->at[l], p = had & POSITION;
     switch (what) {
     case RAISE: /* a message comes in at position N */
         if (p && p >= n)
@@ -142,7 +205,7 @@ INLINE void change(view *v, enum change what, int l, int n) {
         break;
     case FORGET: /* what the bits N say isn't so any more */
         if (had & n)
-            v->at[l] = had & ~(cell)n;
+            v->at[l] = had & ~n;
         break;
     case SAME_AS_BEFORE: /* the place at L is known as the one in front of it is */
         put_cell(v, l, v->at[l - 1]);
@@ -152,7 +215,7 @@ INLINE void change(view *v, enum change what, int l, int n) {
     }
 }
 
-INLINE void change_each(enum change what, int l, int n) {
+INLINE void change_each(enum change what, int l, cell n) {
     u32 alive = running | ended;
     for (int t = 0; alive >> t; t++)
         if (alive >> t & 1) {
@@ -170,14 +233,14 @@ INLINE void change_each(enum change what, int l, int n) {
         }
     for (int k = 0; k < orders.count; k++)
         for (int m = orders.places[k].count; m--;)
-            change(&orders.messages[k][m].view, what, l, n);
+            change(&message_at(k, m)->view, what, l, n);
     change(&orders.psc, what, l, n);
 }
 
 /* One function for each, so that none asks at each view what is done. */
 static void raise_all(int l, int n) { change_each(RAISE, l, n); }
 static void lower_all(int l, int n) { change_each(LOWER, l, n); }
-static void forget_all(int l, cell bits) { change_each(FORGET, l, bits); }
+static void forget_all(int l, cell known) { change_each(FORGET, l, known); }
 static void put_in_all(int l) { change_each(PUT_IN, l, 0); }
 static void take_out_all(int l) { change_each(TAKE_OUT, l, 0); }
 static void same_all(int l) { change_each(SAME_AS_BEFORE, l, 0); }
@@ -199,17 +262,6 @@ static int find(u32 at) {
     return low;
 }
 
-static void clear_message(message *m) {
-    m->value = m->glued = 0;
-    clear(&m->view);
-}
-
-static void copy_message(message *to, const message *from) {
-    to->value = from->value;
-    to->glued = from->glued;
-    copy(&to->view, &from->view);
-}
-
 /* By words alone: what lies on a stack would be left there, and make more states. */
 static void set_place(int l, u32 at, int log, u32 readers) {
     orders.places[l].at = at;
@@ -222,9 +274,9 @@ static void move_place(int from, int to) {
     set_place(to, orders.places[from].at, orders.places[from].log, orders.places[from].readers);
     orders.places[to].count = orders.places[from].count;
     orders.places[from].count = 0;
-    for (int m = 0; m < orders.places[to].count; m++) {
-        copy_message(&orders.messages[to][m], &orders.messages[from][m]);
-        clear_message(&orders.messages[from][m]);
+    for (int m = 0; m < NEAR && m < orders.places[to].count; m++) {
+        copy_message(&orders.near[to][m], &orders.near[from][m]);
+        clear_message(&orders.near[from][m]);
     }
 #if ORDERS_C11_SEQUENCES
     for (int t = 0; t < THREADS; t++) {
@@ -236,8 +288,8 @@ static void move_place(int from, int to) {
 
 static void remove_place(int l) {
     for (int m = orders.places[l].count; m--;)
-        clear_message(&orders.messages[l][m]);
-    orders.places[l].count = 0;
+        clear_message(message_at(l, m));
+    take_room(l, 0);
     take_out_all(l);
     for (int k = l; k < orders.count - 1; k++)
         move_place(k + 1, k);
@@ -247,7 +299,7 @@ static void remove_place(int l) {
 
 static void put_in(int l, u32 at, int log, u32 readers) {
     if (orders.count == PLACES)
-        orders_full_of_places__use_DORDERS_PLACES();
+        orders_full_of_places__use_a_greater_pool();
     for (int k = orders.count; k > l; k--)
         move_place(k - 1, k);
     set_place(l, at, log, readers);
@@ -278,7 +330,7 @@ static int is_known_to_all(int l) {
     u32 readers = running & ~joining;
     for (int t = 0; readers >> t; t++)
         if (readers >> t & 1 && (!is_known(&orders.current[t], l) ||
-                                 (p->count && !is_in(&orders.messages[l][p->count - 1].view, &orders.current[t]))))
+                                 (p->count && !is_in(&message_at(l, p->count - 1)->view, &orders.current[t]))))
             return 0;
     return 1;
 }
@@ -321,25 +373,25 @@ static void split(int l) {
 static void drop(int l, int many) {
     int count = orders.places[l].count - many;
     for (int m = 0; m < count; m++)
-        copy_message(&orders.messages[l][m], &orders.messages[l][m + many]);
+        copy_message(message_at(l, m), message_at(l, m + many));
     for (int m = count; m < count + many; m++)
-        clear_message(&orders.messages[l][m]);
-    if (orders.messages[l][0].glued)
-        orders.messages[l][0].glued = 0;
-    orders.places[l].count = count;
+        clear_message(message_at(l, m));
+    if (orders.near[l][0].glued)
+        orders.near[l][0].glued = 0;
+    take_room(l, count);
     lower_all(l, many);
 }
 
 static void clean(void) {
     u32 readers = running & ~joining;
     for (int w = words_used(); w-- && readers;) {
-        u64 least = ONES * 127;
+        u64 least = ONES * (POSITION >> 1);
         for (int t = 0; readers >> t && least; t++)
             if (readers >> t & 1)
                 least = lesser(least, orders.current[t].words[w] & POSITIONS);
-        for (int k = 0; least; k++, least >>= CELL_BITS)
-            if (least & 255)
-                drop(w * PER_WORD + k, least & 255);
+        for (int k = 0; least; k++, least = cell_down(least))
+            if (least & POSITION)
+                drop(w * PER_WORD + k, least & POSITION);
     }
 }
 
