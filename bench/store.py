@@ -14,7 +14,8 @@ there by every work tree of this machine. For work in several trees, and for a g
 A key is made of the kit, the crate's src, specs and proofs, its line of crates.txt, and the contents of each library
 below. At most STORE_SLOTS checks (4) run at once on the machine, first come, first served; STORE_FIRST=1 goes ahead. Two
 of these in one tree disturb each other: use one work tree each. With STORE_LAST=1 a check waits for all others. STORE is
-the folder of the store (/tmp/wathread-store), and STORE_JOBS="report=4 cases=3" has several jobs for some crates. It goes by rt's own functions, so it fits the kit that it was written for.
+the folder of the store (/tmp/wathread-store), and STORE_JOBS="report=4 cases=3" has several jobs for some crates. It
+goes by rt's own functions, so it fits the kit that it was written for.
 """
 import copy
 import fcntl
