@@ -14,7 +14,8 @@ there by every work tree of this machine. For work in several trees, and for a g
 A key is made of the kit, the crate's src, specs and proofs, its line of crates.txt, and the contents of each library
 below. At most STORE_SLOTS checks (4) run at once on the machine, first come, first served; STORE_FIRST=1 goes ahead. Two
 of these in one tree disturb each other: use one work tree each. With STORE_LAST=1 a check waits for all others. STORE is
-the folder of the store (/tmp/wathread-store). It goes by rt's own functions, so it fits the kit that it was written for.
+the folder of the store (/tmp/wathread-store), and STORE_JOBS="report=4 cases=3" has several jobs for some crates. It
+goes by rt's own functions, so it fits the kit that it was written for.
 """
 import copy
 import fcntl
@@ -35,6 +36,7 @@ from concurrent.futures import FIRST_COMPLETED, ThreadPoolExecutor, wait
 sys.dont_write_bytecode = True
 STORE = os.environ.get("STORE", "/tmp/wathread-store")
 SLOTS = int(os.environ.get("STORE_SLOTS", "4"))
+JOBS = dict(it.split("=") for it in os.environ.get("STORE_JOBS", "").split())
 for part in ("slots", "queue", "locks", "kept", "failed"):
     os.makedirs(f"{STORE}/{part}", exist_ok=True)
 
@@ -249,6 +251,24 @@ def is_built(crate):
         return False
 
 
+STAMPS, BELOW = {}, {}
+stamp_along_paths, below_along_paths = rtlib.Crate.stamp, rtlib.Crate.below
+
+
+def stamp(crate):
+    """rt goes down each path of crates.txt, of which the program has 100,000; each crate once is enough."""
+    if crate.folder not in STAMPS:
+        STAMPS[crate.folder] = stamp_along_paths(crate)
+    return STAMPS[crate.folder]
+
+
+def below(crate):
+    if crate.folder not in BELOW:
+        BELOW[crate.folder] = below_along_paths(crate)
+    return BELOW[crate.folder]
+
+
+rtlib.Crate.stamp, rtlib.Crate.below = stamp, below
 rt.Crate.ci, rt.must_fail_all = ci, must_fail_all
 rtlib.Crate.build_rlib, rtlib.Crate.is_built = build_rlib, is_built
 # (as in the gate: libraries keep their statements alone)
@@ -300,7 +320,7 @@ def run_tasks(crates, tasks):
         crate = copy.copy(crates[key[0]])
         with tempfile.TemporaryFile("w+", errors="replace") as crate.out:
             try:
-                status = crate.ci(["--jobs", "1"], key[1] == "tests")
+                status = crate.ci(["--jobs", JOBS.get(crate.name, "1")], key[1] == "tests")
             except SystemExit:
                 status = 2
             crate.out.seek(0)

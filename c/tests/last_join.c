@@ -36,6 +36,7 @@ int main(void) {
     mains = pthread_self();
     assert(atexit(last) == 0);
     assert(pthread_create(&one, 0, first, (void *)5) == 0 && pthread_create(&two, 0, second, 0) == 0);
+    assert(pthread_detach(two) == 0);
 #ifdef BUG /* a return from main waits for nobody */
     return 0;
 #endif
