@@ -113,6 +113,11 @@ def mapped(lines):
             yield int(found[1], 16), int(found[2], 16), found[4].replace('__wathread_', '')
 
 
+def place_of(lines, name):
+    """The place of thread-local data by its name in the map, where it is there."""
+    return next((place for place, _, its_name in mapped(lines) if its_name == name), None)
+
+
 class Own:
     """The unit, as far as it is written. Thread-local data have so many bytes, and lie from `image` on by what is said of
     them: `entries` have offsets by places, and `others` are those of the map."""

@@ -63,6 +63,7 @@ pub record AsksEndLook (f : Found) (look : EndLook) : Type 0 where
   pub dump_is : HasNumber f (codes "dump") look.dump
   pub units_is : HasFlag f (codes "units") look.units
   pub traps_is : HasFlag f (codes "explain") look.traps
+  pub text_is : HasFlag f (codes "text") look.text
   pub form_is : AsksForm f look.form
 
 -- A path with an address behind its last `@`, or a path alone.

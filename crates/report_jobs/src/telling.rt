@@ -3,10 +3,10 @@ ghost use Rattle.std.specs.Prelude.{◌≡◌, ◌++◌, true, OnOk};
 ghost use Rattle.std.specs.Io.KnownBytes.{Appends};
 ghost use Rattle.report_jobs.specs.Told.{call_line, unlaid_line};
 ghost use Rattle.report_jobs.specs.Trapped.{Tells};
-ghost use Rattle.report_jobs.specs.Undone.{failed_line, refused_line, undone_line, TellsEnded};
+ghost use Rattle.report_jobs.specs.Undone.{absent_line, failed_line, refused_line, undone_line, TellsEnded};
 ghost use Rattle.report_jobs.specs.declared.undone.Refused.TheVariants as refused;
 
-use crate::undone::{Failed, JobResult, Refused, Undone};
+use crate::undone::{Absent, Failed, JobResult, Refused, Undone};
 use arrayvec::ArrayVec;
 use report_memory::Unlaid;
 use spawn_host::CallFault;
@@ -101,6 +101,9 @@ fn write_call<W: Write>(to: &mut W, fault: CallFault) -> io::Result<()>
 }
 
 /// Writes the line of what is refused.
+///
+/// # Errors
+/// That of the writer; and `InvalidInput` of a line with a name, which `tell_absent` says, however long it is.
 fn write_refused<W: Write>(to: &mut W, refused: &Refused) -> io::Result<()>
     ensures { OnOk result (Appends (W.contents to.old) (W.contents to.new) (refused_line refused.now)) }
 {
@@ -120,14 +123,7 @@ fn write_refused<W: Write>(to: &mut W, refused: &Refused) -> io::Result<()>
         } => write_in_body(to, *kind, *function, *instruction),
         Refused::Unlaid { why, addr, count } => write_unlaid(to, *why, *addr, *count),
         Refused::Call { fault, module: _ } => write_call(to, *fault),
-        Refused::Absent(absent) => {
-            let words = absent.words();
-            write!(to, "show refused: {words}\n")
-        }
-        Refused::Allowance(absent) => {
-            let words = absent.words();
-            write!(to, "allowance refused: {words}\n")
-        }
+        Refused::Absent(_) | Refused::Allowance(_) => Err(io::Error::from(ErrorKind::InvalidInput)),
         Refused::Header(line) => write!(to, "record refused: header line {line}\n"),
         Refused::Unreadable(line) => write!(to, "record refused: line {line} unreadable\n"),
         Refused::EndMissing => to.write_all(b"record refused: end missing\n"),
@@ -136,8 +132,27 @@ fn write_refused<W: Write>(to: &mut W, refused: &Refused) -> io::Result<()>
     }
 }
 
+/// Says which data isn't there, or that no thread trapped, behind this.
+fn tell_absent<E: Write>(err: &mut E, front: &str, absent: Absent)
+    ensures { Tells (E.contents err.old) (E.contents err.new) (absent_line front.now absent) }
+{
+    let (words, name, behind) = absent.line();
+    say_pieces(err, front, words, name, behind);
+}
+
 /// Says what is refused. It takes no memory.
 fn tell_refused<E: Write>(err: &mut E, refused: &Refused)
+    ensures { Tells (E.contents err.old) (E.contents err.new) (refused_line refused.now) }
+{
+    match refused {
+        Refused::Absent(absent) => tell_absent(err, "show refused: ", *absent),
+        Refused::Allowance(absent) => tell_absent(err, "allowance refused: ", *absent),
+        _ => tell_numbers(err, refused),
+    }
+}
+
+/// Says what is refused, as far as its line has no name.
+fn tell_numbers<E: Write>(err: &mut E, refused: &Refused)
     ensures { Tells (E.contents err.old) (E.contents err.new) (refused_line refused.now) }
 {
     let mut line: ArrayVec<u8, 192> = ArrayVec::new();

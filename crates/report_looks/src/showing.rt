@@ -36,13 +36,13 @@ use validate_module::ValidModule;
 ///
 /// # Errors
 /// The refusal; or that memory or a stream failed.
-pub fn show_saved<W: Write, E: Write, S: Write>(
+pub fn show_saved<'a, W: Write, E: Write, S: Write>(
     alloc: Global,
     code: CodeBytes,
     saved: &[u8],
-    how: &ShowLook,
+    how: &ShowLook<'a>,
     streams: &mut Streams<W, E, S>,
-) -> Result<Done, Undone<'static>>
+) -> Result<Done, Undone<'a>>
     ensures shown { ended_status result ≡ 0 → IsRecordOf code.entry.«module».now saved.now }
     ensures prints { ended_status result ≡ 0
         → OfModule (PrintsShow how.now (shown_on W.contents S.contents how.now streams.old streams.new))
@@ -69,13 +69,13 @@ pub fn show_saved<W: Write, E: Write, S: Write>(
 }
 
 /// The same on one of the streams.
-fn show_to<W: Write>(
+fn show_to<'a, W: Write>(
     alloc: Global,
     code: CodeBytes,
     saved: &[u8],
-    how: &ShowLook,
+    how: &ShowLook<'a>,
     out: &mut W,
-) -> Result<Done, Undone<'static>>
+) -> Result<Done, Undone<'a>>
     ensures shown { ended_status result ≡ 0 → IsRecordOf code.entry.«module».now saved.now }
     ensures prints { ended_status result ≡ 0
         → OfModule (PrintsShow how.now (changed W.contents out.old out.new)) code.entry.«module».now saved.now }
@@ -111,31 +111,32 @@ pub struct CodeBytes<'a> {
     pub sources: &'a [SourceFile],
 }
 
-/// The code of a module, with what it is called, the text of its source, and the functions that were put in the place of
-/// their calls at the places of these rows.
+/// The code of a module, with what it is called, the text of its source, and of a run the functions that were put in the
+/// place of their calls, and the data of signed types that it touches.
 fn code_of<'a>(
     alloc: Global,
     module: &'a ValidModule,
     code: CodeBytes<'a>,
     map: &DataMap,
-    rows: &[Option<Row>],
+    seen: &SeenRun,
 ) -> Result<CodeMap<'a, 'a>, AllocError>
     ensures { IfOk result (λ c. c.parts.now ≡ «module».now.parts) }
 {
     let known = CodeMap::read(alloc, module.parts(), code.module, code.names)?;
-    let chained = map.chained(alloc, known, rows)?;
+    let signed = map.signed(alloc, known, seen.record.parts().log.as_slice())?;
+    let chained = map.chained(alloc, signed, &seen.rows)?;
     Ok(chained.with_sources(Sources::new(alloc, code.sources)?))
 }
 
 /// Shows of the record whose text `saved` is what is asked for.
-fn show_record<W: Write>(
+fn show_record<'a, W: Write>(
     alloc: Global,
     module: &ValidModule,
     code: CodeBytes,
     saved: &[u8],
-    how: &ShowLook,
+    how: &ShowLook<'a>,
     out: &mut W,
-) -> Result<(), Unshown>
+) -> Result<(), Unshown<'a>>
     ensures shown { IfOk result (λ _. IsOfRun «module».now.parts saved.now) }
     ensures prints { IfOk result
         (λ _. PrintsShow how.now (changed W.contents out.old out.new) «module».now.parts saved.now) }
@@ -150,7 +151,7 @@ fn show_record<W: Write>(
         Ok(map) => map,
         Err(_) => return Err(no_memory()),
     };
-    let places = match code_of(alloc, module, code, &map, &seen.rows) {
+    let places = match code_of(alloc, module, code, &map, &seen) {
         Ok(places) => places,
         Err(_) => return Err(no_memory()),
     };

@@ -3,15 +3,15 @@ ghost use Rattle.std.specs.Prelude.{◌≡◌, OnOk, None, Some, true, false};
 ghost use Rattle.report_program.specs.Closing.{HasAll, HasNoMore};
 ghost use Rattle.report_program.specs.declared.closing.Lost.TheVariants.{Lines};
 
-use std::io::{self, BufWriter, Write};
+use std::io::{self, BufWriter, ErrorKind, Write};
 
 /// Which stream didn't get all that was written to its buffer.
 #[derive(Clone, Copy, PartialEq, Eq, Debug)]
 pub enum Lost {
     /// Standard output.
     Lines,
-    /// The file that the job makes.
-    File,
+    /// The file that the job makes, for this reason.
+    File(ErrorKind),
 }
 
 /// What is left of a job's streams.
@@ -62,17 +62,23 @@ pub fn close<W: Write + Drop, S: Write + Drop>(
         };
     }
     let (save, file) = hand_on(save);
-    let lost = if file.is_err() {
-        Some(Lost::File)
-    } else {
-        None
-    };
-    Closed { out, save, lost }
+    match file {
+        Ok(()) => Closed {
+            out,
+            save,
+            lost: None,
+        },
+        Err(error) => Closed {
+            out,
+            save,
+            lost: Some(Lost::File(error.kind())),
+        },
+    }
 }
 
-/// Hands on what is written to a file behind what `close` handed on: where that came to an end; else the file gets
-/// nothing more.
-pub fn close_behind<S: Write + Drop>(comes: bool, file: BufWriter<S>) -> (S, Option<Lost>)
+/// Hands on what is written to a file behind what `close` handed on, where that came to an end, and answers why the file
+/// failed, if it did; else it gets nothing more.
+pub fn close_behind<S: Write + Drop>(comes: bool, file: BufWriter<S>) -> (S, Option<ErrorKind>)
     ensures file { comes ≡ true → result.1 ≡ None → HasAll S.contents file result.0 }
     ensures none { comes ≡ false → HasNoMore file result.0 }
 {
@@ -81,10 +87,8 @@ pub fn close_behind<S: Write + Drop>(comes: bool, file: BufWriter<S>) -> (S, Opt
         return (file, None);
     }
     let (file, handed) = hand_on(file);
-    let lost = if handed.is_err() {
-        Some(Lost::File)
-    } else {
-        None
-    };
-    (file, lost)
+    match handed {
+        Ok(()) => (file, None),
+        Err(error) => (file, Some(error.kind())),
+    }
 }

@@ -13,6 +13,7 @@
 
 mod beside;
 mod closing;
+mod detail;
 mod early;
 mod input;
 mod order;
@@ -25,6 +26,7 @@ mod task;
 mod telling;
 
 pub use closing::{Closed, Lost, close, close_behind};
+pub use detail::Detail;
 pub use early::keep_early;
 pub use input::Input;
 pub use order::{JobPlan, order_of, words_of};

@@ -10,11 +10,11 @@ use crate::closing::{Closed, Lost, close, close_behind};
 use crate::input::{Input, read};
 use crate::stop::JobStop;
 use crate::telling::{tell_file_fault, tell_output_fault, tell_unkept, why_if};
-use crate::{Noted, SavePlace, SavedFile, is_one_file, is_one_place};
+use crate::{Detail, Noted, SavePlace, SavedFile, is_one_file, is_one_place};
 use report_command::{Job, Misuse, RunJob, Search, misused};
 use report_jobs::{JobResult, Streams, say, status_of};
 use std::alloc::Global;
-use std::io::{self, BufWriter, Write};
+use std::io::{self, BufWriter, ErrorKind, Write};
 
 /// The bytes of standard output, which is written in one piece: 64 lines of threads, one of pages and 4096 bytes shown
 /// fit.
@@ -31,8 +31,8 @@ const RECORD: usize = 65_536;
 #[derive(Drop)]
 pub struct Task<'a, W: Write + Drop> {
     pub input: Input,
-    /// Whether it is to explain.
-    explain: bool,
+    /// How much is said of what goes wrong.
+    detail: Detail,
     pub streams: Streams<BufWriter<Noted<W>>, Vec<u8>, BufWriter<SavedFile<'a>>>,
 }
 
@@ -156,17 +156,17 @@ fn status_of_kept<E: Write>(
     path: Option<&str>,
     status: u8,
     kept: io::Result<()>,
-    explain: bool,
+    detail: Detail,
 ) -> u8
     ensures kept { IfOk kept (λ _. (result ≡ status) × (err.new ≡ err.old)) }
     ensures status { IfErr kept (λ _. result ≡ 5) }
     ensures told { IfErr kept (λ error. Tells (E.contents err.old) (E.contents err.new)
-        (file_text (path_text path.entry) (why_if explain (error_kind error)))) }
+        (file_text (path_text path.entry) (why_if detail (error_kind error)))) }
 {
     match kept {
         Ok(()) => status,
         Err(error) => {
-            let why = why_if(explain, error.kind());
+            let why = why_if(detail, error.kind());
             tell_file_fault(alloc, err, path_text(path), why)
         }
     }
@@ -174,23 +174,23 @@ fn status_of_kept<E: Write>(
 
 /// Gives a file its path where the job made all of it, and else takes away what there is of it. Answers the job's
 /// status.
-fn finish(rt: &HostRuntime, job: &Job, status: u8, save: SavedFile, explain: bool) -> u8 {
+fn finish(rt: &HostRuntime, job: &Job, status: u8, save: SavedFile, detail: Detail) -> u8 {
     if status > 1 {
         save.give_up();
         return status;
     }
     let (path, kept) = (record_of(job), save.keep());
-    status_of_kept(rt.alloc(), &mut rt.stderr(), path, status, kept, explain)
+    status_of_kept(rt.alloc(), &mut rt.stderr(), path, status, kept, detail)
 }
 
 /// The same of the bytes of a memory, which may have none: then the file is empty.
-fn finish_memory(rt: &HostRuntime, job: &Job, status: u8, memory: SavedFile, explain: bool) -> u8 {
+fn finish_memory(rt: &HostRuntime, job: &Job, status: u8, memory: SavedFile, detail: Detail) -> u8 {
     if status > 1 {
         memory.give_up();
         return status;
     }
     let (path, kept) = (memory_of(job), memory.keep_even_empty());
-    status_of_kept(rt.alloc(), &mut rt.stderr(), path, status, kept, explain)
+    status_of_kept(rt.alloc(), &mut rt.stderr(), path, status, kept, detail)
 }
 
 /// Says which of a job's streams didn't get all that was written to them, the lines and the file or the memory, and
@@ -199,19 +199,24 @@ fn tell_lost<E: Write>(
     alloc: Global,
     err: &mut E,
     job: &Job,
-    lost: (Option<Lost>, Option<Lost>),
+    detail: Detail,
+    lost: (Option<Lost>, Option<ErrorKind>),
     is_closed: bool,
 ) -> Option<u8>
     ensures status { MatchOption result ((lost.0 ≡ None) × (lost.1 ≡ None)) (λ status. status ≡ 5) }
-    ensures told { TellsLost job.now lost.0 lost.1 is_closed (E.contents err.old) (E.contents err.new) }
+    ensures told { TellsLost job.now detail lost.0 lost.1 is_closed (E.contents err.old) (E.contents err.new) }
 {
     match lost {
         (None, None) => None,
         (Some(Lost::Lines), _) => Some(tell_output_fault(err, is_closed)),
-        (Some(Lost::File), _) => {
-            Some(tell_file_fault(alloc, err, path_text(record_of(job)), None))
+        (Some(Lost::File(kind)), _) => {
+            let why = why_if(detail, kind);
+            Some(tell_file_fault(alloc, err, path_text(record_of(job)), why))
         }
-        (None, Some(_)) => Some(tell_file_fault(alloc, err, path_text(memory_of(job)), None)),
+        (None, Some(kind)) => {
+            let why = why_if(detail, kind);
+            Some(tell_file_fault(alloc, err, path_text(memory_of(job)), why))
+        }
     }
 }
 
@@ -232,7 +237,7 @@ fn begin<'a, W: Write + Drop>(
     input: Input,
     room: usize,
     places: (Option<SavePlace>, Option<SavePlace>),
-    explain: bool,
+    detail: Detail,
 ) -> io::Result<Task<'a, W>> {
     let alloc = rt.alloc();
     let (place, memory) = places;
@@ -243,7 +248,7 @@ fn begin<'a, W: Write + Drop>(
     let memory = BufWriter::with_capacity(alloc, RECORD, SavedFile::new(rt, memory))?;
     Ok(Task {
         input,
-        explain,
+        detail,
         streams: Streams {
             out,
             err,
@@ -258,13 +263,13 @@ fn prepare<'a, 'j, W: Write + Drop>(
     rt: &'a HostRuntime,
     stdout: W,
     job: &Job<'j>,
-    explain: bool,
+    detail: Detail,
 ) -> Result<Task<'a, W>, JobStop<'j>> {
     keep_module(rt, job)?;
     let input = read(rt, job)?;
     let places = (place_of(rt, record_of(job))?, place_of(rt, memory_of(job))?);
     let room = room_for(&[record_of(job), memory_of(job)]);
-    Ok(begin(rt, stdout, input, room, places, explain)?)
+    Ok(begin(rt, stdout, input, room, places, detail)?)
 }
 
 /// Begins a job: reads its files, and takes the places of the files that it makes and the memory of its streams.
@@ -276,11 +281,11 @@ pub fn open_task<'a, W: Write + Drop>(
     rt: &'a HostRuntime,
     stdout: W,
     job: &Job,
-    explain: bool,
+    detail: Detail,
 ) -> Result<Task<'a, W>, u8> {
-    match prepare(rt, stdout, job, explain) {
+    match prepare(rt, stdout, job, detail) {
         Ok(task) => Ok(task),
-        Err(stop) => Err(stop.tell(rt, job.form(), explain)),
+        Err(stop) => Err(stop.tell(rt, job.form(), detail)),
     }
 }
 
@@ -311,12 +316,12 @@ impl JobFiles<'_> {
     }
 
     /// Gives both their paths, if the status is one with which there are files, 0 or 1. Answers the status, or 5.
-    fn finish(self, rt: &HostRuntime, job: &Job, status: u8, explain: bool) -> u8 {
-        if explain && status <= 1 {
+    fn finish(self, rt: &HostRuntime, job: &Job, status: u8, detail: Detail) -> u8 {
+        if detail.explains() && status <= 1 {
             note_unkept(rt, job, &self.save);
         }
-        let status = finish(rt, job, status, self.save, explain);
-        finish_memory(rt, job, status, self.memory, explain)
+        let status = finish(rt, job, status, self.save, detail);
+        finish_memory(rt, job, status, self.memory, detail)
     }
 }
 
@@ -331,7 +336,7 @@ impl<W: Write + Drop> Task<'_, W> {
     pub fn end(self, rt: &HostRuntime, job: &Job, ended: &JobResult) -> u8 {
         let Task {
             streams,
-            explain,
+            detail,
             ..
         } = self;
         let Streams {
@@ -352,10 +357,11 @@ impl<W: Write + Drop> Task<'_, W> {
             rt.alloc(),
             &mut rt.stderr(),
             job,
+            detail,
             (lost, lost_memory),
             is_closed,
         ) {
-            None => files.finish(rt, job, status_of(ended), explain),
+            None => files.finish(rt, job, status_of(ended), detail),
             Some(fault) => {
                 files.give_up();
                 fault

@@ -5,7 +5,7 @@ ghost use Rattle.report_jobs.specs.Told.{memory_line, output_line};
 ghost use Rattle.report_program.specs.Messages.{file_text, reason_text, unkept_text};
 ghost use Rattle.report_program.specs.Messages.{why_if, why_text, IsUsageStatus};
 
-use crate::Noted;
+use crate::{Detail, Noted};
 use report_command::Usage;
 use report_jobs::{say, say_pieces};
 use std::alloc::Global;
@@ -72,11 +72,14 @@ fn reason_if(why: Option<ErrorKind>) -> &'static str
     }
 }
 
-/// Why a file failed, if it is to be explained.
-pub(crate) fn why_if(explain: bool, kind: ErrorKind) -> Option<ErrorKind>
-    ensures { result ≡ why_if explain kind }
+/// Why a file failed, if more than a line is said.
+pub(crate) fn why_if(detail: Detail, kind: ErrorKind) -> Option<ErrorKind>
+    ensures { result ≡ why_if detail kind }
 {
-    if explain { Some(kind) } else { None }
+    match detail {
+        Detail::Line => None,
+        Detail::Reason | Detail::All => Some(kind),
+    }
 }
 
 /// Says which file failed, with the line of its reason or nothing behind that, and answers the status.

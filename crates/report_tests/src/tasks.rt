@@ -4,10 +4,10 @@ use crate::room::{count_in, make_room, path_in};
 use crate::writers::Narrow;
 use report_command::{CallWords, EndLook, Job, RunJob, command};
 use report_jobs::{Done, JobResult, Refused, Undone};
-use report_program::{Lost, close, open_task};
+use report_program::{Detail, Lost, close, open_task};
 use std::alloc::Global;
 use std::fs;
-use std::io::{self, BufWriter, Write};
+use std::io::{self, BufWriter, ErrorKind, Write};
 use std::os::unix::fs::symlink;
 use std::path::PathBuf;
 use std::test::Fail;
@@ -48,7 +48,13 @@ fn what_is_held_back_gets_out_or_is_lost(rt: HostRuntime) -> Result<(), Fail> {
         ),
         (
             "no room for the file",
-            ends(alloc, true, (64, 12), Some(Lost::File), 12)?,
+            ends(
+                alloc,
+                true,
+                (64, 12),
+                Some(Lost::File(ErrorKind::StorageFull)),
+                12,
+            )?,
         ),
         (
             "a refusal keeps nothing",
@@ -95,7 +101,7 @@ fn result_of(came: Came) -> JobResult<'static> {
 /// it was begun.
 fn end_with(rt: &HostRuntime, job: &Job, came: Came, room: usize) -> Result<u8, Fail> {
     let stdout = Narrow::new(rt.alloc(), room, 64);
-    let mut task = match open_task(rt, stdout, job, false) {
+    let mut task = match open_task(rt, stdout, job, Detail::Line) {
         Ok(task) => task,
         Err(status) => return Ok(status),
     };
@@ -148,7 +154,7 @@ fn end_without_bytes(rt: &HostRuntime, file: &str, path: &str) -> u8 {
         memory_out: Some(path),
         ..run
     });
-    match open_task(rt, Narrow::new(rt.alloc(), 64, 64), &job, false) {
+    match open_task(rt, Narrow::new(rt.alloc(), 64, 64), &job, Detail::Line) {
         Ok(task) => task.end(rt, &job, &Ok(Done::with(0))),
         Err(status) => status,
     }
@@ -195,8 +201,8 @@ fn reads_names(rt: &HostRuntime, file: &str, names: &str) -> Result<bool, Fail> 
     };
     let stdout = || Narrow::new(rt.alloc(), 64, 64);
     let (Ok(named), Ok(plain)) = (
-        open_task(rt, stdout(), &named, false),
-        open_task(rt, stdout(), &plain, false),
+        open_task(rt, stdout(), &named, Detail::Line),
+        open_task(rt, stdout(), &plain, Detail::Line),
     ) else {
         return Ok(false);
     };
