@@ -15,7 +15,6 @@ use Rattle.report_jobs.specs.Trapped.{Tells}
 use Rattle.report_program.specs.declared.detail.Detail.{Detail}
 use Rattle.report_program.specs.declared.detail.Detail.TheVariants as details
 use Rattle.report_program.specs.declared.closing.Lost.{Lost}
-use Rattle.report_program.specs.declared.closing.Lost.TheVariants as losts
 use Rattle.report_program.specs.declared.reading.Unread.{Unread}
 use Rattle.report_program.specs.declared.reading.Unread.TheVariants as unreads
 use Rattle.report_program.specs.declared.stop.JobStop.{JobStop}
@@ -100,16 +99,24 @@ abbrev pub path_text : Option (Bor (List ℕ)) → List ℕ
 path_text None = []
 path_text (Some path) = path.now
 
--- What is said where the lines, the file or the memory of a job didn't get all that was written to them: of the first
--- that didn't. Of lines that nobody is left to read nothing is said.
-abbrev pub TellsLost : Job → Detail → Option Lost → Option ErrorKind → Bool → Option (List ℕ) → Option (List ℕ) → Type 0
-TellsLost job detail None None is_closed old new = new ≡ old
-TellsLost job detail (Some losts.Lines) memory true old new = new ≡ old
-TellsLost job detail (Some losts.Lines) memory false old new = Tells old new output_line
-TellsLost job detail (Some (losts.File kind)) memory is_closed old new =
+-- Where nothing is lost.
+abbrev pub nothing_lost : Lost
+nothing_lost = record { lines = false; file = None; memory = None }
+
+-- What is said where the lines, the file or the memory of a job aren't where they belong: of the first that isn't. Of
+-- lines that nobody is left to read nothing is said.
+abbrev pub TellsFirst : Job → Detail → Bool → Option ErrorKind → Option ErrorKind → Bool
+    → Option (List ℕ) → Option (List ℕ) → Type 0
+TellsFirst job detail false None None is_closed old new = new ≡ old
+TellsFirst job detail true file memory true old new = new ≡ old
+TellsFirst job detail true file memory false old new = Tells old new output_line
+TellsFirst job detail false (Some kind) memory is_closed old new =
     Tells old new (file_text (path_text (record_path job)) (why_if detail kind))
-TellsLost job detail None (Some kind) is_closed old new =
+TellsFirst job detail false None (Some kind) is_closed old new =
     Tells old new (file_text (path_text (memory_path job)) (why_if detail kind))
+
+abbrev pub TellsLost : Job → Detail → Lost → Bool → Option (List ℕ) → Option (List ℕ) → Type 0
+TellsLost job detail lost is_closed old new = TellsFirst job detail lost.lines lost.file lost.memory is_closed old new
 
 -- Which misuse a job's paths may be: that of a file which it makes.
 abbrev pub MayReplace : Job → Misuse → Type 0
