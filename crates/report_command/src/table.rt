@@ -169,7 +169,7 @@ pub(crate) static OF_A_SEARCH: [OptionRow; 13] = [
 ];
 
 /// What of a run or a record is shown.
-pub(crate) static OF_A_RECORD: [OptionRow; 8] = [
+pub(crate) static OF_A_RECORD: [OptionRow; 9] = [
     row!(TEXT, for [Run, Replay],
     "Print what the threads say, a line each, in front of how they ended"),
     row!(LINES, for [Show],
@@ -179,6 +179,10 @@ pub(crate) static OF_A_RECORD: [OptionRow; 8] = [
     row!(ADDRESSES, for [Show],
     "Only the entries at these addresses, decimal or behind 0x, or at the data of these names, as queue.head; may be \
     given several times"),
+    row!(TEXT, for [Show],
+    "What the threads say, a line each behind the line of the record, in place of entries; with --at, what they said \
+    before",
+    conflicts: &["last-write", "html", "trace", "json", "unfold"]),
     row!(UNFOLD, for [Show],
     "A row for each entry, also for rounds that a thread makes again and again, and for answers",
     conflicts: &["at", "last-write", "html", "trace", "json"]),

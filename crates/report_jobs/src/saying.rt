@@ -10,7 +10,10 @@ use std::io::{self, Write};
 use types::{Entry, Sequence};
 
 /// What the threads of a run say, by its record and the bytes of its module, where that is wanted; else nothing.
-pub(crate) fn said_in(
+///
+/// # Errors
+/// Where memory is refused.
+pub fn said_in(
     alloc: Global,
     bytes: &[u8],
     recorded: &Record,
@@ -60,7 +63,11 @@ impl<'a> Spoken<'a> {
     }
 }
 
-fn write_line<W: Write>(out: &mut W, said: &Said) -> io::Result<()>
+/// Writes a line that a thread says: `t1 says: ` and the text.
+///
+/// # Errors
+/// The writer's.
+pub fn write_said_line<W: Write>(out: &mut W, said: &Said) -> io::Result<()>
     ensures { Wrote W.contents out.old out.new result (said_line said.now) }
 {
     let Said { thread, text, .. } = said;
@@ -68,12 +75,12 @@ fn write_line<W: Write>(out: &mut W, said: &Said) -> io::Result<()>
     write!(out, "t{thread} says: {text}\n")
 }
 
-/// Writes what threads say, a line each: `t1 says: ` and the text.
+/// Writes what threads say, line by line.
 pub(crate) fn write_said<W: Write>(out: &mut W, all: &[Said]) -> io::Result<()>
     ensures { Wrote W.contents out.old out.new result (said_lines all.now) }
 {
     for said in all {
-        write_line(out, said)?;
+        write_said_line(out, said)?;
     }
     Ok(())
 }

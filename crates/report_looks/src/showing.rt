@@ -7,6 +7,7 @@ ghost use Rattle.report_command.specs.Views.{path_of};
 ghost use Rattle.report_jobs.specs.Silence.{IsRefusal, Stays};
 ghost use Rattle.report_jobs.specs.Undone.{ended_status, undone_status};
 ghost use Rattle.report_jobs.specs.Why.{RefusesModule, RefusesRecord};
+ghost use Rattle.report_looks.specs.Looked as looked;
 ghost use Rattle.report_looks.specs.Looked.{PrintsShow, shown_on};
 ghost use Rattle.report_looks.specs.Raced.{IsSeen, OfModule};
 ghost use Rattle.report_looks.specs.Silent.{IfUnshown, IsNoRefusal, IsShowStatus, IsUnshown};
@@ -15,8 +16,8 @@ use crate::printing::print_asked;
 use crate::wanted::{Unshown, asked_of, no_memory};
 use dwarf_lines::{SourceFile, Sources};
 use replay_text::{Record, RecordFault, read_record};
-use report_command::ShowLook;
-use report_jobs::{Done, Refused, Streams, Undone, Unfit, load, misfit, of_refusal, of_unfit};
+use report_command::{RecordView, ShowLook};
+use report_jobs::{Done, Refused, Streams, Undone, Unfit, load, misfit, of_refusal, of_unfit, said_in};
 use show_moments::MomentView;
 use show_named::DataMap;
 use show_races::rows_seen;
@@ -45,7 +46,7 @@ pub fn show_saved<'a, W: Write, E: Write, S: Write>(
 ) -> Result<Done, Undone<'a>>
     ensures shown { ended_status result ≡ 0 → IsRecordOf code.entry.«module».now saved.now }
     ensures prints { ended_status result ≡ 0
-        → OfModule (PrintsShow how.now (shown_on W.contents S.contents how.now streams.old streams.new))
+        → OfModule (PrintsShow code.entry.«module».now how.now (shown_on W.contents S.contents how.now streams.old streams.new))
         code.entry.«module».now saved.now }
     ensures done { IfOk result (λ done. done.status ≡ 0) }
     ensures refused { ended_status result ≡ 2 → IsNoValidModule code.entry.«module».now }
@@ -78,7 +79,8 @@ fn show_to<'a, W: Write>(
 ) -> Result<Done, Undone<'a>>
     ensures shown { ended_status result ≡ 0 → IsRecordOf code.entry.«module».now saved.now }
     ensures prints { ended_status result ≡ 0
-        → OfModule (PrintsShow how.now (changed W.contents out.old out.new)) code.entry.«module».now saved.now }
+        → OfModule (PrintsShow code.entry.«module».now how.now (changed W.contents out.old out.new))
+        code.entry.«module».now saved.now }
     ensures done { IfOk result (λ done. done.status ≡ 0) }
     ensures refused { ended_status result ≡ 2 → IsNoValidModule code.entry.«module».now }
     ensures why { IfErr result (λ why. undone_status why ≡ 2 → RefusesModule code.entry.«module».now why) }
@@ -128,6 +130,17 @@ fn code_of<'a>(
     Ok(chained.with_sources(Sources::new(alloc, code.sources)?))
 }
 
+/// Whether what threads say is wanted.
+fn says(view: RecordView) -> bool
+    ensures { result ≡ looked.says view.entry }
+{
+    match view {
+        RecordView::Said => true,
+        RecordView::Moment(at) => at.text,
+        _ => false,
+    }
+}
+
 /// Shows of the record whose text `saved` is what is asked for.
 fn show_record<'a, W: Write>(
     alloc: Global,
@@ -139,7 +152,7 @@ fn show_record<'a, W: Write>(
 ) -> Result<(), Unshown<'a>>
     ensures shown { IfOk result (λ _. IsOfRun «module».now.parts saved.now) }
     ensures prints { IfOk result
-        (λ _. PrintsShow how.now (changed W.contents out.old out.new) «module».now.parts saved.now) }
+        (λ _. PrintsShow code.entry.«module».now how.now (changed W.contents out.old out.new) «module».now.parts saved.now) }
     ensures unshown { IfErr result (IsUnshown «module».now.parts saved.now) }
     ensures silent { IfErr result (λ why. IfUnshown why (Stays out.old out.new)) }
 {
@@ -159,6 +172,10 @@ fn show_record<'a, W: Write>(
         Ok(asked) => asked,
         Err(why) => return Err(why),
     };
+    let said = match said_in(alloc, code.module, &seen.record, says(how.view)) {
+        Ok(said) => said,
+        Err(_) => return Err(no_memory()),
+    };
     let view = MomentView {
         valid: module,
         shown: Shown {
@@ -169,7 +186,7 @@ fn show_record<'a, W: Write>(
         map: &map,
         is_raw: false,
     };
-    match print_asked(alloc, view, &seen.record, &asked, out) {
+    match print_asked(alloc, view, &seen.record, &asked, &said, out) {
         Ok(()) => Ok(()),
         Err(unwritten) => Err(Unshown::Unfit {
             unfit: unfit_of(unwritten),

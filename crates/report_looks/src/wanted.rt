@@ -51,6 +51,8 @@ pub(crate) struct Here {
     pub bytes: Bytes,
     /// Whether all locals and operands are shown as they are.
     pub is_raw: bool,
+    /// Whether what threads said before it is shown.
+    pub text: bool,
     /// In which form it is printed.
     pub form: Form,
 }
@@ -65,7 +67,7 @@ pub(crate) struct LookRequest<'a> {
 /// What is shown of a record.
 #[derive(Clone, Copy)]
 pub(crate) enum Wanted<'a> {
-    /// Its entries, in the form of this view.
+    /// Its entries, or what threads say, in the form of this view.
     Entries(RecordView<'a>),
     /// A moment of it.
     Moment(Here),
@@ -181,6 +183,7 @@ fn moment_of<'a>(parts: &RecordParts, at: At) -> Result<Wanted<'a>, Unshown<'sta
             count: at.count,
         },
         is_raw: at.is_raw,
+        text: at.text,
         form: at.form,
     }))
 }
@@ -200,6 +203,7 @@ fn wanted_of<'a>(
         RecordView::Moment(at) => moment_of(parts, at),
         RecordView::Rows => Ok(Wanted::Entries(RecordView::Rows)),
         RecordView::Unfolded => Ok(Wanted::Entries(RecordView::Unfolded)),
+        RecordView::Said => Ok(Wanted::Entries(RecordView::Said)),
         RecordView::Object => Ok(Wanted::Entries(RecordView::Object)),
         RecordView::Page(path) => Ok(Wanted::Entries(RecordView::Page(path))),
         RecordView::Trace(path) => Ok(Wanted::Entries(RecordView::Trace(path))),

@@ -15,7 +15,7 @@ mod woken;
 mod words;
 
 pub use context::{Context, contexts};
-pub use plain::Plain;
+pub use plain::{Plain, plain_char};
 pub use sheet::{Sheet, Unwritten};
 pub use woken::{Wake, Wakes};
 pub use words::Words;

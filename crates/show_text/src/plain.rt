@@ -12,7 +12,8 @@ fn is_unshown(c: char) -> bool
     c.is_control() || matches!(c, '\u{2028}'..='\u{202e}' | '\u{2066}'..='\u{2069}')
 }
 
-fn plain_char(c: char) -> char
+/// A character as it is written: `?` for one that a terminal obeys in place of showing it, and a space for a tab.
+pub fn plain_char(c: char) -> char
     ensures { result ≡ specified.plain_char c }
 {
     if c == '\t' {

@@ -19,6 +19,8 @@ returns-in-Ok-print_asked-clause-prints g c =
       asked = asked;
       asked_is = subst (λ (r : RecordParts). IsAsked r map c.args.how.now asked) c.parts.ensures.parts
           c.in-Ok-asked_of.ensures.asked;
+      all = c.in-Ok-said_in.said.items;
+      said_is = c.in-Ok-said_in.ensures;
       prints = (
         _,
         record { of_record = c.parts-2.ensures.parts; of_rows = c.as_slice.ensures.value; of_module = c.in-Ok-code_of.ensures },
