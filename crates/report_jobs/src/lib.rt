@@ -38,7 +38,7 @@ pub use replaying::{Unfit, misfit};
 pub use running::{Trouble, args_of, keep, request_of};
 pub use streams::Streams;
 pub use saying::{said_in, write_said_line};
-pub use telling::{say, say_pieces, tell, tell_ended};
+pub use telling::{say, say_named, tell, tell_ended};
 pub use undone::{
     Absent, Advised, Done, Failed, JobResult, LeftOut, Misfit, Refused, Undone, of_refusal,
     of_trouble, of_unfit, status_of,

@@ -1,6 +1,7 @@
 //! What is said on standard error of a module, a call or a record that is refused, and of what failed.
-ghost use Rattle.std.specs.Prelude.{◌≡◌, ◌++◌, true, OnOk};
+ghost use Rattle.std.specs.Prelude.{◌≡◌, ◌++◌, encode_utf8, true, OnOk};
 ghost use Rattle.std.specs.Io.KnownBytes.{Appends};
+ghost use Rattle.show_text.specs.Plain.{plain_text};
 ghost use Rattle.report_jobs.specs.Told.{call_line, unlaid_line};
 ghost use Rattle.report_jobs.specs.Trapped.{Tells};
 ghost use Rattle.report_jobs.specs.Undone.{absent_line, failed_line, refused_line, undone_line, TellsEnded};
@@ -9,6 +10,7 @@ ghost use Rattle.report_jobs.specs.declared.undone.Refused.TheVariants as refuse
 use crate::undone::{Absent, Failed, JobResult, Refused, Undone};
 use arrayvec::ArrayVec;
 use report_memory::Unlaid;
+use show_text::plain_char;
 use spawn_host::CallFault;
 use std::io::{self, ErrorKind, Write};
 use types::MOST_ITEMS;
@@ -38,20 +40,45 @@ pub fn say<E: Write>(err: &mut E, text: &[u8]) -> bool
     false
 }
 
-/// Says a path between two texts, and one more behind them, piece by piece.
-pub fn say_pieces<E: Write>(err: &mut E, front: &str, path: &str, behind: &str, more: &str)
-    ensures { Tells (E.contents err.old) (E.contents err.new) (front.now ++ path.now ++ behind.now ++ more.now) }
+/// Says a character.
+fn say_char<E: Write>(err: &mut E, c: char) -> bool
+    ensures told { Tells (E.contents err.old) (E.contents err.new) (encode_utf8 c) }
+    ensures all { result ≡ true → Appends (E.contents err.old) (E.contents err.new) (encode_utf8 c) }
+{
+    let mut room = [0u8; 4];
+    let text = c.encode_utf8(&mut room);
+    say(err, text.as_bytes())
+}
+
+/// Says a text without what a terminal obeys in place of showing it, character by character, and answers whether that is
+/// all of it.
+pub fn say_plain<E: Write>(err: &mut E, text: &str) -> bool
+    ensures told { Tells (E.contents err.old) (E.contents err.new) (plain_text text.now) }
+    ensures all { result ≡ true → Appends (E.contents err.old) (E.contents err.new) (plain_text text.now) }
+{
+    for c in text.chars() {
+        if !say_char(err, plain_char(c)) {
+            return false;
+        }
+    }
+    true
+}
+
+/// Says a name between texts: two in front of it, and one behind.
+pub fn say_named<E: Write>(err: &mut E, front: &str, words: &str, name: &str, behind: &str)
+    ensures { Tells (E.contents err.old) (E.contents err.new)
+        (front.now ++ words.now ++ plain_text name.now ++ behind.now) }
 {
     if !say(err, front.as_bytes()) {
         return;
     }
-    if !say(err, path.as_bytes()) {
+    if !say(err, words.as_bytes()) {
         return;
     }
-    if !say(err, behind.as_bytes()) {
+    if !say_plain(err, name) {
         return;
     }
-    say(err, more.as_bytes());
+    say(err, behind.as_bytes());
 }
 
 /// Writes the line of why so many bytes can't be laid over the memory of a module, from an address on.
@@ -137,7 +164,7 @@ fn tell_absent<E: Write>(err: &mut E, front: &str, absent: Absent)
     ensures { Tells (E.contents err.old) (E.contents err.new) (absent_line front.now absent) }
 {
     let (words, name, behind) = absent.line();
-    say_pieces(err, front, words, name, behind);
+    say_named(err, front, words, name, behind);
 }
 
 /// Says what is refused. It takes no memory.
@@ -176,7 +203,7 @@ fn tell_failed<E: Write>(err: &mut E, failed: Failed)
             say(err, b"file fault: standard output\n");
         }
         Failed::File(path) => {
-            say_pieces(err, "file fault: ", path.unwrap_or("the record"), "\n", "");
+            say_named(err, "file fault: ", "", path.unwrap_or("the record"), "\n");
         }
     }
 }

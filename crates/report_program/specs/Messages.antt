@@ -10,6 +10,7 @@ use Rattle.report_command.specs.declared.command_line.Misuse.TheVariants as misu
 use Rattle.report_command.specs.declared.command_line.Usage.{Usage}
 use Rattle.report_command.specs.declared.command_line.Usage.TheVariants as usages
 use Rattle.report_command.specs.Views.{path_of}
+use Rattle.show_text.specs.Plain.{plain_text}
 use Rattle.report_jobs.specs.Told.{memory_line, output_line}
 use Rattle.report_jobs.specs.Trapped.{Tells}
 use Rattle.report_program.specs.declared.detail.Detail.{Detail}
@@ -21,7 +22,7 @@ use Rattle.report_program.specs.declared.stop.JobStop.{JobStop}
 use Rattle.report_program.specs.declared.stop.JobStop.TheVariants as stops
 
 abbrev pub unkept_text : List ℕ → List ℕ
-unkept_text path = codes "note: no run was found to keep: " ++ path ++ codes " is as it was\n"
+unkept_text path = codes "note: no run was found to keep: " ++ plain_text path ++ codes " is as it was\n"
 
 -- Why the system refused a file, as a line.
 abbrev pub reason_text : ErrorKind → List ℕ
@@ -43,7 +44,7 @@ why_text (Some kind) = reason_text kind
 
 -- Which file failed, and why, if that is said.
 abbrev pub file_text : List ℕ → Option ErrorKind → List ℕ
-file_text path why = codes "file fault: " ++ path ++ codes "\n" ++ why_text why
+file_text path why = codes "file fault: " ++ plain_text path ++ codes "\n" ++ why_text why
 
 -- Why is said of it but where a line is all that is said.
 abbrev pub why_if : Detail → ErrorKind → Option ErrorKind

@@ -142,7 +142,7 @@ fn add_file(
         return Ok(());
     };
     if is_newer(rt, path.as_str(), place.module) {
-        let module = place.module;
+        let (path, module) = (Plain(path.as_str()), Plain(place.module));
         write!(
             found.notes,
             "{path} is newer than {module}: its lines may be others\n"

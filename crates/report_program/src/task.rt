@@ -316,11 +316,11 @@ fn hand_on_lines<W: Write + Drop>(
     err: &[u8],
 ) -> (bool, bool) {
     let (out, fault) = hand_on_if(true, out);
-    let is_closed = out.is_closed();
+    let (is_lost, is_closed) = (fault.is_some() || out.has_failed(), out.is_closed());
     if !is_closed {
         say(&mut rt.stderr(), err);
     }
-    (fault.is_some(), is_closed)
+    (is_lost, is_closed)
 }
 
 impl<W: Write + Drop> Task<'_, W> {
