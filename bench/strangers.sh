@@ -220,7 +220,23 @@ for words in 'check atomic_add.wasm' 'run atomic_add.wasm --invoke f' 'run atomi
     'replay atomic_add.wasm whole' --help; do
     ends 5 '' '' bash -c "set -o pipefail; (sleep 0.1; ./wathread $words) | true"
 done
+# A record has its place though its lines are lost.
+has folder a.record c.record
+cmp -s whole folder/c.record || say 'the record of a run whose lines are lost is another'
+rm folder/c.record
+cp "$top/examples/search/broken.wasm" broken.wasm
+for lost in '>/dev/full' '>&-' '| true'; do
+    bash -c "set -o pipefail; ./wathread search broken.wasm --invoke f 1 --find 'thread 0: ok i32:1' --record folder/c.record $lost" 2>/dev/null
+    [ $? = 5 ] || say "a search whose lines are lost: $lost"
+    [ "$(tail -n 1 folder/c.record 2>/dev/null)" = finish ] || say "the record of a search whose lines are lost: $lost"
+    rm -f folder/c.record
+    tried=$((tried + 1))
+done
 has folder a.record
+# What is read is never written.
+cp same.wasm names.wasm
+ends 3 '' '.*' ./wathread show same.wasm whole --names names.wasm --html ./folder/../names.wasm
+cmp -s same.wasm names.wasm || say 'a page took the place of the names'
 
 # Output comes in one piece, so lines of two runs don't mix.
 if command -v strace >/dev/null; then
