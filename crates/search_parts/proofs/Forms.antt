@@ -1,5 +1,5 @@
 -- What is the same is equal.
-use Rattle.std.specs.Prelude.{ℕ, ◌≡◌, ◌+◌, ◌&&◌, true, List, [], ◌∷◌, map, length, reverse, nat_eq, replicate, None, Option}
+use Rattle.std.specs.Prelude.{ℕ, ◌≡◌, ◌+◌, ◌&&◌, true, List, [], ◌∷◌, map, length, reverse, nat_eq, None}
 use Rattle.std.proofs.Common.{refl, sym, ◌∙◌, ap, subst}
 use Rattle.std.proofs.lemmas.List.{reverse-reverse, length-replicate}
 use Rattle.std.specs.Cmp.Lexicographic.{pointwise}
@@ -26,7 +26,7 @@ use Rattle.interp_state.specs.contracts.state.ProgressPartialEq.TheImpl as progr
 use Rattle.interp_state.specs.Words.{word_of}
 use Rattle.interp_state.specs.Stands.{Stands, AreCallers, reached, values_on}
 use Rattle.interp_state.proofs.Words.{map_reversed}
-use Rattle.interp.specs.Kept.{IsOf, IsKept}
+use Rattle.interp.specs.Kept.{IsKept}
 use Rattle.interp.specs.declared.kept.Kept.{Kept}
 use Rattle.interp.specs.contracts.kept.KeptPartialEq.TheImpl as kept_eq
 use Rattle.interp.specs.contracts.kept.KeptEq.TheImpl.Laws.{laws-law as kept_laws}

@@ -1,4 +1,4 @@
-use Rattle.std.proofs.Common.{◌≡◌, sym, ◌∙◌, subst, refl}
+use Rattle.std.proofs.Common.{◌≡◌, ◌∙◌, subst, refl}
 use Rattle.schedule.specs.System.{Want.Awaits}
 use Rattle.schedule.specs.Machine.{Thread.Runs}
 use Rattle.interp_machine.specs.State.{At}
