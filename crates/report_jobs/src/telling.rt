@@ -161,7 +161,7 @@ fn write_refused<W: Write>(to: &mut W, refused: &Refused) -> io::Result<()>
 
 /// Says which data isn't there, or that no thread trapped, behind this.
 fn tell_absent<E: Write>(err: &mut E, front: &str, absent: Absent)
-    ensures { Tells (E.contents err.old) (E.contents err.new) (absent_line front.now absent) }
+    ensures { Tells (E.contents err.old) (E.contents err.new) (absent_line front.now absent.entry) }
 {
     let (words, name, behind) = absent.line();
     say_named(err, front, words, name, behind);

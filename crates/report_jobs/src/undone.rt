@@ -33,7 +33,7 @@ pub enum Absent<'a> {
 impl<'a> Absent<'a> {
     /// What an object says of it.
     pub fn words(self) -> &'static str
-        ensures { result.now ≡ absent_words self }
+        ensures { result.now ≡ absent_words self.entry }
     {
         match self {
             Absent::NoData(_) => "no static data of this name; a debug section has names",
@@ -44,9 +44,9 @@ impl<'a> Absent<'a> {
 
     /// What its line says before the name, the name, and what it says behind it.
     pub(crate) fn line(self) -> (&'static str, &'a str, &'static str)
-        ensures front { result.0.now ≡ absent_front self }
-        ensures name { result.1.now ≡ absent_name self }
-        ensures behind { result.2.now ≡ absent_behind self }
+        ensures front { result.0.now ≡ absent_front self.entry }
+        ensures name { result.1.now ≡ absent_name self.entry }
+        ensures behind { result.2.now ≡ absent_behind self.entry }
     {
         match self {
             Absent::NoData(name) => {
