@@ -8,4 +8,4 @@ use Rattle.report_jobs.proofs.telling.say_plain.Given as goal
 abbrev pub invariant-loop-c : goal.invariant-loop-c
 invariant-loop-c g l = IsUtf8 (chars_rest l.c-iterator) × ((so_far : List ℕ)
     × Appends (g.E.Write.contents l.initial.err) (g.E.Write.contents l.err) so_far
-    × (so_far ++ encode_utf8_all (map plain_char (chars (chars_rest l.c-iterator))) ≡ plain_text l.text.now))
+    × (so_far ++ encode_utf8_all (map plain_char (chars (chars_rest l.c-iterator))) ≡ plain_text l.text))
