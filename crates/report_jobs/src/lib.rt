@@ -36,8 +36,8 @@ pub use plain::perform_plain;
 pub use printing::print;
 pub use replaying::{Unfit, misfit};
 pub use running::{Trouble, args_of, keep, request_of};
-pub use streams::Streams;
 pub use saying::{said_in, write_said_line};
+pub use streams::Streams;
 pub use telling::{say, say_named, tell, tell_ended};
 pub use undone::{
     Absent, Advised, Done, Failed, JobResult, LeftOut, Misfit, Refused, Undone, of_refusal,

@@ -158,11 +158,11 @@ pub fn request_of<'m, 'a>(
 /// Runs the function, prints its end, and writes the record and the bytes of the memory where they are wanted. `bytes`
 /// have the names and the lines of the module. Answers what came of it: the status is 0 where all threads ended well, 1
 /// for a trap or stop.
-pub(crate) fn print_run<'x, R, W, E, S>(
+pub(crate) fn print_run<R, W, E, S>(
     rt: &R,
     alloc: Global,
-    module: &'x ValidModule,
-    bytes: &'x [u8],
+    module: &ValidModule,
+    bytes: &[u8],
     job: &RunJob,
     streams: &mut Streams<W, E, S>,
 ) -> Result<Done, Trouble>

@@ -16,7 +16,7 @@ use types::{Outcome, Parts, ThreadReport, Trap};
 
 /// What says where threads trapped.
 #[derive(Clone, Copy)]
-pub(crate) struct Whence<'a> {
+pub(crate) struct Whence<'a, 'r> {
     /// The parts of the module.
     pub parts: &'a Parts,
     /// Its bytes, which have its names and lines.
@@ -24,13 +24,13 @@ pub(crate) struct Whence<'a> {
     /// What was kept while the threads ran.
     pub frames: &'a Frames,
     /// The record of the run, if there is one.
-    pub recorded: Option<&'a Record>,
+    pub recorded: Option<&'r Record>,
 }
 
 /// Where threads trapped, if one did and there is memory to say so.
 pub(crate) fn traps_of<'a>(
     alloc: Global,
-    whence: Whence<'a>,
+    whence: Whence<'a, '_>,
     reports: &[ThreadReport],
 ) -> Option<Traps<'a, 'a>> {
     if !reports
@@ -181,7 +181,11 @@ fn say_all_traps<E: Write>(
 }
 
 /// What threads said, where one trapped, a record says it, and there is memory for it.
-fn spoken_of<'a>(alloc: Global, whence: Whence<'a>, traps: Option<&Traps>) -> Option<Spoken<'a>> {
+fn spoken_of<'r>(
+    alloc: Global,
+    whence: Whence<'_, 'r>,
+    traps: Option<&Traps>,
+) -> Option<Spoken<'r>> {
     if traps.is_none() {
         return None;
     }

@@ -17,7 +17,9 @@ use crate::wanted::{Unshown, asked_of, no_memory};
 use dwarf_lines::{SourceFile, Sources};
 use replay_text::{Record, RecordFault, read_record};
 use report_command::{RecordView, ShowLook};
-use report_jobs::{Done, Refused, Streams, Undone, Unfit, load, misfit, of_refusal, of_unfit, said_in};
+use report_jobs::{
+    Done, Refused, Streams, Undone, Unfit, load, misfit, of_refusal, of_unfit, said_in,
+};
 use show_moments::MomentView;
 use show_named::DataMap;
 use show_races::rows_seen;

@@ -134,10 +134,7 @@ fn replaced(rt: &HostRuntime, job: &Job) -> Option<Misuse>
             Some(path)
                 if is_one_file(rt, file, path)
                     || is_one_file(rt, saved, path)
-                    || is_file_of(rt, path, *names) =>
-            {
-                Some(Misuse::ReplacesRead)
-            }
+                    || is_file_of(rt, path, *names) => { Some(Misuse::ReplacesRead) }
             _ => None,
         },
         _ => None,
@@ -166,10 +163,7 @@ fn tell_lost<E: Write>(
     ensures told { TellsLost job.now detail lost is_closed (E.contents err.old) (E.contents err.new) }
 {
     match lost {
-        Lost {
-            lines: true,
-            ..
-        } => Some(tell_output_fault(err, is_closed)),
+        Lost { lines: true, .. } => Some(tell_output_fault(err, is_closed)),
         Lost {
             file: Some(kind),
             ..
@@ -274,10 +268,7 @@ fn unkept<'a>(job: &Job<'a>, save: &BufWriter<SavedFile>) -> Option<&'a str> {
 /// A file, or else what takes what is written as it comes.
 fn apart(
     save: BufWriter<SavedFile>,
-) -> (
-    Option<BufWriter<SavedFile>>,
-    Option<BufWriter<SavedFile>>,
-) {
+) -> (Option<BufWriter<SavedFile>>, Option<BufWriter<SavedFile>>) {
     if save.get_ref().is_stream() {
         (None, Some(save))
     } else {
@@ -359,14 +350,7 @@ impl<W: Write + Drop> Task<'_, W> {
             file,
             memory: memory.or(keep_if(comes && file.is_none(), true, memory_stream)),
         };
-        let told = tell_lost(
-            rt.alloc(),
-            &mut rt.stderr(),
-            job,
-            detail,
-            lost,
-            is_closed,
-        );
+        let told = tell_lost(rt.alloc(), &mut rt.stderr(), job, detail, lost, is_closed);
         match (told, unkept) {
             (Some(fault), _) => fault,
             (None, Some(path)) if detail.explains() && comes => {
