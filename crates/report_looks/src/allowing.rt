@@ -57,7 +57,7 @@ pub(crate) fn allowed_at<'a>(
 fn unallowed<'a>(why: Unshown<'a>) -> Undone<'a>
     requires { IsUnrefused why }
     ensures status { (undone_status result ≡ 3) ⊎ (undone_status result ≡ 5) }
-    ensures absent { undone_status result ≡ 3 → IsAbsent why }
+    ensures absent { undone_status result ≡ 3 → IsAbsent why.entry }
 {
     match why {
         Unshown::Unfit { .. } => Undone::Failed(Failed::Memory),

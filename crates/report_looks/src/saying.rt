@@ -4,7 +4,7 @@ ghost use Rattle.std.specs.Io.KnownBytes.{Appends};
 ghost use Rattle.replay_forms.specs.Texts.{Wrote};
 ghost use Rattle.report_looks.specs.Chosen as specified;
 ghost use Rattle.report_looks.specs.Saying as of_record;
-ghost use Rattle.report_looks.specs.Saying.{is_before, row_if, said_row, said_rows, WritesSaidIf};
+ghost use Rattle.report_looks.specs.Saying.{row_if, said_row, said_rows, WritesSaidIf};
 
 use crate::wanted::Here;
 use replay_text::RecordParts;
@@ -13,7 +13,6 @@ use selection::Choice;
 use show_said::Said;
 use show_text::Unwritten;
 use std::io::{self, Write};
-use types::Entry;
 
 /// Which of what threads say is shown.
 #[derive(Clone, Copy)]
@@ -31,28 +30,37 @@ pub(crate) fn chooses_all(choice: &Choice) -> bool
     choice.lines.is_empty() && choice.addrs.is_empty() && choice.threads.is_empty()
 }
 
-/// Whether what ended with this entry, on this line of the record, is chosen; with none, whether all is.
-fn is_shown_with(choice: &Choice, line: u64, entry: Option<&Entry>) -> bool
-    ensures { result ≡ of_record.is_shown_with choice.now line entry.now }
+/// Whether what a thread says is shown where these entries are chosen: with the entry with which it ended, and where all
+/// are, if nothing ended it.
+fn is_shown(parts: &RecordParts, choice: &Choice, said: &Said) -> bool
+    ensures { result ≡ of_record.is_shown parts.now choice.now said.now }
 {
-    match entry {
-        Some(entry) => choice.has(line, entry),
+    let first = parts.version.header_lines() + 1;
+    match parts
+        .log
+        .as_slice()
+        .get((said.line as usize).saturating_sub(first))
+    {
+        Some(entry) => choice.has(said.line, entry),
         None => chooses_all(choice),
     }
+}
+
+/// Whether a thread said it before a moment, or that is the end.
+fn is_before(parts: &RecordParts, here: Here, said: &Said) -> bool
+    ensures { result ≡ of_record.is_before parts.now here said.now }
+{
+    let first = parts.version.header_lines() + 1;
+    here.is_end || (said.line as usize).saturating_sub(first) < here.place
 }
 
 /// Whether what a thread says is shown.
 fn is_told(parts: &RecordParts, part: SaidPart, said: &Said) -> bool
     ensures { result ≡ of_record.is_told parts.now part.entry said.now }
 {
-    let first = parts.version.header_lines() + 1;
-    let line = said.line as usize;
     match part {
-        SaidPart::Chosen(choice) => {
-            let entry = parts.log.as_slice().get(line.saturating_sub(first));
-            is_shown_with(choice, said.line, entry)
-        }
-        SaidPart::Before(here) => here.is_end || line.saturating_sub(first) < here.place,
+        SaidPart::Chosen(choice) => is_shown(parts, choice, said),
+        SaidPart::Before(here) => is_before(parts, here, said),
     }
 }
 
@@ -113,7 +121,7 @@ pub(crate) fn write_before<W: Write>(
     here: Here,
     all: &[Said],
 ) -> Result<(), Unwritten>
-    ensures { OnOk result (WritesSaidIf here.text (is_before parts.now here) all.now
+    ensures { OnOk result (WritesSaidIf here.text (of_record.is_before parts.now here) all.now
         (W.contents out.old) (W.contents out.new)) }
 {
     if !here.text {

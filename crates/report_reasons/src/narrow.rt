@@ -5,7 +5,9 @@ use binary_wire::ReadFault;
 use interp::CodePlace;
 use show_rows::CodeMap;
 use std::alloc::{AllocError, Global};
-use types::{AccessWidth, AtomicOp, BinaryOp, ConvertOp, Instr, LoadOp, NumericInstr, PlainInstr};
+use types::{
+    AccessWidth, AtomicOp, BinaryOp, ConvertOp, Instr, LoadOp, NumericInstr, Parts, PlainInstr,
+};
 
 /// The bytes of a compare-exchange that has fewer than its type.
 fn narrow_exchange(instr: &Instr) -> Option<u8> {
@@ -119,14 +121,14 @@ fn first_wide(code: &[Instr]) -> Option<(usize, u8)> {
 }
 
 /// Adds of each function of a module the first narrow compare-exchange that may never match.
-pub(crate) fn add_narrow(alloc: Global, out: &mut String, bytes: &[u8]) -> Result<(), AllocError> {
-    let module = match read(alloc, bytes) {
-        Ok(module) => module,
-        Err(ReadFault::OutOfMemory) => return Err(AllocError),
-        Err(ReadFault::Malformed { .. }) => return Ok(()),
-    };
-    let code = CodeMap::read(alloc, module.parts(), bytes, bytes)?;
-    for (function, body) in module.parts().bodies.as_slice().iter().enumerate() {
+fn add_each<'a>(
+    alloc: Global,
+    out: &mut String,
+    parts: &'a Parts,
+    bytes: &'a [u8],
+) -> Result<(), AllocError> {
+    let code = CodeMap::read(alloc, parts, bytes, bytes)?;
+    for (function, body) in parts.bodies.as_slice().iter().enumerate() {
         if let Some((instr, width)) = first_wide(body.code.as_slice()) {
             let spot = code.spot(CodePlace { function, instr });
             let bits = u32::from(width).saturating_mul(8);
@@ -138,4 +140,13 @@ pub(crate) fn add_narrow(alloc: Global, out: &mut String, bytes: &[u8]) -> Resul
         }
     }
     Ok(())
+}
+
+/// The same of the module whose text the bytes are, if they are one's.
+pub(crate) fn add_narrow(alloc: Global, out: &mut String, bytes: &[u8]) -> Result<(), AllocError> {
+    match read(alloc, bytes) {
+        Ok(module) => add_each(alloc, out, module.parts(), bytes),
+        Err(ReadFault::OutOfMemory) => Err(AllocError),
+        Err(ReadFault::Malformed { .. }) => Ok(()),
+    }
 }
