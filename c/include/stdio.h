@@ -1,5 +1,5 @@
 /* Printing, without output: what a thread prints stays with it, as stores to a word that nobody else touches, and is gone
-   at the end of the call. So it makes neither order nor states. All of it goes to the same place. There are no floats, no
+   at the end of the line. So it makes neither order nor states. All of it goes to the same place. There are no floats, no
    files and no input. */
 #ifndef STDIO_H
 #define STDIO_H

@@ -1,5 +1,6 @@
 /* Text: what a thread prints stays with it, in a word that nobody else touches, so that it makes no order. Eight letters are
-   one store to it, and at the end of each call it is 0 again: a trace has all that was printed, and no state has it. */
+   one store to it, and behind a line it is 0 again: a trace has all that was printed, and no state has it. A store of 0
+   would end a line, so a call that leaves one open leaves its last letter there, alone. */
 
 volatile _Thread_local uint64_t wathread_text;
 
@@ -8,18 +9,21 @@ struct out {
     char *to;
     size_t room, count;
     uint64_t word;
+    unsigned char last; /* which isn't in the word yet */
 };
 
 static void print_text(struct out *out, const char *from, size_t n) {
     uint64_t word = out->word;
-    for (size_t count = out->count; n; n--) {
-        word |= (uint64_t)(unsigned char)*from++ << count % 8 * 8;
-        if (++count % 8 == 0) {
+    unsigned char last = out->last;
+    for (size_t count = out->count; n; n--, count++) {
+        word |= (uint64_t)last << (count - 1) % 8 * 8; /* 0 at first */
+        if (count && count % 8 == 0) {
             wathread_text = word;
             word = 0;
         }
+        last = *from++;
     }
-    out->word = word;
+    out->word = word, out->last = last;
 }
 
 static void put_text(struct out *out, const char *from, size_t n) {
@@ -35,9 +39,15 @@ static void put(struct out *out, char c) { put_text(out, &c, 1); }
 
 /* Behind what is printed. Answers how many letters there were. */
 static int printed(struct out *out) {
-    if (out->count % 8)
-        wathread_text = out->word;
-    wathread_text = 0;
+    uint64_t last = out->last;
+    if (last == '\n') {
+        wathread_text = out->word | last << (out->count - 1) % 8 * 8;
+        wathread_text = 0;
+    } else if (out->count) {
+        if (out->word)
+            wathread_text = out->word;
+        wathread_text = last;
+    }
     return out->count;
 }
 
@@ -262,7 +272,12 @@ int fputc(int c, FILE *file) { char one = c; (void)file; print(&one, 1, 0); retu
 int putc(int c, FILE *file) { return fputc(c, file); }
 int putchar(int c) { return fputc(c, stdout); }
 int puts(const char *text) { print(text, strlen(text), 1); return 0; }
-void __wathread_says(const char *text) { print(text, strlen(text), 1); } /* a failed assert */
+
+void __wathread_says(const char *text) { /* a failed assert, on a line of its own */
+    wathread_text = 0;
+    print(text, strlen(text), 1);
+}
+
 int fflush(FILE *file) { (void)file; return 0; }
 int setvbuf(FILE *restrict file, char *restrict to, int kind, size_t n) { (void)file, (void)to, (void)kind, (void)n; return 0; }
 void setbuf(FILE *restrict file, char *restrict to) { (void)file, (void)to; }

@@ -1,5 +1,6 @@
-/* What is printed, by three threads: calls in pieces, lines of several calls, empty ones, and an assert that fails with
-   -DBUG. The counter makes each thread wait for its turn, so there is one order of the lines. */
+/* What is printed, by three threads: calls in pieces, lines of several calls, of each length, empty ones, a line that isn't
+   ended, and an assert that fails with -DBUG. The counter makes each thread wait for its turn, so there is one order of the
+   lines. */
 #include <assert.h>
 #include <pthread.h>
 #include <stdio.h>
@@ -34,6 +35,12 @@ int main(void) {
         pthread_join(threads[i], 0);
     fputs("", stdout);
     putchar('\n');
+    for (int n = 1; n <= 17; n++) {
+        printf("%.*s", n, "abcdefghijklmnopq");
+        if (n % 8 < 2)
+            printf("%s|%d\n", n % 8 ? "" : "the eighth", n);
+    }
+    printf("open");
 #ifdef BUG
     assert(turn == 7);
 #endif

@@ -33,10 +33,16 @@ t0 says: of one call
 t1 says: worker 1 of two, which is more than eight letters
 t2 says: worker 2 of two, which is more than eight letters
 t1 says: 
-t1 says: no line feed from 1
 t2 says: 
-t2 says: no line feed from 2
 t0 says: 
+t0 says: a|1
+t0 says: ababcabcdabcdeabcdefabcdefgabcdefghthe eighth|8
+t0 says: abcdefghi|9
+t0 says: abcdefghijabcdefghijkabcdefghijklabcdefghijklmabcdefghijklmnabcdefghijklmnoabcdefghijklmnopthe eighth|16
+t0 says: abcdefghijklmnopq|17
+t0 says: open
+t1 says: no line feed from 1
+t2 says: no line feed from 2
 END
 for shape in -O0 -O1 -O2 '--orders c11'; do
     # shellcheck disable=SC2086
@@ -44,7 +50,8 @@ for shape in -O0 -O1 -O2 '--orders c11'; do
     prints "$work/wanted"
 done
 
-echo 't0 says: says.c:38: turn == 7' >>"$work/wanted"
+line=$(grep -n 'assert(turn' "$here/tests/says.c" | cut -d: -f1)
+sed -i "s/^t0 says: open$/&\\nt0 says: says.c:$line: turn == 7/" "$work/wanted"
 cp "$here/tests/says.c" "$work"
 words='-DBUG' tried=$((tried + 1))
 (cd "$work" && "$here/wathread-cc" --threads 2 -DBUG says.c -o "$m") || say build
