@@ -4,7 +4,9 @@
 
 volatile _Thread_local uint64_t wathread_text;
 
-/* Where text goes: to a string with room, or where that is null, to what the thread prints. */
+/* Where text goes: to a string with room, or where that is null, to what the thread prints. All that follows is written into
+   those who print, so that it lies in no memory: else each letter is many entries, and one who prints so slow that drawn
+   runs don't meet what comes behind. A letter is read once. */
 struct out {
     char *to;
     size_t room, count;
@@ -12,33 +14,25 @@ struct out {
     unsigned char last; /* which isn't in the word yet */
 };
 
-static void print_text(struct out *out, const char *from, size_t n) {
-    uint64_t word = out->word;
-    unsigned char last = out->last;
-    for (size_t count = out->count; n; n--, count++) {
-        word |= (uint64_t)last << (count - 1) % 8 * 8; /* 0 at first */
-        if (count && count % 8 == 0) {
-            wathread_text = word;
-            word = 0;
+#define INSIDE static inline __attribute__((always_inline))
+
+INSIDE void put(struct out *out, unsigned char c) {
+    if (out->to) {
+        if (out->count < out->room)
+            out->to[out->count] = c;
+    } else {
+        out->word |= (uint64_t)out->last << (out->count - 1) % 8 * 8; /* 0 at first */
+        if (out->count && out->count % 8 == 0) {
+            wathread_text = out->word;
+            out->word = 0;
         }
-        last = *from++;
+        out->last = c;
     }
-    out->word = word, out->last = last;
+    out->count++;
 }
-
-static void put_text(struct out *out, const char *from, size_t n) {
-    if (!out->to)
-        print_text(out, from, n);
-    else
-        for (size_t i = 0; i < n && out->count + i < out->room; i++)
-            out->to[out->count + i] = from[i];
-    out->count += n;
-}
-
-static void put(struct out *out, char c) { put_text(out, &c, 1); }
 
 /* Behind what is printed. Answers how many letters there were. */
-static int printed(struct out *out) {
+INSIDE int printed(struct out *out) {
     uint64_t last = out->last;
     if (last == '\n') {
         wathread_text = out->word | last << (out->count - 1) % 8 * 8;
@@ -51,7 +45,7 @@ static int printed(struct out *out) {
     return out->count;
 }
 
-static void put_many(struct out *out, char c, int n) {
+INSIDE void put_many(struct out *out, char c, int n) {
     for (; n > 0; n--)
         put(out, c);
 }
@@ -62,159 +56,165 @@ struct piece {
     int width, precision;
 };
 
-/* Puts a piece with its sign and what stands before it, in its width. */
-static void put_piece(struct out *out, const struct piece *p, const char *before, const char *text, int n, int zeros) {
-    int room = p->width - n - zeros - (int)strlen(before);
-    int fills = p->zero && !p->left;
+INSIDE void put_number(struct out *out, struct piece *p, unsigned long long value) {
+    unsigned base = p->type == 'o' ? 8 : p->type == 'x' || p->type == 'X' ? 16 : 10;
+    unsigned long long scale = 1;
+    int n = 0, least = p->precision < 0 ? 1 : p->precision;
+    for (unsigned long long rest = value; rest; rest /= base)
+        scale *= n++ ? base : 1;
+    if (p->other && base == 8 && least <= n)
+        least = n + 1;
+    int before = p->sign ? 1 : p->other && base == 16 && value ? 2 : 0, zeros = least > n ? least - n : 0;
+    int room = p->width - n - zeros - before, fills = p->zero && !p->left && p->precision < 0;
     if (!fills && !p->left)
         put_many(out, ' ', room);
-    put_text(out, before, strlen(before));
+    if (before)
+        put(out, before == 1 ? p->sign : '0');
+    if (before == 2)
+        put(out, p->type);
     put_many(out, '0', zeros + (fills && room > 0 ? room : 0));
-    put_text(out, text, n);
+    for (; n; n--, scale /= base) {
+        unsigned digit = value / scale % base;
+        put(out, digit < 10 ? '0' + digit : p->type - 'x' + 'a' + digit - 10);
+    }
     if (p->left)
         put_many(out, ' ', room);
 }
 
-static void put_number(struct out *out, struct piece *p, unsigned long long value) {
-    char digits[24], before[3] = {0}, *at = digits + sizeof digits;
-    int base = p->type == 'o' ? 8 : p->type == 'x' || p->type == 'X' ? 16 : 10;
-    if (p->sign)
-        before[0] = p->sign;
-    else if (p->other && base == 16 && value)
-        before[0] = '0', before[1] = p->type;
-    for (; value; value /= base)
-        *--at = (p->type == 'X' ? "0123456789ABCDEF" : "0123456789abcdef")[value % base];
-    int n = digits + sizeof digits - at, least = p->precision < 0 ? 1 : p->precision;
-    if (p->other && base == 8 && least <= n)
-        least = n + 1;
-    p->zero &= p->precision < 0;
-    put_piece(out, p, before, at, n, least > n ? least - n : 0);
-}
-
 /* The next argument as a number, by its length: each is a type of its own. */
-static long long next_number(va_list *list, char length, int is_signed) {
+INSIDE long long next_number(va_list *list, char length, int is_signed) {
+    if (length == 'L')
+        return va_arg(*list, long long);
+    int value = va_arg(*list, int);
     switch (length) {
-    case 'H': {
-        int value = va_arg(*list, int);
+    case 'H':
         return is_signed ? (signed char)value : (unsigned char)value;
-    }
-    case 'h': {
-        int value = va_arg(*list, int);
+    case 'h':
         return is_signed ? (short)value : (unsigned short)value;
     }
-    case 'L':
-        return va_arg(*list, long long);
-    }
-    return is_signed ? va_arg(*list, int) : (long long)va_arg(*list, unsigned);
+    return is_signed ? value : (long long)(unsigned)value;
 }
 
-static void put_signed(struct out *out, struct piece *p, long long value) {
-    p->sign = value < 0 ? '-' : p->plus ? '+' : p->space ? ' ' : 0;
-    put_number(out, p, value < 0 ? -(unsigned long long)value : (unsigned long long)value);
+/* A string, or where that is null, one letter. */
+INSIDE void put_string(struct out *out, struct piece *p, const char *text, char c) {
+    size_t n = 0, most = p->precision < 0 ? SIZE_MAX : p->precision;
+    if (!text)
+        n = most = 1;
+    else if (p->width)
+        while (n < most && text[n])
+            n++;
+    int room = p->width - n;
+    if (!p->left)
+        put_many(out, ' ', room);
+    size_t i = 0;
+    for (char letter = c; i < most && (!text || (letter = text[i])); i++)
+        put(out, letter);
+    if (p->left)
+        put_many(out, ' ', room);
+    if (text)
+        orders_reads(text, i < most ? i + 1 : i);
 }
 
-static void put_string(struct out *out, struct piece *p, const char *text) {
-    text = text ? text : "(null)";
-    p->zero = 0;
-    put_piece(out, p, "", text, p->precision < 0 ? strlen(text) : strnlen(text, p->precision), 0);
-}
-
-static void put_pointer(struct out *out, struct piece *p, unsigned value) {
-    p->type = 'x', p->other = 1;
-    if (value)
-        put_number(out, p, value);
-    else
-        put_string(out, p, "(nil)");
-}
-
-static void put_argument(struct out *out, struct piece *p, va_list *list) {
-    char c;
+INSIDE void put_argument(struct out *out, struct piece *p, va_list *list) {
+    unsigned long long value = 0;
+    const char *text = 0;
+    char c = 0;
     switch (p->type) {
     case 'd':
     case 'i':
-        put_signed(out, p, next_number(list, p->length, 1));
+        value = next_number(list, p->length, 1);
+        p->sign = (long long)value < 0 ? '-' : p->plus ? '+' : p->space ? ' ' : 0;
+        value = p->sign == '-' ? -value : value;
         break;
     case 'p':
-        put_pointer(out, p, va_arg(*list, unsigned));
+        value = va_arg(*list, unsigned);
+        text = value ? 0 : "(nil)";
+        p->type = value ? 'x' : 's', p->other = 1;
         break;
     case 'u':
     case 'o':
     case 'x':
     case 'X':
-        put_number(out, p, next_number(list, p->length, 0));
+        value = next_number(list, p->length, 0);
         break;
     case 'c':
-        c = va_arg(*list, int);
-        p->zero = 0;
-        put_piece(out, p, "", &c, 1, 0);
+        c = va_arg(*list, int), p->precision = -1;
         break;
     case 's':
-        put_string(out, p, va_arg(*list, const char *));
+        text = va_arg(*list, const char *);
+        text = text ? text : "(null)";
         break;
     case '%':
         put(out, '%');
-        break;
+        return;
     default: /* of no type that is known here: a float, or %n */
         __builtin_trap();
     }
+    if (p->type == 's' || p->type == 'c')
+        put_string(out, p, text, c);
+    else
+        put_number(out, p, value);
 }
 
-static int read_count(const char **format, va_list *list) {
+INSIDE int read_count(const char **format, char *c, va_list *list) {
     int n = 0;
-    if (**format == '*') {
-        ++*format;
+    if (*c == '*') {
+        *c = *++*format;
         return va_arg(*list, int);
     }
-    for (; isdigit(**format); ++*format)
-        n = 10 * n + **format - '0';
+    for (; *c >= '0' && *c <= '9'; *c = *++*format)
+        n = 10 * n + *c - '0';
     return n;
 }
 
-/* Reads what stands behind a `%`, up to the type. */
-static struct piece read_piece(const char **format, va_list *list) {
+/* Reads what stands behind a `%`, up to the type, where it leaves the format. */
+INSIDE struct piece read_piece(const char **format, va_list *list) {
     struct piece p = {.precision = -1};
-    for (;; ++*format)
-        switch (**format) {
-        case '-': p.left = 1; break;
-        case '+': p.plus = 1; break;
-        case ' ': p.space = 1; break;
-        case '#': p.other = 1; break;
-        case '0': p.zero = 1; break;
-        default: goto flags_read;
-        }
-flags_read:
-    p.width = read_count(format, list);
+    char c = **format;
+    for (;; c = *++*format)
+        if (c == '-')
+            p.left = 1;
+        else if (c == '+')
+            p.plus = 1;
+        else if (c == ' ')
+            p.space = 1;
+        else if (c == '#')
+            p.other = 1;
+        else if (c == '0')
+            p.zero = 1;
+        else
+            break;
+    p.width = read_count(format, &c, list);
     if (p.width < 0)
         p.left = 1, p.width = -p.width;
-    if (**format == '.') {
-        ++*format;
-        p.precision = read_count(format, list);
+    if (c == '.') {
+        c = *++*format;
+        p.precision = read_count(format, &c, list);
     }
-    for (;; ++*format)
-        switch (**format) {
-        case 'h': p.length = p.length ? 'H' : 'h'; break;
-        case 'l': p.length = p.length ? 'L' : 'l'; break;
-        case 'j': p.length = 'L'; break;
-        case 'z':
-        case 't': break;
-        default: p.type = *(*format)++; return p;
-        }
+    for (;; c = *++*format)
+        if (c == 'h')
+            p.length = p.length ? 'H' : 'h';
+        else if (c == 'l')
+            p.length = p.length ? 'L' : 'l';
+        else if (c == 'j')
+            p.length = 'L';
+        else if (c != 'z' && c != 't')
+            break;
+    p.type = c;
+    return p;
 }
 
-static int format(struct out *out, const char *format, va_list given) {
-    va_list list;
-    va_copy(list, given);
-    while (*format)
-        if (*format == '%') {
+INSIDE int format(struct out *out, const char *format, va_list list) {
+    const char *first = format;
+    for (char c; (c = *format); format++)
+        if (c == '%') {
             format++;
             struct piece p = read_piece(&format, &list);
             put_argument(out, &p, &list);
         } else {
-            size_t n = strcspn(format, "%");
-            put_text(out, format, n);
-            format += n;
+            put(out, c);
         }
-    va_end(list);
+    orders_reads(first, format + 1 - first);
     return out->count;
 }
 
@@ -251,10 +251,14 @@ int printf(const char *restrict text, ...) { WITH_LIST(vprintf(text, list)) }
 int fprintf(FILE *restrict file, const char *restrict text, ...) { (void)file; WITH_LIST(vprintf(text, list)) }
 int dprintf(int file, const char *restrict text, ...) { (void)file; WITH_LIST(vprintf(text, list)) }
 
+/* Prints so many letters, or a string where they aren't counted, and behind it the end of a line where that is asked for. */
+enum { STRING = -1 };
 static void print(const char *from, size_t n, int line) {
     struct out out = {0};
-    orders_reads(from, n);
-    put_text(&out, from, n);
+    size_t i = 0;
+    for (char c; i < n && ((c = from[i]) || n != (size_t)STRING); i++)
+        put(&out, c);
+    orders_reads(from, n == (size_t)STRING ? i + 1 : i);
     if (line)
         put(&out, '\n');
     printed(&out);
@@ -267,15 +271,23 @@ size_t fwrite(const void *restrict from, size_t size, size_t count, FILE *restri
 }
 
 ssize_t write(int file, const void *from, size_t n) { (void)file; return fwrite(from, 1, n, stdout); }
-int fputs(const char *restrict text, FILE *restrict file) { (void)file; print(text, strlen(text), 0); return 0; }
-int fputc(int c, FILE *file) { char one = c; (void)file; print(&one, 1, 0); return (unsigned char)c; }
+int fputs(const char *restrict text, FILE *restrict file) { (void)file; print(text, STRING, 0); return 0; }
+
+int fputc(int c, FILE *file) {
+    struct out out = {0};
+    (void)file;
+    put(&out, c);
+    printed(&out);
+    return (unsigned char)c;
+}
+
 int putc(int c, FILE *file) { return fputc(c, file); }
 int putchar(int c) { return fputc(c, stdout); }
-int puts(const char *text) { print(text, strlen(text), 1); return 0; }
+int puts(const char *text) { print(text, STRING, 1); return 0; }
 
 void __wathread_says(const char *text) { /* a failed assert, on a line of its own */
     wathread_text = 0;
-    print(text, strlen(text), 1);
+    print(text, STRING, 1);
 }
 
 int fflush(FILE *file) { (void)file; return 0; }

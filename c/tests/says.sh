@@ -1,6 +1,7 @@
 #!/bin/bash
 # tests/says.sh [WATHREAD]: `run --text` and `replay --text` print what three threads of says.c print, at -O0 to -O2 and with
-# --orders c11, and what an assert says that fails; a program that prints nothing has no section of it. CC names the clang.
+# --orders c11, and what an assert says that fails; a program that prints nothing has no section of it; and to print takes
+# few entries, since drawn runs don't meet what comes behind many. CC names the clang.
 set -u
 here=$(cd "$(dirname "$0")/.." && pwd)
 wathread=${1:-$here/../wathread}
@@ -60,6 +61,13 @@ grep -q '^thread 0: trap unreachable$' "$work/run" || say 'no trap'
 
 build -x c - <<<'int main(void) { return 0; }'
 grep -q wathread.text "$m" && say 'a section where nothing is printed'
+
+build -x c - <<<'#include <stdio.h>
+int main(void) { return printf("%s %d of %08x\n", "thread", -12345, 0xBEEFu) != 26; }'
+"$wathread" run "$m" --invoke main --record "$work/record" >"$work/run"
+grep -qx 'thread 0: ok i32:0' "$work/run" || say "$(head -n 1 "$work/run")"
+entries=$("$wathread" show "$m" "$work/record" | grep -c '^ .* t0 ')
+[ "$entries" -le 50 ] || say "$entries entries for a line"
 
 echo "$tried programs, $wrong wrong"
 [ $wrong = 0 ]
