@@ -33,6 +33,12 @@ int sigprocmask(int how, const sigset_t *set, sigset_t *before); /* -1, and EINV
 int pthread_sigmask(int how, const sigset_t *set, sigset_t *before); /* EINVAL */
 
 #define WATHREAD_NO __attribute__((unavailable("wathread has no signals: nothing comes to a thread from outside")))
+struct sigaction {
+    void (*sa_handler)(int);
+    sigset_t sa_mask;
+    int sa_flags;
+};
+WATHREAD_NO int sigaction(int number, const struct sigaction *how, struct sigaction *before);
 WATHREAD_NO void (*signal(int number, void (*function)(int)))(int);
 WATHREAD_NO int raise(int number);
 WATHREAD_NO int kill(pid_t process, int number);

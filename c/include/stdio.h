@@ -24,7 +24,8 @@ typedef off_t fpos_t;
 #define _IOLBF 1
 #define _IONBF 2
 
-/* d i u o x X c s p and %, with flags, width, precision and hh h l ll j z t; all others trap. */
+/* d i u o x X c s p and %, with flags, width, precision and hh h l ll j z t; all others trap, in printf_has_no_floats, or in
+   printf_has_no_such_type. */
 #define WATHREAD_PRINTS(text, first) __attribute__((format(printf, text, first)))
 int printf(const char *__restrict text, ...) WATHREAD_PRINTS(1, 2);
 int fprintf(FILE *__restrict file, const char *__restrict text, ...) WATHREAD_PRINTS(2, 3);
@@ -58,6 +59,7 @@ int setvbuf(FILE *__restrict file, char *__restrict to, int kind, size_t n);
 void setbuf(FILE *__restrict file, char *__restrict to);
 
 #define WATHREAD_NO __attribute__((unavailable("wathread has no files and no input: give what a program reads as constants")))
+WATHREAD_NO extern FILE *stdin;
 WATHREAD_NO FILE *fopen(const char *__restrict path, const char *__restrict how);
 WATHREAD_NO FILE *freopen(const char *__restrict path, const char *__restrict how, FILE *__restrict file);
 WATHREAD_NO FILE *tmpfile(void);
@@ -67,6 +69,7 @@ WATHREAD_NO int rename(const char *before, const char *path);
 WATHREAD_NO int fclose(FILE *file);
 WATHREAD_NO size_t fread(void *__restrict to, size_t size, size_t count, FILE *__restrict file);
 WATHREAD_NO char *fgets(char *__restrict to, int n, FILE *__restrict file);
+WATHREAD_NO ssize_t getline(char **__restrict line, size_t *__restrict n, FILE *__restrict file);
 WATHREAD_NO int fgetc(FILE *file);
 WATHREAD_NO int getc(FILE *file);
 WATHREAD_NO int getchar(void);

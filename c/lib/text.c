@@ -115,6 +115,9 @@ INSIDE void put_string(struct out *out, struct piece *p, const char *text, char 
         orders_reads(text, i < most ? i + 1 : i);
 }
 
+static __attribute__((noinline)) _Noreturn void printf_has_no_floats(void) { __builtin_trap(); }
+static __attribute__((noinline)) _Noreturn void printf_has_no_such_type(void) { __builtin_trap(); }
+
 INSIDE void put_argument(struct out *out, struct piece *p, va_list *list) {
     unsigned long long value = 0;
     const char *text = 0;
@@ -147,8 +150,10 @@ INSIDE void put_argument(struct out *out, struct piece *p, va_list *list) {
     case '%':
         put(out, '%');
         return;
-    default: /* of no type that is known here: a float, or %n */
-        __builtin_trap();
+    default:
+        if ((p->type | 32) == 'a' || ((p->type | 32) >= 'e' && (p->type | 32) <= 'g'))
+            printf_has_no_floats();
+        printf_has_no_such_type(); /* %n, and all others */
     }
     if (p->type == 's' || p->type == 'c')
         put_string(out, p, text, c);

@@ -88,6 +88,10 @@ echo 'static int x = 3 int main(void) { return x; }' >wrong.c
 echo 'int ftok(const char *, int); int main(void) { return ftok("a", 1); }' >missing.c
 echo '#include <poll.h>
 int main(void) { return 0; }' >header.c
+echo '#include <stdio.h>
+int main(void) { char s[9]; return fgets(s, 9, stdin) == s; }' >input.c
+echo '#include <signal.h>
+int main(void) { struct sigaction s = {0}; s.sa_handler = SIG_IGN; return sigaction(SIGTERM, &s, 0); }' >signal.c
 echo '#include <iostream>
 int main() { std::cout << 1; }' >stream.cpp
 echo 'static volatile float f = 1; __attribute__((noinline)) static int average(void) { return f * 2; } int main(void) { return average(); }' >float.c
@@ -192,6 +196,8 @@ grep -q 'No space left' err.text || say "/dev/full: $(cat err.text)"
 passes 'error: expected' "$cc_" wrong.c -o m.wasm
 passes 'undefined symbol: ftok' "$cc_" missing.c -o m.wasm
 passes 'statement.c:1:' "$cc_" statement.c -o m.wasm
+passes "'stdin' is unavailable: wathread has no files and no input" "$cc_" input.c -o m.wasm
+passes "'sigaction' is unavailable: wathread has no signals" "$cc_" signal.c -o m.wasm
 passes "'poll.h' file not found" "$cc_" header.c -o m.wasm
 passes 'undefined symbol: std::cout' "$cc_" -std=c++17 -fno-exceptions -fno-rtti stream.cpp -o m.wasm
 for level in 0 1 2 3; do

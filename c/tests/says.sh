@@ -63,6 +63,10 @@ build -x c - <<<'int main(void) { return 0; }'
 grep -q wathread.text "$m" && say 'a section where nothing is printed'
 
 build -x c - <<<'#include <stdio.h>
+int main(void) { return printf("half: %f\n", 0.5); }' -w -O1
+"$wathread" run "$m" --invoke main --explain 2>&1 | grep -q 'trap unreachable at printf_has_no_floats' || say "no trap of its own"
+
+build -x c - <<<'#include <stdio.h>
 int main(void) { return printf("%s %d of %08x\n", "thread", -12345, 0xBEEFu) != 26; }'
 "$wathread" run "$m" --invoke main --record "$work/record" >"$work/run"
 grep -qx 'thread 0: ok i32:0' "$work/run" || say "$(head -n 1 "$work/run")"
