@@ -37,6 +37,15 @@ class Reader:
         self.byte()
         return value & 0xFFFFFFFF
 
+    def long(self):
+        """The bytes of a constant expression `i64.const N; end`."""
+        start = self.at
+        if self.byte() != 0x42:
+            raise Refused('a global begins with no constant')
+        self.signed()
+        self.byte()
+        return bytes(self.data[start:self.at])
+
     def signed(self):
         """A number with a sign."""
         start = self.at

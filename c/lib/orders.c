@@ -24,66 +24,77 @@ INLINE int releases(int order) { return order >= RELEASE; }
 /* ---- Atomic places ---- */
 
 /* Places that others left here and all know don't count. */
-static int overlaps(u32 at, int log) {
-    int l = find(at);
-    return l < orders.count && orders.places[l].at < at + (1u << log);
+INLINE int overlaps(int l, u32 at, int log) { return l < places() && AT(orders.places[l]) < at + (1u << log); }
+
+INLINE int is_place(int l, u32 at, int log) {
+    u64 p = orders.places[l];
+    return AT(p) == at && LOG(p) == log;
 }
 
 /* The place of an atomic access, which it makes where there is none. */
 static int place_of(u32 at, int log) {
     int l = find(at);
-    if (l < orders.count && orders.places[l].at == at && orders.places[l].log == log)
+    if (!overlaps(l, at, log))
+        return new_place(at, log, -1);
+    if (is_place(l, at, log))
         return l;
-    while (l < orders.count && orders.places[l].at <= at && orders.places[l].log > log && !orders.places[l].count) {
+    for (u64 p; l < places() && (p = orders.places[l], AT(p) <= at && LOG(p) > log && !COUNT(p)); l = find(at))
         split(l); /* it was initialised by a larger store */
-        l = find(at);
-    }
-    if (overlaps(at, log) && (orders.places[l].at != at || orders.places[l].log != log)) {
+    if (overlaps(l, at, log) && !is_place(l, at, log)) {
         remove_known();
-        if (overlaps(at, log))
+        l = find(at);
+        if (overlaps(l, at, log))
             atomics_of_mixed_sizes();
     }
-    return overlaps(at, log) ? l : new_place(at, log, -1);
+    return overlaps(l, at, log) ? l : new_place(at, log, -1);
 }
 
 static int atomic_place(int t, u32 at, int log, int writes) {
     if (at & ((1u << log) - 1))
         atomics_of_mixed_sizes();
     int l = place_of(at, log);
-    place *p = &orders.places[l];
+    u64 p = orders.places[l];
     if (!knows(&orders.current[t], l, WRITE_KNOWN))
         data_race(at);
-    if (writes && p->readers)
+    if (writes && p & (ALL_READERS | MORE))
         check_readers(t, l);
-    if (!p->count) {
-        orders.messages[l][0].value = load_real(at, log);
-        p->count = 1;
+    if (!COUNT(p)) {
+        put(&orders.near[l][0].value, load_real(at, log));
+        orders.places[l] = p | MESSAGES(1);
     }
     return l;
 }
 
-/* The oldest message that a thread may read, or store behind. */
-static int least_of(int t, int l, int order) {
-    int least = position(&orders.current[t], l), sc = order == SEQ_CST ? position(&orders.psc, l) : 0;
-    return least > sc ? least : sc;
+/* The oldest message that a thread may read, or store behind, where OLDEST is what it knows. */
+INLINE int least_of(int oldest, int l, int order) {
+    int sc = order == SEQ_CST && has_psc() ? position(&orders.psc, l) : 0;
+    return oldest > sc ? oldest : sc;
 }
 
 /* ---- Messages are read and written ---- */
 
-static void read_message(int t, int l, int p, int order) {
-    set_position(&orders.current[t], l, p);
+static void read_message(int t, int l, int p, int oldest, int order) {
+    int still = p == oldest;
+    if (!still)
+        set_position(&orders.current[t], l, p);
     if (acquires(order))
-        add(&orders.current[t], &orders.messages[l][p].view);
-    else if (fences)
-        add(&orders.acquirable[t], &orders.messages[l][p].view);
+        still &= !add(&orders.current[t], &message_at(l, p)->view);
+    else if (fences())
+        add(&orders.acquirable[t], &message_at(l, p)->view);
+    if (still)
+        mark(STILL);
 }
 
-/* What a message carries, beside what the one that a read-modify-write read does. */
-static void release_view(int t, int l, view *v, int order) {
-    if (releases(order))
-        add(v, &orders.current[t]);
-    else if (fences)
-        add(v, &orders.released[t]);
+/* What a message carries: of one that is GLUED behind another also what that one does. There is none in V yet. */
+static void release_view(int t, int l, view *v, const view *glued, int order) {
+    const view *mine = releases(order) ? &orders.current[t] : fences() ? &orders.released[t] : 0;
+    for (int w = words_used(); w--;) {
+        u64 word = glued ? glued->words[w] : 0;
+        if (mine)
+            word = join(word, mine->words[w]);
+        if (word)
+            v->words[w] = word;
+    }
 #if ORDERS_C11_SEQUENCES
     if (releases(order))
         add(&orders.sequences[t][l], &orders.current[t]);
@@ -95,107 +106,126 @@ static void release_view(int t, int l, view *v, int order) {
 
 /* A new message at position P; those from there on go up. Its value is put in by who calls, whose row in a trace has
    the line of source. */
-static void write_message(int t, int l, int p, int order, int glued) {
-    place *at = &orders.places[l];
-    message *messages = orders.messages[l];
-    news = 1;
-    if (at->count == MESSAGES)
-        orders_full_of_messages__use_DORDERS_MESSAGES();
-    if (p < at->count) {
+static void write_message(int t, int l, int p, int count, int order, int glued) {
+    mark(NEWS);
+    add_room(l, count);
+    if (count && !(count % LANE))
+        add_cells(l, count / LANE + 1);
+    if (p < count) {
         raise_all(l, p);
-        for (int m = at->count; m > p; m--)
-            copy_message(&messages[m], &messages[m - 1]);
+        for (int m = count; m > p; m--)
+            move_message(message_at(l, m), message_at(l, m - 1));
     }
-    at->count++;
-    messages[p].glued = glued;
+    set_count(l, count, count + 1);
+    message *made = message_at(l, p);
     if (glued)
-        copy(&messages[p].view, &messages[p - 1].view);
-    else
-        clear(&messages[p].view);
+        made->glued = glued;
     set_position(&orders.current[t], l, p);
-    release_view(t, l, &messages[p].view, order);
-    if (order == SEQ_CST && p > position(&orders.psc, l))
+    release_view(t, l, &made->view, glued ? &message_at(l, p - 1)->view : 0, order);
+    if (order == SEQ_CST && (!has_psc() || p > position(&orders.psc, l))) {
+        use_psc();
         set_position(&orders.psc, l, p);
+    }
 }
 
 /* ---- Patience: stores are seen in time (C11 7.17.3p16), so that a loop that waits for one ends in each fair run ---- */
 
-INLINE int is_patient(int t, int l) {
-    cell c = orders.reads[t].at[l];
-    return !ORDERS_PATIENCE || (c & 255) != position(&orders.current[t], l) || c >> 8 < ORDERS_PATIENCE;
+INLINE int is_patient(int t, int l, int oldest) {
+    if (!ORDERS_PATIENCE || !own_counted())
+        return 1;
+    return position(&orders.reads[t], l) != oldest || orders.reads[t].at[l] >> 8 < ORDERS_PATIENCE;
 }
 
-static _Thread_local int counted; /* whether anything is */
+/* Who has no counts is left out where all views are changed. */
+static void set_counts(int t, int counts) {
+    set_counted(counts);
+    set_counting(counts ? orders.counting | BIT(t) : orders.counting & ~BIT(t));
+}
 
-static void count_read(int t, int l, int p, int for_nothing) {
+static void count_read(int t, int l, int p, int newest, int for_nothing) {
     view *reads = &orders.reads[t];
-    cell many = position(reads, l) == p ? reads->at[l] >> 8 : 0;
-    if (ORDERS_PATIENCE && (for_nothing || p < orders.places[l].count - 1)) {
-        put_cell(reads, l, (cell)p | (many < ORDERS_PATIENCE ? many + 1 : many) << 8);
-        if (!counted)
-            counted = 1;
-    }
+    if (!ORDERS_PATIENCE || !(for_nothing || p < newest))
+        return;
+    int many = own_counted() && position(reads, l) == p ? reads->at[l] >> 8 : 0;
+    if (!own_counted())
+        set_counts(t, 1);
+    set_position(reads, l, p);
+    put_cell(reads, l, (reads->at[l] & 255) | (many < ORDERS_PATIENCE ? many + 1 : many) << 8);
 }
 
 /* What was counted of a message that the thread can't read any more is nothing. */
 static void forget_counts(int t) {
     view *reads = &orders.reads[t], *current = &orders.current[t];
     u64 left = 0;
-    if (!counted)
+    if (!own_counted())
         return;
     for (int w = words_used(); w--; left |= reads->words[w])
         if (reads->words[w] && (reads->words[w] ^ current->words[w]) & POSITIONS)
             for (int l = w * PER_WORD; l < (w + 1) * PER_WORD; l++)
-                if (position(reads, l) != position(current, l))
+                if (position(reads, l) != position(current, l)) {
+                    set_position(reads, l, 0);
                     put_cell(reads, l, 0);
+                }
     if (!left)
-        counted = 0;
+        set_counts(t, 0);
 }
 
 /* ---- The same again: what a thread was told where it had no choice is told it again, as long as nobody has written a
    message since. Nothing is known by it that wasn't known, so the tables aren't asked ---- */
 
-static _Thread_local struct { u32 at, how; u64 value; } told[TOLD]; /* how: the order, 8 times the logarithm of the size, and 64 */
+/* What: the address; above it the order, 8 times the logarithm of the size, and 64. */
+INLINE u64 told_what(u32 at, int log, int order) { return at | (u64)(64 + 8 * log + order) << 32; }
 
-INLINE int told_how(int log, int order) { return 64 + 8 * log + order; }
+INLINE u64 what_told(u32 i) { return i == 0 ? own_what0() : i == 1 ? own_what1() : i == 2 ? own_what2() : own_what3(); }
+INLINE u64 value_told(u32 i) { return i == 0 ? own_value0() : i == 1 ? own_value1() : i == 2 ? own_value2() : own_value3(); }
+
+static void set_told(u32 i, u64 what, u64 value) {
+    switch (i) {
+    case 0: set_what0(what), set_value0(value); break;
+    case 1: set_what1(what), set_value1(value); break;
+    case 2: set_what2(what), set_value2(value); break;
+    default: set_what3(what), set_value3(value);
+    }
+}
 
 /* What is found, from 1 on, or 0. */
-static u32 find_told(u32 at, int how) {
-    u32 i = __wathread_get_tolds();
-    while (i && (told[i - 1].at != at || told[i - 1].how != (u32)how))
+static u32 find_told(u64 what) {
+    u32 i = own_tolds();
+    while (i && what_told(i - 1) != what)
         i--;
     return i;
 }
 
-INLINE int is_same(void) { return (atomic_load(&gate) & SAME(me())) != 0; }
+/* The same where it's still so, and isn't EXPECTED. Nothing of it is in the frame of who asks, as at the gate. */
+static __attribute__((noinline)) u32 find_same(u64 what, int differs, u64 expected) {
+    u32 i = find_told(what);
+    return i && !(differs && value_told(i - 1) == expected) && atomic_load(&gate) & same_bit(me()) ? i : 0;
+}
 
 /* What was told before something was written is nothing. */
 static void forget_what_was_told(void) {
-    u32 many = __wathread_get_tolds();
-    if (!many)
-        return;
-    for (u32 i = 0; i < many; i++) {
-        told[i].at = told[i].how = 0;
-        told[i].value = 0;
-    }
-    __wathread_set_tolds(0);
+    for (u32 i = own_tolds(); i--;)
+        set_told(i, 0, 0);
+    set_tolds(0);
 }
 
-static void tell(u32 at, int how, u64 value) {
-    u32 i = __wathread_get_tolds();
-    if (news || i == TOLD)
+static void tell(u64 what, u64 value) {
+    u32 i = own_tolds();
+    if (own_marks() & NEWS || i == MOST_TOLD || !has_turns(me()))
         return;
-    told[i].at = at;
-    told[i].how = how;
-    told[i].value = value;
-    __wathread_set_tolds(i + 1);
-    noting = 1;
+    set_told(i, what, value);
+    set_tolds(i + 1);
+    mark(NOTING);
+}
+
+static __attribute__((noinline)) void forget_what_is_old(int t) {
+    if ((own_marks() & (NEWS | NOTING)) != NOTING)
+        forget_what_was_told();
+    forget_counts(t);
 }
 
 static void end_access(int t) {
-    if (news | !noting)
-        forget_what_was_told();
-    forget_counts(t);
+    forget_what_is_old(t);
     end_operation();
 }
 
@@ -203,25 +233,25 @@ static void end_access(int t) {
    has the user's line behind those alone. The newest one is read at the variable's own place ---- */
 
 /* A message in one number, since a struct would be on the stack. */
-enum { PLACE_SHIFT = 8, PLACE_MASK = 0xFFFF, FAILED = 1 << 24, TELLS = 1 << 25 };
-INLINE int place_in(int found) { return found >> PLACE_SHIFT & PLACE_MASK; }
-INLINE message *message_of(int found) { return &orders.messages[place_in(found)][found & 255]; }
-INLINE int is_newest(int found) { return (found & 255) == orders.places[place_in(found)].count - 1; }
+#define FOUND(l, p) ((u64)(l) << 32 | (u32)(p))
+#define FAILED (1ull << 63)
+#define TELLS (1ull << 62)  /* the thread was here before, and had no choice */
+#define NEWEST (1ull << 61)
+INLINE message *message_of(u64 found) { return message_at(found >> 32 & 0xFFFF, (u32)found); }
 
-/* TELLS where the thread was here before, and had no choice. */
-static int begin_load(u32 at, int log, int order) {
+static u64 begin_load(u32 at, int log, int order) {
     int again = begin_operation(at, LOADS);
-    int t = me(), l = atomic_place(t, at, log, 0), newest = orders.places[l].count - 1, p = newest;
-    int least = least_of(t, l, order);
+    int t = me(), l = atomic_place(t, at, log, 0), newest = COUNT(orders.places[l]) - 1, p = newest;
+    int oldest = position(&orders.current[t], l), least = least_of(oldest, l, order);
     if (least < newest) {
-        if (least == position(&orders.current[t], l) && !is_patient(t, l))
+        if (least == oldest && !is_patient(t, l, oldest))
             least++;
         p -= choose(newest - least + 1);
     }
-    read_message(t, l, p, order);
+    read_message(t, l, p, oldest, order);
     if (again)
-        count_read(t, l, p, 0);
-    return l << PLACE_SHIFT | p | (again && least == newest ? TELLS : 0);
+        count_read(t, l, p, newest, 0);
+    return FOUND(l, p) | (p == newest ? NEWEST : 0) | (again && least == newest ? TELLS : 0);
 }
 
 /* What was read where a newer message is there: a row of `show` has it, and the next one the newest. */
@@ -236,35 +266,37 @@ INLINE void show_old(u32 at, int log, u64 value) {
 INLINE u64 load(u32 at, int log, int order) {
     if (!is_parallel())
         return load_real(at, log);
-    u32 i = find_told(at, told_how(log, order));
-    if (i && is_same())
-        return told[i - 1].value;
-    int found = begin_load(at, log, order), newest = is_newest(found);
-    u64 value = newest ? load_real(at, log) : message_of(found)->value;
-    if (!newest)
+    u64 what = told_what(at, log, order);
+    u32 i = find_same(what, 0, 0);
+    if (i)
+        return value_told(i - 1);
+    u64 found = begin_load(at, log, order);
+    u64 value = found & NEWEST ? load_real(at, log) : message_of(found)->value;
+    if (!(found & NEWEST))
         show_old(at, log, value);
     else if (found & TELLS)
-        tell(at, told_how(log, order), value);
+        tell(what, value);
     end_access(me());
     return value;
 }
 
 /* Where in modification order a store comes: not between a read-modify-write and what it read. */
-static int position_of_store(int t, int l, int order) {
-    int count = orders.places[l].count, p = count, least = least_of(t, l, order), many = 1;
+static int position_of_store(int l, int count, int least) {
+    int p = count, many = 1;
     for (int q = least + 1; q < count; q++)
-        many += !orders.messages[l][q].glued;
+        many += !message_at(l, q)->glued;
     for (int skip = many > 1 ? choose(many) : 0; skip; skip--)
-        while (orders.messages[l][--p].glued)
+        while (message_at(l, --p)->glued)
             ;
     return p;
 }
 
-static int begin_store(u32 at, int log, int order) {
+static u64 begin_store(u32 at, int log, int order) {
     begin_operation(at, STORES);
-    int t = me(), l = atomic_place(t, at, log, 1), p = position_of_store(t, l, order);
-    write_message(t, l, p, order, 0);
-    return l << PLACE_SHIFT | p;
+    int t = me(), l = atomic_place(t, at, log, 1), count = COUNT(orders.places[l]);
+    int p = position_of_store(l, count, least_of(position(&orders.current[t], l), l, order));
+    write_message(t, l, p, count, order, 0);
+    return FOUND(l, p) | (p == count ? NEWEST : 0);
 }
 
 INLINE void store(u32 at, int log, u64 value, int order) {
@@ -272,9 +304,9 @@ INLINE void store(u32 at, int log, u64 value, int order) {
         store_real(at, log, value);
         return;
     }
-    int found = begin_store(at, log, order);
-    message_of(found)->value = value;
-    if (is_newest(found))
+    u64 found = begin_store(at, log, order);
+    put(&message_of(found)->value, value);
+    if (found & NEWEST)
         store_real(at, log, value);
     end_access(me());
 }
@@ -305,50 +337,53 @@ static u64 result(enum kind kind, u64 had, u64 x, int log) {
 }
 
 /* Whether a message may be read by one that succeeds: no other may have read it. */
-static int can_change(int l, int q, enum kind kind, u64 expected, int least) {
-    const message *m = orders.messages[l];
-    return q >= least && (kind < COMPARE || m[q].value == expected) && (q == orders.places[l].count - 1 || !m[q + 1].glued);
+static int can_change(int l, int q, int newest, enum kind kind, u64 expected, int least) {
+    return q >= least && (kind < COMPARE || message_at(l, q)->value == expected) &&
+           (q == newest || !message_at(l, q + 1)->glued);
 }
 
 /* The same of one that fails, which is a load: of another value, or for nothing where it's weak. */
-static int can_fail(int t, int l, int q, enum kind kind, u64 expected, int least) {
-    int oldest = position(&orders.current[t], l);
+static int can_fail(int t, int l, int q, int newest, int oldest, enum kind kind, u64 expected, int least) {
     if (kind < COMPARE || q < least)
         return 0;
-    if (orders.messages[l][q].value == expected)
-        return kind == COMPARE_WEAK && (q != oldest || is_patient(t, l)) && !over;
-    return q == orders.places[l].count - 1 || q != oldest || is_patient(t, l);
+    if (message_at(l, q)->value == expected)
+        return kind == COMPARE_WEAK && (q != oldest || is_patient(t, l, oldest)) && !over;
+    return q == newest || q != oldest || is_patient(t, l, oldest);
 }
 
 /* Which message is read, and FAILED where nothing is written. */
-static int choose_change(int t, int l, enum kind kind, u64 expected, int order, int failing) {
-    int newest = orders.places[l].count - 1, oldest = position(&orders.current[t], l), many = 0;
-    int least = least_of(t, l, order), fails = least_of(t, l, failing);
+static u64 choose_change(int t, int l, int newest, int oldest, enum kind kind, u64 expected, int order, int failing) {
+    int many = 0, least = least_of(oldest, l, order), fails = least_of(oldest, l, failing);
+    if (oldest == newest && kind <= COMPARE)
+        return kind < COMPARE || message_at(l, newest)->value == expected ? (u64)newest : newest | FAILED;
     for (int q = newest; q >= oldest; q--)
-        many += can_change(l, q, kind, expected, least) + can_fail(t, l, q, kind, expected, fails);
+        many += can_change(l, q, newest, kind, expected, least) + can_fail(t, l, q, newest, oldest, kind, expected, fails);
     int skip = many > 1 ? choose(many) : 0;
     for (int q = newest;; q--) {
-        if (can_change(l, q, kind, expected, least) && !skip--)
+        if (can_change(l, q, newest, kind, expected, least) && !skip--)
             return q;
-        if (can_fail(t, l, q, kind, expected, fails) && !skip--)
+        if (can_fail(t, l, q, newest, oldest, kind, expected, fails) && !skip--)
             return q | FAILED;
     }
 }
 
-/* The message that was read; the one behind it is that of the change. */
-static int begin_change(u32 at, int log, enum kind kind, u64 expected, int order, int failing) {
+/* The message that was read; the one behind it is that of the change, and NEWEST says of that one whether it is. */
+static u64 begin_change(u32 at, int log, enum kind kind, u64 expected, int order, int failing) {
     int again = begin_operation(at, kind < COMPARE ? CHANGES : COMPARES);
-    int t = me(), l = atomic_place(t, at, log, 1), p = choose_change(t, l, kind, expected, order, failing);
-    int fails = p & FAILED;
-    p &= ~FAILED;
-    if (fails && again && least_of(t, l, failing) == orders.places[l].count - 1)
+    int t = me(), l = atomic_place(t, at, log, 1), newest = COUNT(orders.places[l]) - 1;
+    int oldest = position(&orders.current[t], l);
+    u64 fails = choose_change(t, l, newest, oldest, kind, expected, order, failing);
+    int p = (u32)fails;
+    fails &= FAILED;
+    if (fails && again && least_of(oldest, l, failing) == newest)
         fails |= TELLS;
-    read_message(t, l, p, fails ? failing : order);
-    if (!fails)
-        write_message(t, l, p + 1, order, 1);
-    else if (again)
-        count_read(t, l, p, orders.messages[l][p].value == expected);
-    return l << PLACE_SHIFT | p | fails; /* fails: FAILED and TELLS */
+    read_message(t, l, p, oldest, fails ? failing : order);
+    if (!fails) {
+        set_marks(own_marks() & ~STILL);
+        write_message(t, l, p + 1, newest + 1, order, 1);
+    } else if (again)
+        count_read(t, l, p, newest, message_at(l, p)->value == expected);
+    return FOUND(l, p) | (p == newest ? NEWEST : 0) | fails; /* fails: FAILED and TELLS */
 }
 
 INLINE u64 change_alone(u32 at, int log, enum kind kind, u64 x, u64 expected) {
@@ -361,30 +396,31 @@ INLINE u64 change_alone(u32 at, int log, enum kind kind, u64 x, u64 expected) {
 INLINE u64 change_value(u32 at, int log, enum kind kind, u64 x, u64 expected, int order, int failing) {
     if (!is_parallel()) {
         if (kind == COMPARE_WEAK && load_real(at, log) != expected)
-            __wathread_set_failed(1);
+            set_failed(1);
         return change_alone(at, log, kind, x, expected);
     }
-    u32 i = kind < COMPARE ? 0 : find_told(at, told_how(log, failing));
-    if (i && told[i - 1].value != expected && is_same()) {
+    u64 what = told_what(at, log, failing);
+    u32 i = kind < COMPARE ? 0 : find_same(what, 1, expected);
+    if (i) {
         if (kind == COMPARE_WEAK)
-            __wathread_set_failed(1);
-        return told[i - 1].value;
+            set_failed(1);
+        return value_told(i - 1);
     }
-    int found = begin_change(at, log, kind, expected, order, failing);
-    message *m = message_of(found);
-    u64 had = found & FAILED && is_newest(found) ? load_real(at, log) : m->value, value = result(kind, had, x, log) & MASK(log);
+    u64 found = begin_change(at, log, kind, expected, order, failing);
+    u64 had = found & FAILED && found & NEWEST ? load_real(at, log) : message_of(found)->value;
     if (found & FAILED) {
-        if (!is_newest(found))
+        if (!(found & NEWEST))
             show_old(at, log, had);
         else if (found & TELLS && had != expected)
-            tell(at, told_how(log, failing), had);
+            tell(what, had);
     } else {
-        m[1].value = value;
-        if (is_newest(found + 1))
+        u64 value = result(kind, had, x, log) & MASK(log);
+        put(&message_of(found + 1)->value, value);
+        if (found & NEWEST)
             store_real(at, log, value);
     }
     if (kind == COMPARE_WEAK && found & FAILED)
-        __wathread_set_failed(1);
+        set_failed(1);
     end_access(me());
     return had;
 }
@@ -398,6 +434,8 @@ static void join_psc(int t) {
         u64 both = greater(mine & POSITIONS, orders.psc.words[w]);
         put(&orders.current[t].words[w], (mine & ~POSITIONS) | both);
         put(&orders.psc.words[w], both);
+        if (both)
+            use_psc();
     }
 }
 
@@ -419,8 +457,8 @@ void __wathread_fence(int order) {
 
 /* ---- Threads ---- */
 
-static u32 detached;        /* bits by slots */
-static u32 left;            /* main's bit, while it has left and waits until all others have ended */
+static u64 detached;        /* bits by slots */
+static u64 left;            /* main's bit, while it has left and waits until all others have ended */
 static u8 joiner[THREADS];  /* who waits for a thread's end: its slot, plus 1 */
 static u32 results[NUMBERS];
 static u64 joined;          /* bits by numbers: its end was taken, or nobody's, and may be asked for again */
@@ -434,17 +472,16 @@ int __wathread_fences(void); /* start.s */
 void orders_start_begins(void) {
     if (!is_parallel()) {
         enter(0, 0); /* who was joined last may be about to leave */
-        simulates = running = 1;
-        __wathread_set_parallel(1);
-        __wathread_set_slot(0);
+        simulates = running = having = looking = 1;
+        set_parallel(1);
+        set_slot(0);
         slots[thread_self()] = 0;
-        fences = __wathread_fences();
+        if (__wathread_fences())
+            put_head(own_head() | HAS_FENCES);
     } else
         begin_operation(0, THREADS_OWN);
     for (chosen = 0; (running | ended) >> chosen & 1; chosen++)
         ;
-    if (chosen >= THREADS)
-        orders_full_of_threads__use_DORDERS_THREADS();
 }
 
 int orders_spawn(int place) {
@@ -462,17 +499,28 @@ int orders_spawn(int place) {
 void orders_start_ends(int thread) {
     if (thread > 0) {
         slots[thread] = chosen;
-        running |= 1u << chosen;
+        running |= BIT(chosen);
+        looks_again();
         copy(&orders.current[chosen], &orders.current[me()]);
     }
-    __wathread_set_stays(1);
+    set_stays(1);
+}
+
+/* What it knows by fences, and has counted. */
+static void forget_own(int t) {
+    if (fences()) {
+        clear(&orders.acquirable[t]);
+        clear(&orders.released[t]);
+    }
+    if (own_head() & HAS_COUNTS && orders.counting >> t & 1) {
+        clear(&orders.reads[t]);
+        set_counting(orders.counting & ~BIT(t));
+    }
 }
 
 static void forget_views(int t) {
     clear(&orders.current[t]);
-    clear(&orders.acquirable[t]);
-    clear(&orders.released[t]);
-    clear(&orders.reads[t]);
+    forget_own(t);
 #if ORDERS_C11_SEQUENCES
     for (int l = 0; l < PLACES; l++)
         clear(&orders.sequences[t][l]);
@@ -481,21 +529,34 @@ static void forget_views(int t) {
 
 static void take_end(int t, int of) {
     add(&orders.current[t], &orders.current[of]);
-    ended &= ~(1u << of);
+    set_ended(ended & ~BIT(of));
     forget_views(of);
+}
+
+/* All tables are as they were at first. */
+static void end_all(int t) {
+    forget_views(t);
+    set_counted(0);
+    if (has_psc())
+        clear(&orders.psc);
+    for (int l = places(); l--;) {
+        int count = COUNT(orders.places[l]);
+        for (int m = count; m--;)
+            clear_message(message_at(l, m));
+        set_count(l, count, 0);
+        orders.places[l] = 0;
+    }
+    put_head(0);
 }
 
 /* Once a thread is alone and knows all, nothing has to be simulated any more. */
 static void end_parallel(int t) {
-    if (running != 1u << t || ended)
+    if (running != BIT(t) || ended)
         return;
-    for (int l = 0; l < orders.count; l++)
-        if (!is_known_to_all(l))
+    for (int l = 0; l < places(); l++)
+        if (!(orders.places[l] & BEHIND) && !is_known_to_all(l))
             return;
-    while (orders.count)
-        remove_place(orders.count - 1);
-    forget_views(t);
-    clear(&orders.psc);
+    end_all(t);
     simulates = 0;
     tell_helper(will_end ? RESTS : OVER);
     if (!will_end)
@@ -503,7 +564,7 @@ static void end_parallel(int t) {
 }
 
 static void wake_main(void) {
-    joining &= ~left;
+    set_joining(joining & ~left);
     left = 0;
     wakes(slots[0]);
 }
@@ -516,27 +577,26 @@ void orders_ends(int thread, unsigned result) {
     begin_operation(0, THREADS_OWN);
     int t = slots[thread], by = joiner[t] - 1;
     results[thread] = result;
-    ended |= 1u << t;
+    set_ended(ended | BIT(t));
     if (by >= 0)
-        sleeping &= ~(1u << by);
-    if ((running & ~(1u << t)) == left)
+        sleeping &= ~BIT(by);
+    if ((running & ~BIT(t)) == left)
         sleeping &= ~left;
     is_gone(t);
-    clear(&orders.acquirable[t]);
-    clear(&orders.released[t]);
-    clear(&orders.reads[t]);
-    done = counted = 0; /* what has ended makes no states */
+    forget_own(t);
+    set_counted(0); /* what has ended makes no states */
+    set_done(0);
     forget_what_was_told();
     if (by >= 0) {
         joiner[t] = 0;
-        joining &= ~(1u << by);
+        set_joining(joining & ~BIT(by));
         joined |= 1ull << thread;
         take_end(by, t);
         end_parallel(by);
     } else if (detached >> t & 1 && !left) {
         joined |= 1ull << thread;
-        detached &= ~(1u << t);
-        ended &= ~(1u << t);
+        detached &= ~BIT(t);
+        set_ended(ended & ~BIT(t));
         forget_views(t);
     }
     if (by >= 0)
@@ -556,14 +616,14 @@ void orders_main_left(unsigned result) {
     joined |= 1;
     if (by >= 0) {
         joiner[t] = 0;
-        joining &= ~(1u << by);
-        sleeping &= ~(1u << by);
+        set_joining(joining & ~BIT(by));
+        sleeping &= ~BIT(by);
         add(&orders.current[by], &orders.current[t]);
         wakes(by);
     }
-    if (running != 1u << t) {
-        left = 1u << t;
-        joining |= left;
+    if (running != BIT(t)) {
+        left = BIT(t);
+        set_joining(joining | left);
         falls_asleep(t, NUMBERS + 1);
         end_operation();
         sleeps(t, NUMBERS + 1, -1);
@@ -574,9 +634,9 @@ void orders_main_left(unsigned result) {
             joined |= 1ull << thread;
             take_end(t, slots[thread]);
         }
-    detached = 1u << t;
+    detached = BIT(t);
     end_parallel(t);
-    __wathread_set_parallel(simulates);
+    set_parallel(simulates);
     end_operation();
 }
 
@@ -595,35 +655,42 @@ static int is_late(int t, int of) {
     int late = joiner[of] == t + 1;
     if (late) {
         joiner[of] = 0;
-        joining &= ~(1u << t);
+        set_joining(joining & ~BIT(t));
         asleep[t] = 0;
-        sleeping &= ~(1u << t);
+        sleeping &= ~BIT(t);
     }
     leave(me());
     return late;
 }
 
-int orders_joins(int thread, unsigned *result, long long nanoseconds) {
+/* Whether it sleeps until then. Nothing of it is in the frame of who sleeps: it would make more states. */
+static __attribute__((noinline)) int begin_join(int thread, long long nanoseconds) {
     begin_operation(0, nanoseconds < 0 ? THREADS_OWN : OTHERS);
-    int t = me(), of = slots[thread];
+    int t = me(), of = slots[thread], waits = !((joined >> thread | ended >> of) & 1);
     if (joined >> thread & 1) {
         if (!thread) /* main, which is there still */
             add(&orders.current[t], &orders.current[of]);
-        end_access(t);
-    } else if (ended >> of & 1) {
+    } else if (!waits) {
         joined |= 1ull << thread;
         take_end(t, of);
         end_parallel(t);
-        __wathread_set_parallel(simulates);
-        end_access(t);
+        set_parallel(simulates);
     } else {
         joiner[of] = t + 1;
-        joining |= 1u << t;
+        set_joining(joining | BIT(t));
         falls_asleep(t, thread + 1);
-        end_access(t);
-        if (sleeps(t, thread + 1, nanoseconds) == 2 && is_late(t, of))
+    }
+    end_access(t);
+    return waits;
+}
+
+int orders_joins(int thread, unsigned *result, long long nanoseconds) {
+    if (begin_join(thread, nanoseconds)) {
+        if (sleeps(me(), thread + 1, nanoseconds) == 2 && is_late(me(), slots[thread]))
             return 2;
-        __wathread_set_parallel(simulates);
+        set_parallel(simulates);
+        if (!simulates)
+            set_counted(0);
     }
     *result = results[thread];
     return 0;
@@ -634,10 +701,10 @@ void orders_detached(int thread) {
     int t = slots[thread];
     if (ended >> t & 1 && !left) {
         joined |= 1ull << thread;
-        ended &= ~(1u << t);
+        set_ended(ended & ~BIT(t));
         forget_views(t);
     } else
-        detached |= 1u << t;
+        detached |= BIT(t);
     end_operation();
 }
 
@@ -659,7 +726,7 @@ static int ends_by_time(int t) {
     if (i < THREADS) {
         unqueue(i);
         asleep[t] = 0;
-        sleeping &= ~(1u << t);
+        sleeping &= ~BIT(t);
     }
     leave(me());
     return i < THREADS ? 2 : 0;
@@ -702,7 +769,7 @@ unsigned __wathread_notify(u32 word, unsigned most) {
         if (asleep[queue[i] - 1] == word) {
             int t = queue[i] - 1;
             unqueue(i);
-            sleeping &= ~(1u << t);
+            sleeping &= ~BIT(t);
             wakes(t);
             many++;
         } else
@@ -732,8 +799,6 @@ static void put_in_freed(u32 at, u32 size) {
         i--;
         size += at - orders.freed[i].at;
     } else {
-        if (many == FREED)
-            orders_full_of_freed_blocks__use_DORDERS_FREED();
         for (int k = many; k > i; k--) {
             orders.freed[k].at = orders.freed[k - 1].at;
             orders.freed[k].size = orders.freed[k - 1].size;
@@ -748,9 +813,9 @@ static void put_in_freed(u32 at, u32 size) {
 }
 
 static void forget_places(u32 at, u32 size, int touches) {
-    news = 1;
-    for (int l = orders.count; l--;)
-        if (orders.places[l].at - at < size) {
+    mark(NEWS);
+    for (int l = places(); l--;)
+        if (!(orders.places[l] & BEHIND) && AT(orders.places[l]) - at < size) {
             if (touches)
                 touch(l, 1);
             remove_place(l);
@@ -762,7 +827,8 @@ void orders_freed(void *block, unsigned size) {
         return;
     begin_operation(0, OTHERS);
     forget_places((u32)block, size, 1);
-    put_in_freed((u32)block, size);
+    if (size) /* malloc(0) has a front alone */
+        put_in_freed((u32)block, size);
     leave(me());
 }
 
@@ -772,7 +838,7 @@ void orders_taken(void *block, unsigned size) {
     if (!is_parallel())
         return;
     begin_operation(0, OTHERS);
-    for (int i = 0; i < FREED; i++) {
+    for (int i = 0; i < FREED && orders.freed[i].size; i++) {
         u32 first = orders.freed[i].at, had = orders.freed[i].size;
         if (at - first >= had)
             continue;
@@ -806,8 +872,8 @@ ATOMICS(32, 2, u32)
 ATOMICS(64, 3, u64)
 
 int __wathread_failed(void) {
-    int failed = __wathread_get_failed();
-    __wathread_set_failed(0);
+    int failed = own_failed();
+    set_failed(0);
     return failed;
 }
 void __wathread_reads(u32 at, u32 size) { note(at, size, READ); }

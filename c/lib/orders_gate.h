@@ -6,19 +6,13 @@ typedef uint16_t u16;
 typedef uint8_t u8;
 #define INLINE __attribute__((always_inline)) static inline
 
-/* ---- Limits: each is set by a switch of wathread-cc, as -DORDERS_PLACES=128 ---- */
+/* ---- Limits: tables are as large as malloc's pool, and as there may be threads. wathread-cc says both ---- */
 
-#ifndef ORDERS_PLACES
-#define ORDERS_PLACES 64      /* places that threads share at a time, a multiple of 4 */
+#ifndef ORDERS_POOL
+#define ORDERS_POOL 16384     /* --pool: bytes that malloc has */
 #endif
-#ifndef ORDERS_MESSAGES
-#define ORDERS_MESSAGES 16    /* of one place that somebody may still read, up to 120 */
-#endif
-#ifndef ORDERS_THREADS
-#define ORDERS_THREADS 7      /* that aren't joined yet, with main; up to 23 */
-#endif
-#ifndef ORDERS_FREED
-#define ORDERS_FREED 16       /* blocks that were freed while threads run */
+#ifndef ORDERS_STARTS
+#define ORDERS_STARTS 15      /* --threads: how many may be started */
 #endif
 #ifndef ORDERS_PATIENCE
 #define ORDERS_PATIENCE 1     /* how often a thread is told what is old where it has asked before; 0: any number */
@@ -26,38 +20,78 @@ typedef uint8_t u8;
 #ifndef ORDERS_C11_SEQUENCES
 #define ORDERS_C11_SEQUENCES 0 /* 1: a release sequence has later stores of the same thread too, as before C++20 */
 #endif
-#if ORDERS_PLACES % 4 || ORDERS_PLACES < 4
-#error "ORDERS_PLACES is a multiple of 4"
-#endif
-#if ORDERS_MESSAGES < 2 || ORDERS_MESSAGES > 120
-#error "ORDERS_MESSAGES is 2 to 120"
-#endif
-#if ORDERS_THREADS < 2 || ORDERS_THREADS > 23
-#error "ORDERS_THREADS is 2 to 23"
-#endif
+#define FROM_TO(least, most, n) ((n) < (least) ? (least) : (n) > (most) ? (most) : (n))
 
-enum { PLACES = ORDERS_PLACES, MESSAGES = ORDERS_MESSAGES, THREADS = ORDERS_THREADS, FREED = ORDERS_FREED,
-       NUMBERS = 64, FRONT = 16 /* in front of each block of malloc's */ };
+enum {
+    THREADS = ORDERS_STARTS + 1,              /* that aren't joined yet, with main */
+    MOST_PLACES = ORDERS_C11_SEQUENCES ? 128 : 1024,
+    PLACES = FROM_TO(64, MOST_PLACES, ORDERS_POOL / 256 / 4 * 4), /* that threads share at a time */
+    NEAR = 4,                                 /* messages of a place that lie beside it */
+    PAGE = 8,                                 /* and so many lie together behind these */
+    PAGES = FROM_TO(16, 512, ORDERS_POOL / 1024), /* of all places together */
+    FREED = ORDERS_POOL / 32 + 1,             /* blocks that were freed: a block in between, with its front, has as many bytes */
+    NUMBERS = 64,
+    FRONT = 16                                /* in front of each block of malloc's */
+};
 
 /* Numbers that each thread has for itself, and no memory (start.s): what a thread touches in front of an event is a part
-   of a state, so an operation that comes first or tries again would be two of them. */
-#define OWN(name) int __wathread_get_##name(void); void __wathread_set_##name(int);
-OWN(slot)     /* its number here */
-OWN(parallel) /* 0 while `main` is alone: then nothing has to be simulated */
-OWN(stays)    /* it started a thread, and stays inside until its next operation, of which it may be a part */
-OWN(tolds)    /* how much it was told */
-OWN(often)    /* what it may have done twice */
-OWN(failed)   /* its last weak compare-exchange, until that is asked for */
+   of a state, so an operation that comes first or tries again would be two of them. And an access of memory is an entry of
+   a record. */
+#define OWN(name, type, wasm)                                                                                          \
+    __asm__(".globaltype number_" #name ", " #wasm);                                                                   \
+    INLINE type own_##name(void) {                                                                                     \
+        type x;                                                                                                        \
+        __asm__ volatile("global.get number_" #name "\n\tlocal.set %0" : "=r"(x));                                     \
+        return x;                                                                                                      \
+    }                                                                                                                  \
+    INLINE void set_##name(type x) { __asm__ volatile("local.get %0\n\tglobal.set number_" #name : : "r"(x)); }
+OWN(slot, int, i32)     /* its number here */
+OWN(parallel, int, i32) /* 0 while `main` is alone: then nothing has to be simulated */
+OWN(stays, int, i32)    /* it started a thread, and stays inside until its next operation, of which it may be a part */
+OWN(tolds, u32, i32)    /* how much it was told */
+OWN(often, u32, i32)    /* what it may have done twice */
+OWN(failed, int, i32)   /* its last weak compare-exchange, until that is asked for */
+OWN(noted, int, i32)    /* how many plain accesses it has noted */
+OWN(counted, int, i32)  /* whether it has counted what it read */
+OWN(done, u64, i64)     /* what it may have done to a place before */
+#define TOLD(i)                                                                                                        \
+    OWN(what##i, u64, i64) /* what it was told */                                                                      \
+    OWN(value##i, u64, i64)
+TOLD(0) TOLD(1) TOLD(2) TOLD(3)
+enum { MOST_TOLD = 4 }; /* how much at most */
+/* Of who is inside, and 0 outside: */
+OWN(head, u32, i32)     /* how many places there are, and what is used (orders_tables.h) */
+OWN(marks, u32, i32)    /* what was done: */
+OWN(inside, u64, i64)   /* what the gate was as it came in, without HELD */
+enum { NEWS = 1 /* there is a message or a place that wasn't */, NOTING = 2 /* it will be told the same again */,
+       STILL = 4 /* it knows of no message that it didn't know */ };
+INLINE void mark(u32 what) { set_marks(own_marks() | what); }
 
 /* Numbers of the runtime are used again after a join: by starts, and by the numbers that traces have. */
 static u8 slots_of_starts[NUMBERS], slots[NUMBERS];
-INLINE int me(void) { return __wathread_get_slot(); }
-INLINE int is_parallel(void) { return __wathread_get_parallel(); }
+INLINE int me(void) { return own_slot(); }
+INLINE int is_parallel(void) { return own_parallel(); }
 
 static int simulates; /* the same for who is told of it: it was waiting as threads became one */
 
-/* Bits by slots: threads that haven't ended, and of these who sleeps. */
-static u32 running, sleeping;
+/* Bits by slots: threads that run, and of these who sleeps; who has ended, and isn't joined; who waits for a thread's end,
+   and will know what that knows. Who has a view is both who runs and who has ended; and who may still read is each that
+   runs and doesn't wait so. */
+static u64 running, sleeping, ended, joining; /* ended: and not joined */
+static u64 having, looking;
+#define BIT(t) (1ull << (t))
+static void looks_again(void) {
+    having = running | ended;
+    looking = running & ~joining;
+}
+static void set_joining(u64 who) {
+    joining = who;
+    looking = running & ~who;
+}
+static void set_ended(u64 who) {
+    ended = who;
+    having = running | who;
+}
 
 /* ---- The gate: one thread at a time ----
 
@@ -68,28 +102,30 @@ static u32 running, sleeping;
    The gate also has a bit for each thread that is told the same again where it asks the same again (orders.c): as long as
    nobody writes a message. So a loop that waits for one is a loop of one event, by which nobody is kept out. */
 
+enum { IN_TURN = THREADS < 28 ? THREADS : 28 }; /* there are bits for so many: the others aren't asked */
 #define HELD 1ull
 #define OPEN 2ull
 #define TURN(t) (4ull * ((t) + 1)) /* whose turn it is: t plus 1, in five bits */
 #define TURN_MASK TURN(30)
 #define ASKS(t) (0x80ull << (t))
-#define ALL_ASKS (((1ull << THREADS) - 1) << 7)
-#define SAME(t) (0x80ull << (THREADS + (t)))
-#define ALL_SAME (((1ull << THREADS) - 1) << (7 + THREADS))
+#define ALL_ASKS (((1ull << IN_TURN) - 1) << 7)
+#define SAME(t) (0x80ull << (IN_TURN + (t)))
+#define ALL_SAME (((1ull << IN_TURN) - 1) << (7 + IN_TURN))
 static _Atomic u64 gate;
-static u64 inside;       /* what the gate was as the thread that is inside came in, without HELD */
-static int news, noting; /* of that one: there is a message or a place that wasn't; it will be told the same again */
+
+INLINE int has_turns(int t) { return THREADS <= IN_TURN || t < IN_TURN; }
+INLINE u64 same_bit(int t) { return has_turns(t) ? SAME(t) : 0; }
+
+static u32 head_inside(void); /* orders_tables.h */
 
 /* A function of its own, so that nothing of a try in vain is left in the frame: it would make more states. */
 static __attribute__((noinline)) int tries(int t, u64 mine) {
     u64 was = atomic_fetch_or(&gate, mine);
-    if (!(was & HELD) || (was & TURN_MASK) == TURN(t)) {
-        was = (was | mine) & ~HELD;
-        if (was)
-            inside = was;
+    if (!(was & HELD) || (has_turns(t) && (was & TURN_MASK) == TURN(t))) {
+        set_inside((was | mine) & ~HELD);
         return 1;
     }
-    if ((was | mine) & OPEN && !(was & ASKS(t)))
+    if (has_turns(t) && (was | mine) & OPEN && !(was & ASKS(t)))
         atomic_fetch_or(&gate, ASKS(t));
     return 0;
 }
@@ -97,27 +133,34 @@ static __attribute__((noinline)) int tries(int t, u64 mine) {
 static void enter(int t, int again) {
     while (!tries(t, again ? HELD | OPEN : HELD))
         ;
+    set_head(head_inside());
 }
 
 /* What the gate is once T has left: the turn of the next one who asked. */
 static u64 turn_behind(int t, u64 was, u64 same) {
-    u64 asked = was & ALL_ASKS & ~ASKS(t);
+    u64 asked = was & ALL_ASKS;
+    if (has_turns(t))
+        asked &= ~ASKS(t);
     if (!asked)
         return same;
     do
-        t = (t + 1) % THREADS;
+        t = t + 1 < IN_TURN ? t + 1 : 0;
     while (!(asked & ASKS(t)));
     return HELD | OPEN | TURN(t) | (asked & ~ASKS(t)) | same;
 }
 
+/* Who will be told the same again. What was done is in no frame then: it would make more states. */
+static __attribute__((noinline)) u64 same_behind(int t) {
+    u32 marks = own_marks();
+    u64 same = marks & NEWS ? 0 : own_inside() & ALL_SAME & ~same_bit(t);
+    set_marks(0);
+    return marks & NOTING ? same | same_bit(t) : same;
+}
+
 static void leave(int t) {
-    u64 was = inside, same = news ? 0 : was & ALL_SAME & ~SAME(t);
-    if (noting)
-        same |= SAME(t);
-    if (news | noting)
-        news = noting = 0;
-    if (was)
-        inside = 0;
+    u64 same = same_behind(t), was = own_inside();
+    set_head(0);
+    set_inside(0);
     if (was & (OPEN | ALL_ASKS))
         for (was |= HELD; !atomic_compare_exchange_strong(&gate, &was, turn_behind(t, was, same));)
             ;
@@ -128,9 +171,9 @@ static void leave(int t) {
 /* The same for who may have stayed inside since it started a thread. Where it comes to the same whether the new thread goes
    first or not, both are one operation. */
 static void enter_behind_start(int t, int again, int commutes) {
-    int stays = __wathread_get_stays();
+    int stays = own_stays();
     if (stays)
-        __wathread_set_stays(0);
+        set_stays(0);
     if (stays && commutes)
         return;
     if (stays)
@@ -168,8 +211,8 @@ int orders_begins(int thread, int place) {
         place = (int)dice[thread] - BECOMES;
     }
     if (place >= 0) {
-        __wathread_set_slot(slots_of_starts[place]);
-        __wathread_set_parallel(1);
+        set_slot(slots_of_starts[place]);
+        set_parallel(1);
     }
     return place;
 }
@@ -206,7 +249,7 @@ static u32 asleep[THREADS]; /* by slots: what is waited for, an address or a thr
 
 static void falls_asleep(int t, u32 what) {
     asleep[t] = what;
-    sleeping |= 1u << t;
+    sleeping |= BIT(t);
     if (sleeping == running)
         tell_helper(RESTS);
 }
@@ -224,7 +267,8 @@ static void wakes(int t) {
 /* ---- What ends a run: the name is what a trace says ---- */
 
 static void is_gone(int t) {
-    running &= ~(1u << t);
+    running &= ~BIT(t);
+    looks_again();
     if (!running || over)
         tell_helper(OVER);
     else if (sleeping == running)
@@ -253,7 +297,5 @@ void __wathread_traps(void) {
 TRAPS data_race(u32 at) { (void)*(volatile u8 *)at; fails_inside(); __builtin_trap(); }
 TRAPS use_after_free(void) FAILS
 TRAPS atomics_of_mixed_sizes(void) FAILS
-TRAPS orders_full_of_places__use_DORDERS_PLACES(void) FAILS
-TRAPS orders_full_of_messages__use_DORDERS_MESSAGES(void) FAILS
-TRAPS orders_full_of_threads__use_DORDERS_THREADS(void) FAILS
-TRAPS orders_full_of_freed_blocks__use_DORDERS_FREED(void) FAILS
+TRAPS orders_full_of_places__use_a_greater_pool(void) FAILS
+TRAPS orders_full_of_messages__use_a_greater_pool(void) FAILS

@@ -3,8 +3,7 @@
    known of it, has changed. */
 
 enum { PENDING = 16, READ = 1, WRITE = 2 };
-static _Thread_local struct { u32 at, what; } pending[PENDING]; /* what: READ or WRITE, and 4 times the size */
-static _Thread_local int noted;
+static _Thread_local u64 pending[PENDING]; /* the address; above it READ or WRITE, and 4 times the size */
 
 int __wathread_is_constant(u32 at); /* start.s */
 
@@ -27,48 +26,63 @@ INLINE void store_real(u32 at, int log, u64 value) {
 }
 
 static void check_readers(int t, int l) {
-    u32 readers = orders.places[l].readers & ~(1u << t);
-    for (int u = 0; readers >> u; u++)
-        if (readers >> u & 1 && !knows(&orders.current[t], l, READ_KNOWN(u)))
-            data_race(orders.places[l].at);
+    u64 p = orders.places[l];
+    for (int k = 0;; k++) {
+        cell want = (cell)((p & ALL_READERS) >> 36 << 9);
+        if (t / READERS == k)
+            want &= ~READ_KNOWN(t);
+        if (want && !knows(&orders.current[t], l + k, want))
+            data_race(AT(p));
+        if (!(p & MORE))
+            return;
+        p = orders.places[l + k + 1];
+    }
 }
 
 static void touch_reading(int t, int l) {
-    u32 bit = 1u << t;
-    if (orders.places[l].readers & bit)
-        forget_all(l, READ_KNOWN(t)); /* others know of an earlier one */
+    if (t >= READERS)
+        add_cells(l, t / READERS + 1);
+    int at = l + t / READERS;
+    u64 p = orders.places[at];
+    if (p & READER(t))
+        forget_all(at, READ_KNOWN(t)); /* others know of an earlier one */
     else
-        orders.places[l].readers |= bit;
-    orders.current[t].at[l] |= READ_KNOWN(t);
+        orders.places[at] = p | READER(t);
+    learn(&orders.current[t], at, READ_KNOWN(t));
 }
 
 /* An atomic that is initialised anew has one message, and all have to know this write. */
 static void begin_anew(int l) {
-    place *p = &orders.places[l];
-    news = 1;
-    lower_all(l, 127);
-    for (int m = p->count; --m;)
-        clear_message(&orders.messages[l][m]);
-    clear_message(&orders.messages[l][0]);
-    orders.messages[l][0].value = load_real(p->at, p->log);
-    p->count = 1;
+    u64 p = orders.places[l];
+    mark(NEWS);
+    lower_all(l, COUNT(p));
+    for (int m = COUNT(p); m--;)
+        clear_message(message_at(l, m));
+    set_count(l, COUNT(p), 1);
+    put(&orders.near[l][0].value, load_real(AT(p), LOG(p)));
 }
 
 static void touch(int l, int writes) {
     int t = me();
-    place *p = &orders.places[l];
-    if (!knows(&orders.current[t], l, WRITE_KNOWN) || (p->count && position(&orders.current[t], l) != p->count - 1))
-        data_race(p->at);
+    u64 p = orders.places[l];
+    if (!knows(&orders.current[t], l, WRITE_KNOWN) || (COUNT(p) && position(&orders.current[t], l) != COUNT(p) - 1))
+        data_race(AT(p));
     if (!writes) {
         touch_reading(t, l);
         return;
     }
     check_readers(t, l);
-    if (p->count)
+    if (COUNT(p))
         begin_anew(l);
-    p->readers = 0;
-    forget_all(l, (cell)~255);
-    orders.current[t].at[l] |= WRITE_KNOWN;
+    for (int k = cells_of(l); k--;) {
+        p = orders.places[l + k];
+        if (p & ALL_READERS)
+            orders.places[l + k] = p & ~ALL_READERS;
+        forget_all(l + k, ALL_KNOWN);
+    }
+    learn(&orders.current[t], l, WRITE_KNOWN);
+    if (p & MORE)
+        take_cells(l);
 }
 
 /* As large a place as fits in between. */
@@ -78,7 +92,7 @@ static int touch_new(u32 at, u32 room, int writes) {
         log--;
     int l = new_place(at, log, writes ? me() : -1);
     if (!writes)
-        touch(l, 0);
+        touch_reading(me(), l);
     return 1 << log;
 }
 
@@ -86,52 +100,48 @@ static int touch_new(u32 at, u32 room, int writes) {
 static void touch_bytes(u32 at, u32 size, int writes) {
     for (u32 end = at + size; at < end;) {
         int l = find(at);
-        place *p = &orders.places[l];
-        int meets = l < orders.count && p->at < end;
-        if (meets && !p->count && (p->at < at || end_of(p) > end))
+        u64 p = l < places() ? orders.places[l] : 0;
+        int meets = l < places() && AT(p) < end;
+        if (meets && !COUNT(p) && (AT(p) < at || end_of(p) > end))
             split(l);
-        else if (meets && p->at <= at) {
+        else if (meets && AT(p) <= at) {
             touch(l, writes); /* of an atomic a part is all */
             at = end_of(p);
         } else
-            at += touch_new(at, meets ? p->at - at : end - at, writes);
+            at += touch_new(at, meets ? AT(p) - at : end - at, writes);
     }
 }
 
 /* At the beginning of each operation, inside. */
 static void look_at_noted(void) {
-    int many = noted;
+    int many = own_noted();
     for (int i = 0; i < many; i++) {
-        u32 at = pending[i].at, what = pending[i].what;
-        pending[i].at = pending[i].what = 0;
-        touch_bytes(at, what >> 2, what & WRITE);
+        u64 what = pending[i];
+        pending[i] = 0;
+        touch_bytes((u32)what, what >> 34, what >> 32 & WRITE);
     }
-    if (many)
-        noted = 0;
+    set_noted(0);
 }
 
 /* THREADS_OWN: starts, joins and ends, which come to the same in front of what a new thread does and behind it. */
 enum operation { LOADS, STORES, CHANGES, COMPARES, FENCES, WAITS, OTHERS, THREADS_OWN };
 
-/* What a thread may have done to a place before, by a number below 64. */
-static _Thread_local u64 done;
-
 INLINE u32 number_of(u32 at, enum operation what) { return ((at >> 2) * 5 + what) & 63; }
 INLINE u32 often_bit(u32 number) { return 1u << (number & 31); }
 
-/* Inside, since what is touched in front of the gate is a part of a state. */
+/* Who does something for the first time is in no loop yet in which all was done before. */
 static int is_again(u32 number, enum operation what) {
-    u64 had = done, bit = 1ull << number;
+    u64 had = own_done(), bit = 1ull << number;
     if (!(had & bit)) {
-        done = had | bit;
+        set_done(had | bit);
+        set_often(0);
         return 0;
     }
     if (what != LOADS)
-        __wathread_set_often(__wathread_get_often() | often_bit(number));
+        set_often(own_often() | often_bit(number));
     return 1;
 }
 
-enum { TOLD = 4 }; /* how much a thread is told at most */
 static void forget_what_was_told(void);
 
 /* Answers whether the thread may have done the same before. Who does it for the third time may do so for ever, and opens the
@@ -139,9 +149,9 @@ static void forget_what_was_told(void);
 static int begin_operation(u32 at, enum operation what) {
     int t = me();
     u32 number = number_of(at, what);
-    int again = what == LOADS ? __wathread_get_tolds() == TOLD : what < OTHERS && __wathread_get_often() & often_bit(number);
+    int again = what == LOADS ? own_tolds() == MOST_TOLD : what < OTHERS && own_often() & often_bit(number);
     enter_behind_start(t, again, what == THREADS_OWN);
-    if (!(inside & SAME(t)))
+    if (!(own_inside() & same_bit(t)))
         forget_what_was_told();
     look_at_noted();
     return what < OTHERS && is_again(number, what);
@@ -149,12 +159,14 @@ static int begin_operation(u32 at, enum operation what) {
 
 /* Whether it's said already, or by more: a write says more than a read. */
 static int is_noted(u32 at, u32 what) {
-    for (int i = 0; i < noted; i++)
-        if (pending[i].at == at && pending[i].what >> 2 == what >> 2) {
-            if (what & WRITE && !(pending[i].what & WRITE))
-                pending[i].what = what;
+    for (int i = 0; i < own_noted(); i++) {
+        u64 had = pending[i];
+        if ((u32)had == at && had >> 34 == what >> 2) {
+            if (what & WRITE && !(had >> 32 & WRITE))
+                pending[i] = at | (u64)what << 32;
             return 1;
         }
+    }
     return 0;
 }
 
@@ -162,11 +174,10 @@ static void note(u32 at, u32 size, u32 kind) {
     u32 what = size << 2 | kind;
     if (!is_parallel() || !size || (kind == READ && __wathread_is_constant(at)) || is_noted(at, what))
         return;
-    if (noted == PENDING) {
+    if (own_noted() == PENDING) {
         begin_operation(0, OTHERS);
         leave(me());
     }
-    pending[noted].at = at;
-    pending[noted].what = what;
-    noted++;
+    pending[own_noted()] = at | (u64)what << 32;
+    set_noted(own_noted() + 1);
 }

@@ -164,33 +164,32 @@ __cyg_profile_func_enter_bare:
 	end_function
 
 # For --orders c11 (orders.c): numbers that each thread has for itself, and no memory: so they are in no entry and no race.
-	.macro	number_of_thread name
-	.globaltype	number_\name, i32
+	.macro	number_of_thread name type
+	.globaltype	number_\name, \type
+	.globl	number_\name
 number_\name:
-	.section	.text.__wathread_get_\name,"",@
-	.globl	__wathread_get_\name
-	.type	__wathread_get_\name,@function
-__wathread_get_\name:
-	.functype	__wathread_get_\name () -> (i32)
-	global.get	number_\name
-	end_function
-
-	.section	.text.__wathread_set_\name,"",@
-	.globl	__wathread_set_\name
-	.type	__wathread_set_\name,@function
-__wathread_set_\name:
-	.functype	__wathread_set_\name (i32) -> ()
-	local.get	0
-	global.set	number_\name
-	end_function
 	.endm
 
-#orders	number_of_thread slot
-#orders	number_of_thread parallel
-#orders	number_of_thread stays
-#orders	number_of_thread tolds
-#orders	number_of_thread often
-#orders	number_of_thread failed
+#orders	number_of_thread slot, i32
+#orders	number_of_thread parallel, i32
+#orders	number_of_thread stays, i32
+#orders	number_of_thread tolds, i32
+#orders	number_of_thread often, i32
+#orders	number_of_thread failed, i32
+#orders	number_of_thread noted, i32
+#orders	number_of_thread counted, i32
+#orders	number_of_thread marks, i32
+#orders	number_of_thread head, i32
+#orders	number_of_thread done, i64
+#orders	number_of_thread inside, i64
+#orders	number_of_thread what0, i64
+#orders	number_of_thread what1, i64
+#orders	number_of_thread what2, i64
+#orders	number_of_thread what3, i64
+#orders	number_of_thread value0, i64
+#orders	number_of_thread value1, i64
+#orders	number_of_thread value2, i64
+#orders	number_of_thread value3, i64
 
 # The same: whether the program has fences, and where constants lie.
 	.section	.text.__wathread_fences,"",@

@@ -1,9 +1,9 @@
 #!/bin/bash
 # tests/orders.sh [WATHREAD]: what `wathread-cc --orders c11` finds. The programs of tests/orders/accesses in drawn runs, at
-# -O1 and -O0, each with what it is to end as on its first line (`EXPECT ok`, `trap`, `asleep`, or a name in a trace); then
-# those of tests/orders/algorithms, which are right, and bugs planted in the runtime, each found by a litmus test of
-# bench/orders, or by a loop that then waits for ever. Prints a table. WATHREAD is the program, or ../wathread. CC names the
-# clang; RUNS is how many are drawn.
+# -O1 and -O0, each with what it is to end as on its first line (`EXPECT ok`, `trap`, `asleep`, or a name in a trace); those
+# that fill a table once more, with a greater pool; those of tests/orders/algorithms, which are right; and bugs planted in
+# the runtime, each found by a litmus test of bench/orders, or by a loop that then waits for ever. Prints a table. WATHREAD
+# is the program, or ../wathread. CC names the clang; RUNS is how many are drawn.
 set -u
 here=$(cd "$(dirname "$0")/.." && pwd)
 export WATHREAD=${1:-$here/../wathread}
@@ -34,6 +34,17 @@ accesses() {
             [ "$got" = "$want" ] || wrong=1 got="WRONG: $got"
             say "$(basename "$file" .c)" -O$level "$want" "$got"
         done
+    done
+}
+
+# What fills the tables has room in those of a greater pool.
+room() {
+    local name got
+    for name in many places; do
+        build "$here" --pool 65536 "$here/tests/orders/accesses/$name.c"
+        got=$(ending)
+        [ "$got" = ok ] || wrong=1 got="WRONG: $got"
+        say "$name" -O1 "ok with a greater pool" "$got"
     done
 }
 
@@ -76,19 +87,21 @@ planted_loop() { # what, file, edit, algorithm
 }
 
 accesses
+room
 algorithms
 planted "an acquire joins no view" orders.c 's/^    if \(acquires\(order\)\)$/    if (0)/' MP+rel+acq
-planted "a release leaves no view" orders.c 's/^    if \(releases\(order\)\)$/    if (0)/' MP+rel+acq
+planted "a release leaves no view" orders.c 's/mine = releases\(order\) \?/mine = 0 ?/' MP+rel+acq
 planted "no old message is read" orders.c 's/^        p -= choose\(newest - least \+ 1\);/        p -= 0;/' SB+rlx+rlx
-planted "a message is passed by" orders.c 's/^    int least = position\(.*sc = order/    int least = 0, sc = order/' CoWR+rlx+rlx
-planted "a store comes in between" orders.c 's/^    messages\[p\].glued = glued;/    messages[p].glued = 0;/' RMW+late
+planted "a message is passed by" orders.c 's/^    return oldest > sc \? oldest : sc;/    return sc;/' CoWR+rlx+rlx
+planted "a store comes in between" orders.c 's/^        made->glued = glued;/        ;/' RMW+late
 planted "a fence that releases nothing" orders.c 's/copy\(&orders.released\[t\], &orders.current\[t\]\);/;/' MP+frel+acq
 planted "a fence that acquires nothing" orders.c 's/add\(&orders.current\[t\], &orders.acquirable\[t\]\);/;/' MP+rel+facq
 planted "a fence out of order" orders.c 's/^        join_psc\(t\);/        ;/' SB+fsc
-planted "an SC load of what is old" orders.c 's/sc = order == SEQ_CST \?/sc = 0 ?/' SB+sc+sc
-planted_loop "told the same behind a store" orders_gate.h 's/same = news \? 0 : was/same = was/' ticket
+planted "an SC load of what is old" orders.c 's/sc = order == SEQ_CST \&\&/sc = 0 \&\&/' SB+sc+sc
+planted "who starts a thread is first" orders_gate.h 's/if \(stays \&\& commutes\)/if (stays)/' MP+rel+acq
+planted_loop "told the same behind a store" orders_gate.h 's/same = marks \& NEWS \? 0 : own/same = own/' ticket
 planted "a choice that isn't offered" orders_gate.h 's/while \(i < many - 1 \&\& draw/while (i < many - 2 \&\& draw/' SB+rlx+rlx
-planted "no release sequence" orders.c 's/^        copy\(&messages\[p\].view, &messages\[p - 1\].view\);/        clear(\&messages[p].view);/' MP+rs+rmw
+planted "no release sequence" orders.c 's/word = glued \? glued->words\[w\] : 0;/word = 0;/' MP+rs+rmw
 
 [ $wrong = 0 ] && echo "all as wanted" || echo "WRONG"
 exit $wrong

@@ -3,7 +3,7 @@
 #include <stdatomic.h>
 static _Atomic int x, done;
 static void *w(void *p) {
-    for (int i = 0; i < 30; i++)
+    for (int i = 0; i < 200; i++)
         atomic_store_explicit(&x, i, memory_order_relaxed);
     done = 1;
     return p;
