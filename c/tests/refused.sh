@@ -134,6 +134,7 @@ for value in wait waits, '' waits,mallocs ,; do
     refuses "--spurious=$value: it takes waits, trials, exchanges, timeouts and malloc" "$cc_" good.c "--spurious=$value"
 done
 refuses '--orders tso: it takes c11 or sc' "$cc_" good.c -o m.wasm --orders tso
+refuses "-DORDERS_PLACES=128 isn't there any more" "$cc_" good.c -o m.wasm --orders c11 -DORDERS_PLACES=128
 refuses '--threads 63: with --orders c11 it takes 1 to 62' "$cc_" good.c -o m.wasm --orders=c11 --threads 63
 for option in stack pool; do
     for value in 0 63 16777217 99999999999999999999 -64 4k; do
