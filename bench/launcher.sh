@@ -97,7 +97,7 @@ ends 1 'thread 0: stop out of fuel.*' '' "${bare[@]}" "${run[@]}" --fuel 0
 ends 2 '' 'module refused: read 1 at 0' "${bare[@]}" ./wathread check /dev/null
 ends 3 '' 'run refused: unknown export' "${bare[@]}" ./wathread run examples/atomic_add.wasm --invoke g
 ends 3 '' 'error: .*' "${bare[@]}" ./wathread
-ends 5 '' 'file fault: nothing.wasm' "${bare[@]}" ./wathread check nothing.wasm
+ends 5 '' $'file fault: nothing.wasm\nthere is nothing with this path' "${bare[@]}" ./wathread check nothing.wasm
 
 # A copied tree runs as it is.
 cp -r "$work/first" "$work/a copy"
@@ -107,7 +107,7 @@ cd "$work/a copy" && ends 0 "$ADDED" '' "${bare[@]}" "${run[@]}"
 clone forbidden
 other=(setpriv --reuid 54321 --clear-groups "${bare[@]}")
 for _ in 1 2; do ends 0 "$ADDED" "$TOOK" "${other[@]}" "${run[@]}"; done
-ends 5 '' "$TOOK"$'\nfile fault: nothing.wasm' "${other[@]}" ./wathread check nothing.wasm
+ends 5 '' "$TOOK"$'\nfile fault: nothing.wasm\nthere is nothing with this path' "${other[@]}" ./wathread check nothing.wasm
 ends 0 $'.*all: 1 ending, 209 states, no race\nevery state can end\nevery fair run ends' "$TOOK" "${other[@]}" \
     ./wathread search examples/search/peterson.wasm --invoke f --all 2
 [ ! -e crates/wathread/out ] || say "the tree that can't be written has crates/wathread/out"

@@ -3,3 +3,4 @@ mod Spanned
 mod Printed
 mod RunMoments
 pub mod Sightings
+mod Statuses

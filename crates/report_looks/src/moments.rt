@@ -68,6 +68,7 @@ fn moment_text(
         is_end: false,
         bytes,
         is_raw: seen.is_raw,
+        text: false,
         form: Form::Lines,
     };
     let moment = moment_of(alloc, seen.valid, record, here)?;

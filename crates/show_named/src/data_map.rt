@@ -5,6 +5,7 @@ ghost use Rattle.dwarf_units.specs.Spans.{holds};
 ghost use Rattle.show_named.specs.Names.{HasData, IsDataText};
 
 use crate::marks::marks_of;
+use crate::signs::signed_in;
 use dwarf_data::{NamedBytes, name_at, place_of, read_data};
 use dwarf_frames::{CallFrame, read_chains, read_frame, read_functions};
 use dwarf_lines::DebugSections;
@@ -13,7 +14,7 @@ use selection::touched;
 use show_rows::{CodeMap, Row};
 use show_text::Plain;
 use std::alloc::{AllocError, Global};
-use types::Event;
+use types::{Entry, Event};
 
 /// How many steps the name of an address takes at most.
 const NAME_STEPS: u64 = 1 << 14;
@@ -76,6 +77,24 @@ impl<'n> DataMap<'n> {
         ensures { IfOk result (λ frame. frame.offset ≡ offset) }
     {
         read_frame(alloc, &self.units, self.lines, &self.functions, offset)
+    }
+
+    /// The code with the data of signed integer types that these entries touch.
+    ///
+    /// # Errors
+    /// Where memory is refused.
+    pub fn signed<'m, 'c>(
+        &self,
+        alloc: Global,
+        code: CodeMap<'m, 'c>,
+        log: &[Entry],
+    ) -> Result<CodeMap<'m, 'c>, AllocError>
+        ensures parts { IfOk result (λ c. c.parts.now ≡ code.entry.parts.now) }
+        ensures others { IfOk result (λ c. c ≡ record code.entry { signed = c.signed }) }
+    {
+        self.units.allow(self.steps);
+        let signed = signed_in(alloc, &self.units, &self.spans, log)?;
+        Ok(code.with_signed(signed))
     }
 
     /// The code with the functions that were put in the place of their calls, at the places of these rows and of their
