@@ -9,6 +9,7 @@ use crate::place::ByteRange;
 use crate::sizes::MOST_TYPES;
 use crate::static_data::whole;
 use dwarf_units::{Spans, Units};
+use show_places::short_name;
 use std::alloc::{AllocError, Global};
 use std::fmt::Write;
 
@@ -96,7 +97,7 @@ fn part_at(
         return Ok(None);
     };
     let mut named = NamedPart {
-        words: String::from_str(alloc, name)?,
+        words: short_name(alloc, name)?,
         part,
         start: span.start,
         has_bits: false,

@@ -25,6 +25,12 @@ const PLACE_STEPS: u64 = 1 << 16;
 /// How many steps the open functions of a thread take at most, and the names to which their pointers lead.
 const STACK_STEPS: u64 = 1 << 21;
 
+/// How many values are told of a thread at most.
+const MOST_VALUES: u64 = 256;
+
+/// How many steps all moments of a page take at most.
+const PAGE_STEPS: u64 = 1 << 28;
+
 /// How many steps a byte of the entries takes at most, on average, where all entries are asked.
 const BYTE_STEPS: u64 = 4;
 
@@ -67,9 +73,21 @@ impl<'n> DataMap<'n> {
     }
 
     /// Lets the frames of a thread's open functions be asked. What takes more steps than all of them may is left out of
-    /// the further ones.
+    /// the further ones, and so are more values than `MOST_VALUES`.
     pub fn begin_stack(&self) {
         self.units.allow(STACK_STEPS);
+        self.units.allow_values(MOST_VALUES + 1);
+    }
+
+    /// Lets the frames of a page's moments be asked. What takes more steps than all of them may is left out of the
+    /// further ones, until the page is ended.
+    pub fn begin_page(&self) {
+        self.units.allow_in_all(PAGE_STEPS);
+    }
+
+    /// Lets as much be asked as before the page.
+    pub fn end_page(&self) {
+        self.units.allow_in_all(u64::MAX);
     }
 
     /// What is said of a frame whose function is at an offset of the code.
