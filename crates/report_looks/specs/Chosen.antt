@@ -1,7 +1,6 @@
 -- Whether all entries are chosen.
-use Rattle.std.specs.Prelude.{◌==◌, ◌&&◌, Bool, length}
+use Rattle.std.specs.Prelude.{◌==◌, ◌&&◌, Bool, is_none, length}
 use Rattle.selection.specs.declared.choice.Choice.{Choice}
 
 abbrev pub chooses_all : Choice → Bool
-chooses_all choice =
-    (length choice.lines.items == 0) && ((length choice.addrs.items == 0) && (length choice.threads.items == 0))
+chooses_all choice = is_none choice.lines && (is_none choice.addrs && (length choice.threads.items == 0))

@@ -15,7 +15,7 @@ use Rattle.replay_text.specs.declared.parts.RecordParts.{RecordParts}
 use Rattle.replay_text.specs.Versions.{header_count}
 use Rattle.selection.specs.declared.choice.Look.{Look}
 use Rattle.selection.specs.declared.choice.NumberSpan.{NumberSpan}
-use Rattle.selection.specs.Choices.{span_of}
+use Rattle.selection.specs.Choices.{span_of, AreOfAny}
 use Rattle.report_command.specs.declared.form.Form.{Form}
 use Rattle.report_command.specs.declared.form.Form.TheVariants.{Lines, Json}
 use Rattle.report_command.specs.declared.places.Data.{Data}
@@ -104,11 +104,11 @@ IsWanted r map (views.Write write) w = (sought : SoughtWrite) × (w ≡ wanted.W
 IsWanted r map (views.Moment at) w = (here : Here) × (w ≡ wanted.Moment here) × IsHere r at here
 IsWanted r map view w = w ≡ wanted.Entries view
 
--- The look that is asked for, at these addresses.
+-- The look that is asked for, at these addresses: where no lines or addresses are given, all are chosen.
 pub record IsLookAt (how : ShowLook) (addrs : List NumberSpan) (look : Look) : Type 0 where
-  pub lines : look.choice.lines.items ≡ how.lines.items
+  pub lines : AreOfAny how.lines.items look.choice.lines
   pub threads : look.choice.threads.items ≡ how.threads.items
-  pub addrs_are : look.choice.addrs.items ≡ addrs
+  pub addrs_are : AreOfAny addrs look.choice.addrs
   pub width : look.width ≡ how.width
   pub color : look.color ≡ how.color
 

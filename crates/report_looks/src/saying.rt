@@ -27,7 +27,7 @@ pub(crate) enum SaidPart<'l> {
 pub(crate) fn chooses_all(choice: &Choice) -> bool
     ensures { result ≡ specified.chooses_all choice.now }
 {
-    choice.lines.is_empty() && choice.addrs.is_empty() && choice.threads.is_empty()
+    choice.lines.is_none() && choice.addrs.is_none() && choice.threads.is_empty()
 }
 
 /// Whether what a thread says is shown where these entries are chosen: with the entry with which it ended, and where all

@@ -16,7 +16,7 @@ use dwarf_data::{ByteRange, NamedBytes};
 use replay_text::RecordParts;
 use report_command::{At, Data, Form, LastWrite, RecordView, ShowLook, When};
 use report_jobs::{Absent, Unfit};
-use selection::{Choice, Look, NumberSpan};
+use selection::{Choice, Look, NumberSpan, spans_if_any};
 use show_moments::Bytes;
 use show_named::{DataMap, SoughtWrite};
 use show_rows::Stood;
@@ -246,11 +246,12 @@ pub(crate) fn spans_of<'a>(
 fn look_at(alloc: Global, how: &ShowLook, addrs: Vec<NumberSpan>) -> Result<Look, AllocError>
     ensures { IfOk result (IsLookAt how.now addrs.items) }
 {
+    let lines = Vec::from_slice(alloc, how.lines.as_slice())?;
     Ok(Look {
         choice: Choice {
-            lines: Vec::from_slice(alloc, how.lines.as_slice())?,
+            lines: spans_if_any(alloc, lines)?,
             threads: Vec::from_slice(alloc, how.threads.as_slice())?,
-            addrs,
+            addrs: spans_if_any(alloc, addrs)?,
         },
         width: how.width,
         color: how.color,
