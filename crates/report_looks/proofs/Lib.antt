@@ -4,3 +4,4 @@ mod Printed
 mod RunMoments
 pub mod Sightings
 mod Statuses
+mod LastMoments
