@@ -143,10 +143,43 @@ for option in stack pool; do
     done
 done
 refuses 'is a module and no source' "$cc_" good.c m.wasm
-refuses 'good.c is what is compiled' "$cc_" good.c -o good.c
-refuses 'good.c is what is compiled' "$cc_" good.c -o ./good.c
-refuses 'good.c is what is compiled' "$cc_" -c good.c -o ./good.c
-refuses 'good.c is what is compiled' "$cc_" -S good.c -o good.c
+
+# what is compiled isn't written over, whatever its name there
+cp good.c kept.c && ln good.c hard.c && ln -s good.c soft.c && echo good.c -O1 >words
+"$cc_" -c third.c -o third.o && cp third.o kept.o && llvm-ar rc libthird.a third.o || say "third.o"
+for does in '' -c -S -E -M; do
+    for other in '' third.c; do
+        for path in good.c ./good.c "$work/good.c" nowhere/../good.c hard.c soft.c; do
+            [ "$path" != nowhere/../good.c ] || mkdir nowhere
+            # shellcheck disable=SC2086
+            refuses "$path is what is compiled" "$cc_" $does good.c $other -o "$path"
+            # shellcheck disable=SC2086
+            refuses "good.c is what is compiled" "$cc_" $does "$path" $other -o good.c
+            [ ! -d nowhere ] || rmdir nowhere
+        done
+    done
+done
+refuses 'soft.c is what is compiled' "$cc_" -c hard.c -o soft.c
+refuses './good.c is what is compiled' "$cc_" third.c -include good.c -o ./good.c
+refuses './good.c is what is compiled' "$cc_" third.c -includegood.c -o ./good.c
+refuses 'hard.c is what is compiled' "$cc_" @words -o hard.c
+refuses './third.o is what is compiled' "$cc_" good.c third.o -o ./third.o
+refuses 'third.o is what is compiled' "$cc_" good.c -Wl,third.o -o third.o
+refuses 'third.o is what is compiled' "$cc_" other.c -Xlinker "$work/third.o" -o third.o
+refuses 'libthird.a is what is compiled' "$cc_" other.c -L. -lthird -o libthird.a
+refuses 'hard.c is what is compiled' "$cc_" -c good.c -MD -MF hard.c -o m.wasm
+refuses 'hard.c is what is compiled' "$cc_" -M good.c -MFhard.c
+ln good.c good.o && ln -s ../good.c temporary/good.s && ln -s good.c a.wasm
+refuses 'good.o is what is compiled' "$cc_" -c good.c
+refuses 'good.o is what is compiled' "$cc_" -c -x c good.o
+refuses 'a.wasm is what is compiled' "$cc_" good.c
+(cd temporary && refuses 'good.s is what is compiled' "$cc_" -S third.c ../good.c 2>&1) | grep WRONG && wrong=$((wrong + 1))
+cmp -s good.c kept.c && cmp -s third.o kept.o || say "what was compiled is another"
+rm -f hard.c soft.c good.o temporary/* a.wasm words libthird.a kept.o
+"$cc_" -c third.c -MT third.o -MD -MP -MF third.d -o third.o && "$cc_" -c third.c -MT third.o -MF third.d -MD -o third.o &&
+    grep -q '^third.o:' third.d || say "an object is made once more, with its rule"
+"$cc_" -c -x c /dev/null -o /dev/null || say "of /dev/null"
+rm -f third.o third.d
 passes "'--thread'" "$cc_" good.c -o m.wasm --thread 4
 passes 'unknown argument' "$cc_" good.c -o m.wasm -fno-such-thing
 
