@@ -1,6 +1,6 @@
 #!/bin/bash
-# What wathread-cc refuses: one line, status 1, and OUT is what it was. It wants no wathread, but gcc, and as root also
-# setpriv. CC names the clang.
+# What wathread-cc refuses: one line, status 1, and OUT is what it was; and that signals leave nothing of it. It wants no
+# wathread, but gcc, and as root also setpriv. CC names the clang. SIGNALS=N: how many of each kind are sent, 200 else.
 set -u
 cc_=$(cd "$(dirname "$0")/.." && pwd)/wathread-cc
 clang=${CC:-clang}
@@ -225,6 +225,26 @@ makes m.wasm "$cc_" --threads 1 --stack 8000000 good.c -o m.wasm
 grep -q 'No space left' err.text || say "/dev/full: $(cat err.text)"
 "$cc_" --help | head -1 | grep -q '^usage: wathread-cc' || say "--help"
 "$cc_" --version | grep -q clang || say "--version"
+
+# signals
+refuses "can't be made" env TMPDIR="$work/nowhere" "$cc_" good.c -o m.wasm
+rm -rf temporary/* && mkdir place fake
+for tool in mktemp mkdir python3 "$clang" sed; do # which is told right behind what it did
+    for signal in HUP INT TERM; do
+        printf '#!/bin/bash\n%s "$@"\nstatus=$?\nkill -%s $PPID\nexit $status\n' "$(command -v "$tool")" $signal >fake/"$tool"
+        chmod 755 fake/"$tool"
+        TMPDIR=$work/temporary PATH="$work/fake:$PATH" "$cc_" good.c -o place/m.wasm >/dev/null 2>&1
+        [ -z "$(ls -A temporary)" ] || say "SIG$signal behind $tool leaves $(ls -A temporary)"
+        rm -rf temporary/* fake/* place/*
+    done
+done
+for words in 'good.c -o place/m.wasm' '-c good.c -o place/m.o' '--orders c11 good.c -o place/m.wasm'; do
+    # what is written beside OUT is of python's making, and not looked at
+    # shellcheck disable=SC2086
+    TMPDIR=$work/temporary python3 "$(dirname "$cc_")/../bench/signals.py" "${SIGNALS:-200}" temporary place 'm.*,.wathread-*' \
+        "$cc_" $words || say "signals: $words"
+done
+rm -r place fake
 
 # sources
 passes 'error: expected' "$cc_" wrong.c -o m.wasm
