@@ -31,9 +31,9 @@ few=(setpriv --reuid 54321 --clear-groups prlimit)
 ends 0 'thread 0: ok i64:120.*' "${few[@]}" --nproc=1 ./wathread run fac.wasm --invoke fac 5
 for memory in locked words; do
     run=(./wathread run endless.wasm --invoke f --fuel 1000000000000 --memory "$memory")
-    ends 124 '' "${few[@]}" --nproc=64 "${run[@]}"
-    # the run has one thread, and 63 more before it begins
-    for threads in 1 2 32 62 63; do ends 5 'no thread' "${few[@]}" --nproc=$threads "${run[@]}"; done
+    ends 124 '' "${few[@]}" --nproc=65 "${run[@]}"
+    # the program has a thread with a stack of its own, and the run 63 more before it begins
+    for threads in 1 2 32 63 64; do ends 5 'no thread' "${few[@]}" --nproc=$threads "${run[@]}"; done
     # bytes of addresses: too few for the memory, and then for the stacks of all threads
     for millions in 10 20 50; do ends 5 'no memory' prlimit --as=${millions}000000 "${run[@]}"; done
     for millions in 100 200 400; do ends 5 'no thread' prlimit --as=${millions}000000 "${run[@]}"; done
