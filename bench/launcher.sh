@@ -184,16 +184,16 @@ signals() {
             rm -rf "${folder:?}"
             printf '#!/bin/bash\n%s "$@"\nstatus=$?\nkill -%s $PPID\nexit $status\n' "$(type -P $tool)" $signal >"$work/fake/$tool"
             chmod 755 "$work/fake/$tool"
-            timeout 60 "$@" >/dev/null 2>&1 </dev/null
+            { timeout 60 "$@" >/dev/null </dev/null; } 2>/dev/null
             tried=$((tried + 1))
             [ -z "$(ls -A "$work/temporary")" ] || say "SIG$signal behind $tool leaves $(ls -A "$work/temporary"): $*"
-            [ ! -d "$folder" ] || [ -z "$(find "$folder" -mindepth 1 ! -name 'wathread.by-rattle*')" ] ||
+            [ ! -d "$folder" ] || [ -z "$(find "$folder" -mindepth 1 ! -name 'wathread.by-rattle*' ! -name wathread.log)" ] ||
                 say "SIG$signal behind $tool leaves $(ls -A "$folder"): $*"
             rm -rf "$work/temporary"/* "$work/fake/$tool"
         done
     done
-    ends 0 '[0-9]+ signals, 0 leave something: .*' '' python3 "$top/bench/signals.py" "$count" "$work/temporary" "$folder" \
-        'wathread.by-rattle*' "$@"
+    ends 0 '[0-9]+ signals within [^,]*, 0 leave something: .*' '' python3 "$top/bench/signals.py" "$count" "$work/temporary" "$folder" \
+        'wathread.by-rattle*,wathread.log' "$@"
     cat "$work/.out"
 }
 bare=("${bare[@]}" "PATH=$work/fake:$work/all")
@@ -203,7 +203,7 @@ signals "$times" crates/wathread/out "${bare[@]}" "${run[@]}"
 signals "$times" "$work/none" "${bare[@]}" ./wathread search examples/broken_lock.wasm --invoke f --runs 1000000 --time 3
 cd "$work/forbidden" && signals "$times" "$work/none" "${other[@]}" "${run[@]}"
 cd "$work/signalled" && rm -r release/wathread-*
-printf '#!/bin/sh\nexec sleep 20\n' >"$work/fake/rt" && chmod 755 "$work/fake/rt"
+printf '#!/bin/sh\nexec sleep 2\n' >"$work/fake/rt" && chmod 755 "$work/fake/rt"
 signals $((times / 4)) crates/wathread/out "${bare[@]}" "${run[@]}"
 rm -r "$work/fake"
 

@@ -18,12 +18,11 @@ has_until() {
 # caught, before the folder is there, so that whatever ends this shell takes it away.
 folders=()
 new_folder() {
+    local it
     folder=$1/wathread.$$.$RANDOM$RANDOM$RANDOM
     trap remove_folders EXIT
-    trap 'exit 129' HUP
-    trap 'exit 130' INT
-    trap 'exit 131' QUIT
-    trap 'exit 143' TERM
+    # shellcheck disable=SC2064 # the name of the signal is that of now
+    for it in HUP INT QUIT TERM; do trap "remove_folders; kill -$it $$" $it; done
     folders+=("$folder")
     mkdir -m 700 "$folder" 2>/dev/null && return
     unset 'folders[-1]' # it may be another one's
