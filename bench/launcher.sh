@@ -2,7 +2,8 @@
 # The launcher ./wathread in clones and copies of this repository as it is committed: which program it takes, what it
 # says, and what it passes on. Where the shipped program is of other sources, PROGRAM=PATH is packed in its place. With
 # rt on the path it also proves, builds and compares, in a repository with a small program in place of wathread: some
-# minutes. Wants git, xz and python3, and root, for a tree that another user can't write.
+# minutes. Wants git, xz and python3, and root, for a tree that another user can't write. SIGNALS=N: how many of each
+# kind are sent to each of some commands, 200 else.
 set -u
 top=$(cd "$(dirname "$0")/.." && pwd)
 work=$(mktemp -d)
@@ -20,7 +21,7 @@ say() {
 ends() {
     local status=$1 out=$2 err=$3 got
     shift 3
-    timeout 900 "$@" >"$work/.out" 2>"$work/.err" </dev/null
+    timeout 3600 "$@" >"$work/.out" 2>"$work/.err" </dev/null
     got=$?
     tried=$((tried + 1))
     [ "$got" -eq "$status" ] || say "status $got: $*"
@@ -97,7 +98,7 @@ ends 1 'thread 0: stop out of fuel.*' '' "${bare[@]}" "${run[@]}" --fuel 0
 ends 2 '' 'module refused: read 1 at 0' "${bare[@]}" ./wathread check /dev/null
 ends 3 '' 'run refused: unknown export' "${bare[@]}" ./wathread run examples/atomic_add.wasm --invoke g
 ends 3 '' 'error: .*' "${bare[@]}" ./wathread
-ends 5 '' 'file fault: nothing.wasm' "${bare[@]}" ./wathread check nothing.wasm
+ends 5 '' $'file fault: nothing.wasm\nthere is nothing with this path' "${bare[@]}" ./wathread check nothing.wasm
 
 # A copied tree runs as it is.
 cp -r "$work/first" "$work/a copy"
@@ -107,11 +108,104 @@ cd "$work/a copy" && ends 0 "$ADDED" '' "${bare[@]}" "${run[@]}"
 clone forbidden
 other=(setpriv --reuid 54321 --clear-groups "${bare[@]}")
 for _ in 1 2; do ends 0 "$ADDED" "$TOOK" "${other[@]}" "${run[@]}"; done
-ends 5 '' "$TOOK"$'\nfile fault: nothing.wasm' "${other[@]}" ./wathread check nothing.wasm
+ends 5 '' "$TOOK"$'\nfile fault: nothing.wasm\nthere is nothing with this path' "${other[@]}" ./wathread check nothing.wasm
 ends 0 $'.*all: 1 ending, 209 states, no race\nevery state can end\nevery fair run ends' "$TOOK" "${other[@]}" \
     ./wathread search examples/search/peterson.wasm --invoke f --all 2
 [ ! -e crates/wathread/out ] || say "the tree that can't be written has crates/wathread/out"
 [ -z "$(ls -A "$work/temporary")" ] || say "left among the temporary files: $(ls -A "$work/temporary")"
+
+# What lies in out/ is run where nobody could have written it but this user and root. Else it is said, and isn't run.
+clone shared
+kept=$PWD/crates/wathread/out
+OTHERS="wathread: what is in $kept isn't run: [^"$'\n'"]*"
+
+# Puts another program there, with a sum that fits: forge OWNER MODE OF_ITS_FOLDER MODE
+forge() {
+    rm -rf "$kept" && mkdir "$kept" && printf '#!/bin/sh\necho forged\n' >"$kept/wathread.by-rattle"
+    printf '%s\nprogram %s\ntoolchain one\n' "$(grep ^sources release/wathread-x86_64-linux.sum)" \
+        "$(sha256sum <"$kept/wathread.by-rattle" | cut -c1-64)" >"$kept/wathread.by-rattle.sum"
+    chown "$1" "$kept/wathread.by-rattle" && chmod "$2" "$kept/wathread.by-rattle"
+    chown "$3" "$kept" && chmod "$4" "$kept"
+}
+
+forge 0 755 0 755
+ends 0 forged '' "${bare[@]}" "${run[@]}"
+ends 0 forged '' "${other[@]}" "${run[@]}"
+while read -r words; do
+    # shellcheck disable=SC2086
+    forge $words
+    for _ in 1 2; do ends 0 "$ADDED" "$OTHERS"$'\n'"$TOOK" "${other[@]}" "${run[@]}"; done
+done <<END
+0 775 0 755
+0 757 0 755
+0 755 0 775
+0 755 0 1777
+54322 755 0 755
+0 755 54322 755
+54322 755 54322 755
+END
+# A folder of one's own is made so that nobody else can write it.
+for words in '54321 755 54321 777' '54322 755 54321 775' '54321 775 54321 755'; do
+    # shellcheck disable=SC2086
+    forge $words
+    ends 0 "$ADDED" "$OTHERS"$'\n'"$TOOK" "${other[@]}" "${run[@]}"
+    ends 0 "$ADDED" '' "${other[@]}" "${run[@]}"
+    [ "$(stat -c '%u %a' "$kept" "$kept"/*)" = $'54321 755\n54321 755\n54321 644' ] || say "kept: $(stat -c '%u %a %n' "$kept" "$kept"/*)"
+done
+forge 0 755 0 755
+mv "$kept/wathread.by-rattle" elsewhere && ln -s "$PWD/elsewhere" "$kept/wathread.by-rattle"
+ends 0 "$ADDED" "$OTHERS"$'\n'"$TOOK" "${bare[@]}" "${run[@]}"
+[ "$(<elsewhere)" = $'#!/bin/sh\necho forged' ] || say "a link in out/ was followed"
+ends 0 "$ADDED" '' "${bare[@]}" "${run[@]}"
+# One of another user stays as it is, whoever runs the launcher.
+forge 54322 755 54322 755
+ends 0 "$ADDED" "$OTHERS"$'\n'"$TOOK" "${bare[@]}" "${run[@]}"
+[ "$(<"$kept/wathread.by-rattle")" = $'#!/bin/sh\necho forged' ] || say "another user's program is replaced"
+rm release/wathread-x86_64-linux.sum
+ends 70 '' "$OTHERS"$'\n'"wathread: no program is shipped, and $kept can't be written, or others may write it" \
+    "${bare[@]}" "${run[@]}"
+# Whatever the umask is, what is kept is nobody else's to write.
+clone loose
+ends 0 "$ADDED" "$TOOK" "${bare[@]}" bash -c 'umask 0 && exec "$0" "$@"' "${run[@]}"
+ends 0 "$ADDED" '' "${bare[@]}" "${run[@]}"
+[ -z "$(ls -A "$work/temporary")" ] || say "left among the temporary files: $(ls -A "$work/temporary")"
+
+# Signals leave nothing: of a first command, of a search, of a tree that can't be written, of a proof. Some come right
+# behind a command that makes or moves a file or folder, which stands here in its place, and others at any time.
+clone signalled
+mkdir "$work/fake" "$work/none"
+times=${SIGNALS:-200}
+# signals TIMES OUT COMMAND..
+signals() {
+    local count=$1 folder=$2 tool signal
+    shift 2
+    for tool in mkdir mktemp cp mv chmod find xz setpriv; do
+        for signal in HUP INT TERM; do
+            rm -rf "${folder:?}"
+            printf '#!/bin/bash\n%s "$@"\nstatus=$?\nkill -%s $PPID\nexit $status\n' "$(type -P $tool)" $signal >"$work/fake/$tool"
+            chmod 755 "$work/fake/$tool"
+            { timeout 60 "$@" >/dev/null </dev/null; } 2>/dev/null
+            tried=$((tried + 1))
+            [ -z "$(ls -A "$work/temporary")" ] || say "SIG$signal behind $tool leaves $(ls -A "$work/temporary"): $*"
+            [ ! -d "$folder" ] || [ -z "$(find "$folder" -mindepth 1 ! -name 'wathread.by-rattle*' ! -name wathread.log)" ] ||
+                say "SIG$signal behind $tool leaves $(ls -A "$folder"): $*"
+            rm -rf "$work/temporary"/* "$work/fake/$tool"
+        done
+    done
+    ends 0 '[0-9]+ signals within [^,]*, 0 leave something: .*' '' python3 "$top/bench/signals.py" "$count" "$work/temporary" "$folder" \
+        'wathread.by-rattle*,wathread.log' "$@"
+    cat "$work/.out"
+}
+bare=("${bare[@]}" "PATH=$work/fake:$work/all")
+other=("${other[@]}" "PATH=$work/fake:$work/all")
+signals "$times" crates/wathread/out "${bare[@]}" "${run[@]}"
+"${bare[@]}" ./wathread --version >/dev/null 2>&1
+signals "$times" "$work/none" "${bare[@]}" ./wathread search examples/broken_lock.wasm --invoke f --runs 1000000 --time 3
+cd "$work/forbidden" && signals "$times" "$work/none" "${other[@]}" "${run[@]}"
+cd "$work/signalled" && rm -r release/wathread-*
+printf '#!/bin/sh\nexec sleep 2\n' >"$work/fake/rt" && chmod 755 "$work/fake/rt"
+signals $((times / 4)) crates/wathread/out "${bare[@]}" "${run[@]}"
+rm -r "$work/fake"
 
 # A package that is damaged, cut, of another sum, not there, or can't be unpacked; other sources.
 cd "$work/second" && cp -r release "$work/kept" || exit 1

@@ -97,14 +97,17 @@ cp atomic_add.wasm forbidden.wasm
 chmod 0 forbidden.wasm
 chmod 755 "$work"
 other=(setpriv --reuid 54321 --clear-groups)
-ends 5 '' 'file fault: folder' ./wathread check folder
-ends 5 '' 'file fault: folder/' ./wathread check folder/
-ends 5 '' 'file fault: nothing.wasm' ./wathread check nothing.wasm
-ends 5 '' 'file fault: ' ./wathread check ''
-ends 5 '' 'file fault: forbidden.wasm' "${other[@]}" ./wathread check forbidden.wasm
-ends 5 '' 'file fault: folder' ./wathread replay atomic_add.wasm folder
-ends 5 '' 'file fault: ' ./wathread replay atomic_add.wasm ''
-ends 5 '' 'file fault: a{5000}' ./wathread check "$(printf 'a%.0s' {1..5000})"
+missing=$'\nthere is nothing with this path' denied=$'\nthe system doesn\'t allow it' no_file=$'\nit is a folder'
+lengthy=$'\nthe path, or a part of it, is too long' full=$'\nthere is no room left for it'
+ends 5 '' "file fault: folder$no_file" ./wathread check folder
+ends 5 '' "file fault: folder/$no_file" ./wathread check folder/
+ends 5 '' "file fault: nothing.wasm$missing" ./wathread check nothing.wasm
+ends 5 '' 'file fault: nothing.wasm' ./wathread check nothing.wasm --no-explain
+ends 5 '' "file fault: $missing" ./wathread check ''
+ends 5 '' "file fault: forbidden.wasm$denied" "${other[@]}" ./wathread check forbidden.wasm
+ends 5 '' "file fault: folder$no_file" ./wathread replay atomic_add.wasm folder
+ends 5 '' "file fault: $missing" ./wathread replay atomic_add.wasm ''
+ends 5 '' "file fault: a{5000}$lengthy" ./wathread check "$(printf 'a%.0s' {1..5000})"
 ends 2 '' 'module refused: read 1 at 20' ./wathread check cut.wasm
 cp atomic_add.wasm 'späße 図.wasm'
 ends 0 'ok functions 1' '' ./wathread check 'späße 図.wasm'
@@ -142,17 +145,17 @@ rm kept.wasm link.wasm twin.wasm
 # A record that can't be written is told before the run, which would not end.
 forever=(./wathread run endless.wasm --invoke f --fuel 1000000000000 --record)
 for path in folder folder/ nowhere/a.record nothing/ '' /proc/a.record "$(printf 'a%.0s' {1..300})"; do
-    ends 5 '' "file fault: $path" "${forever[@]}" "$path"
+    ends 5 '' "file fault: $path($missing|$no_file|$lengthy)" "${forever[@]}" "$path"
 done
 chmod 555 closed
 echo old >closed/a.record
-ends 5 '' 'file fault: closed/a.record' "${other[@]}" "${forever[@]}" closed/a.record
-ends 5 '' 'file fault: closed/b.record' "${other[@]}" "${forever[@]}" closed/b.record
+ends 5 '' "file fault: closed/a.record$denied" "${other[@]}" "${forever[@]}" closed/a.record
+ends 5 '' "file fault: closed/b.record$denied" "${other[@]}" "${forever[@]}" closed/b.record
 has closed a.record
 chmod 777 closed
-ends 5 '' 'file fault: closed/a.record' "${other[@]}" "${forever[@]}" closed/a.record
+ends 5 '' "file fault: closed/a.record$denied" "${other[@]}" "${forever[@]}" closed/a.record
 ln -s nowhere/there broken
-ends 5 '' 'file fault: broken' "${forever[@]}" broken
+ends 5 '' "file fault: broken$missing" "${forever[@]}" broken
 has closed a.record
 rm -r closed broken
 
@@ -180,11 +183,11 @@ rm "folder/$long"
 ends 0 "$ADDED"$'\n'"$(<whole)" '' sh -c './wathread run atomic_add.wasm --invoke f --record /dev/stdout | cat'
 ends 0 "$ADDED" '' "${add[@]}" --record /dev/null
 [ -c /dev/null ] || say '/dev/null is no device'
-ends 5 "$ADDED" 'file fault: /dev/full' "${add[@]}" --record /dev/full
+ends 5 "$ADDED" "file fault: /dev/full$full" "${add[@]}" --record /dev/full
 # a limit on the size of files stands for a full disk
 echo old >folder/a.record
 said=$(trap '' XFSZ; ulimit -f 0; "${add[@]}" --record folder/a.record 2>&1; echo $?)
-[ "$said" = "$ADDED"$'\nfile fault: folder/a.record\n5' ] || say "a full disk: $said"
+[[ $said =~ ^"$ADDED"$'\nfile fault: folder/a.record\n'.+$'\n5'$ ]] || say "a full disk: $said"
 [ "$(<folder/a.record)" = old ] || say 'a record that was not written took the place of another'
 has folder a.record
 
@@ -217,7 +220,23 @@ for words in 'check atomic_add.wasm' 'run atomic_add.wasm --invoke f' 'run atomi
     'replay atomic_add.wasm whole' --help; do
     ends 5 '' '' bash -c "set -o pipefail; (sleep 0.1; ./wathread $words) | true"
 done
+# A record has its place though its lines are lost.
+has folder a.record c.record
+cmp -s whole folder/c.record || say 'the record of a run whose lines are lost is another'
+rm folder/c.record
+cp "$top/examples/search/broken.wasm" broken.wasm
+for lost in '>/dev/full' '>&-' '| true'; do
+    bash -c "set -o pipefail; ./wathread search broken.wasm --invoke f 1 --find 'thread 0: ok i32:1' --record folder/c.record $lost" 2>/dev/null
+    [ $? = 5 ] || say "a search whose lines are lost: $lost"
+    [ "$(tail -n 1 folder/c.record 2>/dev/null)" = finish ] || say "the record of a search whose lines are lost: $lost"
+    rm -f folder/c.record
+    tried=$((tried + 1))
+done
 has folder a.record
+# What is read is never written.
+cp same.wasm names.wasm
+ends 3 '' '.*' ./wathread show same.wasm whole --names names.wasm --html ./folder/../names.wasm
+cmp -s same.wasm names.wasm || say 'a page took the place of the names'
 
 # Output comes in one piece, so lines of two runs don't mix.
 if command -v strace >/dev/null; then

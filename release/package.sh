@@ -62,15 +62,19 @@ unpacked() {
     fi
 }
 
-# Unpacks the shipped program into the file $1, or puts into `why` what hinders it.
-unpack() {
+# Whether the shipped program can be unpacked here, or puts into `why` what hinders it, or will.
+is_packed() {
     why="no program is shipped"
     [ -f "$shipped.xz" ] && [ -f "$shipped.sum" ] || return
     why="there's neither xz nor python3, and the shipped program is packed"
     can_unpack || return
     why="the shipped program is damaged, or there's no room for it"
-    unpacked "$shipped.xz" >"$1" 2>/dev/null && [ "$(sum_of "$1")" = "$(said program "$shipped.sum")" ] &&
-        chmod 755 "$1"
+}
+
+# Unpacks the shipped program into the file $1, or puts into `why` what hinders it.
+unpack() {
+    is_packed && unpacked "$shipped.xz" >"$1" 2>/dev/null &&
+        [ "$(sum_of "$1")" = "$(said program "$shipped.sum")" ] && chmod 755 "$1"
 }
 
 # The library for hosts, as it is shipped.
@@ -97,10 +101,9 @@ agrees() { [ "$(said "$1" "$shipped.sum")" = "$(said "$1" "$built.sum")" ]; }
 # and is said to be of the same sources and toolchain; 2 where it is said to be of others, none is shipped, or it can't
 # be unpacked here.
 compare() {
-    local room status=1 verdict="isn't the one that was built"
-    room=$(mktemp -dt wathread.XXXXXX) || return
-    unpack "$room/wathread" && why="they differ" && cmp -s "$room/wathread" "$built" && status=0
-    rm -rf "$room"
+    local status=1 verdict="isn't the one that was built"
+    is_packed && [ "$(unpacked "$shipped.xz" 2>/dev/null | sum_of /dev/stdin)" = "$(said program "$shipped.sum")" ] &&
+        why="they differ" && unpacked "$shipped.xz" 2>/dev/null | cmp -s - "$built" && status=0
     [ "$status" = 0 ] && echo "the shipped program is the one that was built, byte for byte" && return
     if [ ! -f "$shipped.sum" ] || ! can_unpack; then
         verdict="wasn't compared" status=2

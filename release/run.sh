@@ -14,10 +14,39 @@ has_until() {
     return 1
 }
 
+# Makes a folder in $1 for this user alone, and puts its path into `folder`. The path is written down, and signals are
+# caught, before the folder is there, so that whatever ends this shell takes it away.
+folders=()
+new_folder() {
+    local it
+    folder=$1/wathread.$$.$RANDOM$RANDOM$RANDOM
+    trap remove_folders EXIT
+    # shellcheck disable=SC2064 # the name of the signal is that of now
+    for it in HUP INT QUIT TERM; do trap "remove_folders; kill -$it $$" $it; done
+    folders+=("$folder")
+    mkdir -m 700 "$folder" 2>/dev/null && return
+    unset 'folders[-1]' # it may be another one's
+    return 1
+}
+
+# Removes the last folder that was made, which is `folder`.
+remove_folder() {
+    rm -rf "$folder"
+    unset 'folders[-1]'
+}
+
+# Removes all of them, at the end or before this shell becomes another program. What was killed may still write into one.
+remove_folders() {
+    trap '' HUP INT QUIT TERM
+    [ ${#folders[@]} = 0 ] || rm -rf "${folders[@]}" 2>/dev/null || { sleep 0.2 && rm -rf "${folders[@]}"; }
+    folders=()
+    trap - EXIT HUP INT QUIT TERM
+}
+
 # Kills the search and exits with status $1.
 kill_search() {
     trap '' INT TERM HUP QUIT
-    [ -z "$searching" ] || { kill -KILL "$searching"; wait "$searching"; } 2>/dev/null
+    [ "${!-}" = "$before" ] || { kill -KILL "$!"; wait "$!"; } 2>/dev/null
     exit "$1"
 }
 
@@ -25,7 +54,7 @@ kill_search() {
 end_search() {
     woken=1 told=$((told + 1))
     case $told in
-        1) : >"$room/end" ;;
+        1) : >"$folder/end" ;;
         2)
             [ ! -t 2 ] || printf '\r\033[K' >&2
             echo "wathread: the search was told to end; awaited are the step that it makes, and what it prints then;" \
@@ -37,18 +66,16 @@ end_search() {
 
 # Runs a search, which doesn't get Ctrl-C itself, and exits with its status. It ends if this shell does.
 search() {
-    local program=$1 room='' searching='' woken='' told=0 status tether=()
+    local program=$1 folder before=${!-} woken='' told=0 status tether=()
     shift
-    { : <&0 && room=$(mktemp -dt wathread.XXXXXX); } 2>/dev/null || exec "$program" "$@"
-    trap 'rm -rf "$room"' EXIT
+    { : <&0; } 2>/dev/null && new_folder "${TMPDIR:-/tmp}" || { remove_folders && exec "$program" "$@"; }
     trap end_search INT
     trap 'kill_search 143' TERM
     trap 'kill_search 129' HUP
     trap 'kill_search 131' QUIT
     ! command -v setpriv >/dev/null || tether=(setpriv --pdeathsig KILL)
-    (trap '' INT && exec "${tether[@]}" "$program" "$1" --until "$room/end" "${@:2}") <&0 &
-    searching=$!
-    until wait "$searching" 2>/dev/null; status=$?; [ -z "$woken" ]; do woken=''; done
+    (trap '' INT && exec "${tether[@]}" "$program" "$1" --until "$folder/end" "${@:2}") <&0 &
+    until wait "$!" 2>/dev/null; status=$?; [ -z "$woken" ]; do woken=''; done
     exit "$status"
 }
 

@@ -1,6 +1,6 @@
 #!/bin/bash
-# What wathread-cc refuses: one line, status 1, and OUT is what it was. It wants no wathread, but gcc, and as root also
-# setpriv. CC names the clang.
+# What wathread-cc refuses: one line, status 1, and OUT is what it was; and that signals leave nothing of it. It wants no
+# wathread, but gcc, and as root also setpriv. CC names the clang. SIGNALS=N: how many of each kind are sent, 200 else.
 set -u
 cc_=$(cd "$(dirname "$0")/.." && pwd)/wathread-cc
 clang=${CC:-clang}
@@ -143,10 +143,43 @@ for option in stack pool; do
     done
 done
 refuses 'is a module and no source' "$cc_" good.c m.wasm
-refuses 'good.c is what is compiled' "$cc_" good.c -o good.c
-refuses 'good.c is what is compiled' "$cc_" good.c -o ./good.c
-refuses 'good.c is what is compiled' "$cc_" -c good.c -o ./good.c
-refuses 'good.c is what is compiled' "$cc_" -S good.c -o good.c
+
+# what is compiled isn't written over, whatever its name there
+cp good.c kept.c && ln good.c hard.c && ln -s good.c soft.c && echo good.c -O1 >words
+"$cc_" -c third.c -o third.o && cp third.o kept.o && llvm-ar rc libthird.a third.o || say "third.o"
+for does in '' -c -S -E -M; do
+    for other in '' third.c; do
+        for path in good.c ./good.c "$work/good.c" nowhere/../good.c hard.c soft.c; do
+            [ "$path" != nowhere/../good.c ] || mkdir nowhere
+            # shellcheck disable=SC2086
+            refuses "$path is what is compiled" "$cc_" $does good.c $other -o "$path"
+            # shellcheck disable=SC2086
+            refuses "good.c is what is compiled" "$cc_" $does "$path" $other -o good.c
+            [ ! -d nowhere ] || rmdir nowhere
+        done
+    done
+done
+refuses 'soft.c is what is compiled' "$cc_" -c hard.c -o soft.c
+refuses './good.c is what is compiled' "$cc_" third.c -include good.c -o ./good.c
+refuses './good.c is what is compiled' "$cc_" third.c -includegood.c -o ./good.c
+refuses 'hard.c is what is compiled' "$cc_" @words -o hard.c
+refuses './third.o is what is compiled' "$cc_" good.c third.o -o ./third.o
+refuses 'third.o is what is compiled' "$cc_" good.c -Wl,third.o -o third.o
+refuses 'third.o is what is compiled' "$cc_" other.c -Xlinker "$work/third.o" -o third.o
+refuses 'libthird.a is what is compiled' "$cc_" other.c -L. -lthird -o libthird.a
+refuses 'hard.c is what is compiled' "$cc_" -c good.c -MD -MF hard.c -o m.wasm
+refuses 'hard.c is what is compiled' "$cc_" -M good.c -MFhard.c
+ln good.c good.o && ln -s ../good.c temporary/good.s && ln -s good.c a.wasm
+refuses 'good.o is what is compiled' "$cc_" -c good.c
+refuses 'good.o is what is compiled' "$cc_" -c -x c good.o
+refuses 'a.wasm is what is compiled' "$cc_" good.c
+(cd temporary && refuses 'good.s is what is compiled' "$cc_" -S third.c ../good.c 2>&1) | grep WRONG && wrong=$((wrong + 1))
+cmp -s good.c kept.c && cmp -s third.o kept.o || say "what was compiled is another"
+rm -f hard.c soft.c good.o temporary/* a.wasm words libthird.a kept.o
+"$cc_" -c third.c -MT third.o -MD -MP -MF third.d -o third.o && "$cc_" -c third.c -MT third.o -MF third.d -MD -o third.o &&
+    grep -q '^third.o:' third.d || say "an object is made once more, with its rule"
+"$cc_" -c -x c /dev/null -o /dev/null || say "of /dev/null"
+rm -f third.o third.d
 passes "'--thread'" "$cc_" good.c -o m.wasm --thread 4
 passes 'unknown argument' "$cc_" good.c -o m.wasm -fno-such-thing
 
@@ -192,6 +225,26 @@ makes m.wasm "$cc_" --threads 1 --stack 8000000 good.c -o m.wasm
 grep -q 'No space left' err.text || say "/dev/full: $(cat err.text)"
 "$cc_" --help | head -1 | grep -q '^usage: wathread-cc' || say "--help"
 "$cc_" --version | grep -q clang || say "--version"
+
+# signals
+refuses "can't be made" env TMPDIR="$work/nowhere" "$cc_" good.c -o m.wasm
+rm -rf temporary/* && mkdir place fake
+for tool in mktemp mkdir python3 "$clang" sed; do # which is told right behind what it did
+    for signal in HUP INT TERM; do
+        printf '#!/bin/bash\n%s "$@"\nstatus=$?\nkill -%s $PPID\nexit $status\n' "$(command -v "$tool")" $signal >fake/"$tool"
+        chmod 755 fake/"$tool"
+        TMPDIR=$work/temporary PATH="$work/fake:$PATH" "$cc_" good.c -o place/m.wasm >/dev/null 2>&1
+        [ -z "$(ls -A temporary)" ] || say "SIG$signal behind $tool leaves $(ls -A temporary)"
+        rm -rf temporary/* fake/* place/*
+    done
+done
+for words in 'good.c -o place/m.wasm' '-c good.c -o place/m.o' '--orders c11 good.c -o place/m.wasm'; do
+    # what is written beside OUT is of python's making, and not looked at
+    # shellcheck disable=SC2086
+    TMPDIR=$work/temporary python3 "$(dirname "$cc_")/../bench/signals.py" "${SIGNALS:-200}" temporary place 'm.*,.wathread-*' \
+        "$cc_" $words || say "signals: $words"
+done
+rm -r place fake
 
 # sources
 passes 'error: expected' "$cc_" wrong.c -o m.wasm

@@ -5,18 +5,22 @@ ghost use Rattle.dwarf_units.specs.Spans.{holds};
 
 use crate::members::members;
 use crate::parts::{PartShape, VariablePart};
+use crate::place::ByteRange;
 use crate::sizes::MOST_TYPES;
 use crate::static_data::whole;
 use dwarf_units::{Spans, Units};
+use show_places::short_name;
 use std::alloc::{AllocError, Global};
 use std::fmt::Write;
 
-/// The words of a part so far, the part, and where the last part began that has a name of its own.
+/// The words of a part so far, the part, where the last part began that has a name of its own, and whether the part is a
+/// bit field.
 #[derive(Drop)]
 struct NamedPart {
     words: String,
     part: VariablePart,
     start: u64,
+    has_bits: bool,
 }
 
 impl NamedPart {
@@ -32,6 +36,7 @@ impl NamedPart {
                     self.start = part.place.start;
                 }
                 self.part = part;
+                self.has_bits = member.bits.is_some();
                 return Ok(true);
             }
         }
@@ -74,6 +79,37 @@ impl NamedPart {
     }
 }
 
+/// The innermost part that has an address: a static variable, or a member or an element on the way to the address, as far
+/// as the first one of this type that begins there, if there is one.
+fn part_at(
+    alloc: Global,
+    units: &Units,
+    data: &Spans,
+    address: u64,
+    its_type: Option<usize>,
+) -> Result<Option<NamedPart>, AllocError>
+    ensures { IfOk result (λ part. OnSome part (IsSome (find (holds address) «data».now.items.items))) }
+{
+    let Some(span) = data.at(address) else {
+        return Ok(None);
+    };
+    let (Some(name), Some(part)) = (units.name(span.entry), whole(units, span)) else {
+        return Ok(None);
+    };
+    let mut named = NamedPart {
+        words: short_name(alloc, name)?,
+        part,
+        start: span.start,
+        has_bits: false,
+    };
+    for _ in 0..MOST_TYPES {
+        if named.is_at(address, its_type) || !named.step(alloc, units, address)? {
+            break;
+        }
+    }
+    Ok(Some(named))
+}
+
 /// What an address is called: by the static variable that has it, and the members and elements on the way to it, as far as
 /// the first one of this type that begins there, if there is one. One that isn't the first of what is named has its
 /// distance from that behind a `+`.
@@ -86,25 +122,31 @@ pub fn name_at(
 ) -> Result<Option<String>, AllocError>
     ensures { IfOk result (λ words. OnSome words (IsSome (find (holds address) «data».now.items.items))) }
 {
-    let Some(span) = data.at(address) else {
+    let Some(mut named) = part_at(alloc, units, data, address, its_type)? else {
         return Ok(None);
     };
-    let (Some(name), Some(part)) = (units.name(span.entry), whole(units, span)) else {
-        return Ok(None);
-    };
-    let mut named = NamedPart {
-        words: String::from_str(alloc, name)?,
-        part,
-        start: span.start,
-    };
-    for _ in 0..MOST_TYPES {
-        if named.is_at(address, its_type) || !named.step(alloc, units, address)? {
-            break;
-        }
-    }
     let past = address.saturating_sub(named.start);
     if past > 0 {
         write!(named.words, "+{past}")?;
     }
     Ok(Some(named.words))
+}
+
+/// The type of the static variable, the member or the element that has just these bytes and no parts, if there is one. A
+/// bit field is none.
+pub fn type_at(
+    alloc: Global,
+    units: &Units,
+    data: &Spans,
+    place: ByteRange,
+) -> Result<Option<usize>, AllocError>
+    ensures { IfOk result (λ its. OnSome its (IsSome (find (holds place.start) «data».now.items.items))) }
+{
+    let Some(named) = part_at(alloc, units, data, place.start, None)? else {
+        return Ok(None);
+    };
+    if named.part.place == place && !named.has_bits {
+        return Ok(Some(named.part.its_type));
+    }
+    Ok(None)
 }

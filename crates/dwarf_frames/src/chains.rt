@@ -7,6 +7,7 @@ use crate::frames::{Chain, UNKNOWN, write_place};
 use crate::inlined::{Inlined, inlined_at};
 use dwarf_lines::{DebugSections, Source};
 use dwarf_units::{Spanned, Spans, Units};
+use show_places::short_name;
 use std::alloc::{AllocError, Global};
 use std::fmt::Write;
 
@@ -85,7 +86,7 @@ fn calls_text(alloc: Global, calls: &[Call]) -> Result<String, AllocError> {
             || at.saturating_add(1) < MOST_CALLS
             || at.saturating_add(1) == calls.len();
         if is_told {
-            let caller = call.caller;
+            let caller = short_name(alloc, call.caller)?;
             write!(words, " < {caller}")?;
             write_place(call.file, call.line, &mut words)?;
         } else if at.saturating_add(1) == MOST_CALLS {
@@ -114,7 +115,7 @@ pub fn chain_at(
     let last = units.name(function.entry).unwrap_or(UNKNOWN);
     let calls = calls_of(alloc, inlined.as_slice(), last)?;
     Ok(Some(Chain {
-        innermost: String::from_str(alloc, first.function.unwrap_or(UNKNOWN))?,
+        innermost: short_name(alloc, first.function.unwrap_or(UNKNOWN))?,
         calls: calls_text(alloc, calls.as_slice())?,
     }))
 }

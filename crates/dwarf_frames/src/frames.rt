@@ -7,6 +7,7 @@ use crate::values::{FrameValue, values_of};
 use crate::variables::variables_at;
 use dwarf_lines::{DebugSections, Source};
 use dwarf_units::{Spans, Units};
+use show_places::short_name;
 use std::alloc::{AllocError, Global};
 use std::fmt::Write;
 
@@ -66,11 +67,12 @@ fn chain_of(alloc: Global, inlined: &[Inlined], last: &str) -> Result<Option<Cha
             calls.push_str(" < ..")?;
             break;
         }
+        let caller = short_name(alloc, caller)?;
         write!(calls, " < {caller}")?;
         write_place(call.file, call.line, &mut calls)?;
     }
     Ok(Some(Chain {
-        innermost: String::from_str(alloc, first.function.unwrap_or(UNKNOWN))?,
+        innermost: short_name(alloc, first.function.unwrap_or(UNKNOWN))?,
         calls,
     }))
 }

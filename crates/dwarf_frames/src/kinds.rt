@@ -39,7 +39,7 @@ fn enumeration(units: &Units, its_type: usize) -> ValueKind {
 }
 
 /// How the values of a type are read.
-pub(crate) fn kind_of(units: &Units, its_type: usize) -> ValueKind {
+pub fn kind_of(units: &Units, its_type: usize) -> ValueKind {
     let Some(bare) = bare(units, its_type) else {
         return ValueKind::Other;
     };

@@ -21,7 +21,7 @@ pub use chains::{Chains, chain_at, read_chains};
 pub use frames::{CallFrame, Chain, read_frame};
 pub use functions::read_functions;
 pub use inlined::{Inlined, inlined_at};
-pub use kinds::ValueKind;
+pub use kinds::{ValueKind, kind_of};
 pub use values::FrameValue;
 pub use variables::{Variable, variables_at};
 pub use wording::type_words;

@@ -5,7 +5,8 @@ use crate::kinds::{ValueKind, kind_of};
 use crate::variables::Variable;
 use crate::wording::type_words;
 use dwarf_data::{Bits, Leaf, bare, leaves_of};
-use dwarf_units::{Location, Units};
+use dwarf_units::{Location, Units, ValueRoom};
+use show_places::short_name;
 use std::alloc::{AllocError, Global};
 use std::fmt::Write;
 
@@ -16,7 +17,10 @@ const MOST_BYTES: u64 = 8;
 const MOST_LABEL: usize = 1024;
 
 /// The most values of a frame.
-const MOST_VALUES: usize = 256;
+const MOST_VALUES: usize = 257;
+
+/// What stands for the values of a thread that aren't told.
+const FURTHER: &str = "further variables of this thread";
 
 /// A value: its type and its name, as `int items[2].count`, where it is, how many bytes it touches, how they are read,
 /// and its bits in the number that they spell: the lowest one, and how many. One that has parts of its own stands for
@@ -94,6 +98,7 @@ fn label_of(
     if variable.depth > 0 {
         let at = inlined.len().checked_sub(variable.depth);
         if let Some(name) = at.and_then(|at| inlined.get(at)?.function) {
+            let name = short_name(alloc, name)?;
             write!(label, "{name}: ")?;
         }
     }
@@ -146,18 +151,32 @@ fn part_of(
     Ok(told(label, location, size, read, bits))
 }
 
-/// Adds a value, if there is one and there is room.
-fn add(values: &mut Vec<FrameValue>, value: Option<FrameValue>) -> Result<(), AllocError> {
-    if let Some(value) = value
-        && values.len() < MOST_VALUES
-        && value.label.len() <= MOST_LABEL
-    {
-        values.push(value)?;
+/// Adds a value, if there is one and there is room. For the first for which there isn't a mark is added.
+fn add(
+    alloc: Global,
+    units: &Units,
+    values: &mut Vec<FrameValue>,
+    value: Option<FrameValue>,
+) -> Result<(), AllocError> {
+    let Some(value) = value else {
+        return Ok(());
+    };
+    if values.len() >= MOST_VALUES || value.label.len() > MOST_LABEL {
+        return Ok(());
+    }
+    match units.take_value() {
+        ValueRoom::There => values.push(value)?,
+        ValueRoom::ForMark => values.push(FrameValue {
+            label: String::from_str(alloc, FURTHER)?,
+            kind: ValueKind::Parts,
+            ..value
+        })?,
+        ValueRoom::Nowhere => {}
     }
     Ok(())
 }
 
-/// The values of variables, in their order, as many as a frame has at most.
+/// The values of variables, in their order, as many as a frame has at most, and as there is room for.
 pub(crate) fn values_of(
     alloc: Global,
     units: &Units,
@@ -170,11 +189,21 @@ pub(crate) fn values_of(
             break;
         }
         if variable.kind != ValueKind::Parts {
-            add(&mut values, value_of(alloc, units, inlined, variable)?)?;
+            add(
+                alloc,
+                units,
+                &mut values,
+                value_of(alloc, units, inlined, variable)?,
+            )?;
             continue;
         }
         for leaf in &leaves_of(alloc, units, variable.its_type, variable.size)? {
-            add(&mut values, part_of(alloc, units, inlined, variable, leaf)?)?;
+            add(
+                alloc,
+                units,
+                &mut values,
+                part_of(alloc, units, inlined, variable, leaf)?,
+            )?;
         }
     }
     Ok(values)

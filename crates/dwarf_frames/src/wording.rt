@@ -2,6 +2,7 @@
 
 use dwarf_data::dimensions;
 use dwarf_units::{Tag, Units};
+use show_places::short_name;
 use std::alloc::{AllocError, Global};
 use std::fmt::Write;
 
@@ -113,8 +114,8 @@ pub fn type_words(
                 declarator.behind.push_str("()")?;
             }
             tag => {
-                let name = units.name(this).unwrap_or("");
-                return Ok(Some(declarator.finish(kind_word(tag), name)?));
+                let name = short_name(alloc, units.name(this).unwrap_or(""))?;
+                return Ok(Some(declarator.finish(kind_word(tag), name.as_str())?));
             }
         }
         if declarator.behind.len() > MOST_BEHIND || declarator.front.len() > MOST_BEHIND {

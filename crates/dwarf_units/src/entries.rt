@@ -4,12 +4,12 @@ ghost use Rattle.std.specs.Prelude.{◌<◌, All, IfOk, IfSome};
 
 use crate::abbreviations::Abbreviations;
 use crate::attributes::Attribute;
+use crate::room::{Room, ValueRoom};
 use crate::sections::InfoSections;
 use crate::tags::Tag;
 use crate::units::Unit;
 use dwarf_reader::{AttributeValue, Cursor, DebugFault};
 use std::alloc::{AllocError, Global};
-use std::cell::Cell;
 
 /// The most steps from an entry to that of which it is an instance.
 const MOST_ORIGINS: u32 = 8;
@@ -40,9 +40,6 @@ impl DebugEntry {
     }
 }
 
-/// How many bytes are passed over in one step.
-const STEP_BYTES: u64 = 64;
-
 /// The entries of a module. An entry goes by its index, and stands in front of those that it holds.
 #[derive(Drop)]
 pub struct Units<'a> {
@@ -50,8 +47,7 @@ pub struct Units<'a> {
     pub(crate) abbreviations: Abbreviations,
     pub(crate) units: Vec<Unit>,
     pub(crate) entries: Vec<DebugEntry>,
-    /// How many steps are left.
-    pub(crate) steps: Cell<u64>,
+    pub(crate) room: Room,
 }
 
 impl<'a> Units<'a> {
@@ -59,20 +55,32 @@ impl<'a> Units<'a> {
     /// one and each item of a list that is passed over, and one for each 64 bytes. Behind the last one nothing is said
     /// of an entry but its kind, so that what others wrote costs no more.
     pub fn allow(&self, steps: u64) {
-        self.steps.set(steps);
+        self.room.allow(steps);
+    }
+
+    /// Lets all that is asked from now on take so many steps, whatever is allowed.
+    pub fn allow_in_all(&self, steps: u64) {
+        self.room.allow_in_all(steps);
+    }
+
+    /// Lets so many values be told from now on.
+    pub fn allow_values(&self, values: u64) {
+        self.room.values.set(values);
+    }
+
+    /// Takes the room of a value.
+    pub fn take_value(&self) -> ValueRoom {
+        self.room.take_value()
     }
 
     /// Takes a step. Answers whether one was left.
     pub(crate) fn step(&self) -> bool {
-        let left = self.steps.get().checked_sub(1);
-        self.steps.set(left.unwrap_or(0));
-        left.is_some()
+        self.room.step()
     }
 
     /// Takes the steps for so many bytes that were passed over.
     pub fn pass(&self, bytes: usize) {
-        self.steps
-            .set(self.steps.get().saturating_sub(bytes as u64 / STEP_BYTES));
+        self.room.pass(bytes);
     }
 
     /// How many entries there are.

@@ -2,10 +2,10 @@
 
 use crate::abbreviations::{Abbreviations, KindTable};
 use crate::entries::{DebugEntry, Units};
+use crate::room::Room;
 use crate::sections::InfoSections;
 use dwarf_reader::{Cursor, DebugFault};
 use std::alloc::{AllocError, Global};
-use std::cell::Cell;
 
 /// A unit: where it stands in its section, what its entries are, and what its root says of the other sections.
 #[derive(Clone, Copy)]
@@ -136,7 +136,7 @@ pub fn read_units<'a>(alloc: Global, sections: InfoSections<'a>) -> Result<Units
         abbreviations: Abbreviations::new(alloc),
         units: Vec::new(alloc),
         entries: Vec::new(alloc),
-        steps: Cell::new(u64::MAX),
+        room: Room::endless(),
     };
     let mut cursor = Cursor::new(sections.info);
     // Each unit takes a byte at least.

@@ -1,7 +1,7 @@
 //! The numeric instructions on edge values, and the laws of the thread machine, of schedules and of walks, each called once.
 //! Small graphs are judged as is known of them, and numbers are drawn as PCG's reference code draws them. And what is
-//! printed of a fault of reading and of a thread's end. What the validator, the reader and the types answer is in their
-//! clauses; `cases` has modules and searches.
+//! printed of a fault of reading and of a thread's end, and which locals of a ticket lock are live. What the validator,
+//! the reader and the types answer is in their clauses; `cases` has modules and searches.
 #![tactic(auto)]
 
 #[cfg(test)]
@@ -12,6 +12,8 @@ mod expected;
 mod graphs;
 #[cfg(test)]
 mod laws;
+#[cfg(test)]
+mod live;
 #[cfg(test)]
 mod numeric;
 #[cfg(test)]

@@ -18,7 +18,7 @@ use Rattle.report.specs.Searched.{HasSearched}
 -- of a run that has not what is asked for, 4 of a record of no run. 5 is that memory or a stream failed.
 pub record Shows (bytes saved : List ℕ) (how : ShowLook) (out save : WriterChange) (status : ℕ) : Type 0 where
   pub shown : status ≡ 0 → IsRecordOf bytes saved
-  pub prints : status ≡ 0 → OfModule (PrintsShow how (stream_of how.view out save)) bytes saved
+  pub prints : status ≡ 0 → OfModule (PrintsShow bytes how (stream_of how.view out save)) bytes saved
   pub refused : status ≡ 2 → IsNoValidModule bytes
   pub absent : status ≡ 3 → IsRecordOf bytes saved
   pub none : status ≡ 4 → IsNoRecordOf bytes saved

@@ -1,5 +1,5 @@
 -- What the object of a search has: what was found, and the runs of a table or of every order.
-use Rattle.std.specs.Prelude.{ℕ, ◌≡◌, Bool, true, false, Option, Some, None}
+use Rattle.std.specs.Prelude.{ℕ, ◌≡◌, [], Bool, true, false, Option, Some, None}
 use Rattle.std.specs.List.{AllZip}
 use Rattle.std.specs.Io.KnownBytes.{Appends}
 use Rattle.search_race_free.specs.declared.race.ThreadRace.{ThreadRace}
@@ -43,7 +43,7 @@ use Rattle.report.specs.declared.telling.ToldSearch.{ToldSearch}
 -- How a run ended that was made; and what is kept of what was found, in an object.
 abbrev pub IsEndIn : ℕ → Option MadeRun → Option RunEndObject → Type 0
 IsEndIn dump None None = Unit {0}
-IsEndIn dump (Some made) (Some run) = IsObjectOf made.end dump run
+IsEndIn dump (Some made) (Some run) = IsObjectOf made.end dump [] run
 IsEndIn dump made run = ⊥
 
 pub record IsKeptIn (dump : ℕ) (k : KeptRun) (found : FoundObject) : Type 0 where

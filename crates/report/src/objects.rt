@@ -1,5 +1,5 @@
 //! A search in one JSON object: of every order, or of the table of drawn runs.
-ghost use Rattle.std.specs.Prelude.{◌≡◌, ◌≤◌, ℕ, Some, None, IfOk, IfErr};
+ghost use Rattle.std.specs.Prelude.{◌≡◌, ◌≤◌, ℕ, [], Some, None, IfOk, IfErr};
 ghost use Rattle.std.specs.List.{AllZip};
 ghost use Rattle.types.specs.declared.parts.Parts.{Parts};
 ghost use Rattle.report_jobs.specs.Prints.{IsObjectOf, changed};
@@ -30,7 +30,7 @@ use std::io::Write;
 
 /// How a run ended that was made.
 fn end_of(made: &MadeRun, dump: u32) -> RunEndObject<'_>
-    ensures { IsObjectOf made.now.end dump result }
+    ensures { IsObjectOf made.now.end dump [] result }
 {
     RunEndObject {
         threads: &made.end.threads,
@@ -38,6 +38,7 @@ fn end_of(made: &MadeRun, dump: u32) -> RunEndObject<'_>
         pages: made.end.pages,
         dump,
         bytes: &made.end.bytes,
+        said: &[],
         hints: &[],
     }
 }

@@ -1,5 +1,5 @@
 -- The jobs of the command line.
-use Rattle.std.specs.Prelude.{◌≤◌, ◌≢◌, IfSome, false, ◌≡◌, None}
+use Rattle.std.specs.Prelude.{◌≤◌, ◌≢◌, IfSome, true, false, ◌≡◌, None}
 use Rattle.types.specs.declared.limits.TheConstants.{MOST_LIMIT, MOST_FUEL}
 use Rattle.report_command.specs.declared.limits.TheConstants.{MOST_DUMP, MOST_RACES, NARROWEST, WIDEST}
 use Rattle.report_command.specs.declared.command_line.Job.{Job}
@@ -31,10 +31,14 @@ abbrev pub KeepsMemoryApart : RunJob → Type 0
 KeepsMemoryApart job = IfSome job.memory_out (λ path. (path.now ≢ job.file.now)
     × IfSome job.save (λ saved. path.now ≢ saved.now) × IfSome job.memory_in (λ laid. path.now ≢ laid.path.now))
 
+-- What its threads say is printed by its log alone, which a memory of words doesn't keep.
+abbrev pub SaysByItsLog : RunJob → Type 0
+SaysByItsLog job = job.look.text ≡ true → job.on_words ≡ false
+
 -- A job makes no file at the path of one that it reads, or of another that it makes, and no record that can't be.
 abbrev pub KeepsItsModule : Job → Type 0
 KeepsItsModule (Check file form) = Unit {0}
-KeepsItsModule (Run job) = KeepsRecordApart job × KeepsMemoryApart job
+KeepsItsModule (Run job) = KeepsRecordApart job × KeepsMemoryApart job × SaysByItsLog job
 KeepsItsModule (Replay file saved look) = Unit {0}
 KeepsItsModule (Show file saved names how) = IfSome (path_of how.view) (λ path. (path.now ≢ file.now)
     × (path.now ≢ saved.now))

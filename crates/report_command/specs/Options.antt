@@ -33,7 +33,7 @@ use Rattle.report_command.specs.declared.allowance.Allowance.{Allowance}
 use Rattle.report_command.specs.declared.races.RacesJob.{RacesJob}
 use Rattle.report_command.specs.declared.show.RecordView.{RecordView}
 use Rattle.report_command.specs.declared.show.RecordView.TheVariants.{Rows, Unfolded, Moment, Write, Page, Trace}
-use Rattle.report_command.specs.declared.show.RecordView.TheVariants.{Object}
+use Rattle.report_command.specs.declared.show.RecordView.TheVariants.{Said, Object}
 use Rattle.report_command.specs.declared.show.LastWrite.{LastWrite}
 use Rattle.report_command.specs.declared.show.ShowLook.{ShowLook}
 use Rattle.report_command.specs.declared.places.When.{When}
@@ -63,6 +63,7 @@ pub record AsksEndLook (f : Found) (look : EndLook) : Type 0 where
   pub dump_is : HasNumber f (codes "dump") look.dump
   pub units_is : HasFlag f (codes "units") look.units
   pub traps_is : HasFlag f (codes "explain") look.traps
+  pub text_is : HasFlag f (codes "text") look.text
   pub form_is : AsksForm f look.form
 
 -- A path with an address behind its last `@`, or a path alone.
@@ -101,10 +102,11 @@ abbrev pub AsksBytes : Found → ℕ → ℕ → Type 0
 AsksBytes f addr count =
     MatchOption (first_value f (codes "dump")) ((addr ≡ 0) × (count ≡ 0)) (λ text. IsBytes text addr count)
 
--- Its entries, as rows or as an object.
+-- Its entries, as rows or as an object, or what threads say.
 abbrev pub AsksEntries : Found → RecordView → Type 0
-AsksEntries f Rows = AsksForm f Lines × HasFlag f (codes "unfold") false
-AsksEntries f Unfolded = AsksForm f Lines × HasFlag f (codes "unfold") true
+AsksEntries f Rows = AsksForm f Lines × HasFlag f (codes "text") false × HasFlag f (codes "unfold") false
+AsksEntries f Unfolded = AsksForm f Lines × HasFlag f (codes "text") false × HasFlag f (codes "unfold") true
+AsksEntries f Said = AsksForm f Lines × HasFlag f (codes "text") true
 AsksEntries f Object = AsksForm f Json
 AsksEntries f (Moment at) = ⊥
 AsksEntries f (Write write) = ⊥
@@ -128,9 +130,10 @@ AsksLastWrite f write = ((text : List ℕ) × (first_value f (codes "last-write"
 abbrev pub AsksShown : Found → RecordView → Type 0
 AsksShown f Rows = HasNo f (codes "last-write") × HasNo f (codes "at") × AsksEntries f Rows
 AsksShown f Unfolded = HasNo f (codes "last-write") × HasNo f (codes "at") × AsksEntries f Unfolded
+AsksShown f Said = HasNo f (codes "last-write") × HasNo f (codes "at") × AsksEntries f Said
 AsksShown f Object = HasNo f (codes "last-write") × HasNo f (codes "at") × AsksEntries f Object
 AsksShown f (Moment at) = HasNo f (codes "last-write") × AsksMoment f at.when × AsksBytes f at.addr at.count
-    × HasFlag f (codes "raw") at.is_raw × AsksForm f at.form
+    × HasFlag f (codes "raw") at.is_raw × HasFlag f (codes "text") at.text × AsksForm f at.form
 AsksShown f (Write write) = AsksLastWrite f write
 AsksShown f (Page path) = ⊥
 AsksShown f (Trace path) = ⊥

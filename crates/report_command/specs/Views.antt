@@ -4,7 +4,7 @@ use Rattle.std.specs.Borrow.{Bor}
 use Rattle.report_command.specs.declared.limits.TheConstants.{MOST_DUMP}
 use Rattle.report_command.specs.declared.show.RecordView.{RecordView}
 use Rattle.report_command.specs.declared.show.RecordView.TheVariants.{Rows, Unfolded, Moment, Write, Page, Trace}
-use Rattle.report_command.specs.declared.show.RecordView.TheVariants.{Object}
+use Rattle.report_command.specs.declared.show.RecordView.TheVariants.{Said, Object}
 use Rattle.report_command.specs.declared.form.Form.{Form}
 use Rattle.report_command.specs.declared.form.Form.TheVariants.{Lines, Json}
 
@@ -13,6 +13,7 @@ abbrev pub IsViewInRange : RecordView → Type 0
 IsViewInRange (Moment at) = at.count ≤ MOST_DUMP
 IsViewInRange Rows = Unit {0}
 IsViewInRange Unfolded = Unit {0}
+IsViewInRange Said = Unit {0}
 IsViewInRange Object = Unit {0}
 IsViewInRange (Write write) = Unit {0}
 IsViewInRange (Page path) = Unit {0}
@@ -22,6 +23,7 @@ IsViewInRange (Trace path) = Unit {0}
 abbrev pub path_of : RecordView → Option (Bor (List ℕ))
 path_of Rows = None
 path_of Unfolded = None
+path_of Said = None
 path_of Object = None
 path_of (Moment at) = None
 path_of (Write write) = None
@@ -33,6 +35,7 @@ abbrev pub view_form : RecordView → Form
 view_form Object = Json
 view_form Rows = Lines
 view_form Unfolded = Lines
+view_form Said = Lines
 view_form (Moment at) = at.form
 view_form (Write write) = write.form
 view_form (Page path) = Lines

@@ -1,7 +1,8 @@
 //! The command line.
 ghost use Rattle.std.specs.Prelude.{◌≡◌, IfOk, IsNone, codes};
 ghost use Rattle.clap.specs.Words.{found_of};
-ghost use Rattle.report_command.specs.Jobs.{IsInRange, KeepsItsModule, KeepsRecordApart, KeepsMemoryApart, form_in};
+ghost use Rattle.report_command.specs.Jobs.{IsInRange, KeepsItsModule, KeepsRecordApart, KeepsMemoryApart};
+ghost use Rattle.report_command.specs.Jobs.{SaysByItsLog, form_in};
 ghost use Rattle.report_command.specs.Options.{AsksNamed, IsOrderOf, IsAskedBy, IsJobOf, texts_in};
 ghost use Rattle.report_command.specs.FaultNumbers.{usage_number, IsWrong};
 
@@ -145,6 +146,8 @@ pub enum Misuse {
     RecordsWords,
     /// A record is wanted of a run with bytes laid over its memory.
     RecordsLaid,
+    /// What threads say is wanted of a memory of words, which keeps no log.
+    SaysOfWords,
     /// The record would take the place of the module.
     ReplacesModule,
     /// The file of the memory would take the place of one that is read, or of the record.
@@ -164,6 +167,7 @@ impl Misuse {
         match self {
             Misuse::RecordsWords
             | Misuse::RecordsLaid
+            | Misuse::SaysOfWords
             | Misuse::ReplacesModule
             | Misuse::MemoryReplaces => CommandName::Run,
             Misuse::ReplacesRead => CommandName::Show,
@@ -179,6 +183,7 @@ impl Misuse {
                 "the argument '--record <OUT>' cannot be used with '--memory words'"
             }
             Misuse::RecordsLaid => RECORDS_LAID,
+            Misuse::SaysOfWords => "the argument '--text' cannot be used with '--memory words'",
             Misuse::MemoryReplaces => {
                 "the argument '--memory-out <OUT2>' cannot be used with the path of a file that is read, or of the record"
             }
@@ -341,15 +346,29 @@ fn memory_misuse(job: &RunJob) -> Option<Misuse>
     None
 }
 
-/// Why the paths of a run don't go together, if they don't.
+/// Why what the threads of a run say can't be printed, if it can't.
+fn text_misuse(job: &RunJob) -> Option<Misuse>
+    ensures { IsNone result → SaysByItsLog job.now }
+{
+    if job.look.text && job.on_words {
+        return Some(Misuse::SaysOfWords);
+    }
+    None
+}
+
+/// Why the paths of a run don't go together, or its options, if they don't.
 fn run_misuse(job: &RunJob) -> Option<Misuse>
-    ensures { IsNone result → KeepsRecordApart job.now × KeepsMemoryApart job.now }
+    ensures { IsNone result → KeepsRecordApart job.now × KeepsMemoryApart job.now × SaysByItsLog job.now }
 {
     let misuse = record_misuse(job);
     if misuse.is_some() {
         return misuse;
     }
-    memory_misuse(job)
+    let misuse = memory_misuse(job);
+    if misuse.is_some() {
+        return misuse;
+    }
+    text_misuse(job)
 }
 
 /// Why the numbers and paths of a job don't go together, if they don't.

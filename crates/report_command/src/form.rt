@@ -7,7 +7,7 @@ ghost use Rattle.report_command.specs.declared.form.Form.TheVariants.{Lines};
 ghost use Rattle.report_command.specs.Options.{AsksForm, AsksEndLook};
 
 use crate::limits::MOST_DUMP;
-use crate::options::{DUMP, EXPLAIN, JSON, UNITS};
+use crate::options::{DUMP, EXPLAIN, JSON, TEXT, UNITS};
 use crate::refusal::CommandRefusal;
 use clap::ArgMatches;
 
@@ -30,18 +30,21 @@ pub struct EndLook {
     /// Whether standard error says which threads trapped, where, and by which calls they came there. An object always
     /// has where.
     pub traps: bool,
+    /// Whether it has what the threads say. A memory of words knows nothing of that.
+    pub text: bool,
     pub form: Form,
 }
 
 impl EndLook {
-    /// Lines without units, of these the first so many bytes of the memory, 0 to 4096.
+    /// Lines without units or what threads say, and the first so many bytes of the memory, 0 to 4096.
     pub fn lines(dump: u32) -> EndLook
-        ensures { result ≡ record { dump = dump; units = false; traps = false; form = Lines } }
+        ensures { result ≡ record { dump = dump; units = false; traps = false; text = false; form = Lines } }
     {
         EndLook {
             dump,
             units: false,
             traps: false,
+            text: false,
             form: Form::Lines,
         }
     }
@@ -71,6 +74,7 @@ pub(crate) fn end_look_of(matches: &ArgMatches) -> Result<EndLook, CommandRefusa
         dump,
         units: UNITS.is_set(matches),
         traps: EXPLAIN.is_set(matches),
+        text: TEXT.is_set(matches),
         form: form_of(matches),
     })
 }

@@ -86,6 +86,8 @@ pub(crate) const DUMP: Fixed = argument!("dump" "N", ArgumentKind::Number(0, MOS
 
 pub(crate) const UNITS: Fixed = argument!("units" "", ArgumentKind::Flag);
 
+pub(crate) const TEXT: Fixed = argument!("text" "", ArgumentKind::Flag);
+
 pub(crate) const LINES: Fixed = argument!("lines" "A-B,..", ArgumentKind::Spans);
 
 pub(crate) const THREADS: Fixed = argument!("thread" "T,..", ArgumentKind::Threads);

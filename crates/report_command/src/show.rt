@@ -13,7 +13,7 @@ ghost use Rattle.report_command.specs.Options.{AsksNamed, AsksShown, AsksView};
 use crate::command_line::Job;
 use crate::form::{Form, form_of};
 use crate::options::{
-    ADDRESSES, AT, BYTES, COLOR, FILE, HTML, LAST_WRITE, LINES, NAMES, RAW, RECORD, SOURCE,
+    ADDRESSES, AT, BYTES, COLOR, FILE, HTML, LAST_WRITE, LINES, NAMES, RAW, RECORD, SOURCE, TEXT,
     THREADS, TRACE, UNFOLD, WIDTH,
 };
 use crate::places::{
@@ -33,6 +33,8 @@ pub struct At {
     pub count: u32,
     /// Whether the locals and operands of all functions are shown as they are.
     pub is_raw: bool,
+    /// Whether it has what the threads said before it.
+    pub text: bool,
     pub form: Form,
 }
 
@@ -51,6 +53,8 @@ pub enum RecordView<'a> {
     Rows,
     /// A row on standard output for each entry.
     Unfolded,
+    /// A row on standard output for each line that a thread says, in the place of entries.
+    Said,
     /// What threads and memory are like at a moment, on standard output.
     Moment(At),
     /// Who wrote some bytes last, on standard output.
@@ -71,6 +75,7 @@ impl<'a> RecordView<'a> {
         match self {
             RecordView::Rows
             | RecordView::Unfolded
+            | RecordView::Said
             | RecordView::Moment(_)
             | RecordView::Write(_)
             | RecordView::Object => None,
@@ -86,8 +91,11 @@ impl<'a> RecordView<'a> {
             RecordView::Object => Form::Json,
             RecordView::Moment(at) => at.form,
             RecordView::Write(write) => write.form,
-            RecordView::Rows | RecordView::Unfolded | RecordView::Page(_) | RecordView::Trace(_) =>
-                Form::Lines,
+            RecordView::Rows
+            | RecordView::Unfolded
+            | RecordView::Said
+            | RecordView::Page(_)
+            | RecordView::Trace(_) => Form::Lines,
         }
     }
 }
@@ -119,12 +127,13 @@ fn color_of(matches: &ArgMatches) -> Color
     }
 }
 
-/// The entries, in the form that is asked for.
+/// The entries, in the form that is asked for, or what threads say.
 fn entries_of<'a>(matches: &ArgMatches<'a>) -> RecordView<'a>
     ensures range { IsViewInRange result }
     ensures asks { AsksEntries (found_of matches.now) result }
 {
     match form_of(matches) {
+        Form::Lines if TEXT.is_set(matches) => RecordView::Said,
         Form::Lines if UNFOLD.is_set(matches) => RecordView::Unfolded,
         Form::Lines => RecordView::Rows,
         Form::Json => RecordView::Object,
@@ -137,6 +146,7 @@ fn shown_at(matches: &ArgMatches, when: When) -> Result<At, CommandRefusal<'stat
     ensures when { IfOk result (λ at. at.when ≡ when) }
     ensures bytes { IfOk result (λ at. AsksBytes (found_of matches.now) at.addr at.count) }
     ensures raw { IfOk result (λ at. HasFlag (found_of matches.now) (codes "raw") at.is_raw) }
+    ensures text { IfOk result (λ at. HasFlag (found_of matches.now) (codes "text") at.text) }
     ensures form { IfOk result (λ at. AsksForm (found_of matches.now) at.form) }
 {
     let (addr, count) = match BYTES.value::<BytesReader>(matches)? {
@@ -148,6 +158,7 @@ fn shown_at(matches: &ArgMatches, when: When) -> Result<At, CommandRefusal<'stat
         addr,
         count,
         is_raw: RAW.is_set(matches),
+        text: TEXT.is_set(matches),
         form: form_of(matches),
     })
 }

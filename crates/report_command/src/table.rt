@@ -6,8 +6,8 @@ use crate::options::{
     ADDRESSES, ALL, ALLOW_MIXED, ALLOW_RACE, ALLOW_RACES, ARGS, AT, BYTES, COLOR, DEEP, DUMP,
     EXPECT, EXPLAIN, FILE, FIND, FROM, FUEL, HTML, INVOKE, JOBS, JSON, LAST_WRITE, LIMIT, LINES,
     MEMORY, MEMORY_IN, MEMORY_OUT, MOST, NAMES, NO_EXPLAIN, ORDERS, RACES, RAW, RECORD, RUN_RECORD,
-    RUNS, SEARCH_RECORD, SEED, SHRINK, SHRINK_TIME, SOURCE, STATES, STRATEGY, THREADS, TIME, TRACE,
-    UNFOLD, UNITS, UNTIL, WIDTH,
+    RUNS, SEARCH_RECORD, SEED, SHRINK, SHRINK_TIME, SOURCE, STATES, STRATEGY, TEXT, THREADS, TIME,
+    TRACE, UNFOLD, UNITS, UNTIL, WIDTH,
 };
 
 /// Where an argument stands among the words.
@@ -168,8 +168,10 @@ pub(crate) static OF_A_SEARCH: [OptionRow; 13] = [
     "Print behind how each thread ended how many units it spent"),
 ];
 
-/// What of a record is shown.
-pub(crate) static OF_A_RECORD: [OptionRow; 7] = [
+/// What of a run or a record is shown.
+pub(crate) static OF_A_RECORD: [OptionRow; 9] = [
+    row!(TEXT, for [Run, Replay],
+    "Print what the threads say, a line each, in front of how they ended"),
     row!(LINES, for [Show],
     "Only the entries on these lines of the record; A- goes to its end; may be given several times"),
     row!(THREADS, for [Show],
@@ -177,6 +179,10 @@ pub(crate) static OF_A_RECORD: [OptionRow; 7] = [
     row!(ADDRESSES, for [Show],
     "Only the entries at these addresses, decimal or behind 0x, or at the data of these names, as queue.head; may be \
     given several times"),
+    row!(TEXT, for [Show],
+    "What the threads say, a line each behind the line of the record, in place of entries; with --at, what they said \
+    before",
+    conflicts: &["last-write", "html", "trace", "json", "unfold"]),
     row!(UNFOLD, for [Show],
     "A row for each entry, also for rounds that a thread makes again and again, and for answers",
     conflicts: &["at", "last-write", "html", "trace", "json"]),

@@ -24,7 +24,8 @@ use Rattle.report_command.specs.declared.memory.MemoryFile.{MemoryFile}
 use Rattle.report_memory.specs.Laid.{laid, unlaid}
 use Rattle.report_memory.specs.declared.laying.Unlaid.{Unlaid}
 use Rattle.report_jobs.specs.Arguments.{CannotCall, texts_in}
-use Rattle.report_jobs.specs.Prints.{WriterChange, Written, accepted_text, PrintsEnd, PrintsRun}
+use Rattle.show_said.specs.declared.said.Said.{Said}
+use Rattle.report_jobs.specs.Prints.{WriterChange, Written, accepted_text, IsSaid, PrintsEnd, PrintsRun}
 use Rattle.report_jobs.specs.declared.replaying.Unfit.{Unfit}
 use Rattle.report_jobs.specs.declared.replaying.Unfit.TheVariants.{Unread, Misfit, NoMemory, Output}
 use Rattle.validate_typing.specs.declared.fault.ValidFault.TheVariants.{OutOfMemory as ValidityOutOfMemory, Outside}
@@ -68,15 +69,18 @@ IsRefused bytes (Validity ValidityOutOfMemory) = Unit {0}
 IsRefused bytes (Validity (Outside kind)) = IsInvalid bytes
 IsRefused bytes (Validity (InBody kind function place)) = IsInvalid bytes
 
--- The bytes are a record's text, the record is of a run of the module, and the end of that run was printed.
-pub record PrintsReplay (m : Parts) (saved : List ℕ) (look : EndLook) (out err : WriterChange) (status : ℕ)
+-- The second bytes are a record's text, the record is of a run of the module, which the first ones are of, and the end
+-- of that run was printed.
+pub record PrintsReplay (m : Parts) (bytes saved : List ℕ) (look : EndLook) (out err : WriterChange) (status : ℕ)
     : Type 0 where
   pub record_is : RecordParts
   pub ranges : IsRecord record_is
   pub text : saved ≡ record_text record_is
   pub end : EndState
   pub run : IsRunOf m record_is end
-  pub prints : PrintsEnd end look out err status
+  pub all : List Said
+  pub said_is : IsSaid bytes record_is look.text all
+  pub prints : PrintsEnd end look all out err status
 
 -- The bytes are the text of no record of a run of the module.
 abbrev pub IsOfNoRun : Parts → List ℕ → Type 0
@@ -119,9 +123,9 @@ IsUnfitFor fault unfit =
     → ShowsNoRun m r fault → IsUnfit m saved unfit
 
 -- The same of a record, of the bytes that are its text.
-abbrev pub PrintsReplayOf : Parts → RecordParts → EndLook → WriterChange → WriterChange → ℕ → Type 0
-PrintsReplayOf m r look out err status = (saved : List ℕ) → saved ≡ record_text r
-    → PrintsReplay m saved look out err status
+abbrev pub PrintsReplayOf : Parts → List ℕ → RecordParts → EndLook → WriterChange → WriterChange → ℕ → Type 0
+PrintsReplayOf m bytes r look out err status = (saved : List ℕ) → saved ≡ record_text r
+    → PrintsReplay m bytes saved look out err status
 
 abbrev pub IsUnfitTextOf : Parts → RecordParts → Unfit → Type 0
 IsUnfitTextOf m r unfit = (saved : List ℕ) → saved ≡ record_text r → IsUnfit m saved unfit
@@ -131,7 +135,7 @@ pub record IsReplayed (bytes saved : List ℕ) (look : EndLook) (out err : Write
   pub parts : Parts
   pub text : IsModuleText bytes parts
   pub valid : IsValid parts
-  pub prints : PrintsReplay parts saved look out err status
+  pub prints : PrintsReplay parts bytes saved look out err status
 
 -- They are, and the others are the text of no record of a run of it.
 pub record IsNoRecordOf (bytes saved : List ℕ) : Type 0 where
@@ -151,7 +155,7 @@ pub record HasRun (bytes over : List ℕ) (job : RunJob) (w : Written) (status :
   pub parts : Parts
   pub text : IsModuleText bytes parts
   pub valid : IsValid parts
-  pub prints : PrintsRun (begun parts job.memory_in over) job w status
+  pub prints : PrintsRun (begun parts job.memory_in over) bytes job w status
 
 -- They are, and no function of it can be called so.
 pub record HasNoSuchCall (bytes : List ℕ) (call : CallWords) : Type 0 where

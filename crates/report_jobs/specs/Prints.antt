@@ -1,7 +1,8 @@
 -- What is printed and kept of a run.
-use Rattle.std.specs.Prelude.{ℕ, ◌≡◌, Bool, true, false, List, [], ◌++◌, codes, Option, is_some}
+use Rattle.std.specs.Prelude.{ℕ, ◌≡◌, ◌+◌, Bool, true, false, List, [], ◌++◌, codes, Option, is_some}
 use Rattle.std.specs.Fmt.{decimal}
 use Rattle.std.specs.Bool.{MatchBool}
+use Rattle.std.specs.List.{flat_map}
 use Rattle.std.specs.Io.KnownBytes.{Appends}
 use Rattle.types.specs.declared.value.Value.{Value}
 use Rattle.types.specs.declared.outcome.ThreadReport.{ThreadReport}
@@ -10,8 +11,12 @@ use Rattle.types.specs.declared.parts.Parts.{Parts}
 use Rattle.spawn_host.specs.Entries.{Takes}
 use Rattle.replay_text.specs.declared.parts.RecordParts.{RecordParts}
 use Rattle.replay_text.specs.Text.{record_text}
+use Rattle.replay_text.specs.Versions.{header_count}
 use Rattle.spawn_host.specs.declared.end.EndState.{EndState}
 use Rattle.replay.specs.Runs.{IsRunOf}
+use Rattle.show_said.specs.Ports.{IsPorts}
+use Rattle.show_said.specs.Said.{said}
+use Rattle.show_said.specs.declared.said.Said.{Said}
 use Rattle.report_lines.specs.Lines.{numbered, thread_lines, pages_line, bytes_line, functions_line, end_lines}
 use Rattle.search_endings.specs.Ends.{status_of}
 use Rattle.show_json.specs.Json.{json_line}
@@ -81,30 +86,53 @@ abbrev pub end_text : Bool → EndState → ℕ → List ℕ
 end_text units end dump =
     threads_lines units end.threads.items ++ pages_line end.pages ++ bytes_line dump end.bytes.items
 
--- An object that has of a run how its threads ended and what they spent, the page count and the first bytes, so many or
--- all if there are fewer. Its places and hints are any.
-pub record IsObjectOf (end : EndState) (dump : ℕ) (run : RunEndObject) : Type 0 where
+-- What the threads of a run say where that is wanted, by the bytes of its module and its record; else nothing.
+abbrev pub IsSaid : List ℕ → RecordParts → Bool → List Said → Type 0
+IsSaid bytes r true all =
+    (ports : List ℕ) × IsPorts bytes ports × (all ≡ said ports (header_count r.version + 1) r.log)
+IsSaid bytes r false all = all ≡ []
+
+-- The line of what a thread says.
+abbrev pub said_line : Said → List ℕ
+said_line s = codes "t" ++ decimal s.thread ++ codes " says: " ++ s.text ++ codes "\n"
+
+abbrev pub said_lines : List Said → List ℕ
+said_lines all = flat_map said_line all
+
+-- An object that has of a run what its threads say, how they ended and what they spent, the page count and the first
+-- bytes, so many or all if there are fewer. Its places and hints are any.
+pub record IsObjectOf (end : EndState) (dump : ℕ) (all : List Said) (run : RunEndObject) : Type 0 where
   pub threads_are : run.threads.now ≡ end.threads.items
   pub pages_are : run.pages ≡ end.pages
   pub dump_is : run.dump ≡ dump
   pub bytes_are : run.bytes.now ≡ end.bytes.items
+  pub said_are : run.said.now ≡ all
 
 -- Such an object was written.
-pub record WritesObject (end : EndState) (dump : ℕ) (out : WriterChange) : Type 0 where
+pub record WritesObject (end : EndState) (dump : ℕ) (all : List Said) (out : WriterChange) : Type 0 where
   pub run : RunEndObject
-  pub is : IsObjectOf end dump run
+  pub is : IsObjectOf end dump all run
   pub object : Appends out.old out.new (json_line (run_json run))
 
--- The end of a run was written in the form.
-abbrev pub WritesEnd : Form → Bool → ℕ → EndState → WriterChange → Type 0
-WritesEnd Lines units dump end out = Appends out.old out.new (end_text units end dump)
-WritesEnd Json units dump end out = WritesObject end dump out
+-- The end of a run was written in the form, and in front of it what its threads say.
+abbrev pub WritesEnd : Form → Bool → ℕ → List Said → EndState → WriterChange → Type 0
+WritesEnd Lines units dump all end out = Appends out.old out.new (said_lines all ++ end_text units end dump)
+WritesEnd Json units dump all end out = WritesObject end dump all out
 
 -- It was printed as is asked for, the threads that trapped were told where that is asked for, and the status is its.
-pub record PrintsEnd (end : EndState) (look : EndLook) (out err : WriterChange) (status : ℕ) : Type 0 where
-  pub written : WritesEnd look.form look.units look.dump end out
+pub record PrintsEnd (end : EndState) (look : EndLook) (all : List Said) (out err : WriterChange) (status : ℕ)
+    : Type 0 where
+  pub written : WritesEnd look.form look.units look.dump all end out
   pub traps : TellsTrapsIf look.traps end.threads.items err.old err.new
   pub status_is : status ≡ status_of end.threads.items
+
+-- So it was printed of a run that was recorded, with what its threads say, where that is wanted: by its record, and by
+-- the bytes of its module.
+pub record PrintsSaid (bytes : List ℕ) (r : RecordParts) (end : EndState) (look : EndLook) (out err : WriterChange)
+    (status : ℕ) : Type 0 where
+  pub all : List Said
+  pub said_is : IsSaid bytes r look.text all
+  pub printed : PrintsEnd end look all out err status
 
 -- What was written is the text of a record, where that is wanted.
 abbrev pub KeepsRecord : Bool → WriterChange → RecordParts → Type 0
@@ -115,36 +143,46 @@ abbrev pub KeepsBytes : Bool → WriterChange → List ℕ → Type 0
 KeepsBytes is_wanted memory bytes = is_wanted ≡ true → Appends memory.old memory.new bytes
 
 -- The end of a run was printed, and the bytes of its memory were kept.
-pub record PrintsAll (job : RunJob) (end : EndState) (out err memory : WriterChange) (status : ℕ) : Type 0 where
-  pub printed : PrintsEnd end job.look out err status
+pub record PrintsAll (job : RunJob) (end : EndState) (all : List Said) (out err memory : WriterChange) (status : ℕ)
+    : Type 0 where
+  pub printed : PrintsEnd end job.look all out err status
   pub kept : KeepsBytes (is_some job.memory_out) memory end.bytes.items
 
 -- The same of what all streams have before and after.
-abbrev pub PrintsAllIn : RunJob → EndState → Written → ℕ → Type 0
-PrintsAllIn job end w status = PrintsAll job end w.out w.err w.memory status
+abbrev pub PrintsAllIn : RunJob → EndState → List Said → Written → ℕ → Type 0
+PrintsAllIn job end all w status = PrintsAll job end all w.out w.err w.memory status
 
--- So were they, and its record.
-abbrev pub PrintsAndKeeps : RunJob → RecordParts → EndState → Written → ℕ → Type 0
-PrintsAndKeeps job r end w status =
-    PrintsAll job end w.out w.err w.memory status × KeepsRecord (is_some job.save) w.save r
+-- So were they, and its record; what its threads say is by that, and by the bytes of its module.
+abbrev pub PrintsAndKeeps : List ℕ → RunJob → RecordParts → EndState → Written → ℕ → Type 0
+PrintsAndKeeps bytes job r end w status = (all : List Said) × IsSaid bytes r job.look.text all
+    × PrintsAll job end all w.out w.err w.memory status × KeepsRecord (is_some job.save) w.save r
 
--- A record of the run that ended so. Where it is wanted, what was written to its writer is its text.
-pub record IsRecorded (m : Parts) (job : RunJob) (args : List Value) (save : WriterChange) (end : EndState) : Type 0 where
+-- A record of the run that ended so, and in which its threads say so much. Where it is wanted, what was written to its
+-- writer is its text.
+pub record IsRecorded (m : Parts) (bytes : List ℕ) (job : RunJob) (args : List Value) (save : WriterChange)
+    (end : EndState) (all : List Said) : Type 0 where
   pub record_is : RecordParts
   pub records : RecordsRun m job.call.invoke.now args job.call.fuel job.limit record_is end
   pub run : IsRunOf m record_is end
   pub kept : KeepsRecord (is_some job.save) save record_is
+  pub said_is : IsSaid bytes record_is job.look.text all
 
--- The end is that of a run by these arguments over the memory that was asked for.
-abbrev pub EndsAsAsked : Parts → RunJob → List Value → WriterChange → EndState → Type 0
-EndsAsAsked m job args save end =
-    MatchBool job.on_words (EndsRunOnWords m job.call.invoke.now args job.call.fuel end) (IsRecorded m job args save end)
+-- The end is that of a run over words, of which nobody knows what its threads say.
+abbrev pub IsOnWords : Parts → RunJob → List Value → EndState → List Said → Type 0
+IsOnWords m job args end all = EndsRunOnWords m job.call.invoke.now args job.call.fuel end × (all ≡ [])
 
--- A run was made by values that the texts spell, its end was printed, and its record and its memory were kept.
-pub record PrintsRun (m : Parts) (job : RunJob) (w : Written) (status : ℕ) : Type 0 where
+-- The end is that of a run by these arguments over the memory that was asked for, and its threads say so much.
+abbrev pub EndsAsAsked : Parts → List ℕ → RunJob → List Value → WriterChange → EndState → List Said → Type 0
+EndsAsAsked m bytes job args save end all =
+    MatchBool job.on_words (IsOnWords m job args end all) (IsRecorded m bytes job args save end all)
+
+-- A run was made by values that the texts spell, its end was printed, and its record and its memory were kept. The
+-- bytes are those of its module, which say where its threads put what they say.
+pub record PrintsRun (m : Parts) (bytes : List ℕ) (job : RunJob) (w : Written) (status : ℕ) : Type 0 where
   pub args : List Value
   pub spelled : AreSpelled (texts_in job.call.args.items) args
   pub takes : Takes m job.call.invoke.now args
   pub end : EndState
-  pub run : EndsAsAsked m job args w.save end
-  pub prints : PrintsAll job end w.out w.err w.memory status
+  pub all : List Said
+  pub run : EndsAsAsked m bytes job args w.save end all
+  pub prints : PrintsAll job end all w.out w.err w.memory status

@@ -9,6 +9,7 @@ use Rattle.replay_text.specs.declared.fault.RecordFault.TheVariants as records
 use Rattle.replay.specs.declared.fault.ReplayFault.TheVariants as replays
 use Rattle.report_command.specs.declared.memory.MemoryFile.{MemoryFile}
 use Rattle.show_rows.specs.declared.next.Stood.{Stood}
+use Rattle.show_text.specs.Plain.{plain_text}
 use Rattle.report_jobs.specs.Told.{call_line, laid_from, memory_line, misfit_line, output_line, path_or, refusal_line}
 use Rattle.report_jobs.specs.Told.{thread_line, unlaid_line, unread_line}
 use Rattle.report_jobs.specs.Trapped.{Tells}
@@ -56,19 +57,38 @@ ended_status (Ok done) = done.status
 ended_status (Err why) = undone_status why
 
 abbrev pub absent_words : Absent → List ℕ
-absent_words NoData = codes "no static data of this name; a debug section has names"
-absent_words SeveralData = codes "data at several addresses has this name"
+absent_words (NoData name) = codes "no static data of this name; a debug section has names"
+absent_words (SeveralData name) = codes "data at several addresses has this name"
 absent_words NoTrap = codes "no thread trapped"
 
--- The line that says what is refused: with its numbers.
+-- Its line: the name stands between two texts, without what a terminal obeys in place of showing it.
+abbrev pub absent_front : Absent → List ℕ
+absent_front (NoData name) = codes "no static data is called "
+absent_front (SeveralData name) = codes "data at several addresses is called "
+absent_front NoTrap = codes "no thread trapped\n"
+
+abbrev pub absent_name : Absent → List ℕ
+absent_name (NoData name) = name.now
+absent_name (SeveralData name) = name.now
+absent_name NoTrap = []
+
+abbrev pub absent_behind : Absent → List ℕ
+absent_behind (NoData name) = codes "; a debug section has names\n"
+absent_behind (SeveralData name) = codes "\n"
+absent_behind NoTrap = []
+
+abbrev pub absent_line : List ℕ → Absent → List ℕ
+absent_line front absent = front ++ absent_front absent ++ plain_text (absent_name absent) ++ absent_behind absent
+
+-- The line that says what is refused: with its numbers, or the name of data that isn't there.
 abbrev pub refused_line : Refused → List ℕ
 refused_line (refused.Read kind offset) = refusal_line (Read (Malformed kind offset))
 refused_line (refused.Rule kind) = refusal_line (Validity (Outside kind))
 refused_line (refused.RuleInBody kind function place) = refusal_line (Validity (InBody kind function place))
 refused_line (refused.Unlaid why addr count) = unlaid_line why addr count
 refused_line (refused.Call fault m) = call_line fault
-refused_line (refused.Absent absent) = codes "show refused: " ++ (absent_words absent ++ 10 ∷ [])
-refused_line (refused.Allowance absent) = codes "allowance refused: " ++ (absent_words absent ++ 10 ∷ [])
+refused_line (refused.Absent absent) = absent_line (codes "show refused: ") absent
+refused_line (refused.Allowance absent) = absent_line (codes "allowance refused: ") absent
 refused_line (refused.Header line) = unread_line (records.Header line)
 refused_line (refused.Unreadable line) = unread_line (records.Unreadable line)
 refused_line refused.EndMissing = unread_line records.EndMissing
@@ -80,7 +100,7 @@ abbrev pub failed_line : Failed → List ℕ
 failed_line failed.Memory = memory_line
 failed_line failed.Thread = thread_line
 failed_line failed.Output = output_line
-failed_line (failed.File path) = codes "file fault: " ++ (path_or path ++ 10 ∷ [])
+failed_line (failed.File path) = codes "file fault: " ++ (plain_text (path_or path) ++ 10 ∷ [])
 
 abbrev pub undone_line : Undone → List ℕ
 undone_line (undone.Refused why) = refused_line why

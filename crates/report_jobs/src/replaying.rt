@@ -6,7 +6,7 @@ ghost use Rattle.report_jobs.specs.Jobs.{unfit_of_unwritten};
 ghost use Rattle.report_jobs.specs.Prints.{changed};
 ghost use Rattle.report_jobs.specs.Silence.{LeavesOut, Stays};
 
-use crate::printing::print_end;
+use crate::printing::print_said;
 use crate::trapped::Whence;
 use crate::undone::Done;
 use interp::Thread;
@@ -99,8 +99,8 @@ pub(crate) fn replay_record<W: Write, E: Write>(
     out: &mut W,
     err: &mut E,
 ) -> Result<Done, Unreplayed>
-    ensures prints { IfOk result (λ done. PrintsReplay loaded.entry.valid.now.parts saved.now look
-        (changed W.contents out.old out.new) (changed E.contents err.old err.new) done.status) }
+    ensures prints { IfOk result (λ done. PrintsReplay loaded.entry.valid.now.parts loaded.entry.bytes.now saved.now
+        look (changed W.contents out.old out.new) (changed E.contents err.old err.new) done.status) }
     ensures unfit { IfErr result (λ e. IsUnfit loaded.entry.valid.now.parts saved.now e.unfit) }
     ensures silent { IfErr result (λ e. LeavesOut e.unfit (Stays out.old out.new)) }
     ensures unsaid { OnErr result (Stays err.old err.new) }
@@ -127,8 +127,8 @@ fn print_replay<W: Write, E: Write>(
 ) -> Result<Done, Unreplayed>
     requires { IsRecord recorded.now }
     ensures prints { IfOk result
-        (λ done. PrintsReplayOf loaded.entry.valid.now.parts recorded.now look (changed W.contents out.old out.new)
-        (changed E.contents err.old err.new) done.status) }
+        (λ done. PrintsReplayOf loaded.entry.valid.now.parts loaded.entry.bytes.now recorded.now look
+        (changed W.contents out.old out.new) (changed E.contents err.old err.new) done.status) }
     ensures unfit { IfErr result (λ e. IsUnfitTextOf loaded.entry.valid.now.parts recorded.now e.unfit) }
     ensures silent { IfErr result (λ e. LeavesOut e.unfit (Stays out.old out.new)) }
     ensures unsaid { OnErr result (Stays err.old err.new) }
@@ -139,6 +139,7 @@ fn print_replay<W: Write, E: Write>(
         parts: valid.parts(),
         bytes,
         frames: &frames,
+        recorded: Some(recorded),
     };
     let log = recorded.parts().log.as_slice();
     let traps = Replayed {
@@ -148,7 +149,7 @@ fn print_replay<W: Write, E: Write>(
     let next = NextStood::new(log);
     let mut seen = TrapsAndNext { traps, next };
     match replay_watched(alloc, valid, recorded, &mut seen) {
-        Ok(end) => match print_end(alloc, out, err, &end, look, whence) {
+        Ok(end) => match print_said(alloc, out, err, recorded, &end, look, whence) {
             Ok(done) => Ok(done),
             Err(unwritten) => Err(Unreplayed::alone(unprinted(unwritten))),
         },

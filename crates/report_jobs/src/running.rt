@@ -12,6 +12,7 @@ ghost use Rattle.report_jobs.specs.declared.running.Trouble.TheVariants as troub
 
 use crate::args::read_args;
 use crate::printing::print_end;
+use crate::saying::said_in;
 use crate::streams::Streams;
 use crate::trapped::Whence;
 use crate::undone::Done;
@@ -19,6 +20,7 @@ use replay_text::{Record, write_record};
 use report_command::{CallWords, RunJob};
 use report_runs::{Call, EndState, RecordRunFault, record_request, run_request_on_words};
 use report_traps::Frames;
+use show_said::Said;
 use show_text::Unwritten;
 use spawn_host::{CallFault, Request, RunFault, own_function};
 use spawn_host_workers::StartFault;
@@ -170,7 +172,7 @@ where
     E: Write,
     S: Write,
     requires fuel { job.now.call.fuel ≤ MOST_FUEL }
-    ensures made { IfOk result (λ done. PrintsRun «module».now.parts job.now
+    ensures made { IfOk result (λ done. PrintsRun «module».now.parts bytes.now job.now
         (written W.contents E.contents S.contents streams.old streams.new) done.status) }
     ensures trouble { IfErr result (IsTroubleOf «module».now.parts job.now.call) }
     ensures silent { IfErr result (λ e. Leaves e
@@ -186,6 +188,7 @@ where
         parts: module.parts(),
         bytes,
         frames: &frames,
+        recorded: None,
     };
     if job.on_words {
         print_on_words(rt, alloc, &request, job, whence, streams)
@@ -210,7 +213,7 @@ where
     S: Write,
     requires memory { job.now.on_words ≡ true }
     requires asked { IsAskedBy job.now.call request.now }
-    ensures made { IfOk result (λ done. PrintsRun request.now.parts job.now
+    ensures made { IfOk result (λ done. PrintsRun request.now.parts whence.entry.bytes.now job.now
         (written W.contents E.contents S.contents streams.old streams.new) done.status) }
     ensures trouble { IfErr result (IsTroubleOf request.now.parts job.now.call) }
     ensures silent { IfErr result (λ e. Leaves e
@@ -221,7 +224,7 @@ where
 {
     let mut gate = whence.frames;
     let end = run_request_on_words(rt, alloc, request, &mut gate)?;
-    let done = print_and_write(alloc, &end, job, whence, streams);
+    let done = print_and_write(alloc, &end, &[], job, whence, streams);
     drop(end);
     done
 }
@@ -243,7 +246,7 @@ where
     requires fuel { job.now.call.fuel ≤ MOST_FUEL }
     requires memory { job.now.on_words ≡ false }
     requires asked { IsAskedBy job.now.call request.now }
-    ensures made { IfOk result (λ done. PrintsRun request.now.parts job.now
+    ensures made { IfOk result (λ done. PrintsRun request.now.parts whence.entry.bytes.now job.now
         (written W.contents E.contents S.contents streams.old streams.new) done.status) }
     ensures trouble { IfErr result (IsTroubleOf request.now.parts job.now.call) }
     ensures silent { IfErr result (λ e. Leaves e
@@ -260,7 +263,8 @@ where
     done
 }
 
-/// Prints the end of a recorded run, and writes the record and the bytes of the memory where they are wanted.
+/// Prints what the threads of a recorded run say, where that is wanted, and its end, and writes the record and the bytes
+/// of the memory where they are wanted.
 fn print_and_keep<W: Write, E: Write, S: Write>(
     alloc: Global,
     recorded: &Record,
@@ -269,7 +273,7 @@ fn print_and_keep<W: Write, E: Write, S: Write>(
     whence: Whence,
     streams: &mut Streams<W, E, S>,
 ) -> Result<Done, Trouble>
-    ensures made { IfOk result (λ done. PrintsAndKeeps job.now recorded.now end.now
+    ensures made { IfOk result (λ done. PrintsAndKeeps whence.entry.bytes.now job.now recorded.now end.now
         (written W.contents E.contents S.contents streams.old streams.new) done.status) }
     ensures trouble { IfErr result IsUnwritten }
     ensures silent { IfErr result (λ e. Leaves e
@@ -278,20 +282,26 @@ fn print_and_keep<W: Write, E: Write, S: Write>(
     ensures unwanted { is_some job.now.save ≡ false → Stays streams.old.save streams.new.save }
     ensures no_memory { is_some job.now.memory_out ≡ false → Stays streams.old.memory streams.new.memory }
 {
-    let done = print_and_write(alloc, end, job, whence, streams)?;
+    let said = said_in(alloc, whence.bytes, recorded, job.look.text)?;
+    let whence = Whence {
+        recorded: Some(recorded),
+        ..whence
+    };
+    let done = print_and_write(alloc, end, &said, job, whence, streams)?;
     keep(recorded, job.save.is_some(), &mut streams.save)?;
     Ok(done)
 }
 
-/// Prints the end of a run, and writes the bytes of its memory where they are wanted.
+/// Prints what the threads of a run say, and its end, and writes the bytes of its memory where they are wanted.
 fn print_and_write<W: Write, E: Write, S: Write>(
     alloc: Global,
     end: &EndState,
+    said: &[Said],
     job: &RunJob,
     whence: Whence,
     streams: &mut Streams<W, E, S>,
 ) -> Result<Done, Trouble>
-    ensures made { IfOk result (λ done. PrintsAllIn job.now end.now
+    ensures made { IfOk result (λ done. PrintsAllIn job.now end.now said.now
         (written W.contents E.contents S.contents streams.old streams.new) done.status) }
     ensures trouble { IfErr result IsUnwritten }
     ensures silent { IfErr result (λ e. Leaves e
@@ -306,7 +316,7 @@ fn print_and_write<W: Write, E: Write, S: Write>(
         memory,
         ..
     } = streams;
-    let done = match print_end(alloc, out, err, end, job.look, whence) {
+    let done = match print_end(alloc, out, err, end, said, job.look, whence) {
         Ok(done) => done,
         Err(unwritten) => return Err(unprinted(unwritten)),
     };

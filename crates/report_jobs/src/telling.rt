@@ -1,14 +1,16 @@
 //! What is said on standard error of a module, a call or a record that is refused, and of what failed.
-ghost use Rattle.std.specs.Prelude.{◌≡◌, ◌++◌, true, OnOk};
+ghost use Rattle.std.specs.Prelude.{◌≡◌, ◌++◌, encode_utf8, true, OnOk};
 ghost use Rattle.std.specs.Io.KnownBytes.{Appends};
+ghost use Rattle.show_text.specs.Plain.{plain_text};
 ghost use Rattle.report_jobs.specs.Told.{call_line, unlaid_line};
 ghost use Rattle.report_jobs.specs.Trapped.{Tells};
-ghost use Rattle.report_jobs.specs.Undone.{failed_line, refused_line, undone_line, TellsEnded};
+ghost use Rattle.report_jobs.specs.Undone.{absent_line, failed_line, refused_line, undone_line, TellsEnded};
 ghost use Rattle.report_jobs.specs.declared.undone.Refused.TheVariants as refused;
 
-use crate::undone::{Failed, JobResult, Refused, Undone};
+use crate::undone::{Absent, Failed, JobResult, Refused, Undone};
 use arrayvec::ArrayVec;
 use report_memory::Unlaid;
+use show_text::plain_char;
 use spawn_host::CallFault;
 use std::io::{self, ErrorKind, Write};
 use types::MOST_ITEMS;
@@ -38,20 +40,45 @@ pub fn say<E: Write>(err: &mut E, text: &[u8]) -> bool
     false
 }
 
-/// Says a path between two texts, and one more behind them, piece by piece.
-pub fn say_pieces<E: Write>(err: &mut E, front: &str, path: &str, behind: &str, more: &str)
-    ensures { Tells (E.contents err.old) (E.contents err.new) (front.now ++ path.now ++ behind.now ++ more.now) }
+/// Says a character.
+fn say_char<E: Write>(err: &mut E, c: char) -> bool
+    ensures told { Tells (E.contents err.old) (E.contents err.new) (encode_utf8 c) }
+    ensures all { result ≡ true → Appends (E.contents err.old) (E.contents err.new) (encode_utf8 c) }
+{
+    let mut room = [0u8; 4];
+    let text = c.encode_utf8(&mut room);
+    say(err, text.as_bytes())
+}
+
+/// Says a text without what a terminal obeys in place of showing it, character by character, and answers whether that is
+/// all of it.
+pub fn say_plain<E: Write>(err: &mut E, text: &str) -> bool
+    ensures told { Tells (E.contents err.old) (E.contents err.new) (plain_text text.now) }
+    ensures all { result ≡ true → Appends (E.contents err.old) (E.contents err.new) (plain_text text.now) }
+{
+    for c in text.chars() {
+        if !say_char(err, plain_char(c)) {
+            return false;
+        }
+    }
+    true
+}
+
+/// Says a name between texts: two in front of it, and one behind.
+pub fn say_named<E: Write>(err: &mut E, front: &str, words: &str, name: &str, behind: &str)
+    ensures { Tells (E.contents err.old) (E.contents err.new)
+        (front.now ++ words.now ++ plain_text name.now ++ behind.now) }
 {
     if !say(err, front.as_bytes()) {
         return;
     }
-    if !say(err, path.as_bytes()) {
+    if !say(err, words.as_bytes()) {
         return;
     }
-    if !say(err, behind.as_bytes()) {
+    if !say_plain(err, name) {
         return;
     }
-    say(err, more.as_bytes());
+    say(err, behind.as_bytes());
 }
 
 /// Writes the line of why so many bytes can't be laid over the memory of a module, from an address on.
@@ -101,6 +128,9 @@ fn write_call<W: Write>(to: &mut W, fault: CallFault) -> io::Result<()>
 }
 
 /// Writes the line of what is refused.
+///
+/// # Errors
+/// That of the writer; and `InvalidInput` of a line with a name, which `tell_absent` says, however long it is.
 fn write_refused<W: Write>(to: &mut W, refused: &Refused) -> io::Result<()>
     ensures { OnOk result (Appends (W.contents to.old) (W.contents to.new) (refused_line refused.now)) }
 {
@@ -120,14 +150,7 @@ fn write_refused<W: Write>(to: &mut W, refused: &Refused) -> io::Result<()>
         } => write_in_body(to, *kind, *function, *instruction),
         Refused::Unlaid { why, addr, count } => write_unlaid(to, *why, *addr, *count),
         Refused::Call { fault, module: _ } => write_call(to, *fault),
-        Refused::Absent(absent) => {
-            let words = absent.words();
-            write!(to, "show refused: {words}\n")
-        }
-        Refused::Allowance(absent) => {
-            let words = absent.words();
-            write!(to, "allowance refused: {words}\n")
-        }
+        Refused::Absent(_) | Refused::Allowance(_) => Err(io::Error::from(ErrorKind::InvalidInput)),
         Refused::Header(line) => write!(to, "record refused: header line {line}\n"),
         Refused::Unreadable(line) => write!(to, "record refused: line {line} unreadable\n"),
         Refused::EndMissing => to.write_all(b"record refused: end missing\n"),
@@ -136,8 +159,27 @@ fn write_refused<W: Write>(to: &mut W, refused: &Refused) -> io::Result<()>
     }
 }
 
+/// Says which data isn't there, or that no thread trapped, behind this.
+fn tell_absent<E: Write>(err: &mut E, front: &str, absent: Absent)
+    ensures { Tells (E.contents err.old) (E.contents err.new) (absent_line front.now absent.entry) }
+{
+    let (words, name, behind) = absent.line();
+    say_named(err, front, words, name, behind);
+}
+
 /// Says what is refused. It takes no memory.
 fn tell_refused<E: Write>(err: &mut E, refused: &Refused)
+    ensures { Tells (E.contents err.old) (E.contents err.new) (refused_line refused.now) }
+{
+    match refused {
+        Refused::Absent(absent) => tell_absent(err, "show refused: ", *absent),
+        Refused::Allowance(absent) => tell_absent(err, "allowance refused: ", *absent),
+        _ => tell_numbers(err, refused),
+    }
+}
+
+/// Says what is refused, as far as its line has no name.
+fn tell_numbers<E: Write>(err: &mut E, refused: &Refused)
     ensures { Tells (E.contents err.old) (E.contents err.new) (refused_line refused.now) }
 {
     let mut line: ArrayVec<u8, 192> = ArrayVec::new();
@@ -161,7 +203,7 @@ fn tell_failed<E: Write>(err: &mut E, failed: Failed)
             say(err, b"file fault: standard output\n");
         }
         Failed::File(path) => {
-            say_pieces(err, "file fault: ", path.unwrap_or("the record"), "\n", "");
+            say_named(err, "file fault: ", "", path.unwrap_or("the record"), "\n");
         }
     }
 }

@@ -5,8 +5,10 @@ ghost use Rattle.std.specs.Io.KnownBytes.{Appends};
 ghost use Rattle.types.specs.declared.outcome.Outcome.TheVariants as outcomes;
 ghost use Rattle.report_jobs.specs.Trapped.{IsAddedTo, IsTrapLine, TellsEnd, TellsTraps, TellsTrapsIf, trap_front};
 
+use crate::saying::Spoken;
 use crate::telling::say;
 use arrayvec::ArrayVec;
+use replay_text::Record;
 use report_traps::{Frames, Traps};
 use std::alloc::{AllocError, Global};
 use std::io::{self, Write};
@@ -14,19 +16,21 @@ use types::{Outcome, Parts, ThreadReport, Trap};
 
 /// What says where threads trapped.
 #[derive(Clone, Copy)]
-pub(crate) struct Whence<'a> {
+pub(crate) struct Whence<'a, 'r> {
     /// The parts of the module.
     pub parts: &'a Parts,
     /// Its bytes, which have its names and lines.
     pub bytes: &'a [u8],
     /// What was kept while the threads ran.
     pub frames: &'a Frames,
+    /// The record of the run, if there is one.
+    pub recorded: Option<&'r Record>,
 }
 
 /// Where threads trapped, if one did and there is memory to say so.
 pub(crate) fn traps_of<'a>(
     alloc: Global,
-    whence: Whence<'a>,
+    whence: Whence<'a, '_>,
     reports: &[ThreadReport],
 ) -> Option<Traps<'a, 'a>> {
     if !reports
@@ -65,17 +69,45 @@ fn add_places(line: &mut String, traps: Option<&Traps>, thread: usize) -> Result
     add_callers(line, traps, thread)
 }
 
+/// Adds what a thread said, where that was the last thing that it did, in a line of its own.
+fn add_words(line: &mut String, spoken: Option<&Spoken>, thread: usize) -> Result<(), AllocError>
+    ensures { IfOk result (λ _. IsAddedTo (string_bytes line.old) (string_bytes line.new)) }
+{
+    let Some(spoken) = spoken else {
+        return Ok(());
+    };
+    let Some(words) = spoken.last_words(thread) else {
+        return Ok(());
+    };
+    write!(line, "\n  it said: {words}")?;
+    Ok(())
+}
+
+/// Adds where a thread trapped, and what it said.
+fn add_known(
+    line: &mut String,
+    traps: Option<&Traps>,
+    spoken: Option<&Spoken>,
+    thread: usize,
+) -> Result<(), AllocError>
+    ensures { IfOk result (λ _. IsAddedTo (string_bytes line.old) (string_bytes line.new)) }
+{
+    add_places(line, traps, thread)?;
+    add_words(line, spoken, thread)
+}
+
 /// The line of a thread that trapped.
 fn line_of(
     alloc: Global,
     traps: Option<&Traps>,
+    spoken: Option<&Spoken>,
     thread: usize,
     trap: Trap,
 ) -> Result<String, AllocError>
     ensures { IfOk result (λ line. IsTrapLine thread trap (string_bytes line)) }
 {
     let mut line = format!(in alloc; "thread {thread}: trap {trap}")?;
-    add_places(&mut line, traps, thread)?;
+    add_known(&mut line, traps, spoken, thread)?;
     line.push_str("\n")?;
     Ok(line)
 }
@@ -97,11 +129,18 @@ fn say_plain<E: Write>(err: &mut E, thread: usize, trap: Trap)
     }
 }
 
-/// Says of a thread that trapped so and where; without the place where there is no memory for it.
-fn say_trap<E: Write>(alloc: Global, err: &mut E, traps: Option<&Traps>, thread: usize, trap: Trap)
+/// Says of a thread that trapped so and where, and what it said; only that it trapped where there is no memory for more.
+fn say_trap<E: Write>(
+    alloc: Global,
+    err: &mut E,
+    traps: Option<&Traps>,
+    spoken: Option<&Spoken>,
+    thread: usize,
+    trap: Trap,
+)
     ensures { TellsEnd thread (outcomes.Trap trap) (E.contents err.old) (E.contents err.new) }
 {
-    match line_of(alloc, traps, thread, trap) {
+    match line_of(alloc, traps, spoken, thread, trap) {
         Ok(line) => {
             say(err, line.as_bytes());
         }
@@ -114,13 +153,14 @@ fn say_end<E: Write>(
     alloc: Global,
     err: &mut E,
     traps: Option<&Traps>,
+    spoken: Option<&Spoken>,
     thread: usize,
     outcome: Outcome,
 )
     ensures { TellsEnd thread outcome (E.contents err.old) (E.contents err.new) }
 {
     match outcome {
-        Outcome::Trap(trap) => say_trap(alloc, err, traps, thread, trap),
+        Outcome::Trap(trap) => say_trap(alloc, err, traps, spoken, thread, trap),
         Outcome::Done(_) | Outcome::Stop(_) => {}
     }
 }
@@ -130,12 +170,28 @@ fn say_all_traps<E: Write>(
     alloc: Global,
     err: &mut E,
     traps: Option<&Traps>,
+    spoken: Option<&Spoken>,
     reports: &[ThreadReport],
 )
     ensures { TellsTraps 0 reports.now (E.contents err.old) (E.contents err.new) }
 {
     for (thread, report) in reports.iter().enumerate() {
-        say_end(alloc, err, traps, thread, report.outcome);
+        say_end(alloc, err, traps, spoken, thread, report.outcome);
+    }
+}
+
+/// What threads said, where one trapped, a record says it, and there is memory for it.
+fn spoken_of<'r>(
+    alloc: Global,
+    whence: Whence<'_, 'r>,
+    traps: Option<&Traps>,
+) -> Option<Spoken<'r>> {
+    if traps.is_none() {
+        return None;
+    }
+    match whence.recorded {
+        Some(recorded) => Spoken::read(alloc, whence.bytes, recorded).ok(),
+        None => None,
     }
 }
 
@@ -143,6 +199,7 @@ fn say_all_traps<E: Write>(
 pub(crate) fn say_traps<E: Write>(
     alloc: Global,
     err: &mut E,
+    whence: Whence,
     traps: Option<&Traps>,
     reports: &[ThreadReport],
     is_asked: bool,
@@ -150,6 +207,7 @@ pub(crate) fn say_traps<E: Write>(
     ensures { TellsTrapsIf is_asked reports.now (E.contents err.old) (E.contents err.new) }
 {
     if is_asked {
-        say_all_traps(alloc, err, traps, reports);
+        let spoken = spoken_of(alloc, whence, traps);
+        say_all_traps(alloc, err, traps, spoken.as_ref(), reports);
     }
 }

@@ -1,6 +1,7 @@
 //! What comes of a job, as a value: its status, the line about it, its object and what explains it are made of this.
 ghost use Rattle.std.specs.Prelude.{◌≡◌};
 ghost use Rattle.report_jobs.specs.Undone.{ended_status, undone_status, refused_status, absent_words};
+ghost use Rattle.report_jobs.specs.Undone.{absent_behind, absent_front, absent_name};
 ghost use Rattle.report_jobs.specs.Undone.{of_refusal, of_trouble, of_unfit, of_unready};
 
 use crate::loading::{ModuleRefusal, Unready};
@@ -20,24 +21,43 @@ use validate_typing::ValidFault;
 
 /// What a record of a run has not that is asked for.
 #[derive(Clone, Copy, PartialEq, Eq, Debug)]
-pub enum Absent {
-    /// No static data has the name, or the module has no debug section.
-    NoData,
+pub enum Absent<'a> {
+    /// No static data has this name, or the module has no debug section.
+    NoData(&'a str),
     /// Data at different places has it.
-    SeveralData,
+    SeveralData(&'a str),
     /// No thread trapped.
     NoTrap,
 }
 
-impl Absent {
-    /// What is said of it.
+impl<'a> Absent<'a> {
+    /// What an object says of it.
     pub fn words(self) -> &'static str
-        ensures { result.now ≡ absent_words self }
+        ensures { result.now ≡ absent_words self.entry }
     {
         match self {
-            Absent::NoData => "no static data of this name; a debug section has names",
-            Absent::SeveralData => "data at several addresses has this name",
+            Absent::NoData(_) => "no static data of this name; a debug section has names",
+            Absent::SeveralData(_) => "data at several addresses has this name",
             Absent::NoTrap => "no thread trapped",
+        }
+    }
+
+    /// What its line says before the name, the name, and what it says behind it.
+    pub(crate) fn line(self) -> (&'static str, &'a str, &'static str)
+        ensures front { result.0.now ≡ absent_front self.entry }
+        ensures name { result.1.now ≡ absent_name self.entry }
+        ensures behind { result.2.now ≡ absent_behind self.entry }
+    {
+        match self {
+            Absent::NoData(name) => {
+                (
+                    "no static data is called ",
+                    name,
+                    "; a debug section has names\n",
+                )
+            }
+            Absent::SeveralData(name) => ("data at several addresses is called ", name, "\n"),
+            Absent::NoTrap => ("no thread trapped\n", "", ""),
         }
     }
 }
@@ -52,7 +72,7 @@ pub struct Misfit {
 
 /// What is refused, with its numbers and with what explains it.
 #[derive(Drop)]
-pub enum Refused {
+pub enum Refused<'a> {
     /// Bytes that are no module's text: what is wrong, and at which offset.
     Read {
         kind: Fault,
@@ -78,9 +98,9 @@ pub enum Refused {
         module: ValidModule,
     },
     /// A record has not what is asked for.
-    Absent(Absent),
+    Absent(Absent<'a>),
     /// Races are allowed at data that the module hasn't.
-    Allowance(Absent),
+    Allowance(Absent<'a>),
     /// Bytes that are no record's text: this line of the header is wrong or missing.
     Header(usize),
     /// This line behind the header is wrong where it stands.
@@ -109,7 +129,7 @@ pub enum Failed<'a> {
 /// Why a job isn't done.
 #[derive(Drop)]
 pub enum Undone<'a> {
-    Refused(Refused),
+    Refused(Refused<'a>),
     Failed(Failed<'a>),
 }
 
@@ -195,7 +215,7 @@ impl Done {
 /// What comes of a job.
 pub type JobResult<'a> = Result<Done, Undone<'a>>;
 
-impl Refused {
+impl Refused<'_> {
     /// The status: 2 of a module, 3 of a call, of bytes that can't be laid, of what a record has not and of data that a
     /// module hasn't, 4 of a record.
     pub fn status(&self) -> u8

@@ -7,6 +7,7 @@ use Rattle.hex.specs.Hex.{encode_lower}
 use Rattle.search_endings.specs.Ends.{status_of}
 use Rattle.show_json.specs.declared.places.PlaceObject.{PlaceObject}
 use Rattle.report_json.specs.declared.ends.RunEndObject.{RunEndObject}
+use Rattle.report_json.specs.Said.{said_field}
 use Rattle.show_json.specs.Json.{Json, Field, number, text, list, is, is_given, are_some, numbered, object_of}
 use Rattle.show_json.specs.Outcomes.{outcome_json}
 use Rattle.show_json.specs.Places.{place_json}
@@ -37,13 +38,14 @@ bytes_field true bytes = is (codes "bytes") (text (encode_lower bytes))
 bytes_field false bytes = None
 
 -- How a run ended: its status, its threads, the page count, the first bytes, so many or all if there are fewer, where
--- some are wanted; and hints, where there are some.
+-- some are wanted; what its threads said, and hints, where there is something to say.
 abbrev pub run_fields : RunEndObject → List Field
 run_fields run =
     is (codes "status") (number (status_of run.threads.now))
     ∷ is (codes "threads") (threads_json run.places.now run.threads.now)
     ∷ is (codes "pages") (number run.pages)
     ∷ bytes_field (nat_lt 0 run.dump) (take run.dump run.bytes.now)
+    ∷ said_field run.said.now
     ∷ are_some (codes "hints") (λ hint. text hint.now) run.hints.now
     ∷ []
 

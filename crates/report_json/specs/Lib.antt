@@ -1,4 +1,5 @@
 pub mod Raced
+pub mod Said
 pub mod Ends
 pub mod Refusals
 pub mod Found

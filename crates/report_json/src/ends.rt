@@ -11,11 +11,13 @@ ghost use Rattle.report_json.specs.Ends.{threads_json, outcomes_json, thread_fie
 ghost use Rattle.show_json.specs.Json.{json_line, object_of};
 ghost use Rattle.show_json.specs.Sent.{Sends, SendsField};
 
+use crate::said::put_said;
 use search_endings::is_done;
 use serde::Serializer;
 use show_json::{
     Hex, PlaceObject, ToJson, given, put, put_if, put_some, send_two, some, write_line,
 };
+use show_said::Said;
 use show_text::Unwritten;
 use std::alloc::Global;
 use std::io::Write;
@@ -144,6 +146,8 @@ pub struct RunEndObject<'a> {
     /// How many first bytes are printed, or all if there are fewer; none and no field where it is 0.
     pub dump: u32,
     pub bytes: &'a [u8],
+    /// What the threads said, where that is asked for; no field where it is nothing.
+    pub said: &'a [Said],
     /// What to do about threads that were stopped.
     pub hints: &'a [&'a str],
 }
@@ -158,14 +162,16 @@ impl ToJson for RunEndObject<'_> {
             pages,
             dump,
             bytes,
+            said,
             hints,
         } = *self;
         let is_wanted = 0 < dump;
-        out.begin_map(Some(3 + usize::from(is_wanted) + some(hints)))?;
+        out.begin_map(Some(3 + usize::from(is_wanted) + some(said) + some(hints)))?;
         put(alloc, out, "status", &status_of(reports))?;
         put(alloc, out, "threads", &Threads { places, reports })?;
         put(alloc, out, "pages", &pages)?;
         put_bytes(alloc, out, is_wanted, first_bytes(dump, bytes))?;
+        put_said(alloc, out, said)?;
         put_some(alloc, out, "hints", hints)?;
         out.end_map()
     }

@@ -2,7 +2,7 @@
 //!
 //! Proved: each function writes exactly the line of the value that is defined for its object.
 //!
-//! `Ends`, `Refusals`, `Found`, `Drawn`, `Complete` and `Raced` in `specs/` say which value each object is.
+//! `Ends`, `Said`, `Refusals`, `Found`, `Drawn`, `Complete` and `Raced` in `specs/` say which value each object is.
 #![tactic(auto)]
 
 mod complete;
@@ -11,6 +11,7 @@ mod ends;
 mod found;
 mod raced;
 mod refusals;
+mod said;
 
 pub use complete::{CompleteObject, write_complete};
 pub use drawn::{Coverage, DrawnEnd, DrawnObject, DrawnRuns, MetEnding, write_drawn};

@@ -3,3 +3,5 @@ mod Spanned
 mod Printed
 mod RunMoments
 pub mod Sightings
+mod Statuses
+mod LastMoments

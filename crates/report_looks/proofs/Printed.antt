@@ -8,12 +8,12 @@ use Rattle.report_looks.specs.Raced.{OfModule}
 
 -- Where a view makes a file, it is written there.
 pub to_file : (how : ShowLook) (bytes saved : List ℕ) (out save : WriterChange) → is_some (path_of how.view) ≡ true
-    → OfModule (PrintsShow how save) bytes saved → OfModule (PrintsShow how (stream_of how.view out save)) bytes saved
-to_file how bytes saved out save is = subst (λ (w : WriterChange). OfModule (PrintsShow how w) bytes saved)
+    → OfModule (PrintsShow bytes how save) bytes saved → OfModule (PrintsShow bytes how (stream_of how.view out save)) bytes saved
+to_file how bytes saved out save is = subst (λ (w : WriterChange). OfModule (PrintsShow bytes how w) bytes saved)
     (sym (ap (λ b. cond b save out) is))
 
 -- And else to standard output.
 pub to_output : (how : ShowLook) (bytes saved : List ℕ) (out save : WriterChange) → is_some (path_of how.view) ≡ false
-    → OfModule (PrintsShow how out) bytes saved → OfModule (PrintsShow how (stream_of how.view out save)) bytes saved
-to_output how bytes saved out save is = subst (λ (w : WriterChange). OfModule (PrintsShow how w) bytes saved)
+    → OfModule (PrintsShow bytes how out) bytes saved → OfModule (PrintsShow bytes how (stream_of how.view out save)) bytes saved
+to_output how bytes saved out save is = subst (λ (w : WriterChange). OfModule (PrintsShow bytes how w) bytes saved)
     (sym (ap (λ b. cond b save out) is))

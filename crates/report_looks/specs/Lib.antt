@@ -1,3 +1,4 @@
+pub mod Chosen
 pub mod PageMoments
 pub mod RunMoments
 pub mod Seeing
@@ -7,3 +8,4 @@ pub mod Silent
 pub mod Looked
 pub mod Addresses
 pub mod Allowing
+pub mod Saying

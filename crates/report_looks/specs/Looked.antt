@@ -1,5 +1,5 @@
 -- What is asked for of a record's run, and what is printed of it.
-use Rattle.std.specs.Prelude.{ℕ, ◌≡◌, ◌==◌, ◌&&◌, ◌+◌, ◌-◌, min, Bool, true, false, cond, List, length, position}
+use Rattle.std.specs.Prelude.{ℕ, ◌≡◌, ◌+◌, ◌-◌, min, Bool, true, false, cond, List, length, position}
 use Rattle.std.specs.Prelude.{Option, Some, None, is_some}
 use Rattle.std.specs.List.{AllZip, list_any, slice_get}
 use Rattle.types.specs.declared.parts.Parts.{Parts}
@@ -13,10 +13,9 @@ use Rattle.types.specs.declared.outcome.ThreadReport.{ThreadReport}
 use Rattle.race_history.specs.declared.race.Race.{Race}
 use Rattle.replay_text.specs.declared.parts.RecordParts.{RecordParts}
 use Rattle.replay_text.specs.Versions.{header_count}
-use Rattle.selection.specs.declared.choice.Choice.{Choice}
 use Rattle.selection.specs.declared.choice.Look.{Look}
 use Rattle.selection.specs.declared.choice.NumberSpan.{NumberSpan}
-use Rattle.selection.specs.Choices.{span_of}
+use Rattle.selection.specs.Choices.{span_of, AreOfAny}
 use Rattle.report_command.specs.declared.form.Form.{Form}
 use Rattle.report_command.specs.declared.form.Form.TheVariants.{Lines, Json}
 use Rattle.report_command.specs.declared.places.Data.{Data}
@@ -28,7 +27,7 @@ use Rattle.report_command.specs.declared.show.ShowLook.{ShowLook}
 use Rattle.report_command.specs.declared.show.RecordView.{RecordView}
 use Rattle.report_command.specs.declared.show.RecordView.TheVariants as views
 use Rattle.report_command.specs.Views.{path_of}
-use Rattle.report_jobs.specs.Prints.{WriterChange, changed}
+use Rattle.report_jobs.specs.Prints.{WriterChange, IsSaid, changed}
 use Rattle.report_jobs.specs.declared.streams.Streams.{Streams}
 use Rattle.dwarf_data.specs.declared.place.ByteRange.{ByteRange}
 use Rattle.dwarf_data.specs.Within.{IsWithinOne}
@@ -45,6 +44,7 @@ use Rattle.show_rows.specs.declared.listing.Story.{Story}
 use Rattle.show_rows.specs.Listing.{IsStoryOf}
 use Rattle.show_named.specs.LastTexts.{WritesLast}
 use Rattle.show_waits.specs.Waits.{WritesWaits}
+use Rattle.show_said.specs.declared.said.Said.{Said}
 use Rattle.report_looks.specs.declared.wanted.LookRequest.{LookRequest}
 use Rattle.report_looks.specs.declared.wanted.Here.{Here}
 use Rattle.report_looks.specs.declared.wanted.Wanted.{Wanted}
@@ -53,6 +53,8 @@ use Rattle.report_looks.specs.PageMoments.{AreOfPage}
 use Rattle.report_objects.specs.RaceObjects.{WritesObject}
 use Rattle.report_looks.specs.RunMoments.{IsMomentIn, WritesHere}
 use Rattle.report_looks.specs.Addresses.{AreAddresses}
+use Rattle.report_looks.specs.Chosen.{chooses_all}
+use Rattle.report_looks.specs.Saying.{is_before, is_shown, WritesSaid, WritesSaidIf}
 use Rattle.report_looks.specs.Raced.{IsSeen}
 use Rattle.report_objects.specs.Scenes.{WritesLastObject}
 
@@ -92,6 +94,7 @@ pub record IsHere (r : RecordParts) (at : At.At) (here : Here) : Type 0 where
   pub addr : here.bytes.addr ≡ at.addr
   pub count : here.bytes.count ≡ at.count
   pub raw : here.is_raw ≡ at.is_raw
+  pub text : here.text ≡ at.text
   pub form_is : here.form ≡ at.form
 
 -- What is wanted of a view, with addresses and places of this record.
@@ -101,11 +104,11 @@ IsWanted r map (views.Write write) w = (sought : SoughtWrite) × (w ≡ wanted.W
 IsWanted r map (views.Moment at) w = (here : Here) × (w ≡ wanted.Moment here) × IsHere r at here
 IsWanted r map view w = w ≡ wanted.Entries view
 
--- The look that is asked for, at these addresses.
+-- The look that is asked for, at these addresses: where no lines or addresses are given, all are chosen.
 pub record IsLookAt (how : ShowLook) (addrs : List NumberSpan) (look : Look) : Type 0 where
-  pub lines : look.choice.lines.items ≡ how.lines.items
+  pub lines : AreOfAny how.lines.items look.choice.lines
   pub threads : look.choice.threads.items ≡ how.threads.items
-  pub addrs_are : look.choice.addrs.items ≡ addrs
+  pub addrs_are : AreOfAny addrs look.choice.addrs
   pub width : look.width ≡ how.width
   pub color : look.color ≡ how.color
 
@@ -123,11 +126,7 @@ WritesLastIn Lines shown map sought old new = (story : Story) × IsStoryOf shown
 WritesLastIn Json shown map sought old new = (story : Story) × IsStoryOf shown.record.now.log story
     × WritesLastObject shown map story sought old new
 
--- Whether all entries are chosen, and whether a thread was stopped.
-abbrev pub chooses_all : Choice → Bool
-chooses_all choice =
-    (length choice.lines.items == 0) && ((length choice.addrs.items == 0) && (length choice.threads.items == 0))
-
+-- Whether a thread was stopped.
 abbrev pub is_stop : Outcome → Bool
 is_stop (outcomes.Trap trap) = false
 is_stop (outcomes.Stop stop) = true
@@ -161,21 +160,33 @@ WritesPageOf shown map look old new = (races : List Race) × (moments : List Mom
 abbrev pub WritesTraceOf : Shown → Look → Option (List ℕ) → Option (List ℕ) → Type 0
 WritesTraceOf shown look old new = (races : List Race) × WritesTrace shown races look old new
 
--- Entries as rows, as an object, as a page, or as a trace.
-abbrev pub WritesEntries : RecordView → Shown → DataMap → Look → Option (List ℕ) → Option (List ℕ) → Type 0
-WritesEntries (views.Page path) shown map look old new = WritesPageOf shown map look old new
-WritesEntries (views.Trace path) shown map look old new = WritesTraceOf shown look old new
-WritesEntries views.Object shown map look old new = WritesObject shown map look old new
-WritesEntries views.Unfolded shown map look old new = WritesRowsOf shown map look old new
-WritesEntries view shown map look old new = WritesFoldedOf shown map look old new
+-- Entries as rows, as an object, as a page, or as a trace; or what threads say, which is all of this.
+abbrev pub WritesEntries : RecordView → Shown → DataMap → Look → List Said → Option (List ℕ) → Option (List ℕ) → Type 0
+WritesEntries (views.Page path) shown map look all old new = WritesPageOf shown map look old new
+WritesEntries (views.Trace path) shown map look all old new = WritesTraceOf shown look old new
+WritesEntries views.Object shown map look all old new = WritesObject shown map look old new
+WritesEntries views.Unfolded shown map look all old new = WritesRowsOf shown map look old new
+WritesEntries views.Said shown map look all old new = WritesSaid (is_shown shown.record.now look.choice) all old new
+WritesEntries view shown map look all old new = WritesFoldedOf shown map look old new
+
+-- A moment, and below it what threads said before, where that is wanted.
+abbrev pub WritesMomentOf : Shown → DataMap → Here → List Said → Option (List ℕ) → Option (List ℕ) → Type 0
+WritesMomentOf shown map here all old new = (moment : Moment)
+    × IsMomentIn shown.code.now.parts.now shown.record.now here.place here.bytes moment
+    × (between : Option (List ℕ)) × WritesHere shown.code.now.parts.now shown map here moment old between
+    × WritesSaidIf here.text (is_before shown.record.now here) all between new
 
 -- What is wanted of a record is written.
-abbrev pub WritesWanted : Shown → DataMap → Look → Wanted → Option (List ℕ) → Option (List ℕ) → Type 0
-WritesWanted shown map look (wanted.Write sought form) old new = WritesLastIn form shown map sought old new
-WritesWanted shown map look (wanted.Entries view) old new = WritesEntries view shown map look old new
-WritesWanted shown map look (wanted.Moment here) old new = (moment : Moment)
-    × IsMomentIn shown.code.now.parts.now shown.record.now here.place here.bytes moment
-    × WritesHere shown.code.now.parts.now shown map here moment old new
+abbrev pub WritesWanted : Shown → DataMap → Look → List Said → Wanted → Option (List ℕ) → Option (List ℕ) → Type 0
+WritesWanted shown map look all (wanted.Write sought form) old new = WritesLastIn form shown map sought old new
+WritesWanted shown map look all (wanted.Entries view) old new = WritesEntries view shown map look all old new
+WritesWanted shown map look all (wanted.Moment here) old new = WritesMomentOf shown map here all old new
+
+-- Whether what threads say is wanted.
+abbrev pub says : RecordView → Bool
+says views.Said = true
+says (views.Moment at) = at.text
+says view = false
 
 -- A record as it is shown: its entries, their rows, and places of this module.
 pub record IsShown (m : Parts) (r : RecordParts) (rows : List (Option Row)) (shown : Shown) : Type 0 where
@@ -184,20 +195,23 @@ pub record IsShown (m : Parts) (r : RecordParts) (rows : List (Option Row)) (sho
   pub of_module : shown.code.now.parts.now ≡ m
 
 -- What is asked for of it is written.
-abbrev pub PrintsAsked : Parts → RecordParts → List (Option Row) → DataMap → LookRequest → Option (List ℕ)
+abbrev pub PrintsAsked : Parts → RecordParts → List (Option Row) → DataMap → LookRequest → List Said → Option (List ℕ)
     → Option (List ℕ) → Type 0
-PrintsAsked m r rows map asked old new = (shown : Shown) × IsShown m r rows shown
-    × WritesWanted shown map asked.look asked.wanted old new
+PrintsAsked m r rows map asked all old new = (shown : Shown) × IsShown m r rows shown
+    × WritesWanted shown map asked.look all asked.wanted old new
 
--- The same of a record's text: it is of a run of the module, and this is what is asked for of it.
-pub record PrintsShow (how : ShowLook) (out : WriterChange) (m : Parts) (saved : List ℕ) : Type 0 where
+-- The same of a record's text: it is of a run of the module, whose bytes these are, and this is what is asked for of it.
+pub record PrintsShow (bytes : List ℕ) (how : ShowLook) (out : WriterChange) (m : Parts) (saved : List ℕ)
+    : Type 0 where
   pub record_is : RecordParts
   pub rows : List (Option Row)
   pub seen : IsSeen m saved record_is rows
   pub map : DataMap
   pub asked : LookRequest
   pub asked_is : IsAsked record_is map how asked
-  pub prints : PrintsAsked m record_is rows map asked out.old out.new
+  pub all : List Said
+  pub said_is : IsSaid bytes record_is (says how.view) all
+  pub prints : PrintsAsked m record_is rows map asked all out.old out.new
 
 -- A page and a trace are written to the file that is made, and all else to standard output.
 abbrev pub stream_of : RecordView → WriterChange → WriterChange → WriterChange

@@ -34,11 +34,11 @@ impl AllowedBytes {
 }
 
 /// Where accesses may race, by what a module says of its data.
-pub(crate) fn allowed_at(
+pub(crate) fn allowed_at<'a>(
     alloc: Global,
     map: &DataMap,
-    allow: &Allowance,
-) -> Result<AllowedBytes, Unshown>
+    allow: &Allowance<'a>,
+) -> Result<AllowedBytes, Unshown<'a>>
     ensures allowed { IfOk result (AreBytesOf allow.now) }
     ensures why { IfErr result IsUnrefused }
     ensures named { IfErr result (λ why. IsAbsent why → SomeNamed allow.now.bytes.items) }
@@ -54,10 +54,10 @@ pub(crate) fn allowed_at(
 }
 
 /// Why nothing is shown of what may race: memory, or that there is no such data.
-fn unallowed(why: Unshown) -> Undone<'static>
+fn unallowed<'a>(why: Unshown<'a>) -> Undone<'a>
     requires { IsUnrefused why }
     ensures status { (undone_status result ≡ 3) ⊎ (undone_status result ≡ 5) }
-    ensures absent { undone_status result ≡ 3 → IsAbsent why }
+    ensures absent { undone_status result ≡ 3 → IsAbsent why.entry }
 {
     match why {
         Unshown::Unfit { .. } => Undone::Failed(Failed::Memory),
@@ -69,11 +69,11 @@ fn unallowed(why: Unshown) -> Undone<'static>
 ///
 /// # Errors
 /// That no data or several have such a name (status 3), or that memory was refused (5).
-pub fn allowed_of(
+pub fn allowed_of<'a>(
     alloc: Global,
     names: &[u8],
-    allow: &Allowance,
-) -> Result<AllowedBytes, Undone<'static>>
+    allow: &Allowance<'a>,
+) -> Result<AllowedBytes, Undone<'a>>
     ensures allowed { IfOk result (AreBytesOf allow.now) }
     ensures status { IfErr result (λ why. (undone_status why ≡ 3) ⊎ (undone_status why ≡ 5)) }
     ensures named { IfErr result (λ why. undone_status why ≡ 3 → SomeNamed allow.now.bytes.items) }

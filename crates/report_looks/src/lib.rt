@@ -9,7 +9,8 @@
 //! one, where it isn't said that they are cut. A last write that is shown is the last entry before the moment that is asked
 //! for which writes one of the bytes, and where none is said to write there, none does. The rows that are shown are those
 //! of the entries that are asked for, folded or each by itself (`show_named`), with what each thread waits for below,
-//! where all are shown and one was stopped; the object is the one of these entries; a page and a trace have the lines of
+//! where all are shown and one was stopped; what threads say is what the record has them say, with the chosen
+//! entries or before a moment (`specs/Saying.antt`); the object is the one of these entries; a page and a trace have the lines of
 //! these entries, and are written to their file (`specs/Looked.antt`); a moment that is shown, and each of a page, has the
 //! queue and the memory of the walk along the record up to there (`specs/RunMoments.antt`).
 #![tactic(auto)]
@@ -18,6 +19,7 @@ mod allowing;
 mod moments;
 mod printing;
 mod racing;
+mod saying;
 mod showing;
 mod sighting;
 mod wanted;

@@ -1,10 +1,9 @@
 //! The moments that a page has.
-ghost use Rattle.std.specs.Prelude.{◌≡◌, ◌++◌, ◌∷◌, [], All, IfOk, OnOk};
-ghost use Rattle.std.specs.List.{AllZip};
+ghost use Rattle.std.specs.Prelude.{◌≡◌, ◌∷◌, All, IfOk, OnOk};
 ghost use Rattle.show_races.specs.Told.{IsWithin};
 ghost use Rattle.report_looks.specs.PageMoments as specified;
 ghost use Rattle.report_looks.specs.Looked.{WritesPageOf};
-ghost use Rattle.report_looks.specs.PageMoments.{AreMomentsOf, IsMomentAt};
+ghost use Rattle.report_looks.specs.PageMoments.{AreLastMoments, AreMomentsOf, IsMomentAt};
 
 use crate::printing::{moment_of, races_in};
 use crate::wanted::Here;
@@ -25,6 +24,9 @@ const MOST_OF_PAGE: usize = 40_000;
 
 /// How many moments a page has at most.
 const MOST_MOMENTS: usize = 2_000;
+
+/// How many bytes their texts have at most, taken together.
+const MOST_MOMENT_BYTES: usize = 32_000_000;
 
 /// How many entries are gone along at most for all of them, since each takes a replay.
 const MOST_STEPS: usize = 400_000;
@@ -68,6 +70,7 @@ fn moment_text(
         is_end: false,
         bytes,
         is_raw: seen.is_raw,
+        text: false,
         form: Form::Lines,
     };
     let moment = moment_of(alloc, seen.valid, record, here)?;
@@ -79,15 +82,15 @@ fn moment_text(
     }
 }
 
-/// Puts a moment behind the others.
-fn put(moments: &mut Vec<MomentText>, moment: MomentText) -> Result<(), AllocError>
-    ensures { OnOk result (moments.new.items ≡ moments.old.items ++ moment ∷ []) }
+/// Puts a moment in front of the others.
+fn put_first(moments: &mut Vec<MomentText>, moment: MomentText) -> Result<(), AllocError>
+    ensures { OnOk result (moments.new.items ≡ moment ∷ moments.old.items) }
 {
-    moments.push(moment)?;
+    moments.insert(0, moment)?;
     Ok(())
 }
 
-/// The moments before the entries at these places.
+/// The moments before the entries at the last ones of these places, as many as a page has room for.
 fn moments_at(
     alloc: Global,
     seen: MomentView,
@@ -97,12 +100,17 @@ fn moments_at(
 ) -> Result<Vec<MomentText>, Unwritten>
     requires of_record { «record».now ≡ seen.shown.record.now }
     requires races { All (IsWithin seen.shown.record.now.log) races.now }
-    ensures { IfOk result (λ ms. AllZip (IsMomentAt seen.entry races.now) places.now ms.items) }
+    ensures { IfOk result (λ ms. AreLastMoments seen.entry races.now places.now ms.items) }
 {
     let mut moments = Vec::with_capacity(alloc, places.len())?;
-    for k in 0..places.len() {
+    let mut room = MOST_MOMENT_BYTES;
+    for k in (0..places.len()).rev() {
         let moment = moment_text(alloc, seen, record, races, places[k])?;
-        put(&mut moments, moment)?;
+        match room.checked_sub(moment.text.len()) {
+            Some(left) => room = left,
+            None => return Ok(moments),
+        }
+        put_first(&mut moments, moment)?;
     }
     Ok(moments)
 }
@@ -144,6 +152,8 @@ pub(crate) fn print_page<W: Write>(
     };
     let races = races_in(alloc, view.shown, MOST_OF_PAGE)?;
     let raced = races.as_slice();
+    view.map.begin_page();
     let moments = moments_of(alloc, view, record, look, raced)?;
+    view.map.end_page();
     write_page(alloc, view.shown, look, raced, moments.as_slice(), out)
 }

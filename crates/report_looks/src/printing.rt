@@ -4,9 +4,10 @@ ghost use Rattle.show_races.specs.Told.{IsWithin};
 ghost use Rattle.report_looks.specs.Looked as looked;
 ghost use Rattle.report_looks.specs.RunMoments.{IsMomentIn, WritesHere, WritesIn};
 ghost use Rattle.report_looks.specs.Looked.{WritesBelow, WritesEntries, WritesFoldedOf, WritesLastIn, WritesRowsOf};
-ghost use Rattle.report_looks.specs.Looked.{WritesTraceOf, WritesWanted};
+ghost use Rattle.report_looks.specs.Looked.{WritesMomentOf, WritesTraceOf, WritesWanted};
 
 use crate::moments::print_page;
+use crate::saying::{SaidPart, chooses_all, write_before, write_told};
 use crate::wanted::{Here, LookRequest, Wanted};
 use allowed_races::Allowed;
 use race_history::{Race, is_history};
@@ -20,6 +21,7 @@ use show_moments::{Moment, MomentView, write_moment};
 use show_named::{DataMap, SoughtWrite, write_folded, write_last, write_rows};
 use show_races::racing_pairs;
 use show_rows::{Shown, Story};
+use show_said::Said;
 use show_text::Unwritten;
 use show_waits::write_waits;
 use std::alloc::{AllocError, Global};
@@ -40,29 +42,48 @@ pub(crate) fn races_in(alloc: Global, shown: Shown, most: usize) -> Result<Vec<R
     racing_pairs(alloc, shown, &Allowed::nothing(), most)
 }
 
-/// Writes of a record what is asked for.
+/// Writes of a record what is asked for, by all that its threads say.
 pub(crate) fn print_asked<W: Write>(
     alloc: Global,
     seen: MomentView,
     record: &Record,
     asked: &LookRequest,
+    said: &[Said],
     out: &mut W,
 ) -> Result<(), Unwritten>
     requires of_module { seen.shown.code.now.parts.now ≡ seen.valid.now.parts }
     requires of_record { «record».now ≡ seen.shown.record.now }
-    ensures { OnOk result (WritesWanted seen.entry.shown seen.entry.map.now asked.now.look asked.now.wanted
+    ensures { OnOk result (WritesWanted seen.entry.shown seen.entry.map.now asked.now.look said.now asked.now.wanted
         (W.contents out.old) (W.contents out.new)) }
 {
     match asked.wanted {
         Wanted::Write { sought, form } => print_last(
             alloc, seen.shown, seen.map, sought, form, out,
         ),
-        Wanted::Moment(here) => {
-            let moment = moment_of(alloc, seen.valid, record, here)?;
-            print_moment(alloc, seen, &moment, here, out)
-        }
-        Wanted::Entries(view) => print_entries(alloc, seen, record, &asked.look, view, out),
+        Wanted::Moment(here) => print_told_moment(alloc, seen, record, here, said, out),
+        Wanted::Entries(view) => {
+            print_entries(alloc, seen, record, &asked.look, said, view, out)
+        },
     }
+}
+
+/// Writes a moment, and below it what threads said before, where that is wanted.
+fn print_told_moment<W: Write>(
+    alloc: Global,
+    seen: MomentView,
+    record: &Record,
+    here: Here,
+    said: &[Said],
+    out: &mut W,
+) -> Result<(), Unwritten>
+    requires of_module { seen.shown.code.now.parts.now ≡ seen.valid.now.parts }
+    requires of_record { «record».now ≡ seen.shown.record.now }
+    ensures { OnOk result (WritesMomentOf seen.entry.shown seen.entry.map.now here said.now
+        (W.contents out.old) (W.contents out.new)) }
+{
+    let moment = moment_of(alloc, seen.valid, record, here)?;
+    print_moment(alloc, seen, &moment, here, out)?;
+    write_before(out, seen.shown.record, here, said)
 }
 
 /// Writes the words of the last write that is sought, in lines or as an object.
@@ -83,19 +104,20 @@ fn print_last<W: Write>(
     }
 }
 
-/// Writes the rows, or the object, the page or the trace that has them.
+/// Writes the rows, or the object, the page or the trace that has them; or what threads say.
 fn print_entries<W: Write>(
     alloc: Global,
     seen: MomentView,
     record: &Record,
     look: &Look,
+    said: &[Said],
     view: RecordView,
     out: &mut W,
 ) -> Result<(), Unwritten>
     requires of_module { seen.shown.code.now.parts.now ≡ seen.valid.now.parts }
     requires of_record { «record».now ≡ seen.shown.record.now }
-    ensures { OnOk result
-        (WritesEntries view.entry seen.entry.shown seen.entry.map.now look.now (W.contents out.old) (W.contents out.new)) }
+    ensures { OnOk result (WritesEntries view.entry seen.entry.shown seen.entry.map.now look.now said.now
+        (W.contents out.old) (W.contents out.new)) }
 {
     let (shown, map) = (seen.shown, seen.map);
     match view {
@@ -103,6 +125,7 @@ fn print_entries<W: Write>(
         RecordView::Trace(_) => print_trace(alloc, shown, look, out),
         RecordView::Object => write_entries(alloc, shown, map, look, out),
         RecordView::Unfolded => print_rows(alloc, shown, map, look, out),
+        RecordView::Said => write_told(out, shown.record, SaidPart::Chosen(&look.choice), said),
         RecordView::Rows | RecordView::Moment(_) | RecordView::Write(_) => print_folded(
             alloc, shown, map, look, out,
         ),
@@ -120,13 +143,6 @@ fn print_trace<W: Write>(
 {
     let races = races_in(alloc, shown, MOST_MARKS)?;
     write_trace(alloc, shown, look, races.as_slice(), out)
-}
-
-/// Whether all entries are chosen.
-fn chooses_all(choice: &Choice) -> bool
-    ensures { result ≡ looked.chooses_all choice.now }
-{
-    choice.lines.is_empty() && choice.addrs.is_empty() && choice.threads.is_empty()
 }
 
 /// Whether a thread was stopped that ended so.

@@ -49,14 +49,14 @@ const MOST_LEFT_OUT: usize = 10_000;
 ///
 /// # Errors
 /// The refusal; or that memory or a stream failed.
-pub fn races_saved<W: Write, E: Write, S: Write>(
+pub fn races_saved<'a, W: Write, E: Write, S: Write>(
     alloc: Global,
     module: &[u8],
     names: &[u8],
     saved: &[u8],
-    asked: &RacesJob,
+    asked: &RacesJob<'a>,
     streams: &mut Streams<W, E, S>,
-) -> Result<Done, Undone<'static>>
+) -> Result<Done, Undone<'a>>
     requires { 1 ≤ asked.now.most }
     ensures free { ended_status result ≡ 0 → OfModule (IsRaceFree asked.now.allow) «module».now saved.now }
     ensures racy { ended_status result ≡ 1 → OfModule (IsRacy asked.now.allow) «module».now saved.now }
@@ -118,14 +118,14 @@ impl RacesTold {
 }
 
 /// Tells the races of the run whose record's text `saved` is, and answers whether there are any.
-fn tell_races<W: Write>(
+fn tell_races<'a, W: Write>(
     alloc: Global,
     module: &ValidModule,
     code: CodeBytes,
     saved: &[u8],
-    asked: &RacesJob,
+    asked: &RacesJob<'a>,
     out: &mut W,
-) -> Result<RacesTold, Unshown>
+) -> Result<RacesTold, Unshown<'a>>
     requires { 1 ≤ asked.now.most }
     ensures races { IfOk result (λ told. SaysOf asked.now.allow «module».now.parts saved.now told.is_racy) }
     ensures prints { IfOk result (λ _. PrintsRaces asked.now.allow asked.now.most asked.now.form
@@ -261,7 +261,8 @@ fn write_seen<W: Write>(
     let told = races_in(alloc, shown, &allowed, asked.most as usize)?;
     let left_out = left_out(alloc, shown, &told.races, &asked.allow)?;
     let stacks = stacks_in(alloc, module, &run.record, shown, &told.races)?;
-    let code = chained_at(alloc, map, known, &run.rows, &stacks)?;
+    let log = run.record.parts().log.as_slice();
+    let code = chained_at(alloc, map, known, log, &run.rows, &stacks)?;
     let shown = Shown {
         record: run.record.parts(),
         rows: run.rows.as_slice(),

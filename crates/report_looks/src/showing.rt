@@ -7,6 +7,7 @@ ghost use Rattle.report_command.specs.Views.{path_of};
 ghost use Rattle.report_jobs.specs.Silence.{IsRefusal, Stays};
 ghost use Rattle.report_jobs.specs.Undone.{ended_status, undone_status};
 ghost use Rattle.report_jobs.specs.Why.{RefusesModule, RefusesRecord};
+ghost use Rattle.report_looks.specs.Looked as looked;
 ghost use Rattle.report_looks.specs.Looked.{PrintsShow, shown_on};
 ghost use Rattle.report_looks.specs.Raced.{IsSeen, OfModule};
 ghost use Rattle.report_looks.specs.Silent.{IfUnshown, IsNoRefusal, IsShowStatus, IsUnshown};
@@ -15,8 +16,10 @@ use crate::printing::print_asked;
 use crate::wanted::{Unshown, asked_of, no_memory};
 use dwarf_lines::{SourceFile, Sources};
 use replay_text::{Record, RecordFault, read_record};
-use report_command::ShowLook;
-use report_jobs::{Done, Refused, Streams, Undone, Unfit, load, misfit, of_refusal, of_unfit};
+use report_command::{RecordView, ShowLook};
+use report_jobs::{
+    Done, Refused, Streams, Undone, Unfit, load, misfit, of_refusal, of_unfit, said_in,
+};
 use show_moments::MomentView;
 use show_named::DataMap;
 use show_races::rows_seen;
@@ -36,16 +39,16 @@ use validate_module::ValidModule;
 ///
 /// # Errors
 /// The refusal; or that memory or a stream failed.
-pub fn show_saved<W: Write, E: Write, S: Write>(
+pub fn show_saved<'a, W: Write, E: Write, S: Write>(
     alloc: Global,
     code: CodeBytes,
     saved: &[u8],
-    how: &ShowLook,
+    how: &ShowLook<'a>,
     streams: &mut Streams<W, E, S>,
-) -> Result<Done, Undone<'static>>
+) -> Result<Done, Undone<'a>>
     ensures shown { ended_status result ≡ 0 → IsRecordOf code.entry.«module».now saved.now }
     ensures prints { ended_status result ≡ 0
-        → OfModule (PrintsShow how.now (shown_on W.contents S.contents how.now streams.old streams.new))
+        → OfModule (PrintsShow code.entry.«module».now how.now (shown_on W.contents S.contents how.now streams.old streams.new))
         code.entry.«module».now saved.now }
     ensures done { IfOk result (λ done. done.status ≡ 0) }
     ensures refused { ended_status result ≡ 2 → IsNoValidModule code.entry.«module».now }
@@ -69,16 +72,17 @@ pub fn show_saved<W: Write, E: Write, S: Write>(
 }
 
 /// The same on one of the streams.
-fn show_to<W: Write>(
+fn show_to<'a, W: Write>(
     alloc: Global,
     code: CodeBytes,
     saved: &[u8],
-    how: &ShowLook,
+    how: &ShowLook<'a>,
     out: &mut W,
-) -> Result<Done, Undone<'static>>
+) -> Result<Done, Undone<'a>>
     ensures shown { ended_status result ≡ 0 → IsRecordOf code.entry.«module».now saved.now }
     ensures prints { ended_status result ≡ 0
-        → OfModule (PrintsShow how.now (changed W.contents out.old out.new)) code.entry.«module».now saved.now }
+        → OfModule (PrintsShow code.entry.«module».now how.now (changed W.contents out.old out.new))
+        code.entry.«module».now saved.now }
     ensures done { IfOk result (λ done. done.status ≡ 0) }
     ensures refused { ended_status result ≡ 2 → IsNoValidModule code.entry.«module».now }
     ensures why { IfErr result (λ why. undone_status why ≡ 2 → RefusesModule code.entry.«module».now why) }
@@ -111,34 +115,46 @@ pub struct CodeBytes<'a> {
     pub sources: &'a [SourceFile],
 }
 
-/// The code of a module, with what it is called, the text of its source, and the functions that were put in the place of
-/// their calls at the places of these rows.
+/// The code of a module, with what it is called, the text of its source, and of a run the functions that were put in the
+/// place of their calls, and the data of signed types that it touches.
 fn code_of<'a>(
     alloc: Global,
     module: &'a ValidModule,
     code: CodeBytes<'a>,
     map: &DataMap,
-    rows: &[Option<Row>],
+    seen: &SeenRun,
 ) -> Result<CodeMap<'a, 'a>, AllocError>
     ensures { IfOk result (λ c. c.parts.now ≡ «module».now.parts) }
 {
     let known = CodeMap::read(alloc, module.parts(), code.module, code.names)?;
-    let chained = map.chained(alloc, known, rows)?;
+    let signed = map.signed(alloc, known, seen.record.parts().log.as_slice())?;
+    let chained = map.chained(alloc, signed, &seen.rows)?;
     Ok(chained.with_sources(Sources::new(alloc, code.sources)?))
 }
 
+/// Whether what threads say is wanted.
+fn says(view: RecordView) -> bool
+    ensures { result ≡ looked.says view.entry }
+{
+    match view {
+        RecordView::Said => true,
+        RecordView::Moment(at) => at.text,
+        _ => false,
+    }
+}
+
 /// Shows of the record whose text `saved` is what is asked for.
-fn show_record<W: Write>(
+fn show_record<'a, W: Write>(
     alloc: Global,
     module: &ValidModule,
     code: CodeBytes,
     saved: &[u8],
-    how: &ShowLook,
+    how: &ShowLook<'a>,
     out: &mut W,
-) -> Result<(), Unshown>
+) -> Result<(), Unshown<'a>>
     ensures shown { IfOk result (λ _. IsOfRun «module».now.parts saved.now) }
     ensures prints { IfOk result
-        (λ _. PrintsShow how.now (changed W.contents out.old out.new) «module».now.parts saved.now) }
+        (λ _. PrintsShow code.entry.«module».now how.now (changed W.contents out.old out.new) «module».now.parts saved.now) }
     ensures unshown { IfErr result (IsUnshown «module».now.parts saved.now) }
     ensures silent { IfErr result (λ why. IfUnshown why (Stays out.old out.new)) }
 {
@@ -150,13 +166,17 @@ fn show_record<W: Write>(
         Ok(map) => map,
         Err(_) => return Err(no_memory()),
     };
-    let places = match code_of(alloc, module, code, &map, &seen.rows) {
+    let places = match code_of(alloc, module, code, &map, &seen) {
         Ok(places) => places,
         Err(_) => return Err(no_memory()),
     };
     let asked = match asked_of(alloc, seen.record.parts(), &map, how) {
         Ok(asked) => asked,
         Err(why) => return Err(why),
+    };
+    let said = match said_in(alloc, code.module, &seen.record, says(how.view)) {
+        Ok(said) => said,
+        Err(_) => return Err(no_memory()),
     };
     let view = MomentView {
         valid: module,
@@ -168,7 +188,7 @@ fn show_record<W: Write>(
         map: &map,
         is_raw: false,
     };
-    match print_asked(alloc, view, &seen.record, &asked, out) {
+    match print_asked(alloc, view, &seen.record, &asked, &said, out) {
         Ok(()) => Ok(()),
         Err(unwritten) => Err(Unshown::Unfit {
             unfit: unfit_of(unwritten),

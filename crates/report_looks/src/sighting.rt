@@ -22,6 +22,7 @@ use show_stacks::{EntryStacks, StacksView, stacks_seen};
 use show_text::Unwritten;
 use std::alloc::{AllocError, Global};
 use std::io::Write;
+use types::Entry;
 use validate_module::ValidModule;
 
 /// Races of a run, and what its log says.
@@ -69,11 +70,12 @@ pub(crate) fn stacks_in(
 }
 
 /// The code with the functions that were put in the place of their calls, at the places of these rows and of the calls of
-/// these stacks.
+/// these stacks, and with the data of signed types of a log.
 pub(crate) fn chained_at<'m, 'n>(
     alloc: Global,
     map: &DataMap,
     known: CodeMap<'m, 'n>,
+    log: &[Entry],
     rows: &[Option<Row>],
     stacks: &EntryStacks,
 ) -> Result<CodeMap<'m, 'n>, AllocError>
@@ -81,6 +83,7 @@ pub(crate) fn chained_at<'m, 'n>(
 {
     let mut all = Vec::from_slice(alloc, rows)?;
     all.extend_from_slice(stacks.as_rows(alloc)?.as_slice())?;
+    let known = map.signed(alloc, known, log)?;
     map.chained(alloc, known, all.as_slice())
 }
 
@@ -131,7 +134,14 @@ pub fn races_of_run<'m, 'n>(
         return Ok(None);
     }
     let stacks = stacks_in(alloc, module, record, shown, &told.races)?;
-    let code = chained_at(alloc, &map, known, &rows, &stacks)?;
+    let code = chained_at(
+        alloc,
+        &map,
+        known,
+        record.parts().log.as_slice(),
+        &rows,
+        &stacks,
+    )?;
     Ok(Some(RacesOfRun {
         rows,
         code,

@@ -9,14 +9,14 @@ ghost use Rattle.report_looks.specs.declared.wanted.Unshown.TheVariants as unsho
 ghost use Rattle.report_looks.specs.Looked as looked;
 ghost use Rattle.report_looks.specs.Looked.{IsAsked, IsLookAt, IsWanted};
 ghost use Rattle.report_looks.specs.Addresses.{AreAddresses};
-ghost use Rattle.report_looks.specs.Allowing.{IsNamed, SomeNamed};
+ghost use Rattle.report_looks.specs.Allowing.{IsNamed, IsSaidOf, SomeNamed};
 ghost use Rattle.report_looks.specs.Silent.{IsAbsent, IsUnrefused};
 
 use dwarf_data::{ByteRange, NamedBytes};
 use replay_text::RecordParts;
 use report_command::{At, Data, Form, LastWrite, RecordView, ShowLook, When};
 use report_jobs::{Absent, Unfit};
-use selection::{Choice, Look, NumberSpan};
+use selection::{Choice, Look, NumberSpan, spans_if_any};
 use show_moments::Bytes;
 use show_named::{DataMap, SoughtWrite};
 use show_rows::Stood;
@@ -25,16 +25,16 @@ use types::{Entry, Event, Outcome, Question, ThreadReport};
 
 /// Why nothing is shown.
 #[derive(Clone, Copy)]
-pub(crate) enum Unshown {
+pub(crate) enum Unshown<'a> {
     /// The record is of no run, or memory or the stream failed; and what the thread of the entry that doesn't fit does in
     /// place of it, where there is such an entry.
     Unfit { unfit: Unfit, stood: Option<Stood> },
     /// The record has not what is asked for.
-    Absent(Absent),
+    Absent(Absent<'a>),
 }
 
 /// Too little memory was left.
-pub(crate) fn no_memory() -> Unshown
+pub(crate) fn no_memory() -> Unshown<'static>
     ensures { result ≡ unshown.Unfit unfits.NoMemory None }
 {
     Unshown::Unfit {
@@ -51,6 +51,8 @@ pub(crate) struct Here {
     pub bytes: Bytes,
     /// Whether all locals and operands are shown as they are.
     pub is_raw: bool,
+    /// Whether what threads said before it is shown.
+    pub text: bool,
     /// In which form it is printed.
     pub form: Form,
 }
@@ -65,7 +67,7 @@ pub(crate) struct LookRequest<'a> {
 /// What is shown of a record.
 #[derive(Clone, Copy)]
 pub(crate) enum Wanted<'a> {
-    /// Its entries, in the form of this view.
+    /// Its entries, or what threads say, in the form of this view.
     Entries(RecordView<'a>),
     /// A moment of it.
     Moment(Here),
@@ -120,10 +122,15 @@ fn addresses_of(place: ByteRange) -> NumberSpan
 }
 
 /// The addresses of data.
-pub(crate) fn span_of(alloc: Global, map: &DataMap, data: Data) -> Result<NumberSpan, Unshown>
+pub(crate) fn span_of<'a>(
+    alloc: Global,
+    map: &DataMap,
+    data: Data<'a>,
+) -> Result<NumberSpan, Unshown<'a>>
     ensures addresses { IfOk result (AreAddresses map.now «data».entry) }
     ensures why { IfErr result IsUnrefused }
     ensures named { IfErr result (λ why. IsAbsent why → IsNamed «data».entry) }
+    ensures said { IfErr result (IsSaidOf «data».entry) }
 {
     let words = match data {
         Data::At(addrs) => return Ok(addrs),
@@ -131,8 +138,8 @@ pub(crate) fn span_of(alloc: Global, map: &DataMap, data: Data) -> Result<Number
     };
     match map.named(alloc, words) {
         Ok(NamedBytes::One(place)) => Ok(addresses_of(place)),
-        Ok(NamedBytes::Nothing) => Err(Unshown::Absent(Absent::NoData)),
-        Ok(NamedBytes::Several) => Err(Unshown::Absent(Absent::SeveralData)),
+        Ok(NamedBytes::Nothing) => Err(Unshown::Absent(Absent::NoData(words))),
+        Ok(NamedBytes::Several) => Err(Unshown::Absent(Absent::SeveralData(words))),
         Err(_) => Err(no_memory()),
     }
 }
@@ -143,7 +150,7 @@ fn write_of<'a>(
     parts: &RecordParts,
     map: &DataMap,
     write: LastWrite<'a>,
-) -> Result<Wanted<'a>, Unshown>
+) -> Result<Wanted<'a>, Unshown<'a>>
     ensures wanted { IfOk result (IsWanted parts.now map.now (views.Write write.entry)) }
     ensures why { IfErr result IsUnrefused }
 {
@@ -161,7 +168,7 @@ fn write_of<'a>(
 }
 
 /// The moment that is asked for.
-fn moment_of<'a>(parts: &RecordParts, at: At) -> Result<Wanted<'a>, Unshown>
+fn moment_of<'a>(parts: &RecordParts, at: At) -> Result<Wanted<'a>, Unshown<'static>>
     ensures wanted { IfOk result (λ w. (map : DataMap) → IsWanted parts.now map (views.Moment at) w) }
     ensures why { IfErr result IsUnrefused }
 {
@@ -176,6 +183,7 @@ fn moment_of<'a>(parts: &RecordParts, at: At) -> Result<Wanted<'a>, Unshown>
             count: at.count,
         },
         is_raw: at.is_raw,
+        text: at.text,
         form: at.form,
     }))
 }
@@ -186,7 +194,7 @@ fn wanted_of<'a>(
     parts: &RecordParts,
     map: &DataMap,
     view: RecordView<'a>,
-) -> Result<Wanted<'a>, Unshown>
+) -> Result<Wanted<'a>, Unshown<'a>>
     ensures wanted { IfOk result (IsWanted parts.now map.now view.entry) }
     ensures why { IfErr result IsUnrefused }
 {
@@ -195,6 +203,7 @@ fn wanted_of<'a>(
         RecordView::Moment(at) => moment_of(parts, at),
         RecordView::Rows => Ok(Wanted::Entries(RecordView::Rows)),
         RecordView::Unfolded => Ok(Wanted::Entries(RecordView::Unfolded)),
+        RecordView::Said => Ok(Wanted::Entries(RecordView::Said)),
         RecordView::Object => Ok(Wanted::Entries(RecordView::Object)),
         RecordView::Page(path) => Ok(Wanted::Entries(RecordView::Page(path))),
         RecordView::Trace(path) => Ok(Wanted::Entries(RecordView::Trace(path))),
@@ -210,11 +219,11 @@ fn put(spans: &mut Vec<NumberSpan>, span: NumberSpan) -> Result<(), AllocError>
 }
 
 /// The addresses of each of these data, in order.
-pub(crate) fn spans_of(
+pub(crate) fn spans_of<'a>(
     alloc: Global,
     map: &DataMap,
-    all: &[Data],
-) -> Result<Vec<NumberSpan>, Unshown>
+    all: &[Data<'a>],
+) -> Result<Vec<NumberSpan>, Unshown<'a>>
     ensures addresses { IfOk result (λ spans. AllZip (AreAddresses map.now) all.now spans.items) }
     ensures why { IfErr result IsUnrefused }
     ensures named { IfErr result (λ why. IsAbsent why → SomeNamed all.now) }
@@ -237,11 +246,12 @@ pub(crate) fn spans_of(
 fn look_at(alloc: Global, how: &ShowLook, addrs: Vec<NumberSpan>) -> Result<Look, AllocError>
     ensures { IfOk result (IsLookAt how.now addrs.items) }
 {
+    let lines = Vec::from_slice(alloc, how.lines.as_slice())?;
     Ok(Look {
         choice: Choice {
-            lines: Vec::from_slice(alloc, how.lines.as_slice())?,
+            lines: spans_if_any(alloc, lines)?,
             threads: Vec::from_slice(alloc, how.threads.as_slice())?,
-            addrs,
+            addrs: spans_if_any(alloc, addrs)?,
         },
         width: how.width,
         color: how.color,
@@ -254,7 +264,7 @@ pub(crate) fn asked_of<'a>(
     parts: &RecordParts,
     map: &DataMap,
     how: &ShowLook<'a>,
-) -> Result<LookRequest<'a>, Unshown>
+) -> Result<LookRequest<'a>, Unshown<'a>>
     ensures asked { IfOk result (IsAsked parts.now map.now how.now) }
     ensures why { IfErr result IsUnrefused }
 {

@@ -4,8 +4,9 @@ use Rattle.selection.specs.declared.choice.Color.{Color}
 use Rattle.report_command.specs.declared.command_line.Job.{Job}
 use Rattle.report_command.specs.declared.command_line.Job.TheVariants.{Check, Run, Replay, Show, Races, Search}
 use Rattle.report_command.specs.declared.command_line.JobOrder.{JobOrder}
-use Rattle.report_command.specs.Options.{IsAskedBy, is_explained}
+use Rattle.report_command.specs.Options.{IsAskedBy}
 use Rattle.report_program.specs.declared.order.JobPlan.{JobPlan}
+use Rattle.report_program.specs.Details.{detail_of, explains}
 
 -- The same job, but for when threads of a show have colors, and whether the end of a run has the calls of a thread that trapped.
 abbrev pub IsColored : Bool → Job → Job → Type 0
@@ -22,5 +23,5 @@ pub record IsPlanOf (words : List (List ℕ)) (new : JobPlan) : Type 0 where
   pub order : JobOrder
   pub asked : IsAskedBy words order
   pub is_terminal : Bool
-  pub explain : new.explain ≡ is_explained order.explain is_terminal
-  pub job : IsColored new.explain order.job new.job
+  pub detail : new.detail ≡ detail_of order.explain is_terminal
+  pub job : IsColored (explains new.detail) order.job new.job

@@ -1,3 +1,4 @@
 pub mod Closing
 pub mod Coloring
+pub mod Details
 pub mod Messages

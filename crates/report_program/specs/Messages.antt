@@ -10,17 +10,19 @@ use Rattle.report_command.specs.declared.command_line.Misuse.TheVariants as misu
 use Rattle.report_command.specs.declared.command_line.Usage.{Usage}
 use Rattle.report_command.specs.declared.command_line.Usage.TheVariants as usages
 use Rattle.report_command.specs.Views.{path_of}
+use Rattle.show_text.specs.Plain.{plain_text}
 use Rattle.report_jobs.specs.Told.{memory_line, output_line}
 use Rattle.report_jobs.specs.Trapped.{Tells}
+use Rattle.report_program.specs.declared.detail.Detail.{Detail}
+use Rattle.report_program.specs.declared.detail.Detail.TheVariants as details
 use Rattle.report_program.specs.declared.closing.Lost.{Lost}
-use Rattle.report_program.specs.declared.closing.Lost.TheVariants as losts
 use Rattle.report_program.specs.declared.reading.Unread.{Unread}
 use Rattle.report_program.specs.declared.reading.Unread.TheVariants as unreads
 use Rattle.report_program.specs.declared.stop.JobStop.{JobStop}
 use Rattle.report_program.specs.declared.stop.JobStop.TheVariants as stops
 
 abbrev pub unkept_text : List ℕ → List ℕ
-unkept_text path = codes "note: no run was found to keep: " ++ path ++ codes " is as it was\n"
+unkept_text path = codes "note: no run was found to keep: " ++ plain_text path ++ codes " is as it was\n"
 
 -- Why the system refused a file, as a line.
 abbrev pub reason_text : ErrorKind → List ℕ
@@ -42,12 +44,12 @@ why_text (Some kind) = reason_text kind
 
 -- Which file failed, and why, if that is said.
 abbrev pub file_text : List ℕ → Option ErrorKind → List ℕ
-file_text path why = codes "file fault: " ++ path ++ codes "\n" ++ why_text why
+file_text path why = codes "file fault: " ++ plain_text path ++ codes "\n" ++ why_text why
 
--- Why is said where it is explained.
-abbrev pub why_if : Bool → ErrorKind → Option ErrorKind
-why_if true kind = Some kind
-why_if false kind = None
+-- Why is said of it but where a line is all that is said.
+abbrev pub why_if : Detail → ErrorKind → Option ErrorKind
+why_if details.Line kind = None
+why_if detail kind = Some kind
 
 -- Why a file's bytes aren't there, by the error's kind.
 abbrev pub unread_by : ErrorKind → Unread
@@ -60,10 +62,10 @@ stop_by path unreads.NoMemory = stops.NoMemory
 stop_by path (unreads.File kind) = stops.File path kind
 
 -- What is said of a job that isn't done. Of wrong words that is the text of their error.
-abbrev pub TellsStop : JobStop → Bool → Option (List ℕ) → Option (List ℕ) → Type 0
-TellsStop stops.NoMemory explain old new = Tells old new memory_line
-TellsStop (stops.File path kind) explain old new = Tells old new (file_text path.now (why_if explain kind))
-TellsStop (stops.Usage usage) explain old new = Unit {0}
+abbrev pub TellsStop : JobStop → Detail → Option (List ℕ) → Option (List ℕ) → Type 0
+TellsStop stops.NoMemory detail old new = Tells old new memory_line
+TellsStop (stops.File path kind) detail old new = Tells old new (file_text path.now (why_if detail kind))
+TellsStop (stops.Usage usage) detail old new = Unit {0}
 
 -- 0 of help, 3 of wrong words, and 5 of what failed.
 abbrev pub IsUsageStatus : Usage → ℕ → Type 0
@@ -98,14 +100,24 @@ abbrev pub path_text : Option (Bor (List ℕ)) → List ℕ
 path_text None = []
 path_text (Some path) = path.now
 
--- What is said where the lines, the file or the memory of a job didn't get all that was written to them: of the first
--- that didn't. Of lines that nobody is left to read nothing is said.
-abbrev pub TellsLost : Job → Option Lost → Option Lost → Bool → Option (List ℕ) → Option (List ℕ) → Type 0
-TellsLost job None None is_closed old new = new ≡ old
-TellsLost job (Some losts.Lines) memory true old new = new ≡ old
-TellsLost job (Some losts.Lines) memory false old new = Tells old new output_line
-TellsLost job (Some losts.File) memory is_closed old new = Tells old new (file_text (path_text (record_path job)) None)
-TellsLost job None (Some lost) is_closed old new = Tells old new (file_text (path_text (memory_path job)) None)
+-- Where nothing is lost.
+abbrev pub nothing_lost : Lost
+nothing_lost = record { lines = false; file = None; memory = None }
+
+-- What is said where the lines, the file or the memory of a job aren't where they belong: of the first that isn't. Of
+-- lines that nobody is left to read nothing is said.
+abbrev pub TellsFirst : Job → Detail → Bool → Option ErrorKind → Option ErrorKind → Bool
+    → Option (List ℕ) → Option (List ℕ) → Type 0
+TellsFirst job detail false None None is_closed old new = new ≡ old
+TellsFirst job detail true file memory true old new = new ≡ old
+TellsFirst job detail true file memory false old new = Tells old new output_line
+TellsFirst job detail false (Some kind) memory is_closed old new =
+    Tells old new (file_text (path_text (record_path job)) (why_if detail kind))
+TellsFirst job detail false None (Some kind) is_closed old new =
+    Tells old new (file_text (path_text (memory_path job)) (why_if detail kind))
+
+abbrev pub TellsLost : Job → Detail → Lost → Bool → Option (List ℕ) → Option (List ℕ) → Type 0
+TellsLost job detail lost is_closed old new = TellsFirst job detail lost.lines lost.file lost.memory is_closed old new
 
 -- Which misuse a job's paths may be: that of a file which it makes.
 abbrev pub MayReplace : Job → Misuse → Type 0

@@ -1,25 +1,18 @@
-//! The streams of a job that was done: what they hold back is handed on, or it is known that it wasn't.
-ghost use Rattle.std.specs.Prelude.{◌≡◌, OnOk, None, Some, true, false};
+//! The streams of a job that ended: what they hold back is handed on, or it is known that it wasn't.
+ghost use Rattle.std.specs.Prelude.{◌≡◌, OnOk, None, true, false};
 ghost use Rattle.report_program.specs.Closing.{HasAll, HasNoMore};
-ghost use Rattle.report_program.specs.declared.closing.Lost.TheVariants.{Lines};
 
-use std::io::{self, BufWriter, Write};
+use std::io::{self, BufWriter, ErrorKind, Write};
 
-/// Which stream didn't get all that was written to its buffer.
+/// What of a job that is done isn't where it belongs.
 #[derive(Clone, Copy, PartialEq, Eq, Debug)]
-pub enum Lost {
-    /// Standard output.
-    Lines,
-    /// The file that the job makes.
-    File,
-}
-
-/// What is left of a job's streams.
-#[derive(Drop)]
-pub struct Closed<W, S> {
-    pub out: W,
-    pub save: S,
-    pub lost: Option<Lost>,
+pub struct Lost {
+    /// Whether standard output didn't get all lines.
+    pub lines: bool,
+    /// Why the file that the job makes isn't there, if it isn't: a record, a page or a trace.
+    pub file: Option<ErrorKind>,
+    /// Why that of a run's memory isn't there, if it isn't.
+    pub memory: Option<ErrorKind>,
 }
 
 /// The stream behind a buffer, and whether it got all that was written to that.
@@ -32,59 +25,19 @@ fn hand_on<W: Write + Drop>(buffer: BufWriter<W>) -> (W, io::Result<()>)
     (stream, flushed)
 }
 
-/// Hands on the lines of a job, and behind them what it wrote to the file that it makes; of a job that isn't done the file
-/// gets nothing more, and no line is lost.
-pub fn close<W: Write + Drop, S: Write + Drop>(
-    is_done: bool,
-    out: BufWriter<W>,
-    save: BufWriter<S>,
-) -> Closed<W, S>
-    ensures lines { is_done ≡ true → result.lost ≡ None → HasAll W.contents out result.out }
-    ensures file { is_done ≡ true → result.lost ≡ None → HasAll S.contents save result.save }
-    ensures undone { is_done ≡ false → (result.lost ≡ None) × HasNoMore save result.save }
-    ensures behind { result.lost ≡ Some Lines → HasNoMore save result.save }
-{
-    let (out, lines) = hand_on(out);
-    if !is_done {
-        let (save, _) = save.into_parts();
-        return Closed {
-            out,
-            save,
-            lost: None,
-        };
-    }
-    if lines.is_err() {
-        let (save, _) = save.into_parts();
-        return Closed {
-            out,
-            save,
-            lost: Some(Lost::Lines),
-        };
-    }
-    let (save, file) = hand_on(save);
-    let lost = if file.is_err() {
-        Some(Lost::File)
-    } else {
-        None
-    };
-    Closed { out, save, lost }
-}
-
-/// Hands on what is written to a file behind what `close` handed on: where that came to an end; else the file gets
-/// nothing more.
-pub fn close_behind<S: Write + Drop>(comes: bool, file: BufWriter<S>) -> (S, Option<Lost>)
-    ensures file { comes ≡ true → result.1 ≡ None → HasAll S.contents file result.0 }
-    ensures none { comes ≡ false → HasNoMore file result.0 }
+/// Hands on what a buffer holds back, if it is to come, and answers the stream behind it, and why that failed, if it
+/// did. Else the stream gets nothing more.
+pub fn hand_on_if<W: Write + Drop>(comes: bool, buffer: BufWriter<W>) -> (W, Option<ErrorKind>)
+    ensures all { comes ≡ true → result.1 ≡ None → HasAll W.contents buffer result.0 }
+    ensures none { comes ≡ false → (result.1 ≡ None) × HasNoMore buffer result.0 }
 {
     if !comes {
-        let (file, _) = file.into_parts();
-        return (file, None);
+        let (stream, _) = buffer.into_parts();
+        return (stream, None);
     }
-    let (file, handed) = hand_on(file);
-    let lost = if handed.is_err() {
-        Some(Lost::File)
-    } else {
-        None
-    };
-    (file, lost)
+    let (stream, handed) = hand_on(buffer);
+    match handed {
+        Ok(()) => (stream, None),
+        Err(error) => (stream, Some(error.kind())),
+    }
 }

@@ -4,7 +4,7 @@ ghost use Rattle.std.specs.Io.Buffered.{writer_contents};
 ghost use Rattle.std.specs.Io.KnownBytes.{Appends};
 ghost use Rattle.replay_text.specs.Text.{record_text};
 
-use crate::closing::close_behind;
+use crate::closing::hand_on_if;
 use crate::{SavePlace, SavedFile};
 use replay_text::Record;
 use report_jobs::keep;
@@ -20,7 +20,7 @@ fn write_whole<S: Write + Drop>(record: &Record, buffer: BufWriter<S>) -> (S, bo
 {
     let mut buffer = buffer;
     let is_kept = keep(record, true, &mut buffer).is_ok();
-    let (file, lost) = close_behind(is_kept, buffer);
+    let (file, lost) = hand_on_if(is_kept, buffer);
     (file, is_kept && lost.is_none())
 }
 

@@ -2,9 +2,11 @@
 
 ghost use Rattle.std.specs.Prelude.{◌≡◌, IfOk};
 ghost use Rattle.report_command.specs.Jobs.{IsInRange};
-ghost use Rattle.report_command.specs.Options.{is_explained, texts_in};
+ghost use Rattle.report_command.specs.Options.{texts_in};
 ghost use Rattle.report_program.specs.Coloring.{IsColored, IsPlanOf};
+ghost use Rattle.report_program.specs.Details.{detail_of, explains};
 
+use crate::Detail;
 use report_command::{Color, EndLook, Job, JobOrder, ShowLook, Usage, asked, not_text};
 use std::env;
 use std::io::{ErrorKind, IsTerminal};
@@ -30,11 +32,11 @@ fn color_on(color: Color, is_terminal: bool) -> Color {
     }
 }
 
-/// What is done, and whether more is said of what goes wrong.
+/// What is done, and how much is said of what goes wrong.
 #[derive(Drop)]
 pub struct JobPlan<'a> {
     pub job: Job<'a>,
-    pub explain: bool,
+    pub detail: Detail,
 }
 
 /// The end of a run, where it is told which threads trapped or it isn't.
@@ -82,14 +84,14 @@ fn colored<'a>(job: Job<'a>, is_terminal: bool, explain: bool) -> Job<'a>
 fn plan_of<'a>(order: JobOrder<'a>, out: bool, err: bool) -> JobPlan<'a>
     requires { IsInRange order.job }
     ensures range { IsInRange result.job }
-    ensures explain { result.explain ≡ is_explained order.entry.explain err }
-    ensures same { IsColored result.explain order.entry.job result.job }
+    ensures detail { result.detail ≡ detail_of order.entry.explain err }
+    ensures same { IsColored (explains result.detail) order.entry.job result.job }
 {
     let JobOrder { job, explain } = order;
-    let explain = explain.is_on(err);
+    let detail = Detail::of(explain, err);
     JobPlan {
-        job: colored(job, out, explain),
-        explain,
+        job: colored(job, out, detail.explains()),
+        detail,
     }
 }
 

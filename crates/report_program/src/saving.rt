@@ -139,6 +139,11 @@ impl<'a> SavedFile<'a> {
         }
     }
 
+    /// Whether it is no file, and takes what is written as it is written.
+    pub(crate) fn is_stream(&self) -> bool {
+        matches!(self.target, Some(RecordTarget::Stream { .. }))
+    }
+
     /// Whether nothing was written of it.
     pub(crate) fn is_untouched(&self) -> bool {
         self.file.is_none()

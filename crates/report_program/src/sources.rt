@@ -2,6 +2,7 @@
 
 use crate::{Unread, read_front};
 use dwarf_lines::{DebugSections, Source, SourceFile, read_lines};
+use show_text::Plain;
 use std::alloc::{AllocError, Global};
 use std::fs::{self, File};
 use std::io;
@@ -44,12 +45,15 @@ impl FoundSources {
 
     /// Says where nothing was found what was looked for: none of these sources.
     fn note_none(&mut self, place: SourcePlace, sources: &[Source]) -> Result<(), AllocError> {
-        let SourcePlace { folder, module } = place;
+        let (folder, module) = (Plain(place.folder), Plain(place.module));
         match sources.first() {
-            Some(Source { name, .. }) => write!(
-                self.notes,
-                "no file of source of {module} is below {folder}: it names {name}\n"
-            ),
+            Some(Source { name, .. }) => {
+                let name = Plain(name);
+                write!(
+                    self.notes,
+                    "no file of source of {module} is below {folder}: it names {name}\n"
+                )
+            }
             None => write!(
                 self.notes,
                 "{module} names no files of source: build it with -g\n"
@@ -83,8 +87,19 @@ fn is_newer(rt: &HostRuntime, path: &str, than: &str) -> bool {
     }
 }
 
+/// Whether there is a file at a path: who opens a pipe waits until somebody writes to it.
+fn is_file(rt: &HostRuntime, path: &str) -> bool {
+    match fs::metadata(rt, path) {
+        Ok(found) => found.is_file(),
+        Err(_) => false,
+    }
+}
+
 /// The text of a file, where it is there and is text.
 fn text_at(rt: &HostRuntime, path: &str) -> io::Result<Option<String>> {
+    if !is_file(rt, path) {
+        return Ok(None);
+    }
     let Ok(file) = File::open(rt, path) else {
         return Ok(None);
     };
@@ -127,7 +142,7 @@ fn add_file(
         return Ok(());
     };
     if is_newer(rt, path.as_str(), place.module) {
-        let module = place.module;
+        let (path, module) = (Plain(path.as_str()), Plain(place.module));
         write!(
             found.notes,
             "{path} is newer than {module}: its lines may be others\n"

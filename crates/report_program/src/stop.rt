@@ -5,7 +5,7 @@ ghost use Rattle.report_program.specs.Messages.{stop_by, unread_by, TellsStop, I
 ghost use Rattle.report_program.specs.declared.stop.JobStop.TheVariants as stops;
 
 use crate::telling::{say_usage, tell_file_fault, tell_no_memory, why_if};
-use crate::{Noted, Unread};
+use crate::{Detail, Noted, Unread};
 use report_command::{Form, Usage};
 use report_json::{Failure, write_failed};
 use std::alloc::Global;
@@ -65,25 +65,24 @@ impl<'a> JobStop<'a> {
         out: &mut Noted<W>,
         err: &mut E,
         form: Form,
-        explain: bool,
+        detail: Detail,
     ) -> u8
-        ensures told { TellsStop self.now explain (E.contents err.old) (E.contents err.new) }
+        ensures told { TellsStop self.now detail (E.contents err.old) (E.contents err.new) }
         ensures status { IsStopStatus self.now result }
     {
         self.print(alloc, out, form);
         match self {
             JobStop::NoMemory => tell_no_memory(err),
-            JobStop::File(path, kind) => tell_file_fault(alloc, err, path, why_if(explain, *kind)),
+            JobStop::File(path, kind) => tell_file_fault(alloc, err, path, why_if(detail, *kind)),
             JobStop::Usage(usage) => say_usage(alloc, out, err, usage),
         }
     }
 
-    /// Says so, prints its object where one is asked for, and answers the status. Where it is to explain, why a file
-    /// failed is said too.
-    pub(crate) fn tell(&self, rt: &HostRuntime, form: Form, explain: bool) -> u8
+    /// Says so, prints its object where one is asked for, and answers the status.
+    pub(crate) fn tell(&self, rt: &HostRuntime, form: Form, detail: Detail) -> u8
         ensures { IsStopStatus self.now result }
     {
         let mut out = Noted::new(rt.stdout());
-        self.say(rt.alloc(), &mut out, &mut rt.stderr(), form, explain)
+        self.say(rt.alloc(), &mut out, &mut rt.stderr(), form, detail)
     }
 }

@@ -2,12 +2,13 @@
 
 use std::io::{self, ErrorKind, Write};
 
-/// A stream, whether it took anything, and whether a write to it failed since nobody is left to read it.
+/// A stream, whether it took anything, and how it failed: from then on it takes what is written as if it were out, so
+/// that who writes goes on, and keeps the files that a job makes.
 #[derive(Drop)]
 pub struct Noted<W> {
     stream: W,
     is_untouched: bool,
-    is_closed: bool,
+    fault: Option<ErrorKind>,
 }
 
 impl<W> Noted<W> {
@@ -16,7 +17,7 @@ impl<W> Noted<W> {
         Noted {
             stream,
             is_untouched: true,
-            is_closed: false,
+            fault: None,
         }
     }
 
@@ -25,23 +26,41 @@ impl<W> Noted<W> {
         self.is_untouched
     }
 
-    /// Whether a write failed since nobody is left to read it.
+    /// Whether something of what was written didn't get out.
+    pub fn has_failed(&self) -> bool {
+        self.fault.is_some()
+    }
+
+    /// Whether it failed since nobody is left to read it.
     pub fn is_closed(&self) -> bool {
-        self.is_closed
+        self.fault == Some(ErrorKind::BrokenPipe)
     }
 }
 
 impl<W: Write> Write for Noted<W> {
     fn write(&mut self, bytes: &[u8]) -> io::Result<usize> {
-        let wrote = self.stream.write(bytes);
-        match &wrote {
-            Ok(count) => self.is_untouched = self.is_untouched && *count == 0,
-            Err(error) => self.is_closed = error.kind() == ErrorKind::BrokenPipe,
+        if bytes.is_empty() || self.fault.is_some() {
+            return Ok(bytes.len());
         }
-        wrote
+        match self.stream.write(bytes) {
+            Ok(0) => self.fault = Some(ErrorKind::WriteZero),
+            Ok(count) => {
+                self.is_untouched = false;
+                return Ok(count);
+            }
+            Err(error) if error.kind() == ErrorKind::Interrupted => return Err(error),
+            Err(error) => self.fault = Some(error.kind()),
+        }
+        Ok(bytes.len())
     }
 
     fn flush(&mut self) -> io::Result<()> {
-        self.stream.flush()
+        if self.fault.is_some() {
+            return Ok(());
+        }
+        if let Err(error) = self.stream.flush() {
+            self.fault = Some(error.kind());
+        }
+        Ok(())
     }
 }

@@ -1,20 +1,19 @@
 //! A job with its files and streams.
-ghost use Rattle.std.specs.Prelude.{◌≡◌, IfSome, IfOk, IfErr, MatchOption, None};
-ghost use Rattle.std.specs.IoError.{error_kind};
+ghost use Rattle.std.specs.Prelude.{◌≡◌, IfSome, MatchOption};
 ghost use Rattle.report_jobs.specs.Trapped.{Tells};
-ghost use Rattle.report_program.specs.Messages.{file_text, memory_path, path_text, record_path, why_if};
-ghost use Rattle.report_program.specs.Messages.{MayReplace, TellsLost};
+ghost use Rattle.report_program.specs.Messages.{memory_path, path_text, record_path};
+ghost use Rattle.report_program.specs.Messages.{nothing_lost, MayReplace, TellsLost};
 ghost use Rattle.report_command.specs.declared.command_line.Job.TheVariants as jobs;
 
-use crate::closing::{Closed, Lost, close, close_behind};
+use crate::closing::{Lost, hand_on_if};
 use crate::input::{Input, read};
 use crate::stop::JobStop;
 use crate::telling::{tell_file_fault, tell_output_fault, tell_unkept, why_if};
-use crate::{Noted, SavePlace, SavedFile, is_one_file, is_one_place};
+use crate::{Detail, Noted, SavePlace, SavedFile, is_one_file, is_one_place};
 use report_command::{Job, Misuse, RunJob, Search, misused};
 use report_jobs::{JobResult, Streams, say, status_of};
 use std::alloc::Global;
-use std::io::{self, BufWriter, Write};
+use std::io::{self, BufWriter, ErrorKind, Write};
 
 /// The bytes of standard output, which is written in one piece: 64 lines of threads, one of pages and 4096 bytes shown
 /// fit.
@@ -31,8 +30,8 @@ const RECORD: usize = 65_536;
 #[derive(Drop)]
 pub struct Task<'a, W: Write + Drop> {
     pub input: Input,
-    /// Whether it is to explain.
-    explain: bool,
+    /// How much is said of what goes wrong.
+    detail: Detail,
     pub streams: Streams<BufWriter<Noted<W>>, Vec<u8>, BufWriter<SavedFile<'a>>>,
 }
 
@@ -129,12 +128,13 @@ fn replaced(rt: &HostRuntime, job: &Job) -> Option<Misuse>
         Job::Show {
             file,
             saved,
+            names,
             how,
-            ..
         } => match how.view.path() {
-            Some(path) if is_one_file(rt, file, path) || is_one_file(rt, saved, path) => {
-                Some(Misuse::ReplacesRead)
-            }
+            Some(path)
+                if is_one_file(rt, file, path)
+                    || is_one_file(rt, saved, path)
+                    || is_file_of(rt, path, *names) => { Some(Misuse::ReplacesRead) }
             _ => None,
         },
         _ => None,
@@ -149,69 +149,40 @@ fn keep_module<'a>(rt: &HostRuntime, job: &Job<'a>) -> Result<(), JobStop<'a>> {
     }
 }
 
-/// The status of a job whose file with this path was kept; else it is said why it wasn't.
-fn status_of_kept<E: Write>(
-    alloc: Global,
-    err: &mut E,
-    path: Option<&str>,
-    status: u8,
-    kept: io::Result<()>,
-    explain: bool,
-) -> u8
-    ensures kept { IfOk kept (λ _. (result ≡ status) × (err.new ≡ err.old)) }
-    ensures status { IfErr kept (λ _. result ≡ 5) }
-    ensures told { IfErr kept (λ error. Tells (E.contents err.old) (E.contents err.new)
-        (file_text (path_text path.entry) (why_if explain (error_kind error)))) }
-{
-    match kept {
-        Ok(()) => status,
-        Err(error) => {
-            let why = why_if(explain, error.kind());
-            tell_file_fault(alloc, err, path_text(path), why)
-        }
-    }
-}
-
-/// Gives a file its path where the job made all of it, and else takes away what there is of it. Answers the job's
-/// status.
-fn finish(rt: &HostRuntime, job: &Job, status: u8, save: SavedFile, explain: bool) -> u8 {
-    if status > 1 {
-        save.give_up();
-        return status;
-    }
-    let (path, kept) = (record_of(job), save.keep());
-    status_of_kept(rt.alloc(), &mut rt.stderr(), path, status, kept, explain)
-}
-
-/// The same of the bytes of a memory, which may have none: then the file is empty.
-fn finish_memory(rt: &HostRuntime, job: &Job, status: u8, memory: SavedFile, explain: bool) -> u8 {
-    if status > 1 {
-        memory.give_up();
-        return status;
-    }
-    let (path, kept) = (memory_of(job), memory.keep_even_empty());
-    status_of_kept(rt.alloc(), &mut rt.stderr(), path, status, kept, explain)
-}
-
 /// Says which of a job's streams didn't get all that was written to them, the lines and the file or the memory, and
 /// answers the status, if one didn't.
 fn tell_lost<E: Write>(
     alloc: Global,
     err: &mut E,
     job: &Job,
-    lost: (Option<Lost>, Option<Lost>),
+    detail: Detail,
+    lost: Lost,
     is_closed: bool,
 ) -> Option<u8>
-    ensures status { MatchOption result ((lost.0 ≡ None) × (lost.1 ≡ None)) (λ status. status ≡ 5) }
-    ensures told { TellsLost job.now lost.0 lost.1 is_closed (E.contents err.old) (E.contents err.new) }
+    ensures status { MatchOption result (lost ≡ nothing_lost) (λ status. status ≡ 5) }
+    ensures told { TellsLost job.now detail lost is_closed (E.contents err.old) (E.contents err.new) }
 {
     match lost {
-        (None, None) => None,
-        (Some(Lost::Lines), _) => Some(tell_output_fault(err, is_closed)),
-        (Some(Lost::File), _) => {
-            Some(tell_file_fault(alloc, err, path_text(record_of(job)), None))
+        Lost { lines: true, .. } => Some(tell_output_fault(err, is_closed)),
+        Lost {
+            file: Some(kind),
+            ..
+        } => {
+            let why = why_if(detail, kind);
+            Some(tell_file_fault(alloc, err, path_text(record_of(job)), why))
         }
-        (None, Some(_)) => Some(tell_file_fault(alloc, err, path_text(memory_of(job)), None)),
+        Lost {
+            memory: Some(kind),
+            ..
+        } => {
+            let why = why_if(detail, kind);
+            Some(tell_file_fault(alloc, err, path_text(memory_of(job)), why))
+        }
+        Lost {
+            lines: false,
+            file: None,
+            memory: None,
+        } => None,
     }
 }
 
@@ -232,7 +203,7 @@ fn begin<'a, W: Write + Drop>(
     input: Input,
     room: usize,
     places: (Option<SavePlace>, Option<SavePlace>),
-    explain: bool,
+    detail: Detail,
 ) -> io::Result<Task<'a, W>> {
     let alloc = rt.alloc();
     let (place, memory) = places;
@@ -243,7 +214,7 @@ fn begin<'a, W: Write + Drop>(
     let memory = BufWriter::with_capacity(alloc, RECORD, SavedFile::new(rt, memory))?;
     Ok(Task {
         input,
-        explain,
+        detail,
         streams: Streams {
             out,
             err,
@@ -258,13 +229,13 @@ fn prepare<'a, 'j, W: Write + Drop>(
     rt: &'a HostRuntime,
     stdout: W,
     job: &Job<'j>,
-    explain: bool,
+    detail: Detail,
 ) -> Result<Task<'a, W>, JobStop<'j>> {
     keep_module(rt, job)?;
     let input = read(rt, job)?;
     let places = (place_of(rt, record_of(job))?, place_of(rt, memory_of(job))?);
     let room = room_for(&[record_of(job), memory_of(job)]);
-    Ok(begin(rt, stdout, input, room, places, explain)?)
+    Ok(begin(rt, stdout, input, room, places, detail)?)
 }
 
 /// Begins a job: reads its files, and takes the places of the files that it makes and the memory of its streams.
@@ -276,48 +247,71 @@ pub fn open_task<'a, W: Write + Drop>(
     rt: &'a HostRuntime,
     stdout: W,
     job: &Job,
-    explain: bool,
+    detail: Detail,
 ) -> Result<Task<'a, W>, u8> {
-    match prepare(rt, stdout, job, explain) {
+    match prepare(rt, stdout, job, detail) {
         Ok(task) => Ok(task),
-        Err(stop) => Err(stop.tell(rt, job.form(), explain)),
+        Err(stop) => Err(stop.tell(rt, job.form(), detail)),
     }
 }
 
-/// Says of a search that was to keep a run that it kept none.
-fn note_unkept(rt: &HostRuntime, job: &Job, save: &SavedFile) {
-    if let Job::Search(
-        Search {
-            save: Some(path),
-            ..
-        },
-    ) = job
-        && save.is_untouched()
-    {
-        tell_unkept(rt.alloc(), &mut rt.stderr(), path);
-    }
-}
-
-#[derive(Drop)]
-struct JobFiles<'a> {
-    save: SavedFile<'a>,
-    memory: SavedFile<'a>,
-}
-
-impl JobFiles<'_> {
-    fn give_up(self) {
-        self.save.give_up();
-        self.memory.give_up();
-    }
-
-    /// Gives both their paths, if the status is one with which there are files, 0 or 1. Answers the status, or 5.
-    fn finish(self, rt: &HostRuntime, job: &Job, status: u8, explain: bool) -> u8 {
-        if explain && status <= 1 {
-            note_unkept(rt, job, &self.save);
+/// The path to which a search was to keep a run, if it found none.
+fn unkept<'a>(job: &Job<'a>, save: &BufWriter<SavedFile>) -> Option<&'a str> {
+    match job {
+        Job::Search(search) if save.buffer().is_empty() && save.get_ref().is_untouched() => {
+            search.save
         }
-        let status = finish(rt, job, status, self.save, explain);
-        finish_memory(rt, job, status, self.memory, explain)
+        _ => None,
     }
+}
+
+/// A file, or else what takes what is written as it comes.
+fn apart(
+    save: BufWriter<SavedFile>,
+) -> (Option<BufWriter<SavedFile>>, Option<BufWriter<SavedFile>>) {
+    if save.get_ref().is_stream() {
+        (None, Some(save))
+    } else {
+        (Some(save), None)
+    }
+}
+
+/// Hands on what a job wrote to a file that it makes, if it comes, and gives it its path, maybe with nothing in it; and
+/// else takes away what there is of it. Answers why it failed, if it did.
+fn keep_if(
+    comes: bool,
+    may_be_empty: bool,
+    save: Option<BufWriter<SavedFile>>,
+) -> Option<ErrorKind> {
+    let (save, fault) = hand_on_if(comes, save?);
+    if !comes || fault.is_some() {
+        save.give_up();
+        return fault;
+    }
+    let kept = if may_be_empty {
+        save.keep_even_empty()
+    } else {
+        save.keep()
+    };
+    match kept {
+        Ok(()) => None,
+        Err(error) => Some(error.kind()),
+    }
+}
+
+/// Hands on the lines of a job, and says what it has to say on standard error. Answers whether lines were lost, and
+/// whether nobody is left to read them: then nothing is said.
+fn hand_on_lines<W: Write + Drop>(
+    rt: &HostRuntime,
+    out: BufWriter<Noted<W>>,
+    err: &[u8],
+) -> (bool, bool) {
+    let (out, fault) = hand_on_if(true, out);
+    let (is_lost, is_closed) = (fault.is_some() || out.has_failed(), out.is_closed());
+    if !is_closed {
+        say(&mut rt.stderr(), err);
+    }
+    (is_lost, is_closed)
 }
 
 impl<W: Write + Drop> Task<'_, W> {
@@ -326,12 +320,13 @@ impl<W: Write + Drop> Task<'_, W> {
         self.streams.out.buffer().is_empty() && self.streams.out.get_ref().is_untouched()
     }
 
-    /// Hands on what the job wrote, says what went wrong, and keeps the files that it made, if it is done. Answers the
-    /// status: the job's, or 5 where a stream didn't get all.
+    /// Keeps the files that the job made, if it is done; then hands on its lines, and behind these what it wrote to streams
+    /// in the place of files; and says what went wrong. Answers the status: the job's, or 5 where a file or a stream didn't
+    /// get all.
     pub fn end(self, rt: &HostRuntime, job: &Job, ended: &JobResult) -> u8 {
         let Task {
             streams,
-            explain,
+            detail,
             ..
         } = self;
         let Streams {
@@ -340,26 +335,29 @@ impl<W: Write + Drop> Task<'_, W> {
             save,
             memory,
         } = streams;
-        let is_done = ended.is_ok();
-        let Closed { out, save, lost } = close(is_done, out, save);
-        let (memory, lost_memory) = close_behind(is_done && lost.is_none(), memory);
-        let files = JobFiles { save, memory };
-        let is_closed = out.is_closed();
-        if !is_closed {
-            say(&mut rt.stderr(), &err);
-        }
-        match tell_lost(
-            rt.alloc(),
-            &mut rt.stderr(),
-            job,
-            (lost, lost_memory),
-            is_closed,
-        ) {
-            None => files.finish(rt, job, status_of(ended), explain),
-            Some(fault) => {
-                files.give_up();
-                fault
+        let status = status_of(ended);
+        let comes = ended.is_ok() && status <= 1;
+        let unkept = unkept(job, &save);
+        let (save, save_stream) = apart(save);
+        let (memory, memory_stream) = apart(memory);
+        let file = keep_if(comes, false, save);
+        let memory = keep_if(comes && file.is_none(), true, memory);
+        let (lines, is_closed) = hand_on_lines(rt, out, &err);
+        let comes = comes && !lines && file.is_none() && memory.is_none();
+        let file = file.or(keep_if(comes, false, save_stream));
+        let lost = Lost {
+            lines: lines && ended.is_ok(),
+            file,
+            memory: memory.or(keep_if(comes && file.is_none(), true, memory_stream)),
+        };
+        let told = tell_lost(rt.alloc(), &mut rt.stderr(), job, detail, lost, is_closed);
+        match (told, unkept) {
+            (Some(fault), _) => fault,
+            (None, Some(path)) if detail.explains() && comes => {
+                tell_unkept(rt.alloc(), &mut rt.stderr(), path);
+                status
             }
+            (None, _) => status,
         }
     }
 }

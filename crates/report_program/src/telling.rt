@@ -1,13 +1,15 @@
 //! What is said, each text in one piece where there is memory for that, and the statuses that go with it.
 ghost use Rattle.std.specs.Prelude.{◌≡◌, ◌++◌, ◌⊎◌, true, false};
+ghost use Rattle.show_text.specs.Plain.{plain_text};
 ghost use Rattle.report_jobs.specs.Trapped.{Tells};
 ghost use Rattle.report_jobs.specs.Told.{memory_line, output_line};
 ghost use Rattle.report_program.specs.Messages.{file_text, reason_text, unkept_text};
 ghost use Rattle.report_program.specs.Messages.{why_if, why_text, IsUsageStatus};
 
-use crate::Noted;
+use crate::{Detail, Noted};
 use report_command::Usage;
-use report_jobs::{say, say_pieces};
+use report_jobs::{say, say_named};
+use show_text::Plain;
 use std::alloc::Global;
 use std::fmt::Display;
 use std::io::{ErrorKind, Write};
@@ -18,7 +20,8 @@ const USAGE: u8 = 3;
 /// The status of a file or stream that failed, and of no memory.
 pub(crate) const FILE_FAULT: u8 = 5;
 
-/// Says a path between two texts, and one more behind them, in one piece where there is memory for that.
+/// Says a path between two texts, and one more behind them, in one piece; or without the last one, where there is too
+/// little memory for that.
 fn say_around<E: Write>(
     alloc: Global,
     err: &mut E,
@@ -27,13 +30,14 @@ fn say_around<E: Write>(
     behind: &str,
     more: &str,
 )
-    ensures { Tells (E.contents err.old) (E.contents err.new) (front.now ++ path.now ++ behind.now ++ more.now) }
+    ensures { Tells (E.contents err.old) (E.contents err.new) (front.now ++ plain_text path.now ++ behind.now ++ more.now) }
 {
-    match format!(in alloc; "{front}{path}{behind}{more}") {
+    let plain = Plain(path);
+    match format!(in alloc; "{front}{plain}{behind}{more}") {
         Ok(text) => {
             say(err, text.as_bytes());
         }
-        Err(_) => say_pieces(err, front, path, behind, more),
+        Err(_) => say_named(err, front, "", path, behind),
     }
 }
 
@@ -72,11 +76,14 @@ fn reason_if(why: Option<ErrorKind>) -> &'static str
     }
 }
 
-/// Why a file failed, if it is to be explained.
-pub(crate) fn why_if(explain: bool, kind: ErrorKind) -> Option<ErrorKind>
-    ensures { result ≡ why_if explain kind }
+/// Why a file failed, if more than a line is said.
+pub(crate) fn why_if(detail: Detail, kind: ErrorKind) -> Option<ErrorKind>
+    ensures { result ≡ why_if detail kind }
 {
-    if explain { Some(kind) } else { None }
+    match detail {
+        Detail::Line => None,
+        Detail::Reason | Detail::All => Some(kind),
+    }
 }
 
 /// Says which file failed, with the line of its reason or nothing behind that, and answers the status.
@@ -131,7 +138,7 @@ fn help<W: Write, E: Write, D: Display>(
     let Ok(text) = format!(in alloc; "{text}") else {
         return tell_no_memory(err);
     };
-    if out.write_all(text.as_bytes()).is_ok() && out.flush().is_ok() {
+    if out.write_all(text.as_bytes()).is_ok() && out.flush().is_ok() && !out.has_failed() {
         return 0;
     }
     tell_output_fault(err, out.is_closed())

@@ -8,6 +8,7 @@ ghost use Rattle.report_reasons.specs.Reasons.{Explains, NamesLine};
 
 use crate::bytes::add_reading;
 use crate::calls::add_call;
+use crate::narrow::add_narrow;
 use crate::records::{UnfitThread, add_header, add_misfit, add_unreadable};
 use crate::validity::{add_in_body, add_rule};
 use report_command::{CallWords, Job, RunJob, Search};
@@ -24,6 +25,8 @@ pub struct JobInputs<'a> {
     pub saved: &'a [u8],
     /// What is called, where something is.
     pub call: Option<&'a CallWords<'a>>,
+    /// Whether the module is checked, and nothing else.
+    pub is_check: bool,
 }
 
 /// What a job calls, if it calls something.
@@ -35,8 +38,8 @@ pub fn call_of<'j, 'a>(job: &'j Job<'a>) -> Option<&'j CallWords<'a>> {
 }
 
 /// Adds to a text the lines that explain what came of a job: why it is refused, and what to do; or of one that is done
-/// what to do about threads that were stopped, and what a search didn't compare. Where the system failed there is nothing
-/// to say.
+/// what to do about threads that were stopped, what a search didn't compare, and what of a module that was checked may not
+/// do what it seems to. Where the system failed there is nothing to say.
 ///
 /// # Errors
 /// Where memory is refused; then the text stays as it was.
@@ -88,7 +91,11 @@ fn add_done(
         )?;
     }
     add_left_out(out, done.left_out)?;
-    add_advice(alloc, out, done.advised)
+    add_advice(alloc, out, done.advised)?;
+    if given.is_check {
+        return add_narrow(alloc, out, given.module);
+    }
+    Ok(())
 }
 
 /// Adds that races aren't told which are allowed.
@@ -125,6 +132,7 @@ fn add_refused(
         module: bytes,
         saved,
         call,
+        ..
     } = given;
     match refused {
         Refused::Read { kind, offset } => add_reading(alloc, out, bytes, *kind, *offset),

@@ -19,10 +19,11 @@ impl Write for Failing {
     }
 }
 
-/// Whether a stream that fails so is closed after a write; none where it is closed before, or takes what is written.
+/// Whether a stream that fails so is closed after a write; none where it has failed before, or hasn't then, or who writes
+/// can't go on.
 fn closed_by(kind: ErrorKind) -> Option<bool> {
     let mut stream = Noted::new(Failing(kind));
-    if stream.is_closed() || stream.write(b"x").is_ok() {
+    if stream.has_failed() || stream.write_all(b"xy").is_err() || !stream.has_failed() {
         return None;
     }
     Some(stream.is_closed())
@@ -46,7 +47,7 @@ fn a_closed_stream_is_told_from_a_full_one() -> Result<(), Fail> {
 fn takes(bytes: &mut Vec<u8>, text: &[u8]) -> Result<bool, Fail> {
     let mut stream = Noted::new(bytes);
     stream.write_all(text)?;
-    Ok(!stream.is_closed())
+    Ok(!stream.has_failed())
 }
 
 #[test]

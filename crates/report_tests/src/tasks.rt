@@ -4,10 +4,10 @@ use crate::room::{count_in, make_room, path_in};
 use crate::writers::Narrow;
 use report_command::{CallWords, EndLook, Job, RunJob, command};
 use report_jobs::{Done, JobResult, Refused, Undone};
-use report_program::{Lost, close, open_task};
+use report_program::{Detail, hand_on_if, open_task};
 use std::alloc::Global;
 use std::fs;
-use std::io::{self, BufWriter, Write};
+use std::io::{self, BufWriter, ErrorKind, Write};
 use std::os::unix::fs::symlink;
 use std::path::PathBuf;
 use std::test::Fail;
@@ -21,39 +21,29 @@ fn held(alloc: Global, text: &[u8], room: usize) -> io::Result<BufWriter<Narrow>
     Ok(buffer)
 }
 
-/// Ends a job that is done or isn't and wrote both texts, before writers with so much room. Answers whether this is lost, and
-/// the file got so many bytes.
-fn ends(
+/// Whether a stream with so much room gets so many bytes of a text that comes or doesn't, and fails so.
+fn gets(
     alloc: Global,
-    is_done: bool,
-    rooms: (usize, usize),
-    lost: Option<Lost>,
-    kept: usize,
+    comes: bool,
+    room: usize,
+    fault: Option<ErrorKind>,
+    count: usize,
 ) -> io::Result<bool> {
-    let out = held(alloc, b"lines of a job", rooms.0)?;
-    let save = held(alloc, b"what it keeps", rooms.1)?;
-    let closed = close(is_done, out, save);
-    let file = b"what it keeps".get(..kept).unwrap_or(b"");
-    Ok(closed.lost == lost && closed.out.has_front(b"lines of a job") && closed.save.has(file))
+    let text = b"what it keeps";
+    let (stream, failed) = hand_on_if(comes, held(alloc, text, room)?);
+    Ok(failed == fault && stream.has(text.get(..count).unwrap_or(b"")))
 }
 
 #[test]
-fn what_is_held_back_gets_out_or_is_lost(rt: HostRuntime) -> Result<(), Fail> {
+fn what_is_held_back_gets_out_or_fails(rt: HostRuntime) -> Result<(), Fail> {
     let alloc = rt.alloc();
     hold(&[
-        ("all gets out", ends(alloc, true, (64, 64), None, 13)?),
+        ("all gets out", gets(alloc, true, 64, None, 13)?),
         (
-            "no room for the lines",
-            ends(alloc, true, (13, 64), Some(Lost::Lines), 0)?,
+            "there is no room",
+            gets(alloc, true, 12, Some(ErrorKind::StorageFull), 12)?,
         ),
-        (
-            "no room for the file",
-            ends(alloc, true, (64, 12), Some(Lost::File), 12)?,
-        ),
-        (
-            "a refusal keeps nothing",
-            ends(alloc, false, (64, 64), None, 0)?,
-        ),
+        ("it isn't to come", gets(alloc, false, 64, None, 0)?),
     ])
 }
 
@@ -95,7 +85,7 @@ fn result_of(came: Came) -> JobResult<'static> {
 /// it was begun.
 fn end_with(rt: &HostRuntime, job: &Job, came: Came, room: usize) -> Result<u8, Fail> {
     let stdout = Narrow::new(rt.alloc(), room, 64);
-    let mut task = match open_task(rt, stdout, job, false) {
+    let mut task = match open_task(rt, stdout, job, Detail::Line) {
         Ok(task) => task,
         Err(status) => return Ok(status),
     };
@@ -117,18 +107,19 @@ fn end_all(rt: &HostRuntime, job: &Job, room: &PathBuf, path: &str) -> Result<()
     hold(&[
         ("a refusal", end_with(rt, job, Came::Refused, 64)? == 4),
         ("it leaves no record", count_in(rt, room)? == 1),
+        ("a trap", end_with(rt, job, Came::Trapped, 64)? == 1),
+        ("its record", is_kept(rt, room, path)?),
+        ("it goes", fs::remove_file(rt, path).is_ok()),
         (
             "no room for the lines",
             end_with(rt, job, Came::Well, 4)? == 5,
         ),
-        ("they leave no record", count_in(rt, room)? == 1),
-        ("a trap", end_with(rt, job, Came::Trapped, 64)? == 1),
-        ("its record", is_kept(rt, room, path)?),
+        ("their record", is_kept(rt, room, path)?),
     ])
 }
 
 #[test]
-fn a_record_is_kept_where_the_lines_are_out(rt: HostRuntime) -> Result<(), Fail> {
+fn a_record_is_kept_though_lines_are_lost(rt: HostRuntime) -> Result<(), Fail> {
     let room = make_room(&rt, "tasks")?;
     let file = path_in(&rt, &room, "a.wasm")?;
     let path = path_in(&rt, &room, "a.record")?;
@@ -148,7 +139,7 @@ fn end_without_bytes(rt: &HostRuntime, file: &str, path: &str) -> u8 {
         memory_out: Some(path),
         ..run
     });
-    match open_task(rt, Narrow::new(rt.alloc(), 64, 64), &job, false) {
+    match open_task(rt, Narrow::new(rt.alloc(), 64, 64), &job, Detail::Line) {
         Ok(task) => task.end(rt, &job, &Ok(Done::with(0))),
         Err(status) => status,
     }
@@ -195,8 +186,8 @@ fn reads_names(rt: &HostRuntime, file: &str, names: &str) -> Result<bool, Fail> 
     };
     let stdout = || Narrow::new(rt.alloc(), 64, 64);
     let (Ok(named), Ok(plain)) = (
-        open_task(rt, stdout(), &named, false),
-        open_task(rt, stdout(), &plain, false),
+        open_task(rt, stdout(), &named, Detail::Line),
+        open_task(rt, stdout(), &plain, Detail::Line),
     ) else {
         return Ok(false);
     };

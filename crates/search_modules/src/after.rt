@@ -28,8 +28,8 @@ fn rested(
     ensures gives_up { IfOk result (λ o. o ≡ None → IsStuckThen searched.now made.now n standing.now m) }
 {
     let event = MadeBy { made, n };
-    let (valid, worker) = (searched.valid, searched.worker);
-    let Some(rest) = rest_after(alloc, valid, worker, &event, standing, m)? else {
+    let (valid, live, worker) = (searched.valid, &searched.live, searched.worker);
+    let Some(rest) = rest_after(alloc, valid, live, worker, &event, standing, m)? else {
         return Ok(None);
     };
     let walker = SharedWalker::new(alloc, rest)?;

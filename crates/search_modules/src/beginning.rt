@@ -24,6 +24,7 @@ pub(crate) fn first_flat(
     let Some(main) = begin(
         alloc,
         searched.valid,
+        &searched.live,
         searched.main,
         searched.args.as_slice(),
     )?

@@ -8,6 +8,7 @@ ghost use Rattle.search_modules.specs.Moved.{called};
 
 use crate::called::Searched;
 use allowed_races::Allowed;
+use live_locals::live_tables;
 use spawn_host::{Request, thread_start};
 use std::alloc::{AllocError, Global};
 use types::Value;
@@ -42,10 +43,12 @@ pub(crate) fn searched<'m>(
 {
     let valid = request.module();
     let _parts = valid.parts();
+    let live = live_tables(alloc, valid)?;
     let opening = valid.image(alloc)?;
     let args = Vec::from_slice(alloc, request.call().args)?;
     Ok(Searched {
         valid,
+        live,
         opening,
         max: valid.pages_max(),
         main: request.number(),

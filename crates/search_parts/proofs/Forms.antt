@@ -1,5 +1,5 @@
 -- What is the same is equal.
-use Rattle.std.specs.Prelude.{ℕ, ◌≡◌, ◌+◌, ◌&&◌, true, List, [], ◌∷◌, map, length, reverse, nat_eq, replicate, None, Option}
+use Rattle.std.specs.Prelude.{ℕ, ◌≡◌, ◌+◌, ◌&&◌, true, List, [], ◌∷◌, map, length, reverse, nat_eq, None}
 use Rattle.std.proofs.Common.{refl, sym, ◌∙◌, ap, subst}
 use Rattle.std.proofs.lemmas.List.{reverse-reverse, length-replicate}
 use Rattle.std.specs.Cmp.Lexicographic.{pointwise}
@@ -26,7 +26,7 @@ use Rattle.interp_state.specs.contracts.state.ProgressPartialEq.TheImpl as progr
 use Rattle.interp_state.specs.Words.{word_of}
 use Rattle.interp_state.specs.Stands.{Stands, AreCallers, reached, values_on}
 use Rattle.interp_state.proofs.Words.{map_reversed}
-use Rattle.interp.specs.Kept.{IsOf, IsKept}
+use Rattle.interp.specs.Kept.{IsKept}
 use Rattle.interp.specs.declared.kept.Kept.{Kept}
 use Rattle.interp.specs.contracts.kept.KeptPartialEq.TheImpl as kept_eq
 use Rattle.interp.specs.contracts.kept.KeptEq.TheImpl.Laws.{laws-law as kept_laws}
@@ -39,11 +39,10 @@ use Rattle.search_memory.proofs.Forms.{one_form}
 use Rattle.search_threads.specs.Unlimited.{Unlimited.Missing as NoThread, Unlimited.Going as Goes}
 use Rattle.search_threads.specs.Unlimited.{Unlimited.Leaving as Leaves, Unlimited.Away as Left}
 use Rattle.search_runs.specs.Called.{Walker}
-use Rattle.search_parts.specs.Walkers.{StandsForThread}
 use Rattle.search_parts.specs.declared.walker.RestingThread.{RestingThread}
 use Rattle.search_parts.specs.declared.walker.RestingThread.TheVariants.{Missing, Going, Ended, Leaving, Away}
 use Rattle.search_parts.specs.contracts.walker.RestingThreadPartialEq.TheImpl as standing_eq
-use Rattle.search_parts.specs.Same.{AreAtOnePlace, AreWhereTheyAre}
+use Rattle.search_parts.specs.Same.{AreAtOnePlace, AreWhereTheyAre, StandsForJust}
 
 -- ---- memories and queues
 
@@ -173,7 +172,7 @@ module _ (w : WithTables) (x y : Kept) (c : Config) (kx : IsKept w x c) (ky : Is
       && (pointwise caller_eq.eq-value.it x.callers.items (callers i) && progress_eq.eq-value.it x.progress (progress i)))))))))
       ∙ kept_laws.refl x
 
-one_going : (w : WithTables) (x y : Kept) (v : Walker) → AreAtOnePlace x y → StandsForThread w (Going x) v → StandsForThread w (Going y) v
+one_going : (w : WithTables) (x y : Kept) (v : Walker) → AreAtOnePlace x y → StandsForJust w (Going x) v → StandsForJust w (Going y) v
     → kept_eq.eq-value.it x y ≡ true
 one_going w x y v at g h =
     let both : Goes (At g.0) ≡ Goes (At h.0) = sym g.1 ∙ h.1 in
@@ -186,7 +185,7 @@ one_outcome a b e = subst (λ o. outcome_eq.eq-value.it a o ≡ true) e (outcome
 apart : {A : Type 0} {V : Type 0} (u v w : V) → (u ≡ w → ⊥) → v ≡ u → v ≡ w → A
 apart u v w ne p q = absurd (ne (sym p ∙ q))
 
-pub the_same_standing : (w : WithTables) (x y : RestingThread) (v : Walker) → AreWhereTheyAre x y → StandsForThread w x v → StandsForThread w y v
+pub the_same_standing : (w : WithTables) (x y : RestingThread) (v : Walker) → AreWhereTheyAre x y → StandsForJust w x v → StandsForJust w y v
     → standing_eq.eq-value.it x y ≡ true
 the_same_standing w Missing Missing v at g h = refl
 the_same_standing w Missing (Going b) v at g h = apart NoThread v (Goes (At h.0)) (λ e. cc) g h.1

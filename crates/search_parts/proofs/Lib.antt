@@ -10,4 +10,5 @@ pub mod SharedParts
 pub mod Accessing
 pub mod Giving
 pub mod Walking
+pub mod Alike
 pub mod Placing

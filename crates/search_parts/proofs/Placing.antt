@@ -1,16 +1,14 @@
 -- The instruction at which a thread stands is the one that its code begins with.
-use Rattle.std.proofs.Common.{◌≡◌, ◌≤◌, ℕ, zero, suc, arith, List, [], ◌∷◌, length, Option, Some, None, Bool, true, false, refl, sym, ◌∙◌, ap, subst}
+use Rattle.std.proofs.Common.{◌≡◌, ◌≤◌, ℕ, zero, suc, arith, List, [], ◌∷◌, length, Option, Some, None, Bool, true, false, refl, sym, ◌∙◌, ap}
 use Rattle.std.specs.List.{slice_get}
 use Rattle.std.proofs.lemmas.Option.{none-some}
 use Rattle.types.specs.declared.instr.Instr.{Instr}
-use Rattle.types.specs.declared.instr.Instr.TheVariants as instrs
 use Rattle.types.specs.declared.parts.Body.{Body}
 use Rattle.types.specs.declared.value.ValType.{ValType}
 use Rattle.types.specs.Nesting.{Code, Empty, Then, BlockThen, LoopThen, IfThen, IfElseThen}
 use Rattle.validate_typing.specs.Placed.{FlatLabel, Flat, IsPlaced}
 use Rattle.validate_typing.specs.Tabled.{WithTables}
 use Rattle.interp_machine.specs.Config.{Config}
-use Rattle.interp_state.specs.Stands.{Stands, IsOwn}
 use Rattle.interp_state.proofs.Views.{Ends, AtEnd, AtElse, ends_at}
 use Rattle.interp.specs.declared.kept.Kept.{Kept}
 use Rattle.interp.specs.Kept.{IsKept}

@@ -76,7 +76,8 @@ same_standing w Missing (Leaving b) v e st = untrue e
 same_standing w Missing (Away b) v e st = untrue e
 same_standing w (Going a) Missing v e st = untrue e
 same_standing w (Going a) (Going b) v e st =
-    (st.0, st.1, record { state = st.2.state; stands = st.2.stands; is_of = same_kept a b e st.2.state st.2.is_of })
+    let kept = st.2.1 in
+    (st.0, st.1, (st.2.0, record { state = kept.state; stands = kept.stands; is_of = same_kept a b e kept.state kept.is_of }, st.2.2))
 same_standing w (Going a) (Ended b) v e st = untrue e
 same_standing w (Going a) (Leaving b) v e st = untrue e
 same_standing w (Going a) (Away b) v e st = untrue e

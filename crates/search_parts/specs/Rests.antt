@@ -1,5 +1,5 @@
 -- Where threads of a module come to rest, whatever is called of it.
-use Rattle.std.specs.Prelude.{ℕ, ◌≡◌, List, map, Option}
+use Rattle.std.specs.Prelude.{ℕ, ◌≡◌, Bool, List, map, Option}
 use Rattle.types.specs.declared.event.Answer.{Answer}
 use Rattle.types.specs.declared.event.Event.{Event}
 use Rattle.types.specs.declared.event.Reply.{Reply}
@@ -19,11 +19,14 @@ use Rattle.interp.specs.Threads as threads
 use Rattle.interp_machine.specs.Config.{Config}
 use Rattle.interp_machine.specs.State.{State, At}
 use Rattle.interp_trait.specs.declared.turn.Given.{Given}
+use Rattle.live_locals.specs.Live.{AreSound}
 use Rattle.search_threads.specs.Unlimited.{Unlimited.Going}
 use Rattle.search_settled.specs.Settled.{MakesTurns}
 use Rattle.search_runs.specs.Called.{Called, Walker, system_of}
 use Rattle.search_parts.specs.Walkers.{IsOf, RestsAt, StandsForThread, MayBeGiven, given_to, patience}
 use Rattle.search_parts.specs.declared.walker.RestingThread.{RestingThread}
+use Rattle.search_parts.specs.declared.walker.RestingThread.TheVariants as standings
+use Rattle.live_kept.specs.Clearing.{IsClearedOf}
 
 -- A thread makes more turns of its own than there is patience for.
 abbrev pub RunsOn : Called → Walker → Type 0
@@ -34,8 +37,17 @@ abbrev pub OfRunning : Thread → (WithTables → Called → State → ℕ → T
 OfRunning t so = (w : WithTables) (b : Called) (x : State) (left : ℕ) → IsOf b w → RunsBy w t
     → threads.StandsFor t (Runs x left) → so w b x left
 
-abbrev pub ComesToRestAt : Thread → RestingThread → Type 0
-ComesToRestAt t s = OfRunning t (λ w b x left. RestsAt w b (Going x) s)
+-- It comes to rest so, where these tables of live locals are sound for its module.
+abbrev pub ComesToRestAt : List (List (List Bool)) → Thread → RestingThread → Type 0
+ComesToRestAt live t s = OfRunning t (λ w b x left. AreSound w live → RestsAt w b (Going x) s)
+
+-- What is kept of it has the locals cleared that are dead by these tables.
+abbrev pub IsCleared : List (List (List Bool)) → RestingThread → Type 0
+IsCleared live (standings.Going k) = (old : Kept) × IsClearedOf live old k
+IsCleared live standings.Missing = Unit {0}
+IsCleared live (standings.Ended o) = Unit {0}
+IsCleared live (standings.Leaving o) = Unit {0}
+IsCleared live (standings.Away o) = Unit {0}
 
 abbrev pub SpendsAll : Thread → Type 0
 SpendsAll t = OfRunning t (λ w b x left. MakesTurns (system_of b) left (Going x))

@@ -4,10 +4,14 @@ use Rattle.validate_typing.specs.Tabled.{WithTables}
 use Rattle.waiters.specs.Kept.{queue_of}
 use Rattle.waiters.specs.declared.kept.KeptQueue.{KeptQueue}
 use Rattle.waiters.specs.contracts.kept.KeptQueuePartialEq.TheImpl as queues
+use Rattle.interp_machine.specs.Config.{Config}
+use Rattle.interp_machine.specs.State.{At}
+use Rattle.interp.specs.Kept.{IsKept}
 use Rattle.interp.specs.declared.kept.Kept.{Kept}
 use Rattle.search_memory.specs.Memories.{memory_of, HasDifferences}
 use Rattle.search_memory.specs.declared.beside.Changes.{Changes}
 use Rattle.search_memory.specs.contracts.beside.ChangesPartialEq.TheImpl as memories
+use Rattle.search_threads.specs.Unlimited.{Unlimited.Going as Goes}
 use Rattle.search_runs.specs.Called.{Walker}
 use Rattle.search_parts.specs.Walkers.{StandsForThread}
 use Rattle.search_parts.specs.declared.walker.RestingThread.{RestingThread}
@@ -50,7 +54,15 @@ AreWhereTheyAre (Leaving o) y = Unit {0}
 AreWhereTheyAre (Away o) y = Unit {0}
 AreWhereTheyAre (Going x) y = Unit {0}
 
+-- It stands for the thread with all its locals, those that are dead too.
+abbrev pub StandsForJust : WithTables → RestingThread → Walker → Type 0
+StandsForJust w (Going k) v = (c : Config) × (v ≡ Goes (At c)) × IsKept w k c
+StandsForJust w Missing v = StandsForThread w Missing v
+StandsForJust w (Ended o) v = StandsForThread w (Ended o) v
+StandsForJust w (Leaving o) v = StandsForThread w (Leaving o) v
+StandsForJust w (Away o) v = StandsForThread w (Away o) v
+
 abbrev pub TheSameStandingsAreEqual : Type 0
 TheSameStandingsAreEqual =
-    (w : WithTables) (x y : RestingThread) (v : Walker) → AreWhereTheyAre x y → StandsForThread w x v → StandsForThread w y v
+    (w : WithTables) (x y : RestingThread) (v : Walker) → AreWhereTheyAre x y → StandsForJust w x v → StandsForJust w y v
     → standings.eq-value.it x y ≡ true

@@ -11,6 +11,7 @@ use Rattle.interp_trait.specs.Turns.{IsGiven}
 use Rattle.schedule_machine.specs.Threads.{IsMadeReply}
 use Rattle.interp.specs.declared.kept.Kept.{Kept}
 use Rattle.interp.specs.Kept.{IsKept}
+use Rattle.live_kept.specs.Clearing.{IsKeptUpToDead}
 use Rattle.search_threads.specs.Unlimited.{Unlimited.Missing as NoThread, Unlimited.Going as Goes}
 use Rattle.search_threads.specs.Unlimited.{Unlimited.Leaving as Leaves, Unlimited.Away as Left}
 use Rattle.search_settled.specs.Settled.{Settles}
@@ -22,10 +23,10 @@ use Rattle.search_parts.specs.declared.walker.RestingThread.TheVariants.{Missing
 unfoldable pub patience : ℕ
 patience = 1000000
 
--- It stands for a thread of a module with its tables.
+-- It stands for a thread of a module with its tables, up to locals that are dead where the thread stands.
 abbrev pub StandsForThread : WithTables → RestingThread → Thread → Type 0
 StandsForThread w Missing v = v ≡ NoThread
-StandsForThread w (Going k) v = (c : Config) × (v ≡ Goes (At c)) × IsKept w k c
+StandsForThread w (Going k) v = (c : Config) × (v ≡ Goes (At c)) × IsKeptUpToDead w k c
 StandsForThread w (Ended o) v = v ≡ Goes (Over o)
 StandsForThread w (Leaving o) v = v ≡ Leaves o
 StandsForThread w (Away o) v = v ≡ Left o

@@ -2,6 +2,7 @@
 
 ghost use Rattle.std.specs.Prelude.{◌≡◌, ◌<◌, None, IfOk, IfSome};
 ghost use Rattle.types.specs.declared.limits.TheConstants.{MOST_THREADS};
+ghost use Rattle.live_locals.specs.Live.{AreSound};
 ghost use Rattle.search_parts.specs.RestsAfter.{
   CanStart,
   StartsAndRests,
@@ -20,6 +21,7 @@ use crate::beginning::begin;
 use crate::event::{Begun, Effect};
 use crate::taking::{hear, take};
 use crate::walker::RestingThread;
+use live_locals::LiveTables;
 use std::alloc::{AllocError, Global};
 use types::{Answer, Value};
 use validate_module::ValidModule;
@@ -29,10 +31,12 @@ use validate_module::ValidModule;
 fn started(
     alloc: Global,
     valid: &ValidModule,
+    live: &LiveTables,
     worker: Option<usize>,
     begun: Begun,
 ) -> Result<Option<RestingThread>, AllocError>
-    requires { CanStart valid.now worker }
+    requires sound { AreSound valid.now live.now }
+    requires starts { CanStart valid.now worker }
     ensures rests { IfOk result (λ o. IfSome o (StartsAndRests valid.now worker begun)) }
     ensures gives_up { IfOk result (λ o. o ≡ None → StartsAndRunsOn valid.now worker begun) }
 {
@@ -40,7 +44,7 @@ fn started(
         return Ok(None);
     };
     let args = [Value::I32(begun.id), Value::I32(begun.arg)];
-    let Some(standing) = begin(alloc, valid, own, &args)? else {
+    let Some(standing) = begin(alloc, valid, live, own, &args)? else {
         return Ok(None);
     };
     Ok(Some(standing))
@@ -51,17 +55,19 @@ fn started(
 fn told(
     alloc: Global,
     valid: &ValidModule,
+    live: &LiveTables,
     standing: RestingThread,
     answer: Option<Answer>,
 ) -> Result<Option<RestingThread>, AllocError>
-    requires { CanBeTold valid.now standing answer }
+    requires sound { AreSound valid.now live.now }
+    requires told { CanBeTold valid.now standing answer }
     ensures rests { IfOk result (λ o. IfSome o (IsToldAndRests valid.now standing answer)) }
     ensures gives_up { IfOk result (λ o. o ≡ None → IsToldAndRunsOn valid.now standing answer) }
 {
     let Some(answer) = answer else {
         return Ok(Some(standing));
     };
-    let Some(after) = hear(alloc, valid, &standing, answer)? else {
+    let Some(after) = hear(alloc, valid, live, &standing, answer)? else {
         return Ok(None);
     };
     Ok(Some(after))
@@ -79,18 +85,20 @@ pub struct MadeBy<'e> {
 fn replied(
     alloc: Global,
     valid: &ValidModule,
+    live: &LiveTables,
     worker: Option<usize>,
     event: &MadeBy,
     standing: &RestingThread,
     m: usize,
 ) -> Result<Option<RestingThread>, AllocError>
-    requires { IsSomewhereAfter valid.now worker event.now.made.now event.now.n standing.now m }
+    requires sound { AreSound valid.now live.now }
+    requires after { IsSomewhereAfter valid.now worker event.now.made.now event.now.n standing.now m }
     ensures rests { IfOk result (λ o. IfSome o (IsRepliedAndRests valid.now worker event.now.made.now event.now.n standing.now m)) }
     ensures gives_up { IfOk result (λ o. o ≡ None → IsRepliedAndRunsOn valid.now worker event.now.made.now event.now.n standing.now m) }
 {
     let MadeBy { made, n } = *event;
     if n == m {
-        let Some(taken) = take(alloc, valid, standing, made.reply)? else {
+        let Some(taken) = take(alloc, valid, live, standing, made.reply)? else {
             return Ok(None);
         };
         return Ok(Some(taken));
@@ -106,11 +114,13 @@ fn replied(
 pub fn rest_after(
     alloc: Global,
     valid: &ValidModule,
+    live: &LiveTables,
     worker: Option<usize>,
     event: &MadeBy,
     standing: &RestingThread,
     m: usize,
 ) -> Result<Option<RestingThread>, AllocError>
+    requires sound { AreSound valid.now live.now }
     requires after { IsSomewhereAfter valid.now worker event.now.made.now event.now.n standing.now m }
     requires few { m < MOST_THREADS }
     ensures rests { IfOk result (λ o. IfSome o (RestsThen valid.now worker event.now.made.now event.now.n standing.now m)) }
@@ -119,16 +129,16 @@ pub fn rest_after(
     let made = event.made;
     if let Some(begun) = made.begun {
         if begun.id as usize == m {
-            let Some(first) = started(alloc, valid, worker, begun)? else {
+            let Some(first) = started(alloc, valid, live, worker, begun)? else {
                 return Ok(None);
             };
             return Ok(Some(first));
         }
     }
-    let Some(own) = replied(alloc, valid, worker, event, standing, m)? else {
+    let Some(own) = replied(alloc, valid, live, worker, event, standing, m)? else {
         return Ok(None);
     };
-    let Some(after) = told(alloc, valid, own, made.queue.due(m as u32))? else {
+    let Some(after) = told(alloc, valid, live, own, made.queue.due(m as u32))? else {
         return Ok(None);
     };
     Ok(Some(after))

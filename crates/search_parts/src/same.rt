@@ -15,7 +15,7 @@ pub fn equal_queues_are_the_same()
     ensures { EqualQueuesAreTheSame }
 {}
 
-/// Threads at rest that are equal stand for the same threads.
+/// Threads at rest that are equal stand for the same threads, up to dead locals.
 pub fn equal_standings_are_the_same()
     ensures { EqualStandingsAreTheSame }
 {}
@@ -30,7 +30,7 @@ pub fn the_same_queues_are_equal()
     ensures { TheSameQueuesAreEqual }
 {}
 
-/// Threads at rest that stand for the same thread, at the same places of the module, are equal.
+/// Threads at rest that stand for the same thread with all its locals, at the same places of the module, are equal.
 pub fn the_same_standings_are_equal()
     ensures { TheSameStandingsAreEqual }
 {}

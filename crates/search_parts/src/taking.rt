@@ -2,6 +2,7 @@
 
 ghost use Rattle.std.specs.Prelude.{◌≡◌, None, IfOk, IfSome};
 ghost use Rattle.interp_machine.specs.Config.{Config};
+ghost use Rattle.live_locals.specs.Live.{AreSound};
 ghost use Rattle.schedule_machine.specs.Threads.{IsMadeReply};
 ghost use Rattle.search_parts.specs.Walkers.{MayBeGiven};
 ghost use Rattle.search_parts.specs.Rests.{
@@ -19,6 +20,7 @@ use crate::rest::{FUEL, rest};
 use crate::walker::RestingThread;
 use interp::{Kept, Thread};
 use interp_trait::{Given, TakesTurns, Turn};
+use live_locals::LiveTables;
 use std::alloc::{AllocError, Global};
 use types::{Answer, Reply};
 use validate_module::ValidModule;
@@ -28,10 +30,12 @@ use validate_module::ValidModule;
 fn after_given(
     alloc: Global,
     valid: &ValidModule,
+    live: &LiveTables,
     kept: &Kept,
     given: Given,
 ) -> Result<Option<RestingThread>, AllocError>
-    requires { (c : Config) × MayBeGiven valid.now kept.now FUEL given c }
+    requires sound { AreSound valid.now live.now }
+    requires given { (c : Config) × MayBeGiven valid.now kept.now FUEL given c }
     ensures rests { IfOk result (λ o. IfSome o (IsGivenAndRests valid.now kept.now FUEL given)) }
     ensures gives_up { IfOk result (λ o. o ≡ None → IsGivenAndRunsOn valid.now kept.now FUEL given) }
 {
@@ -39,7 +43,7 @@ fn after_given(
     if let Turn::Ended(outcome) = thread.turn(given) {
         return Ok(Some(RestingThread::Ended(outcome)));
     }
-    let Some(standing) = rest(alloc, thread)? else {
+    let Some(standing) = rest(alloc, live, thread)? else {
         return Ok(None);
     };
     Ok(Some(standing))
@@ -53,9 +57,11 @@ fn after_given(
 pub(crate) fn take(
     alloc: Global,
     valid: &ValidModule,
+    live: &LiveTables,
     standing: &RestingThread,
     reply: Reply,
 ) -> Result<Option<RestingThread>, AllocError>
+    requires sound { AreSound valid.now live.now }
     requires made { IsMadeReply reply }
     requires wants { WantsSomeEvent valid.now standing.now }
     ensures rests { IfOk result (λ o. IfSome o (TakesAndRests valid.now standing.now reply)) }
@@ -63,7 +69,7 @@ pub(crate) fn take(
 {
     match standing {
         RestingThread::Going(kept) => {
-            let Some(after) = after_given(alloc, valid, kept, Given::Reply(reply))? else {
+            let Some(after) = after_given(alloc, valid, live, kept, Given::Reply(reply))? else {
                 return Ok(None);
             };
             Ok(Some(after))
@@ -81,16 +87,18 @@ pub(crate) fn take(
 pub(crate) fn hear(
     alloc: Global,
     valid: &ValidModule,
+    live: &LiveTables,
     standing: &RestingThread,
     answer: Answer,
 ) -> Result<Option<RestingThread>, AllocError>
-    requires { CanHear valid.now standing.now }
+    requires sound { AreSound valid.now live.now }
+    requires awaits { CanHear valid.now standing.now }
     ensures rests { IfOk result (λ o. IfSome o (HearsAndRests valid.now standing.now answer)) }
     ensures gives_up { IfOk result (λ o. o ≡ None → HearsAndRunsOn valid.now standing.now answer) }
 {
     match standing {
         RestingThread::Going(kept) => {
-            let Some(after) = after_given(alloc, valid, kept, Given::Told(answer))? else {
+            let Some(after) = after_given(alloc, valid, live, kept, Given::Told(answer))? else {
                 return Ok(None);
             };
             Ok(Some(after))

@@ -1,10 +1,13 @@
 //! What is chosen of a record.
 
-ghost use Rattle.std.specs.Prelude.{◌≡◌, ◌==◌};
+ghost use Rattle.std.specs.Prelude.{◌≡◌, ◌==◌, IfOk};
 ghost use Rattle.std.specs.List.{list_any};
 ghost use Rattle.selection.specs.Choices as specified;
 ghost use Rattle.selection.specs.Choices.{is_chosen, is_chosen_line, is_chosen_thread, is_chosen_address};
+ghost use Rattle.selection.specs.Choices.{meets_some, AreOfAny};
 
+use crate::spans::Spans;
+use std::alloc::{AllocError, Global};
 use types::{Entry, Event, Question};
 
 /// Numbers from one up to another, both among them.
@@ -30,13 +33,13 @@ impl NumberSpan {
     }
 }
 
-/// Which entries are shown: those on these lines of the record, of these threads and at these addresses. Where none are
-/// given, all are.
+/// Which entries are shown: those on these lines of the record, of these threads and at these addresses. Where no
+/// threads are given, and where there are no spans, all are.
 #[derive(Drop)]
 pub struct Choice {
-    pub lines: Vec<NumberSpan>,
+    pub lines: Option<Spans>,
     pub threads: Vec<u32>,
-    pub addrs: Vec<NumberSpan>,
+    pub addrs: Option<Spans>,
 }
 
 impl Choice {
@@ -48,9 +51,12 @@ impl Choice {
     }
 
     fn has_line(&self, line: u64) -> bool
-        ensures { result ≡ is_chosen_line self.now.lines.items line }
+        ensures { result ≡ is_chosen_line self.now.lines line }
     {
-        self.lines.is_empty() || some_has(self.lines.as_slice(), line)
+        match &self.lines {
+            Some(lines) => lines.has(line),
+            None => true,
+        }
     }
 
     fn has_thread(&self, thread: u32) -> bool
@@ -61,14 +67,11 @@ impl Choice {
 
     /// Whether the event touches one of the addresses.
     fn has_address(&self, event: Event) -> bool
-        ensures { result ≡ is_chosen_address self.now.addrs.items event }
+        ensures { result ≡ is_chosen_address self.now.addrs event }
     {
-        if self.addrs.is_empty() {
-            return true;
-        }
-        match touched(event) {
-            Some(span) => some_meets(self.addrs.as_slice(), span),
-            None => false,
+        match &self.addrs {
+            Some(addrs) => some_touched(addrs, event),
+            None => true,
         }
     }
 }
@@ -79,18 +82,25 @@ fn is_among(threads: &[u32], thread: u32) -> bool
     threads.iter().any(|other| *other == thread)
 }
 
-/// Whether a number is in one of these spans.
-fn some_has(spans: &[NumberSpan], number: u64) -> bool
-    ensures { result ≡ list_any (λ span. specified.has span number) spans.now }
+/// Whether an event touches one of these addresses.
+fn some_touched(addrs: &Spans, event: Event) -> bool
+    ensures { result ≡ meets_some addrs.now.spans.items (specified.touched event) }
 {
-    spans.iter().any(|span| span.has(number))
+    match touched(event) {
+        Some(span) => addrs.meets(span),
+        None => false,
+    }
 }
 
-/// Whether a span meets one of these.
-fn some_meets(spans: &[NumberSpan], other: NumberSpan) -> bool
-    ensures { result ≡ list_any (λ span. specified.meets span other) spans.now }
+/// What some spans choose: the numbers that they have, and all, which is `None`, where none are given.
+pub fn spans_if_any(alloc: Global, spans: Vec<NumberSpan>) -> Result<Option<Spans>, AllocError>
+    ensures { IfOk result (AreOfAny spans.items) }
 {
-    spans.iter().any(|span| span.meets(other))
+    if spans.is_empty() {
+        return Ok(None);
+    }
+    let all = Spans::new(alloc, spans)?;
+    Ok(Some(all))
 }
 
 /// The addresses of the bytes that an event touches, or at which it waits or wakes.

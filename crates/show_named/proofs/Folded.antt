@@ -56,6 +56,7 @@ module _ (shown : Shown) (map : DataMap) (story : Story) where
             context = w.context ∙ told.context;
             atomic = w.atomic ∙ atomic_without (row_at shown a) ∙ ap (is_atomic_row shown) told.row
                 ∙ sym (atomic_without (row_at shown b));
+            signed = w.signed;
             before = w.before ∙ before_without (row_at shown a) ∙ ap before_in told.row ∙ sym (before_without (row_at shown b));
             woken = w.woken ∙ told.woken ∙ sym told.woken_too;
             outcome = w.outcome;

@@ -5,6 +5,7 @@ ghost use Rattle.dwarf_units.specs.Spans.{holds};
 ghost use Rattle.show_named.specs.Names.{HasData, IsDataText};
 
 use crate::marks::marks_of;
+use crate::signs::signed_in;
 use dwarf_data::{NamedBytes, name_at, place_of, read_data};
 use dwarf_frames::{CallFrame, read_chains, read_frame, read_functions};
 use dwarf_lines::DebugSections;
@@ -13,7 +14,7 @@ use selection::touched;
 use show_rows::{CodeMap, Row};
 use show_text::Plain;
 use std::alloc::{AllocError, Global};
-use types::Event;
+use types::{Entry, Event};
 
 /// How many steps the name of an address takes at most.
 const NAME_STEPS: u64 = 1 << 14;
@@ -23,6 +24,12 @@ const PLACE_STEPS: u64 = 1 << 16;
 
 /// How many steps the open functions of a thread take at most, and the names to which their pointers lead.
 const STACK_STEPS: u64 = 1 << 21;
+
+/// How many values are told of a thread at most.
+const MOST_VALUES: u64 = 256;
+
+/// How many steps all moments of a page take at most.
+const PAGE_STEPS: u64 = 1 << 28;
 
 /// How many steps a byte of the entries takes at most, on average, where all entries are asked.
 const BYTE_STEPS: u64 = 4;
@@ -66,9 +73,21 @@ impl<'n> DataMap<'n> {
     }
 
     /// Lets the frames of a thread's open functions be asked. What takes more steps than all of them may is left out of
-    /// the further ones.
+    /// the further ones, and so are more values than `MOST_VALUES`.
     pub fn begin_stack(&self) {
         self.units.allow(STACK_STEPS);
+        self.units.allow_values(MOST_VALUES + 1);
+    }
+
+    /// Lets the frames of a page's moments be asked. What takes more steps than all of them may is left out of the
+    /// further ones, until the page is ended.
+    pub fn begin_page(&self) {
+        self.units.allow_in_all(PAGE_STEPS);
+    }
+
+    /// Lets as much be asked as before the page.
+    pub fn end_page(&self) {
+        self.units.allow_in_all(u64::MAX);
     }
 
     /// What is said of a frame whose function is at an offset of the code.
@@ -76,6 +95,24 @@ impl<'n> DataMap<'n> {
         ensures { IfOk result (λ frame. frame.offset ≡ offset) }
     {
         read_frame(alloc, &self.units, self.lines, &self.functions, offset)
+    }
+
+    /// The code with the data of signed integer types that these entries touch.
+    ///
+    /// # Errors
+    /// Where memory is refused.
+    pub fn signed<'m, 'c>(
+        &self,
+        alloc: Global,
+        code: CodeMap<'m, 'c>,
+        log: &[Entry],
+    ) -> Result<CodeMap<'m, 'c>, AllocError>
+        ensures parts { IfOk result (λ c. c.parts.now ≡ code.entry.parts.now) }
+        ensures others { IfOk result (λ c. c ≡ record code.entry { signed = c.signed }) }
+    {
+        self.units.allow(self.steps);
+        let signed = signed_in(alloc, &self.units, &self.spans, log)?;
+        Ok(code.with_signed(signed))
     }
 
     /// The code with the functions that were put in the place of their calls, at the places of these rows and of their

@@ -25,6 +25,7 @@ mod lasts;
 mod marks;
 mod rows;
 mod same;
+mod signs;
 
 pub use data_map::DataMap;
 pub use last_texts::{told_text, write_last};

@@ -1,3 +1,4 @@
 pub mod Alike
 pub mod Behind
 pub mod FirstNames
+pub mod Front

@@ -1,5 +1,5 @@
--- Names of functions, and which of them counts.
-use Rattle.std.specs.Prelude.{◌≡◌, ◌⊎◌, ℕ, List, [], Ok, Option, Some, None, Bool, false, nat_eq, find, codes}
+-- Names of functions, as they are shown, and which of them counts.
+use Rattle.std.specs.Prelude.{◌≡◌, ◌⊎◌, ◌&&◌, ℕ, List, [], length, Ok, Option, Some, None, Bool, false, nat_eq, nat_le, find, codes}
 use Rattle.std.specs.Prelude.{option_map}
 use Rattle.types.specs.declared.parts.Export.{Export}
 use Rattle.types.specs.declared.parts.ExportDesc.{ExportDesc}
@@ -7,15 +7,17 @@ use Rattle.types.specs.declared.parts.ExportDesc.TheVariants as exported
 use Rattle.binary_wire.specs.Faults.{input}
 use Rattle.binary_wire.specs.Reading.{Reading, ◌>>=◌, u32_at, name_at, vector_at}
 use Rattle.show_places.specs.Sections.{Part, HasFirst, HasCustom}
+use Rattle.show_places.specs.Short.{short_name}
 use Rattle.show_places.specs.declared.names.Named.{Named}
 use Rattle.show_places.specs.declared.names.FunctionName.{FunctionName}
 use Rattle.show_places.specs.declared.names.FunctionName.TheVariants as called
+use Rattle.show_places.specs.declared.short.TheConstants.{MOST_NAME}
 
 unfoldable pub named_at : Reading Named
 named_at s bytes = do
   n ← u32_at s bytes
   name ← name_at s n.1
-  Ok (record { function = n.0; name = name.0 }, name.1)
+  Ok (record { function = n.0; name = short_name name.0 }, name.1)
 
 -- The first subsection 1 of the first custom section `name` is a vector of them.
 pub record AreNames (bytes : List ℕ) (names : List Named) : Type 0 where
@@ -40,10 +42,11 @@ abbrev pub is_function : ℕ → ExportDesc → Bool
 is_function index (exported.Func n) = nat_eq n index
 is_function index _ = false
 
+-- It exports the function under a name that is shown whole.
 abbrev pub exports_it : ℕ → Export → Bool
-exports_it index e = is_function index e.desc
+exports_it index e = is_function index e.desc && nat_le (length e.name) MOST_NAME
 
--- The name of the first export of the function with this index.
+-- The name of the first such export of the function with this index.
 abbrev pub exported_as : List Export → ℕ → Option (List ℕ)
 exported_as exports index = option_map (λ e. e.name) (find (exports_it index) exports)
 

@@ -4,13 +4,14 @@ ghost use Rattle.std.specs.Prelude.{◌≡◌, find, option_map, IfOk};
 ghost use Rattle.binary_wire.specs.Reading.{GivesInMemory, vector_at};
 ghost use Rattle.show_places.specs.Names.{named_at, IsNames, is_of, exports_it, exported_as, IsCalled};
 
+use crate::short::{MOST_NAME, short_name};
 use crate::{custom_section, subsection_of};
 use binary_wire::{Item, ReadFault, Reader, read_vector};
 use std::alloc::{AllocError, Global};
 use std::fmt::{self, Write};
 use types::{Export, ExportDesc, Name, Sequence};
 
-/// A function's name in the name section: its index, the imported functions counted, and the name.
+/// A function's name in the name section: its index, the imported functions counted, and the name, as it is shown.
 #[derive(Drop)]
 pub struct Named {
     pub function: u32,
@@ -28,7 +29,7 @@ impl Item for NamedItem {
     fn read(reader: &mut Reader, alloc: Global) -> Result<Named, ReadFault> {
         let function = reader.read_u32()?;
         let text = reader.read_name()?;
-        let name = Name::from_string(String::from_str(alloc, text)?);
+        let name = Name::from_string(short_name(alloc, text)?);
         Ok(Named { function, name })
     }
 }
@@ -58,7 +59,7 @@ pub fn read_names(alloc: Global, bytes: &[u8]) -> Result<Sequence<Named>, AllocE
 pub enum FunctionName<'a> {
     /// By the name section.
     Named(&'a str),
-    /// By the first export of it.
+    /// By the first export of it whose name has at most `MOST_NAME` bytes.
     Exported(&'a str),
     /// By its index alone.
     Numbered(u32),
@@ -78,7 +79,7 @@ fn exports_it(export: &Export, index: u32) -> bool
     ensures { result ≡ exports_it index export.now }
 {
     match export.desc {
-        ExportDesc::Func(function) => function == index,
+        ExportDesc::Func(function) => function == index && export.name.as_str().len() <= MOST_NAME,
         _ => false,
     }
 }
@@ -106,7 +107,7 @@ fn exported_name(exports: &[Export], index: u32) -> Option<&str>
 }
 
 /// What the function of an index is called, the imported functions counted: by the first of the names that has its
-/// index, else by its first export, else by its index.
+/// index, else by its first export with a name that is shown whole, else by its index.
 pub fn function_name<'a>(names: &'a [Named], exports: &'a [Export], index: u32) -> FunctionName<'a>
     ensures { IsCalled names.now exports.now index result }
 {

@@ -30,7 +30,7 @@ use Rattle.show_rows.specs.declared.listing.Shown.{Shown}
 use Rattle.show_rows.specs.declared.listing.Story.{Story}
 use Rattle.show_spots.specs.Spots.{call_text, spot_text}
 use Rattle.show_spots.specs.Inlined.{inlined_call_text, inlined_text}
-use Rattle.show_rows.specs.Spots.{IsSpotOf, call_apart, chain_at, is_atomic}
+use Rattle.show_rows.specs.Spots.{IsSpotOf, call_apart, chain_at, is_atomic, is_signed}
 
 -- The line of the record that has the entry at a place.
 abbrev pub line_at : Shown → ℕ → ℕ
@@ -93,6 +93,7 @@ pub record AreWordsOf (shown : Shown) (story : Story) (at : ℕ) (made : Entry) 
   pub entry : w.entry ≡ made
   pub context : w.context ≡ context_at story at
   pub atomic : w.is_atomic ≡ is_atomic_row shown (row_at shown at)
+  pub signed : w.is_signed ≡ is_signed shown.code.now made.event
   pub before : w.before ≡ option_and_then (λ row. row.before) (row_at shown at)
   pub woken : w.woken.now ≡ woken_in story.wakes at
   pub outcome : w.outcome ≡ outcome_of shown made

@@ -1,5 +1,5 @@
 -- What is known of a place in a module's code.
-use Rattle.std.specs.Prelude.{ℕ, ◌≡◌, ◌⊎◌, ◌+◌, ◌-◌, ◌^◌, ◌==◌, not, min, Bool, true, false, if◌then◌else◌, List, []}
+use Rattle.std.specs.Prelude.{ℕ, ◌≡◌, ◌⊎◌, ◌+◌, ◌-◌, ◌^◌, ◌==◌, ◌&&◌, nat_lt, not, min, Bool, true, false, if◌then◌else◌, List, []}
 use Rattle.std.specs.Prelude.{length, drop, find, Result, Ok, Err, Option, Some, None, option_map, option_and_then}
 use Rattle.std.specs.List.{slice_get}
 use Rattle.types.specs.declared.parts.Parts.{Parts}
@@ -8,6 +8,7 @@ use Rattle.types.specs.declared.parts.ImportDesc.{ImportDesc}
 use Rattle.types.specs.declared.parts.ImportDesc.TheVariants.{Func}
 use Rattle.binary_wire.specs.declared.fault.Refusal.{Refusal}
 use Rattle.binary_wire.specs.Faults.{input}
+use Rattle.types.specs.declared.event.Event.{Event}
 use Rattle.types.specs.declared.instr.Instr.{Instr}
 use Rattle.types.specs.declared.instr.Instr.TheVariants.{Plain}
 use Rattle.types.specs.declared.instr.PlainInstr.TheVariants.{Atomic}
@@ -18,10 +19,14 @@ use Rattle.show_places.specs.Names.{IsCalled}
 use Rattle.show_places.specs.Sections.{Part, HasFirst, HasNone}
 use Rattle.dwarf_frames.specs.declared.frames.Chain.{Chain}
 use Rattle.dwarf_frames.specs.Chains as of_code
+use Rattle.dwarf_units.specs.declared.spans.Spanned.{Spanned}
+use Rattle.dwarf_units.specs.Spans.{holds as has_place}
 use Rattle.dwarf_lines.specs.declared.table.Range.{Range}
 use Rattle.dwarf_lines.specs.contracts.header.SourcePartialEq.TheImpl as equal
 use Rattle.dwarf_lines.specs.Lines.{holds, source_of}
 use Rattle.dwarf_lines.specs.Sources.{IsTextOf, line_in}
+use Rattle.selection.specs.declared.choice.NumberSpan.{NumberSpan}
+use Rattle.selection.specs.Choices.{touched}
 use Rattle.show_spots.specs.declared.spot.Spot.{Spot}
 use Rattle.show_rows.specs.declared.code.CodeMap.{CodeMap}
 
@@ -50,6 +55,19 @@ named_offset code place = if has_as_many (slice_get code.bodies place.function) 
 -- The functions that were put in the place of their calls at a place, if there are any.
 abbrev pub chain_at : CodeMap → CodePlace → Option Chain
 chain_at code place = option_and_then (of_code.chain_at code.chains) (named_offset code place)
+
+-- These are the bytes of data that has been asked for.
+abbrev pub is_just : NumberSpan → Option Spanned → Bool
+is_just addrs None = false
+is_just addrs (Some span) = span.start == addrs.first && nat_lt addrs.last span.end && (span.end - addrs.last == 1)
+
+-- The bytes that an event touches are those of data of a signed integer type.
+abbrev pub is_signed_at : CodeMap → Option NumberSpan → Bool
+is_signed_at code None = false
+is_signed_at code (Some addrs) = is_just addrs (find (has_place addrs.first) code.signed.items.items)
+
+abbrev pub is_signed : CodeMap → Event → Bool
+is_signed code event = is_signed_at code (touched event)
 
 -- Its lines.
 abbrev pub range_at : CodeMap → CodePlace → Option Range

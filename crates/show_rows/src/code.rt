@@ -11,11 +11,13 @@ ghost use Rattle.show_rows.specs.Spots.{IsSpotOf, AreBodies, are_apart, is_funct
 use binary_wire::ReadFault;
 use dwarf_frames::{Chain, Chains};
 use dwarf_lines::{DebugSections, LineTable, Range, Sources, read_lines};
+use dwarf_units::Spans;
 use interp::CodePlace;
+use selection::touched;
 use show_places::{BodyPlaces, Named, code_places, function_name, read_names, section_of};
 use show_spots::{Around, Spot};
 use std::alloc::{AllocError, Global};
-use types::{Import, ImportDesc, Instr, Parts, PlainInstr, Sequence};
+use types::{Event, Import, ImportDesc, Instr, Parts, PlainInstr, Sequence};
 
 /// The code of a module, and what a file says of it that may be another build of the same code.
 #[derive(Drop)]
@@ -29,6 +31,8 @@ pub struct CodeMap<'m, 'n> {
     lines: LineTable<'n>,
     /// The functions that were put in the place of their calls, as far as they were asked for.
     chains: Chains,
+    /// The static data of signed integer types, as far as it was asked for.
+    signed: Spans,
     /// The text of its source, as far as it is there.
     sources: Sources<'n>,
     /// How many functions are imported.
@@ -99,6 +103,7 @@ impl<'m, 'n> CodeMap<'m, 'n> {
             names: read_names(alloc, names)?,
             lines: read_lines(alloc, DebugSections::of(names))?,
             chains: Chains::none(alloc)?,
+            signed: Spans::new(alloc, Vec::new(alloc))?,
             sources: Sources::none(alloc),
             imported: count_functions(parts.imports.as_slice()),
         })
@@ -116,6 +121,28 @@ impl<'m, 'n> CodeMap<'m, 'n> {
         ensures { result ≡ record self.entry { chains = chains } }
     {
         CodeMap { chains, ..self }
+    }
+
+    /// The same with static data of signed integer types.
+    pub fn with_signed(self, signed: Spans) -> CodeMap<'m, 'n>
+        ensures { result ≡ record self.entry { signed = signed } }
+    {
+        CodeMap { signed, ..self }
+    }
+
+    /// Whether the bytes that an event touches are those of data of a signed integer type.
+    pub fn is_signed(&self, event: Event) -> bool
+        ensures { result ≡ specified.is_signed self.now event }
+    {
+        let Some(addrs) = touched(event) else {
+            return false;
+        };
+        match self.signed.at(addrs.first) {
+            Some(span) => {
+                span.start == addrs.first && addrs.last < span.end && span.end - addrs.last == 1
+            }
+            None => false,
+        }
     }
 
     /// The functions that were put in the place of their calls at a place, if there are any.

@@ -86,6 +86,7 @@ impl Shown<'_, '_, '_, '_, '_> {
             entry: *entry,
             context: story.context_at(at),
             is_atomic: self.is_atomic(row),
+            is_signed: self.code.is_signed(entry.event),
             before: before_of(row),
             woken: story.wakes.by(at),
             outcome: self.outcome_of(entry),

@@ -1,4 +1,5 @@
 pub mod Contexts
+pub mod Numbers
 pub mod Plain
 pub mod Rows
 pub mod Woken

@@ -17,6 +17,8 @@ use Rattle.types.specs.Outcomes.{outcome_text}
 use Rattle.show_text.specs.declared.context.Context.{Context}
 use Rattle.show_text.specs.declared.context.Context.TheVariants.{Answered, Asked}
 use Rattle.show_text.specs.declared.woken.Wake.{Wake}
+use Rattle.show_text.specs.declared.number.NumberForm.{NumberForm}
+use Rattle.show_text.specs.Numbers.{formed_text, is_negative}
 use Rattle.show_text.specs.declared.words.Words.{Words}
 
 abbrev pub op_name : RmwOp → List ℕ
@@ -27,26 +29,35 @@ op_name ops.Or = codes "or"
 op_name ops.Xor = codes "xor"
 op_name ops.Xchg = codes "xchg"
 
-abbrev pub op_sign : RmwOp → List ℕ
-op_sign ops.Add = codes "+"
-op_sign ops.Sub = codes "-"
-op_sign ops.And = codes "& "
-op_sign ops.Or = codes "| "
-op_sign ops.Xor = codes "^ "
-op_sign ops.Xchg = codes "<- "
+-- What stands before the operand; of an addition nothing where that begins with a minus.
+abbrev pub op_sign : RmwOp → Bool → List ℕ
+op_sign ops.Add is_negative = if is_negative then [] else codes "+"
+op_sign ops.Sub is_negative = if is_negative then codes "- " else codes "-"
+op_sign ops.And is_negative = codes "& "
+op_sign ops.Or is_negative = codes "| "
+op_sign ops.Xor is_negative = codes "^ "
+op_sign ops.Xchg is_negative = codes "<- "
+
+-- How the numbers of an access of so many bytes are told.
+abbrev pub form_of : Words → ℕ → NumberForm
+form_of w width = record { width = width; is_signed = w.is_signed }
+
+-- How one is that is no data's.
+abbrev pub plain_form : NumberForm
+plain_form = record { width = 4; is_signed = false }
 
 -- The number in a reply.
-abbrev pub reply_text : Reply → List ℕ
-reply_text (replies.Value n) = decimal n
-reply_text replies.Done = codes "done"
-reply_text replies.OutOfBounds = codes "out of bounds"
-reply_text replies.Again = codes "again"
-reply_text replies.Full = codes "full"
+abbrev pub reply_text : NumberForm → Reply → List ℕ
+reply_text form (replies.Value n) = formed_text form n
+reply_text form replies.Done = codes "done"
+reply_text form replies.OutOfBounds = codes "out of bounds"
+reply_text form replies.Again = codes "again"
+reply_text form replies.Full = codes "full"
 
 -- The pages before a memory grew.
 abbrev pub grown_text : Reply → List ℕ
 grown_text (replies.Value n) = if n == 4294967295 then codes "refused" else decimal n
-grown_text reply = reply_text reply
+grown_text reply = reply_text plain_form reply
 
 -- How many bits are accessed, where they aren't 32.
 abbrev pub bits_text : ℕ → List ℕ
@@ -56,18 +67,18 @@ abbrev pub atomic_text : Bool → List ℕ
 atomic_text is_atomic = if is_atomic then codes "atomic " else []
 
 -- What a store overwrote.
-abbrev pub before_text : Option ℕ → List ℕ
-before_text None = []
-before_text (Some before) = codes " (had " ++ decimal before ++ codes ")"
+abbrev pub before_text : NumberForm → Option ℕ → List ℕ
+before_text form None = []
+before_text form (Some before) = codes " (had " ++ formed_text form before ++ codes ")"
 
-abbrev pub stored_text : Reply → Option ℕ → List ℕ
-stored_text replies.OutOfBounds before = codes ": out of bounds"
-stored_text reply before = before_text before
+abbrev pub stored_text : NumberForm → Reply → Option ℕ → List ℕ
+stored_text form replies.OutOfBounds before = codes ": out of bounds"
+stored_text form reply before = before_text form before
 
 -- What stood there in place of the expected number.
-abbrev pub exchanged_text : Reply → ℕ → List ℕ
-exchanged_text (replies.Value n) expected = if n == expected then [] else codes ": has " ++ decimal n
-exchanged_text reply expected = codes ": out of bounds"
+abbrev pub exchanged_text : NumberForm → Reply → ℕ → List ℕ
+exchanged_text form (replies.Value n) expected = if n == expected then [] else codes ": has " ++ formed_text form n
+exchanged_text form reply expected = codes ": out of bounds"
 
 -- How long one sleeps at most; a time below 0 has no end.
 abbrev pub limit_text : ℤ → List ℕ
@@ -78,18 +89,18 @@ abbrev pub ends_at_once : ℤ → Bool
 ends_at_once (pos n) = n == 0
 ends_at_once (negsuc n) = false
 
-abbrev pub while_text : ℕ → ℕ → List ℕ
-while_text addr expected = decimal addr ++ codes " while " ++ decimal expected
+abbrev pub while_text : NumberForm → ℕ → ℕ → List ℕ
+while_text form addr expected = decimal addr ++ codes " while " ++ formed_text form expected
 
-abbrev pub asleep_text : ℕ → ℕ → ℤ → List ℕ
-asleep_text addr expected timeout = if ends_at_once timeout
-    then codes "wait " ++ while_text addr expected ++ codes ": no time to sleep"
-    else codes "sleeps on " ++ while_text addr expected ++ limit_text timeout
+abbrev pub asleep_text : NumberForm → ℕ → ℕ → ℤ → List ℕ
+asleep_text form addr expected timeout = if ends_at_once timeout
+    then codes "wait " ++ while_text form addr expected ++ codes ": no time to sleep"
+    else codes "sleeps on " ++ while_text form addr expected ++ limit_text timeout
 
-abbrev pub wait_text : ℕ → ℕ → ℤ → Reply → List ℕ
-wait_text addr expected timeout (replies.Value n) = if n == expected then asleep_text addr expected timeout
-    else codes "wait " ++ while_text addr expected ++ codes ": has " ++ decimal n
-wait_text addr expected timeout reply = codes "wait " ++ while_text addr expected ++ codes ": out of bounds"
+abbrev pub wait_text : NumberForm → ℕ → ℕ → ℤ → Reply → List ℕ
+wait_text form addr expected timeout (replies.Value n) = if n == expected then asleep_text form addr expected timeout
+    else codes "wait " ++ while_text form addr expected ++ codes ": has " ++ formed_text form n
+wait_text form addr expected timeout reply = codes "wait " ++ while_text form addr expected ++ codes ": out of bounds"
 
 abbrev pub count_text : ℕ → List ℕ
 count_text count = if count == 4294967295 then [] else codes ", at most " ++ decimal count
@@ -119,7 +130,7 @@ leave_text None = codes "ends"
 leave_text (Some outcome) = codes "ends: " ++ outcome_text outcome
 
 abbrev pub question_text : Words → Question → List ℕ
-question_text w (Wait addr width expected timeout) = wait_text addr expected timeout w.entry.reply
+question_text w (Wait addr width expected timeout) = wait_text (form_of w width) addr expected timeout w.entry.reply
 question_text w (Notify addr count) =
     codes "notify " ++ decimal addr ++ count_text count ++ woken_text w.entry.reply w.woken.now
 question_text w (Spawn arg) = spawn_text w.context arg
@@ -150,23 +161,28 @@ answer_text context (Number n) = number_text context n
 
 abbrev pub load_text : Words → ℕ → ℕ → List ℕ
 load_text w addr width = atomic_text w.is_atomic ++ codes "load" ++ decimal (width * 8) ++ codes " " ++ decimal addr
-    ++ codes " = " ++ reply_text w.entry.reply
+    ++ codes " = " ++ reply_text (form_of w width) w.entry.reply
 
 abbrev pub store_text : Words → ℕ → ℕ → ℕ → List ℕ
 store_text w addr width value = atomic_text w.is_atomic ++ codes "store" ++ decimal (width * 8) ++ codes " "
-    ++ decimal addr ++ codes " <- " ++ decimal value ++ stored_text w.entry.reply w.before
+    ++ decimal addr ++ codes " <- " ++ formed_text (form_of w width) value
+    ++ stored_text (form_of w width) w.entry.reply w.before
+
+abbrev pub rmw_text : Words → RmwOp → ℕ → ℕ → ℕ → List ℕ
+rmw_text w op addr width value = op_name op ++ bits_text width ++ codes " " ++ decimal addr ++ codes " "
+    ++ op_sign op (is_negative (form_of w width) value) ++ formed_text (form_of w width) value
+    ++ codes " = " ++ reply_text (form_of w width) w.entry.reply
 
 -- What the thread does, and what that comes to.
 abbrev pub event_text : Words → Event → List ℕ
-event_text w Size = codes "size = " ++ reply_text w.entry.reply
+event_text w Size = codes "size = " ++ reply_text plain_form w.entry.reply
 event_text w (Grow more) = codes "grow +" ++ decimal more ++ codes " = " ++ grown_text w.entry.reply
 event_text w (Load addr width reach) = load_text w addr width
 event_text w (Store addr width reach value) = store_text w addr width value
-event_text w (Rmw op addr width value) = op_name op ++ bits_text width ++ codes " " ++ decimal addr ++ codes " "
-    ++ op_sign op ++ decimal value ++ codes " = " ++ reply_text w.entry.reply
+event_text w (Rmw op addr width value) = rmw_text w op addr width value
 event_text w (Cmpxchg addr width expected replacement) = codes "cmpxchg" ++ bits_text width ++ codes " "
-    ++ decimal addr ++ codes " " ++ decimal expected ++ codes " -> " ++ decimal replacement
-    ++ exchanged_text w.entry.reply expected
+    ++ decimal addr ++ codes " " ++ formed_text (form_of w width) expected ++ codes " -> "
+    ++ formed_text (form_of w width) replacement ++ exchanged_text (form_of w width) w.entry.reply expected
 event_text w (Ask question) = question_text w question
 event_text w (Told answer) = answer_text w.context answer
 

@@ -6,6 +6,7 @@ ghost use Rattle.show_text.specs.Words.{question_text, wait_text, woken_text, wa
 ghost use Rattle.show_text.specs.Words.{asleep_text, answer_text, count_text, limit_text, told_text, waited_text};
 
 use crate::context::Context;
+use crate::number::NumberForm;
 use crate::woken::Wake;
 use crate::words::Words;
 use std::fmt::{self, Formatter, Write};
@@ -25,10 +26,10 @@ pub(crate) fn write_question<W: Write>(
     match question {
         Question::Wait {
             addr,
+            width,
             expected,
             timeout,
-            ..
-        } => write_wait(f, addr, expected, timeout, reply),
+        } => write_wait(f, words.form(width), addr, expected, timeout, reply),
         Question::Notify { addr, count } => {
             write!(f, "notify {addr}")?;
             write_most(f, count)?;
@@ -44,28 +45,58 @@ pub(crate) fn write_question<W: Write>(
 
 fn write_wait<W: Write>(
     f: &mut Formatter<W>,
+    form: NumberForm,
     addr: u64,
     expected: u64,
     timeout: i64,
     reply: Reply,
 ) -> fmt::Result
-    ensures { WritesOnOk W.write_str_gives f.old result (wait_text addr expected timeout reply) f.new }
+    ensures { WritesOnOk W.write_str_gives f.old result (wait_text form addr expected timeout reply) f.new }
 {
+    let sought = Sought {
+        addr,
+        form,
+        expected,
+    };
     match reply {
-        Reply::Value(loaded) if loaded == expected => write_asleep(f, addr, expected, timeout),
-        Reply::Value(loaded) => write!(f, "wait {addr} while {expected}: has {loaded}"),
-        _ => write!(f, "wait {addr} while {expected}: out of bounds"),
+        Reply::Value(loaded) if loaded == expected => write_asleep(f, sought, timeout),
+        Reply::Value(loaded) => {
+            let loaded = form.of(loaded);
+            write!(f, "wait {sought}: has {loaded}")
+        }
+        _ => write!(f, "wait {sought}: out of bounds"),
+    }
+}
+
+/// Where one waits, and while which number is there.
+#[derive(Clone, Copy)]
+struct Sought {
+    addr: u64,
+    form: NumberForm,
+    expected: u64,
+}
+
+impl fmt::Display for Sought {
+    ghost use Rattle.std.specs.Prelude.{Some};
+    ghost use Rattle.show_text.specs.Words.{while_text};
+
+    ghost output = { λ s. Some (while_text s.form s.addr s.expected) };
+
+    fn fmt<W: Write>(&self, f: &mut Formatter<W>) -> fmt::Result {
+        let (addr, expected) = (self.addr, self.form.of(self.expected));
+        write!(f, "{addr} while {expected}")
     }
 }
 
 /// What a wait does that finds the number that it expects.
-fn write_asleep<W: Write>(f: &mut Formatter<W>, addr: u64, value: u64, timeout: i64) -> fmt::Result
-    ensures { WritesOnOk W.write_str_gives f.old result (asleep_text addr value timeout) f.new }
+fn write_asleep<W: Write>(f: &mut Formatter<W>, sought: Sought, timeout: i64) -> fmt::Result
+    ensures { WritesOnOk W.write_str_gives f.old result
+        (asleep_text sought.form sought.addr sought.expected timeout) f.new }
 {
     if timeout == 0 {
-        return write!(f, "wait {addr} while {value}: no time to sleep");
+        return write!(f, "wait {sought}: no time to sleep");
     }
-    write!(f, "sleeps on {addr} while {value}")?;
+    write!(f, "sleeps on {sought}")?;
     write_limit(f, timeout)
 }
 

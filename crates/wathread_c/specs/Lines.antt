@@ -28,13 +28,14 @@ pub record IsRefusalText (fault : HostFault) (status : ℕ) (line : List ℕ) : 
   pub status_is : status ≡ status_of_refused refusal.refused
   pub line_is : line ≡ json_line (refusal_json refusal)
 
--- Of what a run left: without places, bytes and hints.
+-- Of what a run left: without places, bytes, what threads say, and hints.
 pub record IsRunText (end : EndState) (status : ℕ) (line : List ℕ) : Type 0 where
   pub run : RunEndObject
   pub threads : run.threads.now ≡ end.threads.items
   pub places : run.places.now ≡ []
   pub pages : run.pages ≡ end.pages
   pub dump : run.dump ≡ 0
+  pub said : run.said.now ≡ []
   pub hints : run.hints.now ≡ []
   pub status_is : status ≡ status_of end.threads.items
   pub line_is : line ≡ json_line (run_json run)

@@ -85,6 +85,7 @@ pub(crate) fn run_line(alloc: Global, end: &EndState) -> Result<Line, Unwritten>
         pages: end.pages,
         dump: 0,
         bytes: &end.bytes,
+        said: &[],
         hints: &[],
     };
     let line = line_of_run(alloc, &run)?;

@@ -152,6 +152,7 @@ fn tell_more(
         module: input.module,
         saved: input.saved,
         call: call_of(job),
+        is_check: matches!(job, Job::Check { .. }),
     };
     let mut lines = String::new(alloc);
     explain(alloc, &mut lines, ended, given)?;

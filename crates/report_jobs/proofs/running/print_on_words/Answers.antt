@@ -1,3 +1,4 @@
+use Rattle.std.proofs.Common.{[]}
 use Rattle.std.proofs.lemmas.Result.{err_from_is_err_and, IfOk-weaker}
 use Rattle.report_jobs.specs.Prints.{written, PrintsAll, PrintsRun}
 use Rattle.report_jobs.proofs.Calls.{of_words}
@@ -14,8 +15,10 @@ pub returns-clause-made : goal.returns-clause-made
 returns-clause-made g c =
     let r = c.args.request.now in
     let job = c.args.job.now in
+    let bytes = c.args.whence.bytes.now in
     let end = c.in_ok-end.end in
     let w = written g.W.Write.contents g.E.Write.contents g.S.Write.contents c.args.streams.now c.print_and_write-done.new.streams in
-    IfOk-weaker c.print_and_write-done.result (λ done. PrintsAll job end w.out w.err w.memory done.status) (λ done. PrintsRun r.parts job w done.status)
-    (λ done all. printed_on_words r job c.requires.asked w done.status end c.requires.memory c.in_ok-end.ensures.end all)
+    IfOk-weaker c.print_and_write-done.result (λ done. PrintsAll job end [] w.out w.err w.memory done.status)
+    (λ done. PrintsRun r.parts bytes job w done.status)
+    (λ done all. printed_on_words r bytes job c.requires.asked w done.status end c.requires.memory c.in_ok-end.ensures.end all)
     c.print_and_write-done.ensures.made

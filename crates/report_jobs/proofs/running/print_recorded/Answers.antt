@@ -20,8 +20,10 @@ returns-clause-made g c =
     let r = c.args.request.now in
     let job = c.args.job.now in
     let w = written g.W.Write.contents g.E.Write.contents g.S.Write.contents c.args.streams.now c.print_and_keep-done.new.streams in
+    let bytes = c.args.whence.bytes.now in
     let x = c.in_ok-record.record in
     let end = c.in_ok-record.end in
-    IfOk-weaker c.print_and_keep-done.result (λ done. PrintsAndKeeps job x end w done.status) (λ done. PrintsRun r.parts job w done.status)
-    (λ done made. printed_recorded r job c.requires.asked w done.status end c.requires.memory x c.in_ok-record.ensures.record
-    c.in_ok-record.ensures.run made.0 made.1) c.print_and_keep-done.ensures.made
+    IfOk-weaker c.print_and_keep-done.result (λ done. PrintsAndKeeps bytes job x end w done.status)
+    (λ done. PrintsRun r.parts bytes job w done.status)
+    (λ done made. printed_recorded r bytes job c.requires.asked w done.status end c.requires.memory x c.in_ok-record.ensures.record
+    c.in_ok-record.ensures.run made) c.print_and_keep-done.ensures.made

@@ -1,11 +1,5 @@
 use Rattle.report_jobs.proofs.telling.write_refused.Goals as goal
 
-pub returns-in-Absent : goal.returns-in-Absent
-returns-in-Absent g c = rw c.in-Absent.is (rw⁻¹ c.words-words.ensures c.write-in-Absent.ensures.bytes)
-
-pub returns-in-Allowance : goal.returns-in-Allowance
-returns-in-Allowance g c = rw c.in-Allowance.is (rw⁻¹ c.words-words-in-Allowance.ensures c.write-in-Allowance.ensures.bytes)
-
 pub returns-in-Header : goal.returns-in-Header
 returns-in-Header g c = rw c.in-Header.is c.write-in-Header.ensures.bytes
 

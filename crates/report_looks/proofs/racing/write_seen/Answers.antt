@@ -39,13 +39,13 @@ returns-clause-writes g c =
         is_story = are.is_story;
       };
       told_is = are;
-      shown = record { «record» = c.parts-3.result; rows = c.as_slice-2.result; code = _ };
+      shown = record { «record» = c.parts-4.result; rows = c.as_slice-2.result; code = _ };
       is_shown = record {
-        of_record = c.parts-3.ensures.parts;
+        of_record = c.parts-4.ensures.parts;
         of_rows = c.as_slice-2.ensures.value;
         of_module = c.in_ok-code.ensures ∙ known;
         is_story = subst (λ (l : List Entry). IsStoryOf l told.story)
-            (ap (λ (r : RecordParts). r.log) (c.parts-2.ensures.parts ∙ sym c.parts-3.ensures.parts)) are.is_story;
+            (ap (λ (r : RecordParts). r.log) (c.parts-2.ensures.parts ∙ sym c.parts-4.ensures.parts)) are.is_story;
       };
       map = c.args.seen.map.now;
       stacks = _;

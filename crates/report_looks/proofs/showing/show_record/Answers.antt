@@ -1,6 +1,8 @@
-use Rattle.std.proofs.Common.{sym, subst}
+use Rattle.std.proofs.Common.{Bool, List, sym, subst}
 use Rattle.replay_text.specs.declared.parts.RecordParts.{RecordParts}
-use Rattle.report_looks.specs.Looked.{IsAsked}
+use Rattle.show_said.specs.declared.said.Said.{Said}
+use Rattle.report_jobs.specs.Prints.{IsSaid}
+use Rattle.report_looks.specs.Looked.{says, IsAsked}
 use Rattle.report_looks.proofs.showing.show_record.Goals as goal
 
 pub print_asked-requires-clause-of_record : goal.print_asked-requires-clause-of_record
@@ -19,6 +21,11 @@ returns-in-Ok-print_asked-clause-prints g c =
       asked = asked;
       asked_is = subst (λ (r : RecordParts). IsAsked r map c.args.how.now asked) c.parts.ensures.parts
           c.in-Ok-asked_of.ensures.asked;
+      all = c.deref.result.now;
+      said_is = subst (λ (all : List Said). IsSaid c.args.code.module.now seen.record (says c.args.how.now.view) all)
+          (sym c.deref.ensures.value)
+          (subst (λ (wanted : Bool). IsSaid c.args.code.module.now seen.record wanted c.in-Ok-said_in.said.items) c.says.ensures
+          c.in-Ok-said_in.ensures);
       prints = (
         _,
         record { of_record = c.parts-2.ensures.parts; of_rows = c.as_slice.ensures.value; of_module = c.in-Ok-code_of.ensures },

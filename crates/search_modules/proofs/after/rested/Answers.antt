@@ -9,6 +9,9 @@ use Rattle.search_modules.proofs.after.rested.Goals as goal
 pub rest_after-requires-clause-after : goal.rest_after-requires-clause-after
 rest_after-requires-clause-after c = let r = c.requires.after in (called c.args.searched.now, r.0, r.1, r.2)
 
+pub rest_after-requires-clause-sound : goal.rest_after-requires-clause-sound
+rest_after-requires-clause-sound c = c.args.searched.now.sound
+
 pub rest_after-requires-clause-few : goal.rest_after-requires-clause-few
 rest_after-requires-clause-few c = c.requires.few
 

@@ -14,8 +14,11 @@ use Rattle.search_modules.proofs.Callable.{main, sized}
 use Rattle.search_modules.proofs.Begun.{first_at, begun}
 use Rattle.search_modules.proofs.beginning.first_flat.Goals as goal
 
-pub begin-requires : goal.begin-requires
-begin-requires c =
+pub begin-requires-clause-sound : goal.begin-requires-clause-sound
+begin-requires-clause-sound c = c.args.searched.now.sound
+
+pub begin-requires-clause-begins : goal.begin-requires-clause-begins
+begin-requires-clause-begins c =
     let s = c.args.searched.now in
     let f = main s.valid.now.parts s.opening.items s.max s.main s.args.items s.worker s.callable in
     subst (λ l. CanBegin s.valid.now s.main l) (sym c.as_slice.ensures.value) (f.func_type, f.body, f.function, f.fit)

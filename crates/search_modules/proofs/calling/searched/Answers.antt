@@ -23,6 +23,7 @@ invariant_of-result c =
     let max = c.pages_max.ensures ∙ ap (pages_max_of MOST_PAGES) same in
     let args = c.call.ensures.call.args_are ∙ sym c.in_ok-args.ensures.items in
     record {
+      sound = c.in_ok-live.ensures;
       callable = subst (λ (x : Parts). is_callable x c.in_ok-opening.opening.items c.pages_max.result c.number.result c.in_ok-args.args.items
           c.worker_of.result ≡ true) (sym same)
           (subst (λ a. is_callable r.parts c.in_ok-opening.opening.items c.pages_max.result c.number.result a c.worker_of.result ≡ true) args

@@ -1,4 +1,4 @@
-use Rattle.std.proofs.Common.{◌≡◌, sym, ◌∙◌, ap}
+use Rattle.std.proofs.Common.{sym, ◌∙◌, ap}
 use Rattle.std.specs.List.{slice_get}
 use Rattle.search_settled.proofs.Threads.{at-get}
 use Rattle.search_parts.proofs.Placing.{found, body-of, no-body, past}

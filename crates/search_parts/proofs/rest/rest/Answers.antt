@@ -5,6 +5,7 @@ use Rattle.interp_machine.specs.State.{At}
 use Rattle.interp_trait.specs.Turns.{Running, left_of}
 use Rattle.interp.specs.Kept.{RunsBy}
 use Rattle.interp.specs.Threads.{StandsFor}
+use Rattle.live_locals.proofs.Both.{itself}
 use Rattle.search_threads.specs.Unlimited.{Unlimited.Going}
 use Rattle.search_parts.proofs.Walking.{only_stands, came, spent_all, is_at, says_end, says_none}
 use Rattle.search_parts.proofs.rest.rest.Goals as goal
@@ -24,7 +25,7 @@ returns-then-spent-ge-FUEL-clause-gives_up c _ = λ w b x left of by s.
     (only_stands _ (Runs x left) _ (StandsFor n) _ (c.own_turns-turn.ensures.turned (Runs x left) s tt)) none
 
 pub returns-in-Ended-clause-rests : goal.returns-in-Ended-clause-rests
-returns-in-Ended-clause-rests c = λ w b x left of by s.
+returns-in-Ended-clause-rests c = λ w b x left of by s sound.
     let n = c.own_turns-turn.new.self in
     let some : (t : Running) → StandsFor n t → left_of t ≡ suc (left_of t - 1) = λ t st.
     let spent = c.spent.ensures t st in
@@ -40,7 +41,7 @@ returns-in-Ended-clause-rests c = λ w b x left of by s.
     }
 
 pub returns-clause-rests : goal.returns-clause-rests
-returns-clause-rests c = λ w b x left of by s.
+returns-clause-rests c = λ w b x left of by s sound.
     let n = c.own_turns-turn.new.self in
     let some : (t : Running) → StandsFor n t → left_of t ≡ suc (left_of t - 1) = λ t st.
     let spent = c.spent.ensures t st in
@@ -55,8 +56,12 @@ returns-clause-rests c = λ w b x left of by s.
       parts = c.own_turns-turn.ensures.kept.parts ∙ by.parts;
       tables = c.own_turns-turn.ensures.tables st.1.0 ∙ by.tables;
     } in
+    let kept = c.in_ok-kept.ensures.kept w at.0 (suc k.left) runs_by st in
     record {
       rested = Going k.state;
       settles = k.settles;
-      stands = (at.0, ap Going at.1, c.in_ok-keep.ensures.kept w at.0 (suc k.left) runs_by st);
+      stands = (at.0, ap Going at.1, c.clear_dead.ensures.alike w at.0 sound (at.0, kept, itself at.0));
     }
+
+pub returns-clause-cleared : goal.returns-clause-cleared
+returns-clause-cleared c = (c.in_ok-kept.kept, c.clear_dead.ensures.cleared)

@@ -17,8 +17,8 @@ use Rattle.search_parts.proofs.AtRest.{joined, joined_turns, never_told, stays, 
 use Rattle.search_parts.proofs.resting.rest_after.Goals.{in-Some+else-begun-m, in_default}
 use Rattle.search_parts.proofs.resting.rest_after.Goals as goal
 
-pub told-requires : goal.told-requires
-told-requires c =
+pub told-requires-clause-told : goal.told-requires-clause-told
+told-requires-clause-told c =
     let r = c.requires.after in
     let b = r.0 in
     let z = r.1 in

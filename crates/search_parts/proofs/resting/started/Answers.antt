@@ -7,10 +7,10 @@ use Rattle.search_parts.specs.Walkers.{RestsAt, patience}
 use Rattle.search_parts.specs.Parts.{AreWorkers, IsWorkerFunction}
 use Rattle.search_parts.proofs.resting.started.Goals as goal
 
-pub begin-requires : goal.begin-requires
-begin-requires c =
-    let k : IsWorkerFunction c.args.valid.now.parts c.requires.0 c.in-Some.own =
-    subst (λ o. AreWorkers c.args.valid.now.parts c.requires.0 o) c.in-Some.is c.requires.1 in
+pub begin-requires-clause-begins : goal.begin-requires-clause-begins
+begin-requires-clause-begins c =
+    let k : IsWorkerFunction c.args.valid.now.parts c.requires.starts.0 c.in-Some.own =
+    subst (λ o. AreWorkers c.args.valid.now.parts c.requires.starts.0 o) c.in-Some.is c.requires.starts.1 in
     (k.func_type, k.body, k.function, sym k.takes)
 
 pub returns-clause-rests : goal.returns-clause-rests

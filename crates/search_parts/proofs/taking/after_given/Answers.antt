@@ -20,9 +20,9 @@ turn-requires c =
     let r = c.in_ok-thread.ensures.resumed in
     record {
       given = (
-        Runs (At c.requires.0) 1000001,
-        r.stands c.requires.0 c.requires.1.kept,
-        subst (λ p. IsGiven p (Runs (At c.requires.0) 1000001) c.args.given) (sym (ap program_of r.runs_by.parts)) c.requires.1.given,
+        Runs (At c.requires.given.0) 1000001,
+        r.stands c.requires.given.0 c.requires.given.1.kept,
+        subst (λ p. IsGiven p (Runs (At c.requires.given.0) 1000001) c.args.given) (sym (ap program_of r.runs_by.parts)) c.requires.given.1.given,
       );
     }
 
@@ -45,8 +45,8 @@ pub rest-requires : goal.rest-requires
 rest-requires c =
     let r = c.in_ok-thread.ensures.resumed in
     let module_is = ap program_of r.runs_by.parts in
-    let x = c.requires.0 in
-    let may = c.requires.1 in
+    let x = c.requires.given.0 in
+    let may = c.requires.given.1 in
     let b : Called = record {
       program = program_of c.args.valid.now.parts;
       main = x;
@@ -104,4 +104,4 @@ returns-clause-rests c = λ b x of may.
       tables = c.turn.ensures.tables st.1.0 ∙ r.runs_by.tables;
     } in
     let rested = rw c.in-Some.is at c.in_ok-standing.ensures.rests in
-    subst (λ v. RestsAt w b v c.in-Some.standing) (sym k.same) (rested w b k.state k.left of runs_by k.stands)
+    subst (λ v. RestsAt w b v c.in-Some.standing) (sym k.same) (rested w b k.state k.left of runs_by k.stands c.requires.sound)

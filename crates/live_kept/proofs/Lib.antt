@@ -1,0 +1,4 @@
+mod Words
+mod Opened
+mod Standing
+pub mod Walking

@@ -1,0 +1,3 @@
+pub mod Cleared
+pub mod Clearing
+pub mod Walkers

@@ -1,0 +1,5 @@
+pub mod Live
+pub mod Lives
+pub mod Alike
+pub mod Dead
+pub mod Laws

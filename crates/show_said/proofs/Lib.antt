@@ -1,0 +1,4 @@
+pub mod Each
+pub mod Entries
+pub mod Hearing
+pub mod Lasts

@@ -1,0 +1,5 @@
+pub mod Ports
+pub mod Lines
+pub mod Said
+pub mod Hears
+pub mod Last
