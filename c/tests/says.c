@@ -4,23 +4,30 @@
 #include <assert.h>
 #include <pthread.h>
 #include <stdio.h>
+#include <wathread.h>
 
-static int turn;
+static _Atomic int turn;
 
 static void wait_for(int mine) {
-    while (__atomic_load_n(&turn, __ATOMIC_SEQ_CST) != mine)
-        ;
+    int now;
+    while ((now = turn) != mine)
+        wait_while(&turn, now);
+}
+
+static void give(int next) {
+    turn = next;
+    notify_all(&turn);
 }
 
 static void *worker(void *arg) {
     int n = *(int *)arg;
     wait_for(n);
     printf("worker %d of %s\n", n, "two, which is more than eight letters");
-    __atomic_store_n(&turn, n + 1, __ATOMIC_SEQ_CST);
+    give(n + 1);
     wait_for(n + 2);
     puts("");
     printf("no line feed from %d", n);
-    __atomic_store_n(&turn, n + 3, __ATOMIC_SEQ_CST);
+    give(n + 3);
     return 0;
 }
 
@@ -30,7 +37,7 @@ int main(void) {
     puts("two lines\nof one call");
     for (int i = 0; i < 2; i++)
         pthread_create(&threads[i], 0, worker, &numbers[i]);
-    __atomic_store_n(&turn, 1, __ATOMIC_SEQ_CST);
+    give(1);
     for (int i = 0; i < 2; i++)
         pthread_join(threads[i], 0);
     fputs("", stdout);
