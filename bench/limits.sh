@@ -41,14 +41,16 @@ for memory in locked words; do
     for millions in 100 200 400; do ends 5 'no thread' prlimit --as=${millions}000000 "${run[@]}"; done
 done
 
-# Files of so many bytes at most: what is there stays, with its name alone, and what isn't comes to be nowhere.
+# Files of so many bytes at most: what is there stays, with its name alone, and what isn't comes to be nowhere. The program is
+# run as the launcher runs it, which ignores the signal of such a write.
+launched=(bash -c 'trap "" XFSZ; exec "$@"' -)
 mkdir folder
 for most in 0 100 1000; do
     for name in old new; do
         while read -r words; do
             echo old >folder/old
             # shellcheck disable=SC2086
-            ends 5 ".*file fault: folder/$name"$'(\n[^\n]+)?' prlimit --fsize=$most ./wathread $words folder/$name
+            ends 5 ".*file fault: folder/$name"$'(\n[^\n]+)?' prlimit --fsize=$most "${launched[@]}" ./wathread $words folder/$name
             [ "$(ls -A folder)" = old ] && [ "$(<folder/old)" = old ] ||
                 { echo "wrong: files of $most bytes: $words folder/$name: leaves $(ls -A folder | tr '\n' ' ')" && wrong=1; }
             rm -rf folder/.[!.]* folder/*
@@ -63,12 +65,12 @@ END
     done
     # standard output that is a file
     # shellcheck disable=SC2016
-    ends 5 'file fault: standard output' prlimit --fsize=$most bash -c '"$0" "$@" >lines' ./wathread \
+    ends 5 'file fault: standard output' prlimit --fsize=$most bash -c 'trap "" XFSZ; "$0" "$@" >lines' ./wathread \
         show full_queue.wasm full_queue.record
 done
 
 # A small stack: it does what it else does, or says in a line that there is no room for it.
-for kib in 24 32 48 64 80 96; do
+for kib in 64 80 96 1024; do
     while read -r words; do
         # shellcheck disable=SC2086
         said=$(timeout 10 prlimit --stack=$((kib * 1024)) ./wathread $words 2>&1)

@@ -66,7 +66,7 @@ small 16 ./wathread check large
 small 16 ./wathread replay atomic_add.wasm /dev/zero
 small 300 ./wathread replay atomic_add.wasm line
 for thousands in 700 1000 2000; do
-    ends 5 '' 'no memory' prlimit --as=$((thousands * 1000 + 3000000)) ./wathread check large
+    ends 5 '' 'no memory' prlimit --as=$((thousands * 1000 + 6300000)) ./wathread check large
 done
 ends 5 '' 'no memory' prlimit --as=40000000 ./wathread replay atomic_add.wasm line
 rm large line

@@ -5,6 +5,9 @@
 #
 # The launcher reads this. Where it is installed as bin/wathread, the program is ../libexec/wathread/wathread.
 
+# A write to a file that may grow no further (ulimit -f) is an error of the write, which is told, and no signal.
+trap '' XFSZ
+
 # Whether the words have the option --until.
 has_until() {
     local it
