@@ -55,7 +55,7 @@ for most in 0 100 1000; do
         done <<'END'
 run broken_lock.wasm --invoke f --record
 run broken_lock.wasm --invoke f --memory-out
-search broken_lock.wasm --invoke f --runs 100 --record
+search broken_lock.wasm --invoke f --runs 100 --expect i32:600 --record
 search broken_lock.wasm --invoke f --all --races --record
 show full_queue.wasm full_queue.record --html
 show full_queue.wasm full_queue.record --trace
