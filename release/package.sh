@@ -74,7 +74,7 @@ is_packed() {
 # Unpacks the shipped program into the file $1, or puts into `why` what hinders it.
 unpack() {
     is_packed && unpacked "$shipped.xz" >"$1" 2>/dev/null &&
-        [ "$(sum_of "$1")" = "$(said program "$shipped.sum")" ] && chmod 755 "$1"
+        ([ "$(sum_of "$1")" = "$(said program "$shipped.sum")" ]) && chmod 755 "$1"
 }
 
 # The library for hosts, as it is shipped.

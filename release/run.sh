@@ -18,7 +18,8 @@ has_until() {
 }
 
 # Makes a folder in $1 for this user alone, and puts its path into `folder`. The path is written down, and signals are
-# caught, before the folder is there, so that whatever ends this shell takes it away.
+# caught, before the folder is there, so that whatever ends this shell takes it away. From there to remove_folders no $(..)
+# may stand but in a subshell: bash 5.2 can't read what it does at a signal that comes where it reads one.
 folders=()
 new_folder() {
     local it

@@ -148,13 +148,13 @@ refuses 'is a module and no source' "$cc_" good.c m.wasm
 cp good.c kept.c && ln good.c hard.c && ln -s good.c soft.c && echo good.c -O1 >words
 "$cc_" -c third.c -o third.o && cp third.o kept.o && llvm-ar rc libthird.a third.o || say "third.o"
 for does in '' -c -S -E -M; do
-    for other in '' third.c; do
+    for second in '' third.c; do
         for path in good.c ./good.c "$work/good.c" nowhere/../good.c hard.c soft.c; do
             [ "$path" != nowhere/../good.c ] || mkdir nowhere
             # shellcheck disable=SC2086
-            refuses "$path is what is compiled" "$cc_" $does good.c $other -o "$path"
+            refuses "$path is what is compiled" "$cc_" $does good.c $second -o "$path"
             # shellcheck disable=SC2086
-            refuses "good.c is what is compiled" "$cc_" $does "$path" $other -o good.c
+            refuses "good.c is what is compiled" "$cc_" $does "$path" $second -o good.c
             [ ! -d nowhere ] || rmdir nowhere
         done
     done
@@ -227,13 +227,14 @@ grep -q 'No space left' err.text || say "/dev/full: $(cat err.text)"
 "$cc_" --version | grep -q clang || say "--version"
 
 # signals
+rm err.text
 refuses "can't be made" env TMPDIR="$work/nowhere" "$cc_" good.c -o m.wasm
 rm -rf temporary/* && mkdir place fake
 for tool in mktemp mkdir python3 "$clang" sed; do # which is told right behind what it did
     for signal in HUP INT TERM; do
         printf '#!/bin/bash\n%s "$@"\nstatus=$?\nkill -%s $PPID\nexit $status\n' "$(command -v "$tool")" $signal >fake/"$tool"
         chmod 755 fake/"$tool"
-        TMPDIR=$work/temporary PATH="$work/fake:$PATH" "$cc_" good.c -o place/m.wasm >/dev/null 2>&1
+        { TMPDIR=$work/temporary PATH="$work/fake:$PATH" "$cc_" good.c -o place/m.wasm; } >/dev/null 2>&1
         [ -z "$(ls -A temporary)" ] || say "SIG$signal behind $tool leaves $(ls -A temporary)"
         rm -rf temporary/* fake/* place/*
     done
