@@ -184,7 +184,8 @@ pub(crate) static OF_A_RECORD: [OptionRow; 9] = [
     before",
     conflicts: &["last-write", "html", "trace", "json", "unfold"]),
     row!(UNFOLD, for [Show],
-    "A row for each entry, also for rounds that a thread makes again and again, and for answers",
+    "A row for each entry, also for rounds that a thread makes again and again, for answers, and in memory that a \
+    library keeps for itself",
     conflicts: &["at", "last-write", "html", "trace", "json"]),
     row!(MOST, for [Races],
     "Tell N races at most, 1 to 10000", defaults: &["10"]),

@@ -1,6 +1,7 @@
 -- What is asked for of a record's run, and what is printed of it.
-use Rattle.std.specs.Prelude.{ℕ, ◌≡◌, ◌+◌, ◌-◌, min, Bool, true, false, cond, List, length, position}
+use Rattle.std.specs.Prelude.{ℕ, ◌≡◌, ◌+◌, ◌-◌, ◌==◌, ◌&&◌, min, Bool, true, false, cond, List, [], length, position, codes}
 use Rattle.std.specs.Prelude.{Option, Some, None, is_some}
+use Rattle.std.specs.Io.KnownBytes.{Appends}
 use Rattle.std.specs.List.{AllZip, list_any, slice_get}
 use Rattle.types.specs.declared.parts.Parts.{Parts}
 use Rattle.types.specs.declared.event.Entry.{Entry}
@@ -15,6 +16,7 @@ use Rattle.replay_text.specs.declared.parts.RecordParts.{RecordParts}
 use Rattle.replay_text.specs.Versions.{header_count}
 use Rattle.selection.specs.declared.choice.Look.{Look}
 use Rattle.selection.specs.declared.choice.NumberSpan.{NumberSpan}
+use Rattle.selection.specs.declared.spans.Spans.{Spans}
 use Rattle.selection.specs.Choices.{span_of, AreOfAny}
 use Rattle.report_command.specs.declared.form.Form.{Form}
 use Rattle.report_command.specs.declared.form.Form.TheVariants.{Lines, Json}
@@ -45,6 +47,7 @@ use Rattle.show_rows.specs.Listing.{IsStoryOf}
 use Rattle.show_named.specs.LastTexts.{WritesLast}
 use Rattle.show_waits.specs.Waits.{WritesWaits}
 use Rattle.show_said.specs.declared.said.Said.{Said}
+use Rattle.show_said.specs.Ports.{IsOwn}
 use Rattle.report_looks.specs.declared.wanted.LookRequest.{LookRequest}
 use Rattle.report_looks.specs.declared.wanted.Here.{Here}
 use Rattle.report_looks.specs.declared.wanted.Wanted.{Wanted}
@@ -104,20 +107,34 @@ IsWanted r map (views.Write write) w = (sought : SoughtWrite) × (w ≡ wanted.W
 IsWanted r map (views.Moment at) w = (here : Here) × (w ≡ wanted.Moment here) × IsHere r at here
 IsWanted r map view w = w ≡ wanted.Entries view
 
--- The look that is asked for, at these addresses: where no lines or addresses are given, all are chosen.
-pub record IsLookAt (how : ShowLook) (addrs : List NumberSpan) (look : Look) : Type 0 where
+-- Rows, a page and a trace leave out what a library keeps for itself.
+abbrev pub leaves_out : RecordView → Bool
+leaves_out views.Rows = true
+leaves_out (views.Page path) = true
+leaves_out (views.Trace path) = true
+leaves_out view = false
+
+-- The addresses that are left out: those that a library keeps for itself, where no bytes are asked for.
+abbrev pub left_out : ShowLook → List NumberSpan → List NumberSpan
+left_out how own = cond (leaves_out how.view && (length how.bytes.items == 0)) own []
+
+-- The look that is asked for, at these addresses, where a library keeps those for itself: where no lines or addresses are
+-- given, all are chosen.
+pub record IsLookAt (how : ShowLook) (addrs own : List NumberSpan) (look : Look) : Type 0 where
   pub lines : AreOfAny how.lines.items look.choice.lines
   pub threads : look.choice.threads.items ≡ how.threads.items
   pub addrs_are : AreOfAny addrs look.choice.addrs
+  pub left_out_are : AreOfAny (left_out how own) look.choice.left_out
   pub width : look.width ≡ how.width
   pub color : look.color ≡ how.color
 
--- What is shown of a record, and how.
-pub record IsAsked (r : RecordParts) (map : DataMap) (how : ShowLook) (asked : LookRequest) : Type 0 where
+-- What is shown of a record, and how, where a library keeps these addresses for itself.
+pub record IsAsked (r : RecordParts) (map : DataMap) (how : ShowLook) (own : List NumberSpan) (asked : LookRequest)
+    : Type 0 where
   pub wanted_is : IsWanted r map how.view asked.wanted
   pub addrs : List NumberSpan
   pub addrs_are : AllZip (AreAddresses map) how.bytes.items addrs
-  pub look_is : IsLookAt how addrs asked.look
+  pub look_is : IsLookAt how addrs own asked.look
 
 -- The words of the last entry before a place that writes there are written, or that none does: in lines, or as an object.
 abbrev pub WritesLastIn : Form → Shown → DataMap → SoughtWrite → Option (List ℕ) → Option (List ℕ) → Type 0
@@ -125,6 +142,9 @@ WritesLastIn Lines shown map sought old new = (story : Story) × IsStoryOf shown
     × WritesLast shown map story sought old new
 WritesLastIn Json shown map sought old new = (story : Story) × IsStoryOf shown.record.now.log story
     × WritesLastObject shown map story sought old new
+
+abbrev pub left_out_line : List ℕ
+left_out_line = codes "entries in memory that a library keeps for itself are left out; --unfold has them\n"
 
 -- Whether a thread was stopped.
 abbrev pub is_stop : Outcome → Bool
@@ -147,9 +167,15 @@ abbrev pub WritesRowsOf : Shown → DataMap → Look → Option (List ℕ) → O
 WritesRowsOf shown map look old new = (between : Option (List ℕ)) × WritesRows shown map look old between
     × WritesBelow (has_waits shown look) shown map between new
 
--- The same, folded.
+-- Where addresses are left out, that is said.
+abbrev pub SaysLeftOut : Option Spans → Option (List ℕ) → Option (List ℕ) → Type 0
+SaysLeftOut None old new = new ≡ old
+SaysLeftOut (Some addrs) old new = Appends old new left_out_line
+
+-- The same, folded, and then whether addresses are left out.
 abbrev pub WritesFoldedOf : Shown → DataMap → Look → Option (List ℕ) → Option (List ℕ) → Type 0
-WritesFoldedOf shown map look old new = (between : Option (List ℕ)) × WritesFolded shown map look old between
+WritesFoldedOf shown map look old new = (rows : Option (List ℕ)) × WritesFolded shown map look old rows
+    × (between : Option (List ℕ)) × SaysLeftOut look.choice.left_out rows between
     × WritesBelow (has_waits shown look) shown map between new
 
 -- A page with its moments, and a trace, with the races that they mark.
@@ -207,8 +233,10 @@ pub record PrintsShow (bytes : List ℕ) (how : ShowLook) (out : WriterChange) (
   pub rows : List (Option Row)
   pub seen : IsSeen m saved record_is rows
   pub map : DataMap
+  pub own : List NumberSpan
+  pub own_is : IsOwn bytes own
   pub asked : LookRequest
-  pub asked_is : IsAsked record_is map how asked
+  pub asked_is : IsAsked record_is map how own asked
   pub all : List Said
   pub said_is : IsSaid bytes record_is (says how.view) all
   pub prints : PrintsAsked m record_is rows map asked all out.old out.new

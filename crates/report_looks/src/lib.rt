@@ -8,7 +8,8 @@
 //! for, and then nothing is written but what is wrong; the races that are told are races of the run, none twice, and each
 //! one, where it isn't said that they are cut. A last write that is shown is the last entry before the moment that is asked
 //! for which writes one of the bytes, and where none is said to write there, none does. The rows that are shown are those
-//! of the entries that are asked for, folded or each by itself (`show_named`), with what each thread waits for below,
+//! of the entries that are asked for, but for those in memory that a library keeps for itself, where these are left out,
+//! folded or each by itself (`show_named`), with what each thread waits for below,
 //! where all are shown and one was stopped; what threads say is what the record has them say, with the chosen
 //! entries or before a moment (`specs/Saying.antt`); the object is the one of these entries; a page and a trace have the lines of
 //! these entries, and are written to their file (`specs/Looked.antt`); a moment that is shown, and each of a page, has the

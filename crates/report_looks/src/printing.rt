@@ -4,7 +4,7 @@ ghost use Rattle.show_races.specs.Told.{IsWithin};
 ghost use Rattle.report_looks.specs.Looked as looked;
 ghost use Rattle.report_looks.specs.RunMoments.{IsMomentIn, WritesHere, WritesIn};
 ghost use Rattle.report_looks.specs.Looked.{WritesBelow, WritesEntries, WritesFoldedOf, WritesLastIn, WritesRowsOf};
-ghost use Rattle.report_looks.specs.Looked.{WritesMomentOf, WritesTraceOf, WritesWanted};
+ghost use Rattle.report_looks.specs.Looked.{SaysLeftOut, WritesMomentOf, WritesTraceOf, WritesWanted};
 
 use crate::moments::print_page;
 use crate::saying::{SaidPart, chooses_all, write_before, write_told};
@@ -183,7 +183,23 @@ fn print_waits<W: Write>(
     write_waits(alloc, shown, map, &story, out)
 }
 
-/// Writes rows, folded; and below them, where all are asked for, what each thread waits for that was stopped.
+/// Says below rows that addresses are left out, where some are.
+fn say_left_out<W: Write>(out: &mut W, look: &Look) -> Result<(), Unwritten>
+    ensures { OnOk result (SaysLeftOut look.now.choice.left_out (W.contents out.old) (W.contents out.new)) }
+{
+    if look.choice.left_out.is_none() {
+        return Ok(());
+    }
+    let line =
+        b"entries in memory that a library keeps for itself are left out; --unfold has them\n";
+    match out.write_all(line) {
+        Ok(()) => Ok(()),
+        Err(_) => Err(Unwritten::Output),
+    }
+}
+
+/// Writes rows, folded; and below them whether addresses are left out, and, where all rows are asked for, what each
+/// thread waits for that was stopped.
 fn print_folded<W: Write>(
     alloc: Global,
     shown: Shown,
@@ -194,6 +210,7 @@ fn print_folded<W: Write>(
     ensures { OnOk result (WritesFoldedOf shown.entry map.now look.now (W.contents out.old) (W.contents out.new)) }
 {
     write_folded(alloc, shown, map, look, out)?;
+    say_left_out(out, look)?;
     print_waits(alloc, shown, map, has_waits(shown, look), out)
 }
 

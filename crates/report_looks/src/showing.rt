@@ -24,6 +24,7 @@ use show_moments::MomentView;
 use show_named::DataMap;
 use show_races::rows_seen;
 use show_rows::{CodeMap, Row, Shown, Stood};
+use show_said::read_own;
 use show_text::Unwritten;
 use std::alloc::{AllocError, Global};
 use std::io::Write;
@@ -170,7 +171,11 @@ fn show_record<'a, W: Write>(
         Ok(places) => places,
         Err(_) => return Err(no_memory()),
     };
-    let asked = match asked_of(alloc, seen.record.parts(), &map, how) {
+    let own = match read_own(alloc, code.module) {
+        Ok(own) => own,
+        Err(_) => return Err(no_memory()),
+    };
+    let asked = match asked_of(alloc, seen.record.parts(), &map, how, own.as_slice()) {
         Ok(asked) => asked,
         Err(why) => return Err(why),
     };

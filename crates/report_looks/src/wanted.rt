@@ -242,9 +242,38 @@ pub(crate) fn spans_of<'a>(
     Ok(spans)
 }
 
-/// How entries are shown at these addresses.
-fn look_at(alloc: Global, how: &ShowLook, addrs: Vec<NumberSpan>) -> Result<Look, AllocError>
-    ensures { IfOk result (IsLookAt how.now addrs.items) }
+/// Whether such a view leaves out what a library keeps for itself.
+fn leaves_out(view: RecordView) -> bool
+    ensures { result ≡ looked.leaves_out view.entry }
+{
+    matches!(
+        view,
+        RecordView::Rows | RecordView::Page(_) | RecordView::Trace(_)
+    )
+}
+
+/// The addresses that are left out, where a library keeps these for itself.
+fn left_out(
+    alloc: Global,
+    how: &ShowLook,
+    own: &[NumberSpan],
+) -> Result<Vec<NumberSpan>, AllocError>
+    ensures { IfOk result (λ spans. spans.items ≡ looked.left_out how.now own.now) }
+{
+    if leaves_out(how.view) && how.bytes.is_empty() {
+        return Vec::from_slice(alloc, own);
+    }
+    Ok(Vec::new(alloc))
+}
+
+/// How entries are shown at these addresses, where a library keeps those for itself.
+fn look_at(
+    alloc: Global,
+    how: &ShowLook,
+    addrs: Vec<NumberSpan>,
+    own: &[NumberSpan],
+) -> Result<Look, AllocError>
+    ensures { IfOk result (IsLookAt how.now addrs.items own.now) }
 {
     let lines = Vec::from_slice(alloc, how.lines.as_slice())?;
     Ok(Look {
@@ -252,20 +281,22 @@ fn look_at(alloc: Global, how: &ShowLook, addrs: Vec<NumberSpan>) -> Result<Look
             lines: spans_if_any(alloc, lines)?,
             threads: Vec::from_slice(alloc, how.threads.as_slice())?,
             addrs: spans_if_any(alloc, addrs)?,
+            left_out: spans_if_any(alloc, left_out(alloc, how, own)?)?,
         },
         width: how.width,
         color: how.color,
     })
 }
 
-/// What is shown of a record, and how, by what is asked for.
+/// What is shown of a record, and how, by what is asked for, where a library keeps these addresses for itself.
 pub(crate) fn asked_of<'a>(
     alloc: Global,
     parts: &RecordParts,
     map: &DataMap,
     how: &ShowLook<'a>,
+    own: &[NumberSpan],
 ) -> Result<LookRequest<'a>, Unshown<'a>>
-    ensures asked { IfOk result (IsAsked parts.now map.now how.now) }
+    ensures asked { IfOk result (IsAsked parts.now map.now how.now own.now) }
     ensures why { IfErr result IsUnrefused }
 {
     let wanted = match wanted_of(alloc, parts, map, how.view) {
@@ -276,7 +307,7 @@ pub(crate) fn asked_of<'a>(
         Ok(addrs) => addrs,
         Err(why) => return Err(why),
     };
-    match look_at(alloc, how, addrs) {
+    match look_at(alloc, how, addrs, own) {
         Ok(look) => Ok(LookRequest { wanted, look }),
         Err(_) => Err(no_memory()),
     }

@@ -121,12 +121,14 @@ impl SavePlace {
     }
 }
 
-/// A record that is being written, from the first write on.
+/// A file that is being written, from the first write on. Where a write fails it takes the rest as if that were written, so
+/// that who writes goes on, and `keep` says why it failed.
 #[derive(Drop)]
 pub struct SavedFile<'a> {
     rt: &'a HostRuntime,
     target: Option<RecordTarget>,
     file: Option<File>,
+    fault: Option<ErrorKind>,
 }
 
 impl<'a> SavedFile<'a> {
@@ -136,6 +138,7 @@ impl<'a> SavedFile<'a> {
             rt,
             target: place.map(|place| place.target),
             file: None,
+            fault: None,
         }
     }
 
@@ -160,12 +163,36 @@ impl<'a> SavedFile<'a> {
         }
     }
 
+    /// Writes some of these bytes, the first ones to a file that is made then.
+    fn write_some(&mut self, bytes: &[u8]) -> io::Result<usize> {
+        if self.file.is_none() {
+            self.file = Some(self.open()?);
+        }
+        let count = match &mut self.file {
+            Some(file) => file.write(bytes)?,
+            None => 0,
+        };
+        if count == 0 {
+            return Err(Error::from(ErrorKind::WriteZero));
+        }
+        Ok(count)
+    }
+
     /// Gives a record its place, which is all there.
     ///
     /// # Errors
-    /// The system's; then what was there before is there still, and nothing else.
+    /// The system's, also of a write before; then what was there before is there still, and nothing else.
     pub fn keep(self) -> io::Result<()> {
-        let SavedFile { rt, target, file } = self;
+        if let Some(kind) = self.fault {
+            self.give_up();
+            return Err(Error::from(kind));
+        }
+        let SavedFile {
+            rt,
+            target,
+            file,
+            ..
+        } = self;
         let (
             Some(file),
             Some(
@@ -192,7 +219,7 @@ impl<'a> SavedFile<'a> {
     /// As of `keep`.
     pub fn keep_even_empty(self) -> io::Result<()> {
         let mut saved = self;
-        if saved.file.is_none() && saved.target.is_some() {
+        if saved.file.is_none() && saved.fault.is_none() && saved.target.is_some() {
             saved.file = Some(saved.open()?);
         }
         saved.keep()
@@ -200,7 +227,12 @@ impl<'a> SavedFile<'a> {
 
     /// Takes away what was written of a record that isn't all there.
     pub fn give_up(self) {
-        let SavedFile { rt, target, file } = self;
+        let SavedFile {
+            rt,
+            target,
+            file,
+            ..
+        } = self;
         if let (Some(_), Some(RecordTarget::File { beside, .. })) = (file, target) {
             let _ = beside.remove(rt);
         }
@@ -224,19 +256,27 @@ fn put(
 
 impl Write for SavedFile<'_> {
     fn write(&mut self, bytes: &[u8]) -> io::Result<usize> {
-        if self.file.is_none() {
-            self.file = Some(self.open()?);
+        if bytes.is_empty() || self.fault.is_some() {
+            return Ok(bytes.len());
         }
-        match &mut self.file {
-            Some(file) => file.write(bytes),
-            None => Ok(0),
+        match self.write_some(bytes) {
+            Err(error) if error.kind() != ErrorKind::Interrupted => {
+                self.fault = Some(error.kind());
+                Ok(bytes.len())
+            }
+            written => written,
         }
     }
 
     fn flush(&mut self) -> io::Result<()> {
-        match &mut self.file {
-            Some(file) => file.flush(),
-            None => Ok(()),
+        if self.fault.is_some() {
+            return Ok(());
         }
+        if let Some(file) = &mut self.file
+            && let Err(error) = file.flush()
+        {
+            self.fault = Some(error.kind());
+        }
+        Ok(())
     }
 }

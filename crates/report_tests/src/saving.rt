@@ -4,7 +4,7 @@ use crate::room::{count_in, make_room, path_in};
 use replay_text::read_record;
 use report_program::{SavePlace, SavedFile, is_one_file, is_one_place, keep_early};
 use std::fs;
-use std::io::{self, Write};
+use std::io::{self, ErrorKind, Write};
 use std::os::unix::fs::symlink;
 use std::path::PathBuf;
 use std::test::Fail;
@@ -85,6 +85,23 @@ fn what_is_there_stays_until_all_is_written(rt: HostRuntime) -> Result<(), Fail>
     let path = path_in(&rt, &room, "a.record")?;
     save_all(&rt, &room, &path)?;
     Ok(fs::remove_dir_all(&rt, room.as_path())?)
+}
+
+/// Writes where there is no room. Answers why it isn't kept, if each write and flush before that was taken.
+fn not_kept(rt: &HostRuntime) -> io::Result<Option<ErrorKind>> {
+    let mut file = SavedFile::new(rt, Some(SavePlace::new(rt, "/dev/full")?));
+    file.write_all(b"new")?;
+    file.flush()?;
+    file.write_all(b"more")?;
+    match file.keep() {
+        Ok(()) => Ok(None),
+        Err(error) => Ok(Some(error.kind())),
+    }
+}
+
+#[test]
+fn who_writes_goes_on_where_there_is_no_room(rt: HostRuntime) -> Result<(), Fail> {
+    hold(&[("no room", not_kept(&rt)? == Some(ErrorKind::StorageFull))])
 }
 
 /// A record's text.

@@ -1,5 +1,5 @@
 -- Which entries of a record are chosen.
-use Rattle.std.specs.Prelude.{ℕ, ◌≡◌, ◌+◌, ◌-◌, ◌^◌, ◌<◌, ◌==◌, ◌&&◌, ◌||◌, min, nat_le, Bool, true, false, List, length}
+use Rattle.std.specs.Prelude.{ℕ, ◌≡◌, ◌+◌, ◌-◌, ◌^◌, ◌<◌, ◌==◌, ◌&&◌, ◌||◌, min, nat_le, not, Bool, true, false, List, length}
 use Rattle.std.specs.Prelude.{Option, Some, None}
 use Rattle.std.specs.List.{list_any}
 use Rattle.types.specs.declared.event.Event.{Event}
@@ -65,7 +65,13 @@ abbrev pub is_chosen_address : Option Spans → Event → Bool
 is_chosen_address None event = true
 is_chosen_address (Some addrs) event = meets_some addrs.spans.items (touched event)
 
+-- An event touches one of the addresses that are left out, if some are.
+abbrev pub is_left_out : Option Spans → Event → Bool
+is_left_out None event = false
+is_left_out (Some addrs) event = meets_some addrs.spans.items (touched event)
+
 -- The entry on this line of a record is chosen: by its line, its thread and its addresses.
 abbrev pub is_chosen : Choice → ℕ → Entry → Bool
 is_chosen choice line entry = is_chosen_line choice.lines line
-    && (is_chosen_thread choice.threads.items entry.thread && is_chosen_address choice.addrs entry.event)
+    && (is_chosen_thread choice.threads.items entry.thread
+    && (is_chosen_address choice.addrs entry.event && not (is_left_out choice.left_out entry.event)))

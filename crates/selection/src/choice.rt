@@ -4,7 +4,7 @@ ghost use Rattle.std.specs.Prelude.{◌≡◌, ◌==◌, IfOk};
 ghost use Rattle.std.specs.List.{list_any};
 ghost use Rattle.selection.specs.Choices as specified;
 ghost use Rattle.selection.specs.Choices.{is_chosen, is_chosen_line, is_chosen_thread, is_chosen_address};
-ghost use Rattle.selection.specs.Choices.{meets_some, AreOfAny};
+ghost use Rattle.selection.specs.Choices.{is_left_out, meets_some, AreOfAny};
 
 use crate::spans::Spans;
 use std::alloc::{AllocError, Global};
@@ -33,13 +33,15 @@ impl NumberSpan {
     }
 }
 
-/// Which entries are shown: those on these lines of the record, of these threads and at these addresses. Where no
-/// threads are given, and where there are no spans, all are.
+/// Which entries are shown: those on these lines of the record, of these threads and at these addresses, but for those
+/// that touch an address which is left out. Where no threads are given, and where there are no spans, all are.
 #[derive(Drop)]
 pub struct Choice {
     pub lines: Option<Spans>,
     pub threads: Vec<u32>,
     pub addrs: Option<Spans>,
+    /// The addresses that are left out, if some are.
+    pub left_out: Option<Spans>,
 }
 
 impl Choice {
@@ -47,7 +49,10 @@ impl Choice {
     pub fn has(&self, line: u64, entry: &Entry) -> bool
         ensures { result ≡ is_chosen self.now line entry.now }
     {
-        self.has_line(line) && self.has_thread(entry.thread) && self.has_address(entry.event)
+        self.has_line(line)
+            && self.has_thread(entry.thread)
+            && self.has_address(entry.event)
+            && !self.leaves_out(entry.event)
     }
 
     fn has_line(&self, line: u64) -> bool
@@ -72,6 +77,16 @@ impl Choice {
         match &self.addrs {
             Some(addrs) => some_touched(addrs, event),
             None => true,
+        }
+    }
+
+    /// Whether the event touches an address that is left out.
+    fn leaves_out(&self, event: Event) -> bool
+        ensures { result ≡ is_left_out self.now.left_out event }
+    {
+        match &self.left_out {
+            Some(addrs) => some_touched(addrs, event),
+            None => false,
         }
     }
 }

@@ -4,7 +4,6 @@ use Rattle.std.proofs.Common.{sym, ap, nat_lt}
 use Rattle.std.proofs.lemmas.Bool.{ltb-true, ltb-false}
 use Rattle.std.proofs.lemmas.List.{set-set, get_or_default}
 use Rattle.std.proofs.lemmas.Option.{slice_get_past}
-use Rattle.std.specs.List.{slice_get}
 use Rattle.types.specs.declared.event.Entry.{Entry}
 use Rattle.show_said.specs.Lines.{letters_of, lines_in, left_of}
 use Rattle.show_said.specs.Said.{items, line_at, letters_in, letters_by, stored_at, put_by, lines_behind, said_by}

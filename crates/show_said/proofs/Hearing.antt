@@ -1,10 +1,10 @@
 -- Letters that are heard one after the other.
 use Rattle.std.proofs.Common.{◌≡◌, ◌∙◌, ℕ, ◌+◌, ◌<◌, Bool, true, false, List, [], ◌∷◌, ◌++◌, cond, length, take, get_or, refl, sym, ap, subst}
-use Rattle.std.proofs.Common.{append_assoc, nat_eq, map}
+use Rattle.std.proofs.Common.{append_assoc, nat_eq}
 use Rattle.std.proofs.lemmas.List.{map-append, append-nil}
 use Rattle.std.specs.List.{filter}
 use Rattle.std.proofs.lemmas.List.Elements.{filter_more}
-use Rattle.show_said.specs.Lines.{is_letter, lines_in, left_of, some_line, line_text}
+use Rattle.show_said.specs.Lines.{is_letter, lines_in, left_of, some_line}
 use Rattle.show_said.specs.Said.{items}
 use Rattle.show_said.specs.Hears.{Hears}
 use Rattle.show_said.specs.declared.letters.Voice.{Voice}

@@ -1,3 +1,4 @@
+pub mod Sections
 pub mod Ports
 pub mod Lines
 pub mod Said

@@ -1,5 +1,5 @@
 -- What is said of a log: lines of threads, each with the entry with which it ended.
-use Rattle.std.specs.Prelude.{◌≡◌, ℕ, ◌+◌, ◌-◌, ◌^◌, min, List, [], ◌∷◌, ◌++◌, map, length, replicate, Bool, ◌&&◌}
+use Rattle.std.specs.Prelude.{ℕ, ◌+◌, ◌-◌, ◌^◌, min, List, [], ◌∷◌, ◌++◌, map, length, replicate, ◌&&◌}
 use Rattle.std.specs.Prelude.{if◌then◌else◌, nat_eq}
 use Rattle.std.specs.Prelude.{Option, Some, None, get_or, set}
 use Rattle.std.specs.List.{slice_get, flat_map, filter}
