@@ -29,8 +29,8 @@ HEADER = 11                                             # bytes in front of the 
 PLACE = re.compile(rb'\x0C(....)[\x9B\xE0]|\xED\x03....\x03(....)\x22', re.S)
 
 # A line of the linker's map: an address or none, an offset, a size, and spaces in front of what it is about, by what that
-# is: none of a segment, so many of a symbol.
-MAPPED, SYMBOL = re.compile(r' *([0-9a-f]+|-) +[0-9a-f]+ +([0-9a-f]+) ( *)(.*)'), 16
+# is: none of a segment, so many of a part of an object, and of a symbol.
+MAPPED, PART, SYMBOL = re.compile(r' *([0-9a-f]+|-) +[0-9a-f]+ +([0-9a-f]+) ( *)(.*)'), 8, 16
 
 VARIABLE, LOCATION = 0x34, 0x02
 # How values are spelled, by their forms: in so many bytes, as numbers, as bytes behind their count, which has so many.
@@ -111,6 +111,17 @@ def mapped(lines):
             is_there = found[4] == '.tdata'
         elif found and is_there and len(found[3]) == SYMBOL:
             yield int(found[1], 16), int(found[2], 16), found[4].replace('__wathread_', '')
+
+
+def data_of(lines, its_object):
+    """The data of an object by the linker's map: of each part its segment, its place and its size."""
+    segment = ''
+    for line in lines:
+        found = MAPPED.match(line)
+        if found and not found[3]:
+            segment = found[4]
+        elif found and len(found[3]) == PART and found[1] != '-' and found[4].startswith(its_object + ':('):
+            yield segment, int(found[1], 16), int(found[2], 16)
 
 
 def place_of(lines, name):
