@@ -291,7 +291,7 @@ INLINE void show_old(u32 at, int log, u64 value, u64 found) {
     say_old(at, log, value, newest, writer_of(l, COUNT(orders.places[l]) - 1));
 }
 
-INLINE u64 load_inside(u32 at, int log, int order) {
+INLINE u64 load(u32 at, int log, int order) {
     u64 found = begin_load(at, log, order);
     u64 value = found & NEWEST ? load_real(at, log) : message_of(found)->value;
     if (!(found & NEWEST))
@@ -320,7 +320,7 @@ static u64 begin_store(u32 at, int log, int order) {
     return FOUND(l, p) | (p == count ? NEWEST : 0);
 }
 
-INLINE void store_inside(u32 at, int log, u64 value, int order) {
+INLINE void store(u32 at, int log, u64 value, int order) {
     u64 found = begin_store(at, log, order);
     put(&message_of(found)->value, value);
     if (found & NEWEST)
@@ -413,7 +413,7 @@ INLINE u64 change_alone(u32 at, int log, enum kind kind, u64 x, u64 expected) {
     return had;
 }
 
-INLINE u64 change_inside(u32 at, int log, enum kind kind, u64 x, u64 expected, int order, int failing) {
+INLINE u64 modify(u32 at, int log, enum kind kind, u64 x, u64 expected, int order, int failing) {
     u64 found = begin_change(at, log, kind, expected, order, failing);
     u64 had = found & FAILED && found & NEWEST ? load_real(at, log) : message_of(found)->value;
     if (found & FAILED) {
@@ -913,8 +913,7 @@ void orders_reads(const void *from, unsigned size) { note((u32)from, size, READ,
 void orders_writes(void *to, unsigned size) { note((u32)to, size, WRITE, own_site()); }
 
 /* ---- What the compiler's text calls (simulate.py): with numbers below 32 bits in 32, and addresses as numbers. The last
-   argument is where that is in the source. What is done inside is in no frame when a thread leaves: it would make more
-   states ---- */
+   argument is where that is in the source ---- */
 
 /* An operation at a site, or where there is none, at that of the call that it is a part of. */
 #define AT_SITE(operation)                                                                                             \
@@ -926,13 +925,7 @@ void orders_writes(void *to, unsigned size) { note((u32)to, size, WRITE, own_sit
         end_access(me());                                                                                              \
         set_site(was);                                                                                                 \
     }
-#define NOINLINE static __attribute__((noinline))
 #define ATOMICS(bits, log, type)                                                                                       \
-    NOINLINE type load##bits(u32 at, int order) { return load_inside(at, log, order); }                                \
-    NOINLINE void store##bits(u32 at, type x, int order) { store_inside(at, log, x & MASK(log), order); }              \
-    NOINLINE type change##bits(u32 at, enum kind kind, type x, type expected, int order, int failing) {                \
-        return change_inside(at, log, kind, x & MASK(log), expected & MASK(log), order, failing);                      \
-    }                                                                                                                  \
     type __wathread_load##bits(u32 at, int order, u32 site) {                                                          \
         if (!is_parallel())                                                                                            \
             return load_real(at, log);                                                                                 \
@@ -940,12 +933,12 @@ void orders_writes(void *to, unsigned size) { note((u32)to, size, WRITE, own_sit
         if (i)                                                                                                         \
             return value_told(i - 1);                                                                                  \
         type had;                                                                                                      \
-        AT_SITE(had = load##bits(at, order))                                                                           \
+        AT_SITE(had = load(at, log, order))                                                                            \
         return had;                                                                                                    \
     }                                                                                                                  \
     void __wathread_store##bits(u32 at, type x, int order, u32 site) {                                                 \
         if (is_parallel())                                                                                             \
-            AT_SITE(store##bits(at, x, order))                                                                         \
+            AT_SITE(store(at, log, x & MASK(log), order))                                                              \
         else                                                                                                           \
             store_real(at, log, x & MASK(log));                                                                        \
     }                                                                                                                  \
@@ -953,7 +946,7 @@ void orders_writes(void *to, unsigned size) { note((u32)to, size, WRITE, own_sit
         if (!is_parallel())                                                                                            \
             return change_alone(at, log, kind, x & MASK(log), 0);                                                      \
         type had;                                                                                                      \
-        AT_SITE(had = change##bits(at, kind, x, 0, order, 0))                                                          \
+        AT_SITE(had = modify(at, log, kind, x & MASK(log), 0, order, 0))                                               \
         return had;                                                                                                    \
     }                                                                                                                  \
     type __wathread_compare##bits(u32 at, type expected, type x, int order, int failing, int weak, u32 site) {         \
@@ -966,7 +959,7 @@ void orders_writes(void *to, unsigned size) { note((u32)to, size, WRITE, own_sit
             return value_told(i - 1);                                                                                  \
         }                                                                                                              \
         type had;                                                                                                      \
-        AT_SITE(had = change##bits(at, kind, x, expected, order, failing))                                             \
+        AT_SITE(had = modify(at, log, kind, x & MASK(log), expected & MASK(log), order, failing))                      \
         return had;                                                                                                    \
     }
 ATOMICS(8, 0, u32)

@@ -37,7 +37,8 @@ WEAKER = re.compile(r'  (?:%[^ ]+ = )?(?:(?:load|store) atomic|cmpxchg|atomicrmw
 RUNTIME = {'load': 'i{0} (i32, i32, i32)', 'store': 'void (i32, i{0}, i32, i32)', 'change': 'i{0} (i32, i32, i{0}, i32, i32)',
            'compare': 'i{0} (i32, i{0}, i{0}, i32, i32, i32, i32)'}
 OTHERS = {'failed': 'i32 ()', 'fence': 'void (i32)', 'reads': 'void (i32, i32, i32)', 'writes': 'void (i32, i32, i32)',
-          'at': 'void (i32)', 'traps': 'void ()', 'wait32': 'i32 (i32, i32, i64)', 'wait64': 'i32 (i32, i64, i64)', 'notify': 'i32 (i32, i32)'}
+          'at': 'void (i32)', 'traps': 'void ()', 'wait32': 'i32 (i32, i32, i64)', 'wait64': 'i32 (i32, i64, i64)',
+          'notify': 'i32 (i32, i32)'}
 # A section of objects and modules that are made so: wathread-link tells them from others.
 MARK = 'wathread.orders'
 

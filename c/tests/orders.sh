@@ -2,8 +2,9 @@
 # tests/orders.sh [WATHREAD]: what `wathread-cc --orders c11` finds. The programs of tests/orders/accesses in drawn runs, at
 # -O1 and -O0, each with what it is to end as on its first line (`EXPECT ok`, `trap`, `asleep`, or a name in a trace); those
 # that fill a table once more, with a greater pool; those of tests/orders/algorithms, which are right; and bugs planted in
-# the runtime, each found by a litmus test of bench/orders, or by a loop that then waits for ever. Prints a table. WATHREAD
-# is the program, or ../wathread. CC names the clang; RUNS is how many are drawn.
+# the runtime, each found by a litmus test of bench/orders, by a loop that then waits for ever, or by what is said. Of some
+# programs each line that the runtime says in a run that fails. Prints a table. WATHREAD is the program, or ../wathread. CC
+# names the clang; RUNS is how many are drawn; ONLY=says leaves out all but what is said.
 set -u
 here=$(cd "$(dirname "$0")/.." && pwd)
 export WATHREAD=${1:-$here/../wathread}
@@ -86,9 +87,92 @@ planted_loop() { # what, file, edit, algorithm
     say "planted" "" "$1" "$4: $out"
 }
 
+# What a run that fails says, but for a failed assert, with an x in place of each address.
+said() { # the compiler's folder, a source, words of wathread-cc
+    build "$1" -O1 "$2" "${@:3}"
+    ending >"$work/ending"
+    "$WATHREAD" show "$work/m.wasm" "$work/r" --text | sed -E '/: seen == 42$/d; s/^[0-9]+ +//; s/0x[0-9a-f]+/x/'
+}
+
+# These lines have to be said: of which threads may read what, main's view may be there too.
+says() { # the compiler's folder, a source, words of wathread-cc; the lines on standard input
+    sed 's/^/t2 says: /' >"$work/wanted"
+    said "$@" | sed 's/, and t0 may still read 0//; / is [0-9]*$/d' | cmp -s - "$work/wanted"
+}
+
+all_says() { # the compiler's folder; the status is 1 where one line is another one
+    local bad=0 of="$here/tests/orders/accesses" odd="$work/an \"odd\" n\\äme.c" wild='isn'"'"'t known with it'
+    local late='and nothing orders that before this' mine="mp_stale.c:7"
+    says "$1" "$of/mp_stale.c" <<END || bad=1
+mp_stale.c:12 reads ready = 1, which t1 wrote at mp_stale.c:8 without release: what t1 did before $wild
+mp_stale.c:13 reads data = 0, which is old: t1 wrote 42 at $mine, $late
+data is 42, and t2 may still read 0
+END
+    says "$1" "$of/unacquired.c" <<END || bad=1
+unacquired.c:11 reads ready = 1 without acquire, which t1 wrote at unacquired.c:7: what t1 did before $wild
+data race: unacquired.c:12 reads data, which t1 wrote at unacquired.c:6, $late
+END
+    says "$1" "$of/unreleased.c" <<END || bad=1
+is it done?
+unreleased.c:13 reads done = -1, which t1 wrote at unreleased.c:8 without release: what t1 did before $wild
+ it is
+data race: unreleased.c:14 writes box.in.data[1], which t1 reads or read, $late
+END
+    says "$1" "$of/freed.c" <<END || bad=1
+use after free: freed.c:13 touches x, in a block that was freed
+END
+    says "$1" "$of/mixed.c" <<END || bad=1
+mixed sizes: mixed.c:9 touches both.half by an atomic access of another size than before, or not aligned: C has none
+END
+    says "$1" "$of/mp_stale.c" -g0 <<END || bad=1
+reads x = 1, which t1 wrote without release: what t1 did before $wild
+reads x = 0, which is old: t1 wrote 42, $late
+x is 42, and t2 may still read 0
+END
+    cp "$of/unacquired.c" "$odd"
+    says "$1" "$odd" <<END || bad=1
+${odd##*/}:11 reads ready = 1 without acquire, which t1 wrote at ${odd##*/}:7: what t1 did before $wild
+data race: ${odd##*/}:12 reads data, which t1 wrote at ${odd##*/}:6, $late
+END
+    build "$1" "$of/init_heap.c"
+    for i in 1 2 3 4 5 6 7 8; do
+        "$WATHREAD" search "$work/m.wasm" --invoke main --from $i --runs 1 --find 'thread 0' --limit 60000 --record "$work/r" \
+            >/dev/null
+        "$WATHREAD" show "$work/m.wasm" "$work/r" --text | grep -q says && bad=1
+    done
+    return $bad
+}
+
+told() {
+    local got="as wanted"
+    all_says "$here" || { wrong=1 && got=WRONG; }
+    say "what is said" -O1 "lines of eight programs" "$got"
+}
+
+# It has to change what is said.
+planted_said() { # what, file, edit
+    plant "$@" || return
+    local out="lines are others"
+    ! all_says "$work/c" || { wrong=1 && out='NOT FOUND'; }
+    say "planted" "" "$1" "$out"
+}
+
+all_told() {
+    told
+    planted_said "another thread is told" orders_says.h 's/\(thread_self\(\) \+ 1\)/(thread_self() + 2)/'
+    planted_said "another place is told" orders_plain.h 's/^        set_site\(access >> 40\);/        ;/'
+    planted_said "a release is said to lack" orders.c 's/return releases\(order\) \|\|/return/'
+    planted_said "old without an end of a line" orders_says.h 's/^static void begin_line\(void\) .*/static void begin_line(void) {}/'
+}
+
+if [ "${ONLY:-}" = says ]; then
+    all_told
+    exit $wrong
+fi
 accesses
 room
 algorithms
+all_told
 planted "an acquire joins no view" orders.c 's/^    if \(acquires\(order\)\)$/    if (0)/' MP+rel+acq
 planted "a release leaves no view" orders.c 's/mine = releases\(order\) \?/mine = 0 ?/' MP+rel+acq
 planted "no old message is read" orders.c 's/^        p -= choose\(newest - least \+ 1\);/        p -= 0;/' SB+rlx+rlx
