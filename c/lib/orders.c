@@ -258,7 +258,7 @@ static int knows_what(int t, u32 thread) {
 /* What is read is news to the thread: whether with it nothing is known of what its writer did before. */
 static void look_at_news(int t, int l, int p, int order, u32 at, int log) {
     u32 by = writer_of(l, p);
-    if (!by || (acquires(order) && !(by & UNRELEASED)) || knows_what(t, THREAD(by)))
+    if (!ORDERS_NEWS || !by || (acquires(order) && !(by & UNRELEASED)) || knows_what(t, THREAD(by)))
         return;
     say_news(at, log, message_at(l, p)->value, by, acquires(order), fences());
 }

@@ -20,6 +20,9 @@ typedef uint8_t u8;
 #ifndef ORDERS_C11_SEQUENCES
 #define ORDERS_C11_SEQUENCES 0 /* 1: a release sequence has later stores of the same thread too, as before C++20 */
 #endif
+#ifndef ORDERS_NEWS
+#define ORDERS_NEWS 1         /* 0: nothing is said of what is read without release or acquire */
+#endif
 #define FROM_TO(least, most, n) ((n) < (least) ? (least) : (n) > (most) ? (most) : (n))
 
 enum {
