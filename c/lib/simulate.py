@@ -91,13 +91,13 @@ class Hidden:
         return shared
 
 
-def size_of(kind):
-    """How many bytes a type has, as a number or a constant of LLVM."""
+def size_of(kind, pointer):
+    """How many bytes a type has, as a number or a constant of LLVM; `pointer` is the type of its addresses."""
     if kind in BITS or kind == 'i1':
         return str(BITS.get(kind, 8) // 8)
     if kind == 'ptr' or kind.endswith('*'):
         return '4'
-    return f'ptrtoint ({{0}} getelementptr ({kind}, {{0}} null, i32 1) to i32)'
+    return f'ptrtoint ({pointer} getelementptr ({kind}, {pointer} null, i32 1) to i32)'
 
 
 class Simulation:
@@ -230,7 +230,7 @@ class Simulation:
         return [*lines, line]
 
     def size(self, kind):
-        return size_of(kind).format(f'{kind}*' if self.sites.typed else 'ptr')
+        return size_of(kind, f'{kind}*' if self.sites.typed else 'ptr')
 
     def as_number(self, value, debug):
         """Lines that make a number of a value, and that number with its type: a pointer's is its address."""

@@ -87,82 +87,77 @@ planted_loop() { # what, file, edit, algorithm
     say "planted" "" "$1" "$4: $out"
 }
 
-# What a run that fails says, but for a failed assert, with an x in place of each address.
-said() { # the compiler's folder, a source, words of wathread-cc
-    build "$1" -O1 "$2" "${@:3}"
-    ending >"$work/ending"
-    "$WATHREAD" show "$work/m.wasm" "$work/r" --text | sed -E '/: seen == 42$/d; s/^[0-9]+ +//; s/0x[0-9a-f]+/x/'
+# What is said, but for a failed assert, with an x in place of each address. Of which threads may read what, main's view may
+# be there too.
+said() {
+    "$WATHREAD" show "$work/m.wasm" "$work/r" --text |
+        sed -E '/: seen == 42$/d; s/^[0-9]+ +//; s/0x[0-9a-f]+/x/; s/, and t0 may still read 0//; / is [0-9]*$/d'
 }
 
-# These lines have to be said: of which threads may read what, main's view may be there too.
-says() { # the compiler's folder, a source, words of wathread-cc; the lines on standard input
-    sed 's/^/t2 says: /' >"$work/wanted"
-    said "$@" | sed 's/, and t0 may still read 0//; / is [0-9]*$/d' | cmp -s - "$work/wanted"
-}
-
-all_says() { # the compiler's folder; the status is 1 where one line is another one
-    local bad=0 of="$here/tests/orders/accesses" odd="$work/an \"odd\" n\\äme.c" wild='isn'"'"'t known with it'
-    local late='and nothing orders that before this' mine="mp_stale.c:7"
-    says "$1" "$of/mp_stale.c" <<END || bad=1
-mp_stale.c:12 reads ready = 1, which t1 wrote at mp_stale.c:8 without release: what t1 did before $wild
-mp_stale.c:13 reads data = 0, which is old: t1 wrote 42 at $mine, $late
+# What t2 has to say of a program of tests/orders/accesses, NAME being how its file is called there.
+wanted() { # program, name
+    local unknown="isn't known with it" late='and nothing orders that before this'
+    case $1 in
+    mp_stale) cat <<END ;;
+$2:12 reads ready = 1, which t1 wrote at $2:8 without release: what t1 did before $unknown
+$2:13 reads data = 0, which is old: t1 wrote 42 at $2:7, $late
 data is 42, and t2 may still read 0
 END
-    says "$1" "$of/unacquired.c" <<END || bad=1
-unacquired.c:11 reads ready = 1 without acquire, which t1 wrote at unacquired.c:7: what t1 did before $wild
-data race: unacquired.c:12 reads data, which t1 wrote at unacquired.c:6, $late
+    unacquired) cat <<END ;;
+$2:11 reads ready = 1 without acquire, which t1 wrote at $2:7: what t1 did before $unknown
+data race: $2:12 reads data, which t1 wrote at $2:6, $late
 END
-    says "$1" "$of/unreleased.c" <<END || bad=1
+    unreleased) cat <<END ;;
 is it done?
-unreleased.c:13 reads done = -1, which t1 wrote at unreleased.c:8 without release: what t1 did before $wild
+$2:13 reads done = -1, which t1 wrote at $2:8 without release: what t1 did before $unknown
  it is
-data race: unreleased.c:14 writes box.in.data[1], which t1 reads or read, $late
+data race: $2:14 writes box.in.data[1], which t1 reads or read, $late
 END
-    says "$1" "$of/freed.c" <<END || bad=1
-use after free: freed.c:13 touches x, in a block that was freed
-END
-    says "$1" "$of/mixed.c" <<END || bad=1
-mixed sizes: mixed.c:9 touches both.half by an atomic access of another size than before, or not aligned: C has none
-END
-    says "$1" "$of/mp_stale.c" -g0 <<END || bad=1
-reads x = 1, which t1 wrote without release: what t1 did before $wild
-reads x = 0, which is old: t1 wrote 42, $late
-x is 42, and t2 may still read 0
-END
-    cp "$of/unacquired.c" "$odd"
-    says "$1" "$odd" <<END || bad=1
-${odd##*/}:11 reads ready = 1 without acquire, which t1 wrote at ${odd##*/}:7: what t1 did before $wild
-data race: ${odd##*/}:12 reads data, which t1 wrote at ${odd##*/}:6, $late
-END
-    build "$1" "$of/init_heap.c"
-    for i in 1 2 3 4 5 6 7 8; do
-        "$WATHREAD" search "$work/m.wasm" --invoke main --from $i --runs 1 --find 'thread 0' --limit 60000 --record "$work/r" \
-            >/dev/null
-        "$WATHREAD" show "$work/m.wasm" "$work/r" --text | grep -q says && bad=1
-    done
-    return $bad
+    freed) echo "use after free: $2:13 touches x, in a block that was freed" ;;
+    mixed) echo "mixed sizes: $2:9 touches both.half by an atomic access of another size than before, or not aligned:" \
+        "C has none" ;;
+    esac | sed 's/^/t2 says: /'
 }
 
-told() {
+# Whether a run of a program that fails says what it has to, and one of a program that doesn't fail, nothing.
+says() { # the compiler's folder, a program, the name of the file, words of wathread-cc
+    cp "$here/tests/orders/accesses/$2.c" "$work/$3"
+    build "$1" -O1 "$work/$3" "${@:4}"
+    if [ "$2" = init_heap ]; then
+        "$WATHREAD" search "$work/m.wasm" --invoke main --runs 1 --find 'thread 0' --limit 60000 --record "$work/r" >/dev/null
+    else
+        ending >"$work/ending"
+    fi
+    wanted "$2" "$3" >"$work/wanted"
+    [[ " ${*:4} " != *' -g0 '* ]] || sed -i -E "s/$3:[0-9]+ //; s/ at $3:[0-9]+//; s/ (ready|data)/ x/" "$work/wanted"
+    said | cmp -s - "$work/wanted"
+}
+
+told() { # the same as a row of the table
     local got="as wanted"
-    all_says "$here" || { wrong=1 && got=WRONG; }
-    say "what is said" -O1 "lines of eight programs" "$got"
+    says "$here" "$@" || { wrong=1 && got=WRONG; }
+    say "$1" "${3:-}" "what is said" "$got"
 }
 
-# It has to change what is said.
-planted_said() { # what, file, edit
+# It has to change what is said of a program.
+planted_said() { # what, file, edit, program
     plant "$@" || return
-    local out="lines are others"
-    ! all_says "$work/c" || { wrong=1 && out='NOT FOUND'; }
+    local out="others of $4"
+    ! says "$work/c" "$4" "$4.c" || { wrong=1 && out='NOT FOUND'; }
     say "planted" "" "$1" "$out"
 }
 
 all_told() {
-    told
-    planted_said "another thread is told" orders_says.h 's/\(thread_self\(\) \+ 1\)/(thread_self() + 2)/'
-    planted_said "another place is told" orders_plain.h 's/^        set_site\(access >> 40\);/        ;/'
-    planted_said "a release is said to lack" orders.c 's/return releases\(order\) \|\|/return/'
-    planted_said "old without an end of a line" orders_says.h 's/^static void begin_line\(void\) .*/static void begin_line(void) {}/'
+    local name
+    for name in mp_stale unacquired unreleased freed mixed init_heap; do
+        told $name $name.c
+    done
+    told mp_stale mp_stale.c -g0
+    told unacquired 'an "odd" n\äme.c'
+    planted_said "another thread is told" orders_says.h 's/\(thread_self\(\) \+ 1\)/(thread_self() + 2)/' unacquired
+    planted_said "another place is told" orders_plain.h 's/^        set_site\(access >> 40\);/        ;/' unreleased
+    planted_said "a release is said to lack" orders.c 's/return releases\(order\) \|\|/return/' init_heap
+    planted_said "a line isn't ended" orders_says.h 's/^static void begin_line.*/static void begin_line(void) {}/' unreleased
 }
 
 if [ "${ONLY:-}" = says ]; then
