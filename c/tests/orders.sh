@@ -123,7 +123,7 @@ END
 says() { # the compiler's folder, a program, the name of the file, words of wathread-cc
     cp "$here/tests/orders/accesses/$2.c" "$work/$3"
     build "$1" -O1 "$work/$3" "${@:4}"
-    if [ "$2" = init_heap ]; then
+    if [ "$2" = futex ]; then
         "$WATHREAD" search "$work/m.wasm" --invoke main --runs 1 --find 'thread 0' --limit 60000 --record "$work/r" >/dev/null
     else
         ending >"$work/ending"
@@ -149,14 +149,14 @@ planted_said() { # what, file, edit, program
 
 all_told() {
     local name
-    for name in mp_stale unacquired unreleased freed mixed init_heap; do
+    for name in mp_stale unacquired unreleased freed mixed futex; do
         told $name $name.c
     done
     told mp_stale mp_stale.c -g0
     told unacquired 'an "odd" n\äme.c'
     planted_said "another thread is told" orders_says.h 's/\(thread_self\(\) \+ 1\)/(thread_self() + 2)/' unacquired
     planted_said "another place is told" orders_plain.h 's/^        set_site\(access >> 40\);/        ;/' unreleased
-    planted_said "a release is said to lack" orders.c 's/return releases\(order\) \|\|/return/' init_heap
+    planted_said "it's said where nothing lacks" orders.c 's/^    if \(!ORDERS_NEWS .*/    if (!by)/' futex
     planted_said "a line isn't ended" orders_says.h 's/^static void begin_line.*/static void begin_line(void) {}/' unreleased
 }
 
