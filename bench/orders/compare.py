@@ -27,7 +27,7 @@ ROOT = os.path.dirname(os.path.dirname(HERE))
 NAMES = {'rlx': 'relaxed', 'acq': 'acquire', 'rel': 'release', 'ar': 'acq_rel', 'sc': 'seq_cst'}
 FAILING = {'rel': 'rlx', 'ar': 'acq'}
 # Where the runtime allows less than RC11: docs/ORDERS.md.
-DIFFER = {'S+sc+rlx', 'Z6+sc+rel+rlx', 'mix+sc+rlx', 'mix2+sc+rlx', 'random1.57'}
+DIFFER = {'S+sc+rlx', 'Z6+sc+rel+rlx', 'mix+sc+rlx', 'mix2+sc+rlx', 'random1.57', 'random1.88'}
 
 
 def order(short):

@@ -18,6 +18,7 @@ import re
 
 import simulate
 from blocks import NAME, Blocks, Leaving, declared, end_of_type, split
+from sites import Sites
 
 GLOBAL = re.compile(rf'(@{NAME}) = ((?:[^"\s]+ |"[^"]*" )*?)(global|constant) ')
 ELSEWHERE = {'external', 'extern_weak', 'available_externally', 'appending'}
@@ -133,14 +134,14 @@ def functions_of(lines):
         at += 1
 
 
-def simulations(lines, places, globals_, edits):
+def simulations(lines, places, globals_, edits, sites):
     """What `--orders` does to each function, by where it begins. Parts of the library stay as they are."""
     if 'orders' not in edits:
         return {}
     groups = {found.group(1) for line in lines if (found := AS_IT_IS.match(line))}
     hidden = simulate.Hidden(lines, [lines[at + 1:end] for at, end in places], globals_.constants)
     return {at: simulate.Simulation(hidden.shared_in(lines[at + 1:end]), 'library' in edits and
-                                    not groups.isdisjoint(GROUP.findall(lines[at])), 'typed' in edits)
+                                    not groups.isdisjoint(GROUP.findall(lines[at])), sites)
             for at, end in places}
 
 
@@ -153,7 +154,8 @@ def edit(text, edits):
     places = list(functions_of(lines))
     leaving = Leaving({DEFINE.match(lines[at]).group(1).strip('"'): lines[at + 1:end] for at, end in places},
                       'whole' in edits)
-    simulated = simulations(lines, places, globals_, edits)
+    sites = Sites([] if 'library' in edits or 'orders' not in edits else lines, 'typed' in edits)
+    simulated = simulations(lines, places, globals_, edits, sites)
     for at, end in places:
         out += lines[done:at]
         function = None if 'library' in edits else Function(lines[at:end], globals_)
@@ -173,4 +175,4 @@ def edit(text, edits):
     out = [line.replace(' builtin ', ' ', 1) if marked.match(line) else line for line in out]
     text = '\n'.join(f'{line[:-1]}sanitize_thread }}' if (found := marked.match(line)) and found.group(1) in groups else line
                      for line in out)
-    return simulate.declared(text) if simulated else text, left
+    return simulate.declared(text, sites) if simulated else text, left

@@ -13,6 +13,7 @@
 #define ORDERS
 #include "orders.h"
 #include "orders_gate.h"
+#include "orders_says.h"
 #include "orders_tables.h"
 #include "orders_plain.h"
 
@@ -44,20 +45,20 @@ static int place_of(u32 at, int log) {
         remove_known();
         l = find(at);
         if (overlaps(l, at, log))
-            atomics_of_mixed_sizes();
+            atomics_of_mixed_sizes(at);
     }
     return overlaps(l, at, log) ? l : new_place(at, log, -1);
 }
 
-static int atomic_place(int t, u32 at, int log, int writes) {
+static int atomic_place(int t, u32 at, int log, enum does does) {
     if (at & ((1u << log) - 1))
-        atomics_of_mixed_sizes();
+        atomics_of_mixed_sizes(at);
     int l = place_of(at, log);
     u64 p = orders.places[l];
     if (!knows(&orders.current[t], l, WRITE_KNOWN))
-        data_race(at);
-    if (writes && p & (ALL_READERS | MORE))
-        check_readers(t, l);
+        data_race(at, does, orders.wrote[l]);
+    if (does != READS && p & (ALL_READERS | MORE))
+        check_readers(t, l, does);
     if (!COUNT(p)) {
         put(&orders.near[l][0].value, load_real(at, log));
         orders.places[l] = p | MESSAGES(1);
@@ -104,6 +105,11 @@ static void release_view(int t, int l, view *v, const view *glued, int order) {
 #endif
 }
 
+/* Whether who reads a message doesn't know by it what the thread did before. */
+static u32 is_unreleased(int t, int order) {
+    return releases(order) || (fences() && !is_clear(&orders.released[t])) ? 0 : UNRELEASED;
+}
+
 /* A new message at position P; those from there on go up. Its value is put in by who calls, whose row in a trace has
    the line of source. */
 static void write_message(int t, int l, int p, int count, int order, int glued) {
@@ -118,8 +124,7 @@ static void write_message(int t, int l, int p, int count, int order, int glued) 
     }
     set_count(l, count, count + 1);
     message *made = message_at(l, p);
-    if (glued)
-        made->glued = glued;
+    made->about = by_me() | is_unreleased(t, order) | (glued ? GLUED : 0);
     set_position(&orders.current[t], l, p);
     release_view(t, l, &made->view, glued ? &message_at(l, p - 1)->view : 0, order);
     if (order == SEQ_CST && (!has_psc() || p > position(&orders.psc, l))) {
@@ -239,9 +244,28 @@ static void end_access(int t) {
 #define NEWEST (1ull << 61)
 INLINE message *message_of(u64 found) { return message_at(found >> 32 & 0xFFFF, (u32)found); }
 
+/* Whether a thread knows all that another one does: all that there is, where that has ended and left nothing. */
+static int knows_what(int t, u32 thread) {
+    const view *mine = &orders.current[t], *other = &orders.current[slots[thread]];
+    if (!is_clear(other))
+        return is_in(other, mine);
+    for (int l = places(); l--;)
+        if (!(orders.places[l] & BEHIND) && !is_known(mine, l))
+            return 0;
+    return 1;
+}
+
+/* What is read is news to the thread: whether with it nothing is known of what its writer did before. */
+static void look_at_news(int t, int l, int p, int order, u32 at, int log) {
+    u32 by = writer_of(l, p);
+    if (!ORDERS_NEWS || !by || (acquires(order) && !(by & UNRELEASED)) || knows_what(t, THREAD(by)))
+        return;
+    say_news(at, log, message_at(l, p)->value, by, acquires(order), fences());
+}
+
 static u64 begin_load(u32 at, int log, int order) {
     int again = begin_operation(at, LOADS);
-    int t = me(), l = atomic_place(t, at, log, 0), newest = COUNT(orders.places[l]) - 1, p = newest;
+    int t = me(), l = atomic_place(t, at, log, READS), newest = COUNT(orders.places[l]) - 1, p = newest;
     int oldest = position(&orders.current[t], l), least = least_of(oldest, l, order);
     if (least < newest) {
         if (least == oldest && !is_patient(t, l, oldest))
@@ -249,6 +273,8 @@ static u64 begin_load(u32 at, int log, int order) {
         p -= choose(newest - least + 1);
     }
     read_message(t, l, p, oldest, order);
+    if (p != oldest && p == newest)
+        look_at_news(t, l, p, order, at, log);
     if (again)
         count_read(t, l, p, newest, 0);
     return FOUND(l, p) | (p == newest ? NEWEST : 0) | (again && least == newest ? TELLS : 0);
@@ -257,26 +283,21 @@ static u64 begin_load(u32 at, int log, int order) {
 /* What was read where a newer message is there: a row of `show` has it, and the next one the newest. */
 static volatile u64 reads_old;
 
-INLINE void show_old(u32 at, int log, u64 value) {
+INLINE void show_old(u32 at, int log, u64 value, u64 found) {
     reads_old = value;
-    load_real(at, log);
+    u64 newest = load_real(at, log);
     reads_old = 0;
+    int l = found >> 32 & 0xFFFF;
+    say_old(at, log, value, newest, writer_of(l, COUNT(orders.places[l]) - 1));
 }
 
 INLINE u64 load(u32 at, int log, int order) {
-    if (!is_parallel())
-        return load_real(at, log);
-    u64 what = told_what(at, log, order);
-    u32 i = find_same(what, 0, 0);
-    if (i)
-        return value_told(i - 1);
     u64 found = begin_load(at, log, order);
     u64 value = found & NEWEST ? load_real(at, log) : message_of(found)->value;
     if (!(found & NEWEST))
-        show_old(at, log, value);
+        show_old(at, log, value, found);
     else if (found & TELLS)
-        tell(what, value);
-    end_access(me());
+        tell(told_what(at, log, order), value);
     return value;
 }
 
@@ -284,31 +305,26 @@ INLINE u64 load(u32 at, int log, int order) {
 static int position_of_store(int l, int count, int least) {
     int p = count, many = 1;
     for (int q = least + 1; q < count; q++)
-        many += !message_at(l, q)->glued;
+        many += !(message_at(l, q)->about & GLUED);
     for (int skip = many > 1 ? choose(many) : 0; skip; skip--)
-        while (message_at(l, --p)->glued)
+        while (message_at(l, --p)->about & GLUED)
             ;
     return p;
 }
 
 static u64 begin_store(u32 at, int log, int order) {
     begin_operation(at, STORES);
-    int t = me(), l = atomic_place(t, at, log, 1), count = COUNT(orders.places[l]);
+    int t = me(), l = atomic_place(t, at, log, WRITES), count = COUNT(orders.places[l]);
     int p = position_of_store(l, count, least_of(position(&orders.current[t], l), l, order));
     write_message(t, l, p, count, order, 0);
     return FOUND(l, p) | (p == count ? NEWEST : 0);
 }
 
 INLINE void store(u32 at, int log, u64 value, int order) {
-    if (!is_parallel()) {
-        store_real(at, log, value);
-        return;
-    }
     u64 found = begin_store(at, log, order);
     put(&message_of(found)->value, value);
     if (found & NEWEST)
         store_real(at, log, value);
-    end_access(me());
 }
 
 /* ---- Read-modify-writes ---- */
@@ -339,7 +355,7 @@ static u64 result(enum kind kind, u64 had, u64 x, int log) {
 /* Whether a message may be read by one that succeeds: no other may have read it. */
 static int can_change(int l, int q, int newest, enum kind kind, u64 expected, int least) {
     return q >= least && (kind < COMPARE || message_at(l, q)->value == expected) &&
-           (q == newest || !message_at(l, q + 1)->glued);
+           (q == newest || !(message_at(l, q + 1)->about & GLUED));
 }
 
 /* The same of one that fails, which is a load: of another value, or for nothing where it's weak. */
@@ -370,7 +386,7 @@ static u64 choose_change(int t, int l, int newest, int oldest, enum kind kind, u
 /* The message that was read; the one behind it is that of the change, and NEWEST says of that one whether it is. */
 static u64 begin_change(u32 at, int log, enum kind kind, u64 expected, int order, int failing) {
     int again = begin_operation(at, kind < COMPARE ? CHANGES : COMPARES);
-    int t = me(), l = atomic_place(t, at, log, 1), newest = COUNT(orders.places[l]) - 1;
+    int t = me(), l = atomic_place(t, at, log, CHANGES_IT), newest = COUNT(orders.places[l]) - 1;
     int oldest = position(&orders.current[t], l);
     u64 fails = choose_change(t, l, newest, oldest, kind, expected, order, failing);
     int p = (u32)fails;
@@ -378,6 +394,8 @@ static u64 begin_change(u32 at, int log, enum kind kind, u64 expected, int order
     if (fails && again && least_of(oldest, l, failing) == newest)
         fails |= TELLS;
     read_message(t, l, p, oldest, fails ? failing : order);
+    if (p != oldest && p == newest)
+        look_at_news(t, l, p, fails ? failing : order, at, log);
     if (!fails) {
         set_marks(own_marks() & ~STILL);
         write_message(t, l, p + 1, newest + 1, order, 1);
@@ -390,29 +408,19 @@ INLINE u64 change_alone(u32 at, int log, enum kind kind, u64 x, u64 expected) {
     u64 had = load_real(at, log);
     if (kind < COMPARE || had == expected)
         store_real(at, log, result(kind, had, x, log) & MASK(log));
+    else if (kind == COMPARE_WEAK)
+        set_failed(1);
     return had;
 }
 
-INLINE u64 change_value(u32 at, int log, enum kind kind, u64 x, u64 expected, int order, int failing) {
-    if (!is_parallel()) {
-        if (kind == COMPARE_WEAK && load_real(at, log) != expected)
-            set_failed(1);
-        return change_alone(at, log, kind, x, expected);
-    }
-    u64 what = told_what(at, log, failing);
-    u32 i = kind < COMPARE ? 0 : find_same(what, 1, expected);
-    if (i) {
-        if (kind == COMPARE_WEAK)
-            set_failed(1);
-        return value_told(i - 1);
-    }
+INLINE u64 modify(u32 at, int log, enum kind kind, u64 x, u64 expected, int order, int failing) {
     u64 found = begin_change(at, log, kind, expected, order, failing);
     u64 had = found & FAILED && found & NEWEST ? load_real(at, log) : message_of(found)->value;
     if (found & FAILED) {
         if (!(found & NEWEST))
-            show_old(at, log, had);
+            show_old(at, log, had, found);
         else if (found & TELLS && had != expected)
-            tell(what, had);
+            tell(told_what(at, log, failing), had);
     } else {
         u64 value = result(kind, had, x, log) & MASK(log);
         put(&message_of(found + 1)->value, value);
@@ -421,7 +429,6 @@ INLINE u64 change_value(u32 at, int log, enum kind kind, u64 x, u64 expected, in
     }
     if (kind == COMPARE_WEAK && found & FAILED)
         set_failed(1);
-    end_access(me());
     return had;
 }
 
@@ -455,13 +462,61 @@ void __wathread_fence(int order) {
     end_access(t);
 }
 
+static u64 joined;          /* bits by numbers: its end was taken, or nobody's, and may be asked for again */
+
+/* ---- In front of a trap that the program or the library asks for: who may still read what is old ---- */
+
+static u32 thread_of(int slot) {
+    u32 thread = slot ? 1 : 0;
+    while (thread && thread < NUMBERS - 1 && (slots[thread] != slot || joined >> thread & 1))
+        thread++;
+    return thread;
+}
+
+static void say_view(int t, int l, int newest, int log) {
+    SAY(", and t");
+    say_number(thread_of(t), 10);
+    SAY(" may still read ");
+    for (int p = position(&orders.current[t], l); p < newest; p++) {
+        if (p != position(&orders.current[t], l))
+            SAY(" or ");
+        say_value(message_at(l, p)->value, log);
+    }
+}
+
+static void say_views(void) {
+    u64 readers = looking;
+    for (int l = 0; l < places(); l++) {
+        u64 place = orders.places[l];
+        int newest = COUNT(place) - 1;
+        if (newest < 1 || place & BEHIND)
+            continue;
+        begin_line();
+        say_name(SITE(writer_of(l, newest)), AT(place));
+        SAY(" is ");
+        say_value(message_at(l, newest)->value, LOG(place));
+        for (int t = 0; readers >> t; t++)
+            if (readers >> t & 1 && position(&orders.current[t], l) < newest)
+                say_view(t, l, newest, LOG(place));
+        end_line();
+    }
+}
+
+void __wathread_traps(void) {
+    if (is_parallel()) {
+        enter_behind_start(me(), 0, 0);
+        say_views();
+        fails_inside();
+    } else
+        tell_helper(OVER);
+}
+
 /* ---- Threads ---- */
 
 static u64 detached;        /* bits by slots */
 static u64 left;            /* main's bit, while it has left and waits until all others have ended */
 static u8 joiner[THREADS];  /* who waits for a thread's end: its slot, plus 1 */
 static u32 results[NUMBERS];
-static u64 joined;          /* bits by numbers: its end was taken, or nobody's, and may be asked for again */
 static int chosen;          /* the slot of the thread that is started */
 static int will_end;        /* `main` was invoked, so orders_ends is called at its end */
 
@@ -545,6 +600,8 @@ static void end_all(int t) {
             clear_message(message_at(l, m));
         set_count(l, count, 0);
         orders.places[l] = 0;
+        if (orders.wrote[l])
+            orders.wrote[l] = 0;
     }
     put_head(0);
 }
@@ -817,7 +874,7 @@ static void forget_places(u32 at, u32 size, int touches) {
     for (int l = places(); l--;)
         if (!(orders.places[l] & BEHIND) && AT(orders.places[l]) - at < size) {
             if (touches)
-                touch(l, 1);
+                touch(l, FREES);
             remove_place(l);
         }
 }
@@ -852,19 +909,58 @@ void orders_taken(void *block, unsigned size) {
     leave(me());
 }
 
-void orders_reads(const void *from, unsigned size) { note((u32)from, size, READ); }
-void orders_writes(void *to, unsigned size) { note((u32)to, size, WRITE); }
+void orders_reads(const void *from, unsigned size) { note((u32)from, size, READ, own_site()); }
+void orders_writes(void *to, unsigned size) { note((u32)to, size, WRITE, own_site()); }
 
-/* ---- What the compiler's text calls (simulate.py): with numbers below 32 bits in 32, and addresses as numbers ---- */
+/* ---- What the compiler's text calls (simulate.py): with numbers below 32 bits in 32, and addresses as numbers. The last
+   argument is where that is in the source ---- */
 
+/* An operation at a site, or where there is none, at that of the call that it is a part of. */
+#define AT_SITE(operation)                                                                                             \
+    {                                                                                                                  \
+        u32 was = own_site();                                                                                          \
+        if (site)                                                                                                      \
+            set_site(site);                                                                                            \
+        operation;                                                                                                     \
+        end_access(me());                                                                                              \
+        set_site(was);                                                                                                 \
+    }
 #define ATOMICS(bits, log, type)                                                                                       \
-    type __wathread_load##bits(u32 at, int order) { return load(at, log, order); }                                     \
-    void __wathread_store##bits(u32 at, type x, int order) { store(at, log, x & MASK(log), order); }                   \
-    type __wathread_change##bits(u32 at, int kind, type x, int order) {                                                \
-        return change_value(at, log, kind, x & MASK(log), 0, order, 0);                                                \
+    type __wathread_load##bits(u32 at, int order, u32 site) {                                                          \
+        if (!is_parallel())                                                                                            \
+            return load_real(at, log);                                                                                 \
+        u32 i = find_same(told_what(at, log, order), 0, 0);                                                            \
+        if (i)                                                                                                         \
+            return value_told(i - 1);                                                                                  \
+        type had;                                                                                                      \
+        AT_SITE(had = load(at, log, order))                                                                            \
+        return had;                                                                                                    \
     }                                                                                                                  \
-    type __wathread_compare##bits(u32 at, type expected, type x, int order, int failing, int weak) {                   \
-        return change_value(at, log, weak ? COMPARE_WEAK : COMPARE, x & MASK(log), expected & MASK(log), order, failing); \
+    void __wathread_store##bits(u32 at, type x, int order, u32 site) {                                                 \
+        if (is_parallel())                                                                                             \
+            AT_SITE(store(at, log, x & MASK(log), order))                                                              \
+        else                                                                                                           \
+            store_real(at, log, x & MASK(log));                                                                        \
+    }                                                                                                                  \
+    type __wathread_change##bits(u32 at, int kind, type x, int order, u32 site) {                                      \
+        if (!is_parallel())                                                                                            \
+            return change_alone(at, log, kind, x & MASK(log), 0);                                                      \
+        type had;                                                                                                      \
+        AT_SITE(had = modify(at, log, kind, x & MASK(log), 0, order, 0))                                               \
+        return had;                                                                                                    \
+    }                                                                                                                  \
+    type __wathread_compare##bits(u32 at, type expected, type x, int order, int failing, int weak, u32 site) {         \
+        enum kind kind = weak ? COMPARE_WEAK : COMPARE;                                                                \
+        if (!is_parallel())                                                                                            \
+            return change_alone(at, log, kind, x & MASK(log), expected & MASK(log));                                   \
+        u32 i = find_same(told_what(at, log, failing), 1, expected & MASK(log));                                       \
+        if (i) {                                                                                                       \
+            set_failed(weak);                                                                                          \
+            return value_told(i - 1);                                                                                  \
+        }                                                                                                              \
+        type had;                                                                                                      \
+        AT_SITE(had = modify(at, log, kind, x & MASK(log), expected & MASK(log), order, failing))                      \
+        return had;                                                                                                    \
     }
 ATOMICS(8, 0, u32)
 ATOMICS(16, 1, u32)
@@ -876,5 +972,6 @@ int __wathread_failed(void) {
     set_failed(0);
     return failed;
 }
-void __wathread_reads(u32 at, u32 size) { note(at, size, READ); }
-void __wathread_writes(u32 at, u32 size) { note(at, size, WRITE); }
+void __wathread_at(u32 site) { set_site(site); } /* around a call of the library */
+void __wathread_reads(u32 at, u32 size, u32 site) { note(at, size, READ, site); }
+void __wathread_writes(u32 at, u32 size, u32 site) { note(at, size, WRITE, site); }

@@ -20,6 +20,9 @@ typedef uint8_t u8;
 #ifndef ORDERS_C11_SEQUENCES
 #define ORDERS_C11_SEQUENCES 0 /* 1: a release sequence has later stores of the same thread too, as before C++20 */
 #endif
+#ifndef ORDERS_NEWS
+#define ORDERS_NEWS 1         /* 0: nothing is said of what is read without release or acquire */
+#endif
 #define FROM_TO(least, most, n) ((n) < (least) ? (least) : (n) > (most) ? (most) : (n))
 
 enum {
@@ -54,6 +57,9 @@ OWN(failed, int, i32)   /* its last weak compare-exchange, until that is asked f
 OWN(noted, int, i32)    /* how many plain accesses it has noted */
 OWN(counted, int, i32)  /* whether it has counted what it read */
 OWN(done, u64, i64)     /* what it may have done to a place before */
+OWN(site, u32, i32)     /* where in the source it is (sites.py), while it is in the runtime, or 0 */
+OWN(letters, u64, i64)  /* of a line that it says, what isn't in its text yet (orders_says.h) */
+OWN(lettered, u32, i32) /* how many letters these are */
 #define TOLD(i)                                                                                                        \
     OWN(what##i, u64, i64) /* what it was told */                                                                      \
     OWN(value##i, u64, i64)
@@ -264,7 +270,7 @@ static void wakes(int t) {
     __builtin_wasm_memory_atomic_notify((int *)&asleep[t], 1);
 }
 
-/* ---- What ends a run: the name is what a trace says ---- */
+/* ---- How a run ends ---- */
 
 static void is_gone(int t) {
     running &= ~BIT(t);
@@ -281,21 +287,3 @@ static void fails_inside(void) {
     helper = 0;
     leave(me());
 }
-
-/* In front of a trap that the program or the library asks for. */
-void __wathread_traps(void) {
-    if (is_parallel()) {
-        enter_behind_start(me(), 0, 0);
-        fails_inside();
-    } else
-        tell_helper(OVER);
-}
-
-#define TRAPS __attribute__((noinline, noreturn)) static void
-#define FAILS { fails_inside(); __builtin_trap(); }
-/* The load is a row that has the name of the data. */
-TRAPS data_race(u32 at) { (void)*(volatile u8 *)at; fails_inside(); __builtin_trap(); }
-TRAPS use_after_free(void) FAILS
-TRAPS atomics_of_mixed_sizes(void) FAILS
-TRAPS orders_full_of_places__use_a_greater_pool(void) FAILS
-TRAPS orders_full_of_messages__use_a_greater_pool(void) FAILS

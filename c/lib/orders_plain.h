@@ -2,8 +2,11 @@
    5.1.2.4p25). They are noted, and looked at by the thread's next operation: until then nothing that it knows, or that is
    known of it, has changed. */
 
-enum { PENDING = 16, READ = 1, WRITE = 2 };
-static _Thread_local u64 pending[PENDING]; /* the address; above it READ or WRITE, and 4 times the size */
+enum { PENDING = 16, READ = 1, WRITE = 2, MOST_BYTES = (1 << 14) - 1 };
+static _Thread_local u64 pending[PENDING];
+/* Such a word: the address, of a module's 256 pages; how many bytes; READ or WRITE; and the site. */
+#define ACCESS(at, size, kind, site) ((at) | (u64)(size) << 24 | (u64)(kind) << 38 | (u64)(site) << 40)
+#define BYTES_OF(access) ((access) & (1ull << 38) - 1)
 
 int __wathread_is_constant(u32 at); /* start.s */
 
@@ -25,14 +28,34 @@ INLINE void store_real(u32 at, int log, u64 value) {
     }
 }
 
-static void check_readers(int t, int l) {
+/* Who reads by this slot, as it is said: not known where several threads have had it. */
+static u32 reader_of(int slot) {
+    u32 found = 0;
+    for (u32 thread = slot ? 1 : NUMBERS; thread < NUMBERS; thread++)
+        if (slots[thread] == slot) {
+            if (found)
+                return WHO_READ;
+            found = thread;
+        }
+    return WHO_READ | (found + 1) << SITE_BITS;
+}
+
+/* Who writes, and doesn't know a read, by the bits of those of a cell. */
+TRAPS races_with_reader(u32 at, enum does does, int first, cell unknown) {
+    int slot = first;
+    while (!(unknown & READ_KNOWN(slot)))
+        slot++;
+    data_race(at, does, reader_of(slot));
+}
+
+static void check_readers(int t, int l, enum does does) {
     u64 p = orders.places[l];
     for (int k = 0;; k++) {
         cell want = (cell)((p & ALL_READERS) >> 36 << 9);
         if (t / READERS == k)
             want &= ~READ_KNOWN(t);
         if (want && !knows(&orders.current[t], l + k, want))
-            data_race(AT(p));
+            races_with_reader(AT(p), does, k * READERS, want & ~orders.current[t].at[l + k]);
         if (!(p & MORE))
             return;
         p = orders.places[l + k + 1];
@@ -62,16 +85,19 @@ static void begin_anew(int l) {
     put(&orders.near[l][0].value, load_real(AT(p), LOG(p)));
 }
 
-static void touch(int l, int writes) {
+static void touch(int l, enum does does) {
     int t = me();
     u64 p = orders.places[l];
-    if (!knows(&orders.current[t], l, WRITE_KNOWN) || (COUNT(p) && position(&orders.current[t], l) != COUNT(p) - 1))
-        data_race(AT(p));
-    if (!writes) {
+    if (!knows(&orders.current[t], l, WRITE_KNOWN))
+        data_race(AT(p), does, orders.wrote[l]);
+    if (COUNT(p) && position(&orders.current[t], l) != COUNT(p) - 1)
+        data_race(AT(p), does, writer_of(l, COUNT(p) - 1) & ~UNRELEASED);
+    if (does == READS) {
         touch_reading(t, l);
         return;
     }
-    check_readers(t, l);
+    check_readers(t, l, does);
+    orders.wrote[l] = by_me();
     if (COUNT(p))
         begin_anew(l);
     for (int k = cells_of(l); k--;) {
@@ -105,7 +131,7 @@ static void touch_bytes(u32 at, u32 size, int writes) {
         if (meets && !COUNT(p) && (AT(p) < at || end_of(p) > end))
             split(l);
         else if (meets && AT(p) <= at) {
-            touch(l, writes); /* of an atomic a part is all */
+            touch(l, writes ? WRITES : READS); /* of an atomic a part is all */
             at = end_of(p);
         } else
             at += touch_new(at, meets ? AT(p) - at : end - at, writes);
@@ -115,12 +141,15 @@ static void touch_bytes(u32 at, u32 size, int writes) {
 /* At the beginning of each operation, inside. */
 static void look_at_noted(void) {
     int many = own_noted();
+    u32 site = own_site();
     for (int i = 0; i < many; i++) {
-        u64 what = pending[i];
+        u64 access = pending[i];
         pending[i] = 0;
-        touch_bytes((u32)what, what >> 34, what >> 32 & WRITE);
+        set_site(access >> 40);
+        touch_bytes(access & 0xFFFFFF, access >> 24 & MOST_BYTES, access >> 38 & WRITE);
     }
     set_noted(0);
+    set_site(site);
 }
 
 /* THREADS_OWN: starts, joins and ends, which come to the same in front of what a new thread does and behind it. */
@@ -157,27 +186,36 @@ static int begin_operation(u32 at, enum operation what) {
     return what < OTHERS && is_again(number, what);
 }
 
-/* Whether it's said already, or by more: a write says more than a read. */
-static int is_noted(u32 at, u32 what) {
+/* Whether it's noted already, or more: a write is more than a read. */
+static int is_noted(u64 access) {
     for (int i = 0; i < own_noted(); i++) {
         u64 had = pending[i];
-        if ((u32)had == at && had >> 34 == what >> 2) {
-            if (what & WRITE && !(had >> 32 & WRITE))
-                pending[i] = at | (u64)what << 32;
+        if (BYTES_OF(had) == BYTES_OF(access)) {
+            if (access >> 38 & WRITE && !(had >> 38 & WRITE))
+                pending[i] = access;
             return 1;
         }
     }
     return 0;
 }
 
-static void note(u32 at, u32 size, u32 kind) {
-    u32 what = size << 2 | kind;
-    if (!is_parallel() || !size || (kind == READ && __wathread_is_constant(at)) || is_noted(at, what))
+static void note_some(u32 at, u32 size, u32 kind, u32 site) {
+    u64 access = ACCESS(at, size, kind, site);
+    if (is_noted(access))
         return;
     if (own_noted() == PENDING) {
         begin_operation(0, OTHERS);
         leave(me());
     }
-    pending[own_noted()] = at | (u64)what << 32;
+    pending[own_noted()] = access;
     set_noted(own_noted() + 1);
+}
+
+static void note(u32 at, u32 size, u32 kind, u32 site) {
+    if (!is_parallel() || (kind == READ && __wathread_is_constant(at)) || (at | size) >> SITE_BITS)
+        return; /* what is out of bounds is a trap */
+    for (; size > MOST_BYTES; at += MOST_BYTES, size -= MOST_BYTES)
+        note_some(at, MOST_BYTES, kind, site);
+    if (size)
+        note_some(at, size, kind, site);
 }

@@ -16,8 +16,10 @@ enum { CELL_BITS = 16, PER_WORD = 4, WORDS = PLACES / PER_WORD, LANE = 127, READ
 
 typedef union { cell at[PLACES]; u64 words[WORDS]; } view;
 
-/* GLUED: a read-modify-write put it there, and nothing comes between it and what that read. */
-typedef struct { u64 value; u32 glued; view view; } message;
+/* Below: who wrote it (orders_says.h), but of the oldest one, which nobody reads as news. GLUED: a read-modify-write put it
+   there, and nothing comes between it and what that read. */
+typedef struct { u64 value, about; view view; } message;
+#define GLUED (1ull << 32)
 
 /* A place is a word: its address, the logarithm of its bytes, MORE where the next cell is its own too, which is then BEHIND;
    a bit for each thread that read it plainly since the last plain write; and how many messages it has, none where there was
@@ -45,6 +47,7 @@ static struct {
     u32 head;
     u64 counting;                              /* bits by slots: who has counted what it read */
     u64 places[PLACES];
+    u32 wrote[PLACES];                         /* who wrote a place plainly, the last one (orders_says.h) */
     message near[PLACES][NEAR];                /* the oldest messages of each place */
     u16 far[PLACES];                           /* where those behind them begin: a page, plus 1 */
     u16 next[PAGES];                           /* the one behind a page, plus 1, or LAST; 0: nobody's */
@@ -178,24 +181,24 @@ static __attribute__((noinline)) message *far_message(int l, int m) {
 
 INLINE message *message_at(int l, int m) { return m < NEAR ? &orders.near[l][m] : far_message(l, m); }
 
+INLINE u32 writer_of(int l, int m) { return (u32)message_at(l, m)->about; }
+
 static void clear_message(message *m) {
     put(&m->value, 0);
-    if (m->glued)
-        m->glued = 0;
+    put(&m->about, 0);
     clear(&m->view);
 }
 
 /* To where there is none. */
 static void move_message(message *to, message *from) {
-    u64 value = from->value;
-    u32 glued = from->glued;
+    u64 value = from->value, about = from->about;
     if (value) {
         to->value = value;
         from->value = 0;
     }
-    if (glued) {
-        to->glued = glued;
-        from->glued = 0;
+    if (about) {
+        to->about = about;
+        from->about = 0;
     }
     for (int w = words_used(); w--;) {
         u64 word = from->view.words[w];
@@ -372,7 +375,12 @@ static int cells_of(int l) {
 /* To where there is none, by words alone: what lies on a stack would be left there, and make more states. */
 static void move_place(int from, int to) {
     u64 p = orders.places[from];
+    u32 wrote = orders.wrote[from];
     orders.places[to] = p;
+    if (wrote) {
+        orders.wrote[to] = wrote;
+        orders.wrote[from] = 0;
+    }
     for (int m = 0; m < NEAR && m < COUNT(p); m++)
         move_message(&orders.near[to][m], &orders.near[from][m]);
     if (COUNT(p) > NEAR) {
@@ -414,6 +422,8 @@ static void remove_place(int l) {
     for (int m = COUNT(p); m--;)
         clear_message(message_at(l, m));
     set_count(l, COUNT(p), 0);
+    if (orders.wrote[l])
+        orders.wrote[l] = 0;
     for (int many = cells_of(l); many--;)
         take_out(l + many);
 }
@@ -487,10 +497,11 @@ static int new_place(u32 at, int log, int writer) {
         remove_known();
     for (int i = 0; i < FREED && orders.freed[i].size; i++)
         if (at - orders.freed[i].at < orders.freed[i].size)
-            use_after_free();
+            use_after_free(at);
     int l = find(at);
     put_in(l, a_place(at, log));
     if (writer >= 0) {
+        orders.wrote[l] = by_me();
         learn(&orders.current[writer], l, WRITE_KNOWN);
         return l;
     }
@@ -507,13 +518,14 @@ static void split(int l) {
     int many = cells_of(l);
     mark(NEWS);
     if (COUNT(p))
-        atomics_of_mixed_sizes();
+        atomics_of_mixed_sizes(AT(p));
     for (int k = 0; k < many; k++)
         orders.places[l + k] -= 1ull << 32;
     for (int k = 0; k < many; k++) {
         put_in(l + many + k, orders.places[l + k] + (1u << (LOG(p) - 1)));
         same_all(l + many + k, many);
     }
+    orders.wrote[l + many] = orders.wrote[l];
 }
 
 /* ---- Messages that nobody can read any more ---- */
@@ -524,8 +536,7 @@ static void drop(int l, int many) {
         clear_message(message_at(l, m));
     for (int m = 0; m < count; m++)
         move_message(message_at(l, m), message_at(l, m + many));
-    if (message_at(l, 0)->glued)
-        message_at(l, 0)->glued = 0;
+    put(&message_at(l, 0)->about, 0);
     set_count(l, had, count);
     lower_all(l, many);
     if (has_psc() && is_clear(&orders.psc))

@@ -3,6 +3,7 @@ runtime (orders.c), or has one in front of it.
 
 - An atomic access, a fence, a wait and a notify are calls in its place, with the address as a number, and the order.
 - A plain access is told: its address and its size. It stays what it is.
+- Both have a further argument, where they are in the source (sites.py).
 - In front of a trap that the source asks for the runtime is told that the thread has ended.
 
 This is done before anything is made better of the source, so nothing that LLVM makes of atomics is in the module. What is
@@ -10,7 +11,7 @@ left out is what no other thread can see: local variables whose address goes now
 """
 import re
 
-from blocks import DEBUG, NAME, end_of_type, split
+from blocks import DEBUG, NAME, callee, end_of_type, split
 
 ORDERS = {'unordered': 0, 'monotonic': 0, 'acquire': 2, 'release': 3, 'acq_rel': 4, 'seq_cst': 5}
 KINDS = {word: number for number, word in enumerate(['xchg', 'add', 'sub', 'and', 'or', 'xor', 'nand', 'max', 'min', 'umax',
@@ -26,14 +27,18 @@ WAIT = re.compile(rf'  (?:%{NAME} = )?(?:tail |notail )?call i32 @llvm\.wasm\.me
 BYTES = re.compile(rf'  (?:tail )?(?:call void|%{NAME} = (?:tail )?call .*?) @(?:llvm\.)?(memcpy|memmove|memset)'
                    r'(?:\.inline)?(?:\.[pi]\w+)*\((.*)\)(?: #\d+)?(?:, !.*)?$')
 TRAP = re.compile(r'  (?:tail )?call void @llvm\.(?:trap|ubsantrap)\(')
+# Functions of the library that touch what they are given: what they do is said to be where they are called.
+CALLED = re.compile(r'(?:free|realloc|qsort|bsearch|(?:mem|str)\w+|v?f?d?s?n?printf|puts|fputs|fwrite|write|'
+                    r'(?:pthread_(?:mutex|rwlock|spin|cond|barrier)|mtx|cnd|sem)_\w+)$')
 SCOPE = re.compile(r' syncscope\("[^"]*"\)')
 ATTRIBUTES = re.compile(r'^(?:(?:align \d+|\w+\([^()]*\)|noundef|nonnull|noalias|readonly|writeonly|nocapture) )*')
 WEAKER = re.compile(r'  (?:%[^ ]+ = )?(?:(?:load|store) atomic|cmpxchg|atomicrmw|fence (?!syncscope)).*?'
                     r' (?:monotonic|acquire|release|acq_rel)\b')
-RUNTIME = {'load': 'i{0} (i32, i32)', 'store': 'void (i32, i{0}, i32)', 'change': 'i{0} (i32, i32, i{0}, i32)',
-           'compare': 'i{0} (i32, i{0}, i{0}, i32, i32, i32)'}
-OTHERS = {'failed': 'i32 ()', 'fence': 'void (i32)', 'reads': 'void (i32, i32)', 'writes': 'void (i32, i32)',
-          'traps': 'void ()', 'wait32': 'i32 (i32, i32, i64)', 'wait64': 'i32 (i32, i64, i64)', 'notify': 'i32 (i32, i32)'}
+RUNTIME = {'load': 'i{0} (i32, i32, i32)', 'store': 'void (i32, i{0}, i32, i32)', 'change': 'i{0} (i32, i32, i{0}, i32, i32)',
+           'compare': 'i{0} (i32, i{0}, i{0}, i32, i32, i32, i32)'}
+OTHERS = {'failed': 'i32 ()', 'fence': 'void (i32)', 'reads': 'void (i32, i32, i32)', 'writes': 'void (i32, i32, i32)',
+          'at': 'void (i32)', 'traps': 'void ()', 'wait32': 'i32 (i32, i32, i64)', 'wait64': 'i32 (i32, i64, i64)',
+          'notify': 'i32 (i32, i32)'}
 # A section of objects and modules that are made so: wathread-link tells them from others.
 MARK = 'wathread.orders'
 
@@ -86,21 +91,21 @@ class Hidden:
         return shared
 
 
-def size_of(kind):
-    """How many bytes a type has, as a number or a constant of LLVM."""
+def size_of(kind, pointer):
+    """How many bytes a type has, as a number or a constant of LLVM; `pointer` is the type of its addresses."""
     if kind in BITS or kind == 'i1':
         return str(BITS.get(kind, 8) // 8)
     if kind == 'ptr' or kind.endswith('*'):
         return '4'
-    return f'ptrtoint ({{0}} getelementptr ({kind}, {{0}} null, i32 1) to i32)'
+    return f'ptrtoint ({pointer} getelementptr ({kind}, {pointer} null, i32 1) to i32)'
 
 
 class Simulation:
     """What is done to the accesses of one function. `shared` says of an operand whether others may see what it points
-    to; `is_as_it_is` where only waits and traps are told, as in parts of the library."""
+    to; `is_as_it_is` where only waits and traps are told, as in parts of the library; `sites` are those of the text."""
 
-    def __init__(self, shared, is_as_it_is, typed):
-        self.shared, self.is_as_it_is, self.typed, self.number = shared, is_as_it_is, typed, 0
+    def __init__(self, shared, is_as_it_is, sites):
+        self.shared, self.is_as_it_is, self.sites, self.number = shared, is_as_it_is, sites, 0
 
     def mark(self):
         self.number += 1
@@ -114,7 +119,7 @@ class Simulation:
     def told(self, what, operand, size, debug):
         """The lines in front of a plain access."""
         line, at = self.number_of(operand, debug)
-        return [line, f'  call void @__wathread_{what}(i32 {at}, i32 {size}){debug}']
+        return [line, f'  call void @__wathread_{what}(i32 {at}, i32 {size}, {self.sites.at(operand, debug)}){debug}']
 
     def lines(self, line):
         """A line as it is edited."""
@@ -131,6 +136,9 @@ class Simulation:
             found = pattern.match(line)
             if found:
                 return method(line, debug, *found.groups())
+        if debug and CALLED.match(callee(line) or ''):
+            return [f'  call void @__wathread_at({self.sites.at(None, debug)}){debug}', line,
+                    f'  call void @__wathread_at(i32 0){debug}']
         return [line]
 
     def wait(self, line, name, arguments, debug):
@@ -149,7 +157,8 @@ class Simulation:
             if kind_of(kind) not in BITS or not self.shared(place):
                 return [line]
             first, at = self.number_of(place, debug)
-            return [first, *self.answer(result, kind, f'load{BITS[kind_of(kind)]}', f'i32 {at}, i32 {ORDERS[order]}', debug)]
+            arguments = f'i32 {at}, i32 {ORDERS[order]}, {self.sites.at(place, debug)}'
+            return [first, *self.answer(result, kind, f'load{BITS[kind_of(kind)]}', arguments, debug)]
         if not self.shared(operand):
             return [line]
         return [*self.told('reads', operand, self.size(kind), debug), line]
@@ -164,8 +173,8 @@ class Simulation:
                 return [line]
             first, at = self.number_of(place, debug)
             lines, number = self.as_number(value, debug)
-            name = f'store{BITS[kind_of(kind)]}'
-            return [first, *lines, f'  call void @__wathread_{name}(i32 {at}, {number}, i32 {ORDERS[order]}){debug}']
+            arguments = f'i32 {at}, {number}, i32 {ORDERS[order]}, {self.sites.at(place, debug)}'
+            return [first, *lines, f'  call void @__wathread_store{BITS[kind_of(kind)]}({arguments}){debug}']
         if not self.shared(operand):
             return [line]
         return [*self.told('writes', operand, self.size(kind), debug), line]
@@ -181,7 +190,8 @@ class Simulation:
         more, changed = self.as_number(value, debug)
         mark, bits = self.mark(), BITS[kind_of(kind)]
         success, failure = [ORDERS[order] for order in orders]
-        arguments = f'i32 {at}, {number}, {changed}, i32 {success}, i32 {failure}, i32 {int(bool(weak))}'
+        arguments = f'i32 {at}, {number}, {changed}, i32 {success}, i32 {failure}, i32 {int(bool(weak))}, ' + \
+            self.sites.at(place, debug)
         if weak:
             test = [f'  {mark}.had = call i32 @__wathread_failed(){debug}', f'  {mark}.is = icmp eq i32 {mark}.had, 0{debug}']
         else:
@@ -198,7 +208,7 @@ class Simulation:
             return [line]
         first, at = self.number_of(place, debug)
         lines, number = self.as_number(value, debug)
-        arguments = f'i32 {at}, i32 {KINDS[what]}, {number}, i32 {ORDERS[order]}'
+        arguments = f'i32 {at}, i32 {KINDS[what]}, {number}, i32 {ORDERS[order]}, {self.sites.at(place, debug)}'
         return [first, *lines, *self.answer(result, kind, f'change{BITS[kind_of(kind)]}', arguments, debug)]
 
     def fence(self, line, debug, signal, order):
@@ -220,7 +230,7 @@ class Simulation:
         return [*lines, line]
 
     def size(self, kind):
-        return size_of(kind).format(f'{kind}*' if self.typed else 'ptr')
+        return size_of(kind, f'{kind}*' if self.sites.typed else 'ptr')
 
     def as_number(self, value, debug):
         """Lines that make a number of a value, and that number with its type: a pointer's is its address."""
@@ -243,10 +253,10 @@ def kind_of(kind):
     return 'i32' if kind == 'ptr' or kind.endswith('*') else kind
 
 
-def declared(text):
-    """The text with the runtime's functions that it calls, and the mark of what is made so."""
+def declared(text, sites):
+    """The text with the runtime's functions that it calls, its sites, and the mark of what is made so."""
     wanted = sorted(set(re.findall(r'@__wathread_(\w+)\(', text)))
-    lines = []
+    lines = sites.lines()
     for name in wanted:
         if re.search(rf'^(?:define|declare) .*@__wathread_{name}\(', text, re.M):
             continue

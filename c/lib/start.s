@@ -180,6 +180,9 @@ number_\name:
 #orders	number_of_thread counted, i32
 #orders	number_of_thread marks, i32
 #orders	number_of_thread head, i32
+#orders	number_of_thread site, i32
+#orders	number_of_thread lettered, i32
+#orders	number_of_thread letters, i64
 #orders	number_of_thread done, i64
 #orders	number_of_thread inside, i64
 #orders	number_of_thread what0, i64

@@ -2,8 +2,9 @@
 # tests/orders.sh [WATHREAD]: what `wathread-cc --orders c11` finds. The programs of tests/orders/accesses in drawn runs, at
 # -O1 and -O0, each with what it is to end as on its first line (`EXPECT ok`, `trap`, `asleep`, or a name in a trace); those
 # that fill a table once more, with a greater pool; those of tests/orders/algorithms, which are right; and bugs planted in
-# the runtime, each found by a litmus test of bench/orders, or by a loop that then waits for ever. Prints a table. WATHREAD
-# is the program, or ../wathread. CC names the clang; RUNS is how many are drawn.
+# the runtime, each found by a litmus test of bench/orders, by a loop that then waits for ever, or by what is said. Of some
+# programs each line that the runtime says in a run that fails. Prints a table. WATHREAD is the program, or ../wathread. CC
+# names the clang; RUNS is how many are drawn; ONLY=says leaves out all but what is said.
 set -u
 here=$(cd "$(dirname "$0")/.." && pwd)
 export WATHREAD=${1:-$here/../wathread}
@@ -86,9 +87,87 @@ planted_loop() { # what, file, edit, algorithm
     say "planted" "" "$1" "$4: $out"
 }
 
+# What is said, but for a failed assert, with an x in place of each address. Of which threads may read what, main's view may
+# be there too.
+said() {
+    "$WATHREAD" show "$work/m.wasm" "$work/r" --text |
+        sed -E '/: seen == 42$/d; s/^[0-9]+ +//; s/0x[0-9a-f]+/x/; s/, and t0 may still read 0//; / is [0-9]*$/d'
+}
+
+# What t2 has to say of a program of tests/orders/accesses, NAME being how its file is called there.
+wanted() { # program, name
+    local unknown="isn't known with it" late='and nothing orders that before this'
+    case $1 in
+    mp_stale) cat <<END ;;
+$2:12 reads ready = 1, which t1 wrote at $2:8 without release: what t1 did before $unknown
+$2:13 reads data = 0, which is old: t1 wrote 42 at $2:7, $late
+data is 42, and t2 may still read 0
+END
+    unacquired) cat <<END ;;
+$2:11 reads ready = 1 without acquire, which t1 wrote at $2:7: what t1 did before $unknown
+data race: $2:12 reads data, which t1 wrote at $2:6, $late
+END
+    unreleased) cat <<END ;;
+is it done?
+$2:13 reads done = -1, which t1 wrote at $2:8 without release: what t1 did before $unknown
+ it is
+data race: $2:14 writes box.in.data[1], which t1 reads or read, $late
+END
+    freed) echo "use after free: $2:13 touches x, in a block that was freed" ;;
+    mixed) echo "mixed sizes: $2:9 touches both.half by an atomic access of another size than before, or not aligned:" \
+        "C has none" ;;
+    esac | sed 's/^/t2 says: /'
+}
+
+# Whether a run of a program that fails says what it has to, and one of a program that doesn't fail, nothing.
+says() { # the compiler's folder, a program, the name of the file, words of wathread-cc
+    cp "$here/tests/orders/accesses/$2.c" "$work/$3"
+    build "$1" -O1 "$work/$3" "${@:4}"
+    if [ "$2" = futex ]; then
+        "$WATHREAD" search "$work/m.wasm" --invoke main --runs 1 --find 'thread 0' --limit 60000 --record "$work/r" >/dev/null
+    else
+        ending >"$work/ending"
+    fi
+    wanted "$2" "$3" >"$work/wanted"
+    [[ " ${*:4} " != *' -g0 '* ]] || sed -i -E "s/$3:[0-9]+ //; s/ at $3:[0-9]+//; s/ (ready|data)/ x/" "$work/wanted"
+    said | cmp -s - "$work/wanted"
+}
+
+told() { # the same as a row of the table
+    local got="as wanted"
+    says "$here" "$@" || { wrong=1 && got=WRONG; }
+    say "$1" "${3:-}" "what is said" "$got"
+}
+
+# It has to change what is said of a program.
+planted_said() { # what, file, edit, program
+    plant "$@" || return
+    local out="others of $4"
+    ! says "$work/c" "$4" "$4.c" || { wrong=1 && out='NOT FOUND'; }
+    say "planted" "" "$1" "$out"
+}
+
+all_told() {
+    local name
+    for name in mp_stale unacquired unreleased freed mixed futex; do
+        told $name $name.c
+    done
+    told mp_stale mp_stale.c -g0
+    told unacquired 'an "odd" n\äme.c'
+    planted_said "another thread is told" orders_says.h 's/\(thread_self\(\) \+ 1\)/(thread_self() + 2)/' unacquired
+    planted_said "another place is told" orders_plain.h 's/^        set_site\(access >> 40\);/        ;/' unreleased
+    planted_said "it's said where nothing lacks" orders.c 's/^    if \(!ORDERS_NEWS .*/    if (!by)/' futex
+    planted_said "a line isn't ended" orders_says.h 's/^static void begin_line.*/static void begin_line(void) {}/' unreleased
+}
+
+if [ "${ONLY:-}" = says ]; then
+    all_told
+    exit $wrong
+fi
 accesses
 room
 algorithms
+all_told
 planted "an acquire joins no view" orders.c 's/^    if \(acquires\(order\)\)$/    if (0)/' MP+rel+acq
 planted "a release leaves no view" orders.c 's/mine = releases\(order\) \?/mine = 0 ?/' MP+rel+acq
 planted "no old message is read" orders.c 's/^        p -= choose\(newest - least \+ 1\);/        p -= 0;/' SB+rlx+rlx
