@@ -113,15 +113,16 @@ def mapped(lines):
             yield int(found[1], 16), int(found[2], 16), found[4].replace('__wathread_', '')
 
 
-def data_of(lines, its_object):
-    """The data of an object by the linker's map: of each part its segment, its place and its size."""
+def data_of(lines):
+    """The data of all objects by the linker's map: of each part its segment, place, size, object and name."""
     segment = ''
     for line in lines:
         found = MAPPED.match(line)
         if found and not found[3]:
             segment = found[4]
-        elif found and len(found[3]) == PART and found[1] != '-' and found[4].startswith(its_object + ':('):
-            yield segment, int(found[1], 16), int(found[2], 16)
+        elif found and len(found[3]) == PART and found[1] != '-':
+            its_object, _, part = found[4].rpartition(':')
+            yield segment, int(found[1], 16), int(found[2], 16), its_object, part
 
 
 def place_of(lines, name):
