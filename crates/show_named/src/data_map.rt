@@ -31,6 +31,9 @@ const MOST_VALUES: u64 = 256;
 /// How many steps all moments of a page take at most.
 const PAGE_STEPS: u64 = 1 << 28;
 
+/// How many steps the types of all places that entries touch take at most.
+const SIGN_STEPS: u64 = 1 << 26;
+
 /// How many steps a byte of the entries takes at most, on average, where all entries are asked.
 const BYTE_STEPS: u64 = 4;
 
@@ -110,8 +113,9 @@ impl<'n> DataMap<'n> {
         ensures parts { IfOk result (λ c. c.parts.now ≡ code.entry.parts.now) }
         ensures others { IfOk result (λ c. c ≡ record code.entry { signed = c.signed }) }
     {
-        self.units.allow(self.steps);
-        let signed = signed_in(alloc, &self.units, &self.spans, log)?;
+        self.units.allow_in_all(SIGN_STEPS);
+        let signed = signed_in(alloc, &self.units, &self.spans, log, NAME_STEPS)?;
+        self.units.allow_in_all(u64::MAX);
         Ok(code.with_signed(signed))
     }
 

@@ -36,12 +36,14 @@ fn is_signed(
     })
 }
 
-/// The data of signed integer types of which the entries touch just the bytes.
+/// The data of signed integer types of which the entries touch just the bytes, as far as each of them takes not more than
+/// so many steps.
 pub(crate) fn signed_in(
     alloc: Global,
     units: &Units,
     data: &Spans,
     log: &[Entry],
+    steps: u64,
 ) -> Result<Spans, AllocError> {
     let mut signed = Vec::new(alloc);
     let mut last = None;
@@ -50,6 +52,7 @@ pub(crate) fn signed_in(
             continue;
         }
         last = Some(*addrs);
+        units.allow(steps);
         if is_signed(alloc, units, data, *addrs)? {
             signed.push(Spanned {
                 start: addrs.first,
