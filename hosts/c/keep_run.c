@@ -1,7 +1,7 @@
 /* Checks a plug-in, makes 20 runs of it, keeps the record of the first that ends otherwise than run 1, and replays it.
  * Then eight threads make these runs at once, 1,000 each, and each run has to end as it did before.
  *
- *     keep_run MODULE
+ *     keep_run MODULE [CALLS]
  */
 #include <inttypes.h>
 #include <pthread.h>
@@ -11,11 +11,12 @@
 
 #include "wathread.h"
 
-enum { SEED = 4, RUNS = 20, THREADS = 8, CALLS = 1000 };
+enum { SEED = 4, RUNS = 20, THREADS = 8 };
 enum { MOST_MODULE = (1 << 20) + 1, MOST_RECORD = 1 << 20, MOST_TEXT = 1 << 16 };
 
 static uint8_t module[MOST_MODULE];
 static size_t module_len;
+static int calls = 1000;
 static struct wathread_answer ends[RUNS + 1];
 
 static uint32_t run(uint64_t number, uint8_t *record, size_t record_len, struct wathread_answer *end)
@@ -48,7 +49,7 @@ static const char *words(const struct wathread_answer *end)
 static void *make_runs(void *alike)
 {
     uint8_t nothing[1];
-    for (int n = 0; n < CALLS; n++) {
+    for (int n = 0; n < calls; n++) {
         struct wathread_answer end;
         uint64_t number = (uint64_t)(n % RUNS + 1);
         if (run(number, nothing, 0, &end) <= WATHREAD_ENDED && are_alike(&end, &ends[number]))
@@ -85,9 +86,10 @@ int main(int argc, char **argv)
 {
     static uint8_t record[MOST_RECORD], text[MOST_TEXT + 1], nothing[1];
     struct wathread_answer answer;
-    FILE *file = argc == 2 ? fopen(argv[1], "rb") : NULL;
+    FILE *file = argc > 1 ? fopen(argv[1], "rb") : NULL;
     if (!file)
-        return fprintf(stderr, "keep_run MODULE\n"), 3;
+        return fprintf(stderr, "keep_run MODULE [CALLS]\n"), 3;
+    calls = argc > 2 ? atoi(argv[2]) : calls;
     module_len = fread(module, 1, sizeof module, file);
     fclose(file);
     uint32_t status = wathread_check(module, module_len, text, MOST_TEXT, &answer);
@@ -113,6 +115,6 @@ int main(int argc, char **argv)
     text[answer.text] = 0;
     printf("replay: %s\n", outcome((char *)text));
     int alike = make_at_once();
-    printf("%d threads: %d of %d runs ended as before\n", THREADS, alike, THREADS * CALLS);
-    return alike == THREADS * CALLS ? 0 : 1;
+    printf("%d threads: %d of %d runs ended as before\n", THREADS, alike, THREADS * calls);
+    return alike == THREADS * calls ? 0 : 1;
 }
