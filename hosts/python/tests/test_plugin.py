@@ -5,6 +5,8 @@ from importlib import metadata
 
 import pytest
 
+from wathread._program import Program
+
 PROGRAM = os.environ.get("WATHREAD_PROGRAM") or shutil.which("wathread")
 # Where the package is installed, pytest finds the plugin itself.
 IS_INSTALLED = any(it.metadata["Name"] == "wathread" for it in metadata.distributions())
@@ -13,12 +15,12 @@ PLUGIN = [] if IS_INSTALLED else ["-p", "wathread.pytest_plugin"]
 
 @pytest.fixture
 def tests(pytester, examples, monkeypatch):
-    """Makes a test of these lines, beside the example modules, and runs it with these words; without a program."""
+    """Makes a test of these lines, beside the example modules, and runs it with these words; what is on the path doesn't count."""
     for name in ("c/broken_lock.wasm", "bugs/barrier.wasm", "bugs/lost_wakeup.wasm", "bugs/order.wasm", "search/peterson.wasm",
                  "c/broken_lock.record"):
         shutil.copy(examples / name, pytester.path)
-    (pytester.path / "empty").mkdir()
-    monkeypatch.setenv("PATH", str(pytester.path / "empty"))
+    find = Program.find
+    monkeypatch.setattr(Program, "find", lambda named=None: find(named) if named else None)
 
     def run(lines, *words):
         pytester.makepyfile("def test_it(wathread):\n    " + lines)
