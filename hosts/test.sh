@@ -1,6 +1,6 @@
 #!/bin/bash
-# Builds and runs the tests and the example of each way into the library, over an installation in a folder of its own, with
-# a name that has a space; and says of each whether it passed, failed, or was skipped since the machine hasn't what it
+# Builds and runs the tests and the example of each way into the library, over an installation in a folder of its own,
+# whose name has a space; and says of each whether it passed, failed, or was skipped since the machine hasn't what it
 # takes. The status is 1 where one failed.
 #
 #   hosts/test.sh [NAME..]    of these alone: shared c pkgconfig cmake cxx python mypy pip rust go manual deb
@@ -48,9 +48,10 @@ python_with() {
 
 test_shared() {
     has nm || return 77
-    local names
-    names=$(nm -D --defined-only "$place/lib/libwathread.so" | sed -n 's/.* T //p' | sed 's/@.*//' | sort | tr '\n' ' ')
-    [ "$names" = "wathread_check wathread_replay wathread_run wathread_search " ] || { echo "it exports $names"; return 1; }
+    local names declared
+    names=$(nm -D --defined-only "$place/lib/libwathread.so" | sed -n 's/.* [^A] //p' | sed 's/@.*//' | LC_ALL=C sort)
+    declared=$(grep -o '\bwathread_[a-z_]*(' "$place/include/wathread.h" | tr -d '(' | LC_ALL=C sort)
+    [ "$names" = "$declared" ] || { echo "it exports $names"; return 1; }
     has readelf || return 0
     readelf -d "$place/lib/libwathread.so.0" | grep -q 'SONAME.*\[libwathread.so.0\]'
 }
@@ -76,11 +77,12 @@ test_cmake() {
     has cmake || return 77
     has "$CC" || return 77
     local it
-    cmake -S "$top/hosts/c" -B "$room/cmake" -DCMAKE_PREFIX_PATH="$place" >"$room/said" && cmake --build "$room/cmake" >>"$room/said" ||
+    configure() { cmake -S "$1" -B "$2" -DCMAKE_PREFIX_PATH="$place" >"$room/said" 2>&1; }
+    configure "$top/hosts/c" "$room/cmake" && cmake --build "$room/cmake" >>"$room/said" ||
         { cat "$room/said"; return 1; }
     for it in keep_run keep_run_shared; do run_example "$room/cmake/$it" || return; done
     sed 's/wathread 0.1/wathread 9.0/' "$top/hosts/c/CMakeLists.txt" >"$room/CMakeLists.txt"
-    ! cmake -S "$room" -B "$room/newer" -DCMAKE_PREFIX_PATH="$place" >"$room/said" 2>&1 && grep -q 'version: 0.1.0' "$room/said"
+    ! configure "$room" "$room/newer" && grep -q "version: $(version_of_sources)" "$room/said"
 }
 
 test_cxx() {
@@ -161,21 +163,20 @@ test_deb() {
     [ "$(id -u)" = 0 ] || { has fakeroot || return 77; as=(fakeroot); }
     it=(dpkg "--root=$root" --force-depends --force-not-root --log=/dev/null)
     "${as[@]}" "${it[@]}" --install "$package" >"$room/said" 2>&1 || { cat "$room/said"; return 1; }
-    [ "$("$root/usr/bin/wathread" run "$top/examples/atomic_add.wasm" --invoke f)" = $'thread 0: ok i32:0\npages 1' ] || return
+    "$root/usr/bin/wathread" check "$lock" || return
     cmp "$root/usr/libexec/wathread/wathread" "$place/libexec/wathread/wathread" || return
     $CC -pthread -I "$root/usr/include" "$top/hosts/c/keep_run.c" -L "$root/usr/lib/x86_64-linux-gnu" -lwathread \
         -o "$room/keep_deb" || return
     LD_LIBRARY_PATH="$root/usr/lib/x86_64-linux-gnu" run_example "$room/keep_deb" || return
     "${as[@]}" "${it[@]}" --purge wathread >"$room/said" 2>&1 || { cat "$room/said"; return 1; }
-    [ -z "$(find "$root" -name '*wathread*' ! -path '*/var/lib/dpkg/status*')" ] || { find "$root" -name '*wathread*'; return 1; }
+    [ -z "$(find "$root" -name '*wathread*')" ] || { find "$root" -name '*wathread*'; return 1; }
     ! has lintian || lintian --fail-on error,warning --allow-root "$package" >&2
 }
 
 # Runs a test in a shell of its own.
 try() {
     local status=0
-    (set +e; "test_$1"; status=$?; [ $status != 77 ] || echo "$missing" >"$room/missing"; exit $status) >"$room/log" 2>&1 ||
-        status=$?
+    (set +e; "test_$1"; status=$?; echo "${missing-}" >"$room/missing"; exit $status) >"$room/log" 2>&1 || status=$?
     case $status in
         0) echo "$1: passed" && passed=$((passed + 1)) ;;
         77) echo "$1: skipped, there's no $(cat "$room/missing")" && skipped=$((skipped + 1)) ;;

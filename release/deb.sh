@@ -1,11 +1,11 @@
 #!/bin/bash
-# Makes a Debian package of the program, the tools for C, the library for hosts, its headers, the pages, the manual pages,
-# the completions, the licence and the schema.
+# Makes a Debian package of the program, the tools for C, the library for hosts, its headers, the pages, the manual
+# pages, the completions, the licence and the schema.
 #
 #   release/deb.sh [FOLDER]    puts wathread_VERSION_amd64.deb into FOLDER, without it out/
 #
-# It takes dpkg-deb, nm, strip and a C compiler. DEBFULLNAME and DEBEMAIL name the maintainer, without them the author of
-# the last commit, whose time is that of the files.
+# It takes dpkg-deb, nm, strip and a C compiler. DEBFULLNAME and DEBEMAIL name the maintainer, without them the author
+# of the last commit, whose time is that of the files.
 set -eu
 umask 022
 top=$(cd "$(dirname "$0")/.." && pwd)
@@ -35,7 +35,7 @@ put_files() {
     mv "$root/usr/lib/libwathread.a" "$room"
     rm -rf "$root/usr/lib"
     "$top/release/install_library.sh" "$room/libwathread.a" "$root/usr" "$lib" /usr >/dev/null
-    # What is proved is linked into the program as it is: that stays byte for byte the one that ./wathread --prove makes.
+    # The program stays byte for byte the one that ./wathread --prove makes.
     strip --strip-unneeded "$root/usr/$lib/libwathread.so.$version"
     chmod 644 "$root/usr/$lib/libwathread.so.$version"
     mkdir -p "$root/usr/share/zsh/vendor-completions"
@@ -65,8 +65,8 @@ END
 }
 
 put_changelog() {
-    printf 'wathread (%s) unstable; urgency=low\n\n  * Version %s.\n\n -- %s  %s\n' "$version" "$version" "$maintainer" \
-        "$(date -uRd "@$SOURCE_DATE_EPOCH")"
+    printf 'wathread (%s) unstable; urgency=low\n\n  * Version %s.\n\n -- %s  %s\n' "$version" "$version" \
+        "$maintainer" "$(date -uRd "@$SOURCE_DATE_EPOCH")"
 }
 
 put_overrides() {

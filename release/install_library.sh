@@ -5,8 +5,8 @@
 #   release/install_library.sh ARCHIVE DIR [LIB [PREFIX]]
 #
 # LIB is the libraries' folder within DIR, without it lib. What pkg-config reads says where DIR is by its own place, or
-# that it will be PREFIX. Without a C compiler and ld there is no shared object, which standard error says; the status is
-# 0 then too.
+# that it will be PREFIX. Without a C compiler and ld there is no shared object, which standard error says; the status
+# is 0 then too.
 set -eu
 top=$(cd "$(dirname "$0")/.." && pwd)
 . "$top/release/package.sh"

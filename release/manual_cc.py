@@ -38,7 +38,8 @@ class Option:
 
 def read():
     """The usage, what it does, its options, and what stands behind them."""
-    said = subprocess.run([os.path.join(TOP, "c", NAME), "--help"], stdout=subprocess.PIPE, check=True, text=True).stdout
+    words = [os.path.join(TOP, "c", NAME), "--help"]
+    said = subprocess.run(words, stdout=subprocess.PIPE, check=True, text=True).stdout
     usage, about, rest = said.split("\n\n", 2)
     listed, behind = rest.split("\n\n", 1)
     found = []
@@ -65,13 +66,14 @@ def manual(usage, about, options, behind):
 
 
 def bash(options):
-    out = [f"# Completions of {NAME} for bash. {HEAD}", "_wathread_cc() {", "    local word=$2 before=$3", "    COMPREPLY=()"]
-    out += ["    case $before in"]
+    out = [f"# Completions of {NAME} for bash. {HEAD}", "_wathread_cc() {", "    local word=$2 before=$3"]
+    out += ["    COMPREPLY=()", "    case $before in"]
+    set_to = '        {}) COMPREPLY=($(compgen {} -- "$word")); return ;;'.format
     for it in options:
         if it.words:
-            out += [f"        {it.names[-1]}) COMPREPLY=($(compgen -W \"{' '.join(it.words)}\" -- \"$word\")); return ;;"]
+            out += [set_to(it.names[-1], f'-W "{" ".join(it.words)}"')]
         elif it.is_file:
-            out += [f"        {it.names[-1]}) COMPREPLY=($(compgen -f -- \"$word\")); return ;;"]
+            out += [set_to(it.names[-1], "-f")]
         elif it.value:
             out += [f"        {it.names[-1]}) return ;;"]
     names = " ".join(name for it in options for name in it.names)
@@ -84,7 +86,8 @@ def zsh(options):
     out = [f"#compdef {NAME}", f"# Completions of {NAME} for zsh. {HEAD}", "_arguments \\"]
     for it in options:
         text = it.text.replace("\\", "\\\\").replace("[", "\\[").replace("]", "\\]")
-        action = f":{it.value}:" + (f"({' '.join(it.words)})" if it.words else "_files" * it.is_file) if it.value else ""
+        action = f"({' '.join(it.words)})" if it.words else "_files" if it.is_file else ""
+        action = f":{it.value}:{action}" if it.value else ""
         if it.list:
             out += [f"    {quoted(f'{it.names[0]}=-[these alone]:LIST:_values -s , what ' + ' '.join(it.list))} \\"]
         out += [f"    {quoted(f'{name}[{text}]{action}')} \\" for name in it.names]
@@ -96,7 +99,8 @@ def fish(options):
     for it in options:
         for name in it.names:
             flag = f"-l {name[2:]}" if name.startswith("--") else f"-s {name[1:]}"
-            value = f" -x -a {quoted(' '.join(it.words))}" if it.words else " -r" if it.is_file else " -x" if it.value else ""
+            value = " -r" if it.is_file else " -x" if it.value else ""
+            value += f" -a {quoted(' '.join(it.words))}" if it.words else ""
             out += [f"complete -c {NAME} {flag}{value} -d {quoted(it.text)}"]
     return "\n".join(out) + "\n"
 

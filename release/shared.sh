@@ -1,11 +1,11 @@
 #!/bin/bash
-# The library for hosts as a shared object: libwathread.so.VERSION, and beside it the links libwathread.so.N, which is its
-# SONAME, and libwathread.so.
+# The library for hosts as a shared object: libwathread.so.VERSION, and beside it the links libwathread.so.N, which is
+# its SONAME, and libwathread.so.
 #
 #   release/shared.sh [ARCHIVE [FOLDER]]    of lib/libwathread.a, into the archive's folder
 #
-# $CC links it, or cc, gcc or clang, or else ld. It exports the calls of include/wathread.h and nothing else, which nm has
-# to say of it.
+# $CC links it, or cc, gcc or clang, or else ld. It exports the calls of include/wathread.h and nothing else, which nm
+# has to say of it.
 set -eu
 top=$(cd "$(dirname "$0")/.." && pwd)
 . "$top/release/package.sh"

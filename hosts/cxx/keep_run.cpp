@@ -85,8 +85,8 @@ try {
         std::cout << runs << " runs end alike\n";
         return 1;
     }
-    std::cout << "run " << kept << ": " << words(ends[static_cast<std::size_t>(kept - 1)]) << ", a record of " << record.size()
-              << " bytes\n";
+    std::cout << "run " << kept << ": " << words(ends[static_cast<std::size_t>(kept - 1)]) << ", a record of "
+              << record.size() << " bytes\n";
     std::cout << "replay: " << outcome(wathread::replay(module, record).object) << "\n";
     const int alike = make_at_once(module, ends, calls);
     std::cout << thread_count << " threads: " << alike << " of " << thread_count * calls << " runs ended as before\n";

@@ -64,7 +64,8 @@ void try_runs(const wathread::Bytes &add, const wathread::Bytes &fac)
     poor.fuel = 2;
     const wathread::Run stopped = wathread::run(add, "f", {}, poor);
     want(stopped.status == wathread::Status::ended && stopped.end.kind == wathread::Kind::stop, "two units don't do");
-    want(stopped.end.number == std::optional<std::uint32_t>(1) && stopped.units == 2, "it is out of fuel after two units");
+    want(stopped.end.number == std::optional<std::uint32_t>(1) && stopped.units == 2,
+         "it is out of fuel after two units");
 }
 
 // A run of which a thread spins until the record is full.
@@ -81,14 +82,17 @@ void try_search(const wathread::Bytes &peterson)
     want(found.status == wathread::Status::well && has(found.object, "\"verdict\":\"all\""), "Peterson's lock is one");
     wathread::Options few;
     few.states = 10;
-    want(wathread::search(peterson, "f", {wathread::i32(1)}, few).status == wathread::Status::ended, "10 states don't do");
+    want(wathread::search(peterson, "f", {wathread::i32(1)}, few).status == wathread::Status::ended,
+         "10 states don't do");
 }
 
 void try_refusals(const wathread::Bytes &add, const wathread::Bytes &lock)
 {
     using namespace wathread;
     const Bytes cut(add.begin(), add.begin() + 5);
-    for (const auto &fault : {refused<ModuleRefused>([&] { check(cut); }), refused<ModuleRefused>([&] { run(cut, "f"); })})
+    const auto checked = refused<ModuleRefused>([&] { check(cut); });
+    const auto made = refused<ModuleRefused>([&] { run(cut, "f"); });
+    for (const auto &fault : {checked, made})
         want(fault && fault->is_read() && fault->number() == 1 && fault->offset() == std::optional<std::uint64_t>(5),
              "a module that is cut ends at its length");
     want(bool(refused<ModuleRefused>([&] { check(Bytes()); })), "nothing is no module");

@@ -1,5 +1,5 @@
-// wathread for hosts in C++17, over wathread.h, which says what the calls do: vectors in place of buffers, and exceptions
-// in place of the statuses of what is refused. Calls on several threads at once are independent.
+// wathread for hosts in C++17, over wathread.h, which says what the calls do: vectors in place of buffers, and
+// exceptions in place of the statuses of what is refused. Calls on several threads at once are independent.
 #ifndef WATHREAD_HPP
 #define WATHREAD_HPP
 
@@ -250,7 +250,8 @@ inline CallRefused::CallRefused(const std::string &object)
     : Refused(Status::no_call, detail::fault_of("call", object), object) {}
 
 inline RecordRefused::RecordRefused(const std::string &object)
-    : Refused(Status::no_record, detail::fault_of("record", object), object), line_(detail::number_in(object, "line")) {}
+    : Refused(Status::no_record, detail::fault_of("record", object), object),
+      line_(detail::number_in(object, "line")) {}
 
 inline Check check(View module)
 {
@@ -266,8 +267,8 @@ inline Search search(View module, View name, const Words &args = {}, const Optio
     Search found;
     const wathread_options raw = options.raw();
     found.status = static_cast<Status>(detail::with_text(found.object, [&](Bytes &text, wathread_answer &answer) {
-        return wathread_search(module.data(), module.size(), name.data(), name.size(), detail::words_of(args), args.size(),
-                               &raw, text.data(), text.size(), &answer);
+        return wathread_search(module.data(), module.size(), name.data(), name.size(), detail::words_of(args),
+                               args.size(), &raw, text.data(), text.size(), &answer);
     }));
     return found;
 }

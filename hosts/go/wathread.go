@@ -122,8 +122,8 @@ func (s SearchResult) IsComplete() bool { return s.Verdict == "all" }
 // ErrNoMemory says that the system refused memory.
 var ErrNoMemory = errors.New("no memory")
 
-// ModuleError says that the bytes are no valid module's, with the kind and the place of the first fault, by the tables of
-// docs/LIMITS.md. Stage is "read", with an Offset, or "validity", in a body with Function and Instruction.
+// ModuleError says that the bytes are no valid module's, with the kind and the place of the first fault, by the tables
+// of docs/LIMITS.md. Stage is "read", with an Offset, or "validity", in a body with Function and Instruction.
 type ModuleError struct {
 	Stage                         string
 	Number                        uint64

@@ -42,7 +42,8 @@ def _files() -> Dict[str, bytes]:
     kept = {f"{PACKAGE}/{it.name}": it.read_bytes() for it in sorted((HERE / PACKAGE).iterdir()) if it.is_file()}
     is_pure = not any(".so" in name for name in kept)
     tag = "py3-none-any" if is_pure else "py3-none-linux_x86_64"
-    entries = "\n".join(f"{key} = " + value.strip('"') for key, value in parsed["project.entry-points.pytest11"].items())
+    named = parsed["project.entry-points.pytest11"].items()
+    entries = "\n".join(f"{key} = " + value.strip('"') for key, value in named)
     info = f"{project['name']}-{project['version']}.dist-info"
     wheel = f"Wheel-Version: 1.0\nGenerator: build_wheel\nRoot-Is-Purelib: {str(is_pure).lower()}\nTag: {tag}\n"
     kept[f"{info}/METADATA"] = _metadata(project).encode()

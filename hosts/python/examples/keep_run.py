@@ -19,8 +19,11 @@ SEED, RUNS, THREADS = 4, 20, 8
 
 def make_runs(module: bytes, ends: List[wathread.End], calls: int) -> int:
     """Makes the runs again, and counts those that end as before."""
-    numbers = [call % RUNS + 1 for call in range(calls)]
-    return sum(wathread.run(module, "main", seed=SEED, number=it, keep_record=False).end == ends[it - 1] for it in numbers)
+    alike = 0
+    for call in range(calls):
+        run = wathread.run(module, "main", seed=SEED, number=call % RUNS + 1, keep_record=False)
+        alike += run.end == ends[call % RUNS]
+    return alike
 
 
 def words(end: wathread.End) -> str:

@@ -98,7 +98,9 @@ def test_search(examples, barrier):
     assert wathread.search(barrier, "main").endless == 10
 
 
-@pytest.mark.parametrize("call", [wathread.check, lambda it: wathread.run(it, "f"), lambda it: wathread.search(it, "f")])
+@pytest.mark.parametrize(
+    "call", [wathread.check, lambda it: wathread.run(it, "f"), lambda it: wathread.search(it, "f")]
+)
 def test_a_module_is_refused_with_kind_and_place(add, call):
     with pytest.raises(wathread.ModuleRefused) as refused:
         call(add[:5])

@@ -15,9 +15,10 @@ PLUGIN = [] if IS_INSTALLED else ["-p", "wathread.pytest_plugin"]
 
 @pytest.fixture
 def tests(pytester, examples, monkeypatch):
-    """Makes a test of these lines, beside the example modules, and runs it with these words; what is on the path doesn't count."""
-    for name in ("c/broken_lock.wasm", "bugs/barrier.wasm", "bugs/lost_wakeup.wasm", "bugs/order.wasm", "search/peterson.wasm",
-                 "c/broken_lock.record"):
+    """Makes a test of these lines, beside the example modules, and runs it with these words. A program that is on the
+    path doesn't count."""
+    for name in ("c/broken_lock.wasm", "c/broken_lock.record", "bugs/barrier.wasm", "bugs/lost_wakeup.wasm",
+                 "bugs/order.wasm", "search/peterson.wasm"):
         shutil.copy(examples / name, pytester.path)
     find = Program.find
     monkeypatch.setattr(Program, "find", lambda named=None: find(named) if named else None)
@@ -76,12 +77,12 @@ def test_rows_of_what_never_ends(tests):
 
 
 @pytest.mark.parametrize("lines, words", [
-    ('wathread.search_all("peterson.wasm", "f", [1], states=10)', "*not all orders were gone through: too many states*"),
+    ('wathread.search_all("peterson.wasm", "f", [1], states=10)', "*not all orders*: too many states*"),
     ('wathread.search_all("barrier.wasm", "main")', "*main may never end: from which no run ends*"),
     ('wathread.search_all("lost_wakeup.wasm", "main")', "*may end otherwise: *stop asleep for good*"),
     ('wathread.search_all("broken_lock.wasm", "main", allow=[{1: "i32:2"}])', "*may end otherwise: *"),
     ('wathread.runs("broken_lock.wasm", "main", seed=4, count=20, allow=["i32:2"])', "*run 13 by seed 4 of main ends*"),
-    ('wathread.replay("broken_lock.wasm", "broken_lock.record", allow=["i32:2"])', "*the run of the record ends otherwise*"),
+    ('wathread.replay("broken_lock.wasm", "broken_lock.record", allow=["i32:2"])', "*the record ends otherwise*"),
 ])
 def test_what_may_not_come_fails(tests, lines, words):
     result = tests(lines)

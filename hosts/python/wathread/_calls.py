@@ -67,8 +67,9 @@ def _range(name: str, value: int, bits: int) -> int:
 
 def _options(*, seed: int = 1, run: int = 1, fuel: int = 0, limit: int = 1, strategy: Strategy = Strategy.MIX,
              depth: int = 3, states: int = 0, dump: int = 0) -> RawOptions:
-    return RawOptions(_range("seed", seed, 64), _range("run", run, 64), _range("fuel", fuel, 64), _range("limit", limit, 32),
-                      strategy, _range("depth", depth, 32), _range("states", states, 32), _range("dump", dump, 32))
+    return RawOptions(_range("seed", seed, 64), _range("run", run, 64), _range("fuel", fuel, 64),
+                      _range("limit", limit, 32), strategy, _range("depth", depth, 32), _range("states", states, 32),
+                      _range("dump", dump, 32))
 
 
 def _object(call: Callable[[Buffer, int, Answer], int]) -> Tuple[Status, Object]:
@@ -95,9 +96,10 @@ def check(module: Bytes) -> Checked:
     return Checked(int(found["functions"]), found)
 
 
-def run(module: Bytes, name: str, args: Sequence[Argument] = (), *, seed: int = 1, number: int = 1, fuel: int = 10_000_000,
-        limit: int = 10_000, strategy: Strategy = Strategy.MIX, depth: int = 3, keep_record: bool = True) -> Run:
-    """Makes the run of this number by this seed: the same one on every machine. An int among the arguments is an i32."""
+def run(module: Bytes, name: str, args: Sequence[Argument] = (), *, seed: int = 1, number: int = 1,
+        fuel: int = 10_000_000, limit: int = 10_000, strategy: Strategy = Strategy.MIX, depth: int = 3,
+        keep_record: bool = True) -> Run:
+    """Makes the run of this number by this seed, the same one on every machine. An int of the arguments is an i32."""
     options = _options(seed=seed, run=number, fuel=fuel, limit=limit, strategy=strategy, depth=depth)
     call = library().wathread_run
     size = _sizes.record if keep_record else 0
@@ -149,8 +151,9 @@ def replay(module: Bytes, record: Bytes, *, memory: bool = False) -> Replayed:
     return Replayed(status, ends_of(found["threads"]), int(found["pages"]), left, found)
 
 
-def search(module: Bytes, name: str, args: Sequence[Argument] = (), *, states: int = 1_000_000, dump: int = 0) -> Searched:
-    """Goes through every order of the threads' entries, and tells all endings. An int among the arguments is an i32."""
+def search(module: Bytes, name: str, args: Sequence[Argument] = (), *, states: int = 1_000_000,
+           dump: int = 0) -> Searched:
+    """Goes through every order of the threads' entries, and tells all endings. An int of the arguments is an i32."""
     options = _options(states=states, dump=dump)
     call = library().wathread_search
     status, found = _object(lambda text, size, answer: int(call(*_read(module), *_read(name.encode()), *_words(args),

@@ -52,8 +52,9 @@ class Program:
 
     def record_of(self, module: bytes, name: str, args: Sequence[Argument], find: str, states: int) -> Optional[bytes]:
         """The record of a run that a search through every order finds by these words, or nothing."""
-        words = ["search", "module.wasm", f"--invoke={name}", "--all", "--orders=all", f"--states={states}", f"--find={find}",
-                 "--record=run.record", f"--time={SECONDS // 2}", "--no-explain", "--", *map(_argument, args)]
+        words = ["search", "module.wasm", f"--invoke={name}", "--all", "--orders=all", f"--states={states}",
+                 f"--find={find}", "--record=run.record", f"--time={SECONDS // 2}", "--no-explain", "--"]
+        words += map(_argument, args)
         with _folder_with(module) as folder:
             self._said(folder, words)
             kept = folder / "run.record"

@@ -217,8 +217,8 @@ class Refused(WathreadError):
 
 
 class ModuleRefused(Refused):
-    """The bytes are no valid module's: `stage` is `read`, with `number` and `offset`, or `validity`, with `number`, and in
-    a body with `function` and `instruction`. docs/LIMITS.md has the tables."""
+    """The bytes are no valid module's: `stage` is `read`, with `number` and `offset`, or `validity`, with `number`, and
+    in a body with `function` and `instruction`. docs/LIMITS.md has the tables."""
 
     status = Status.NO_MODULE
 
@@ -245,7 +245,7 @@ class CallRefused(Refused):
 
 
 class RecordRefused(Refused):
-    """The bytes are no record's, or it is of no run of the module: `line` is the first wrong one, where one is named."""
+    """The bytes are no record's, or it is of no run of the module: `line` is the first wrong one, if one is named."""
 
     status = Status.NO_RECORD
 

@@ -3,9 +3,9 @@
     def test_lock(wathread):
         wathread.search_all("lock.wasm", "main", allow=["i32:2"])
 
-What is allowed is a result of thread 0 as the program has it, `i32:2`, `ok`, `trap unreachable`, where all other threads
-end well; or a dict of threads and their results, all others ending well. Without `allow` each thread has to end well. A
-module's path is relative to the folder of the test.
+What is allowed is a result of thread 0 as the program has it, `i32:2`, `ok`, `trap unreachable`, where all other
+threads end well; or a dict of threads and their results, all others ending well. Without `allow` each thread has to end
+well. A module's path is relative to the folder of the test.
 """
 from __future__ import annotations
 
@@ -56,8 +56,8 @@ def _line(ends: Mapping[int, End]) -> str:
 class Modules:
     """What the fixture `wathread` gives: each call raises where a module ends as isn't allowed."""
 
-    def __init__(self, folder: Path, report: Callable[[str, str], None], program: Optional[Program], rows: int, runs: int,
-                 keep: Optional[Path]) -> None:
+    def __init__(self, folder: Path, report: Callable[[str, str], None], program: Optional[Program], rows: int,
+                 runs: int, keep: Optional[Path]) -> None:
         self._folder, self._report, self._program = folder, report, program
         self._rows, self._runs, self._keep = rows, runs, keep
 
@@ -65,7 +65,8 @@ class Modules:
         return (self._folder / module).read_bytes()
 
     def search_all(self, module: Union[str, Path], name: str, args: Sequence[Argument] = (), *,
-                   allow: Optional[Sequence[Allowed]] = None, states: int = 1_000_000, may_never_end: bool = False) -> Searched:
+                   allow: Optional[Sequence[Allowed]] = None, states: int = 1_000_000,
+                   may_never_end: bool = False) -> Searched:
         """Goes through every order: all endings have to be met and allowed, and every run has to be able to end."""
         __tracebackhide__ = True
         data = self.read(module)
@@ -75,18 +76,18 @@ class Modules:
                 record = self._record_of(data, name, args, ending, states)
                 self._fail(f"{module}: {name} may end otherwise: {ending}", allow, data, record, found.object)
         if not found.is_complete:
-            self._fail(f"{module}: not all orders were gone through: {found.verdict}, {found.states} states", allow, data,
-                       None, found.object)
+            words = f"{module}: not all orders were gone through: {found.verdict}, {found.states} states"
+            self._fail(words, allow, data, None, found.object)
         for fails, words in ((found.endless != 0, NO_END), (found.fair_runs != "end", FOR_EVER)):
             if fails and not may_never_end:
                 record = self._searched(data, name, args, words, states)
                 self._fail(f"{module}: {name} may never end: {words}", allow, data, record, found.object)
         return found
 
-    def runs(self, module: Union[str, Path], name: str, args: Sequence[Argument] = (), *, count: int = 1000, first: int = 1,
-             allow: Optional[Sequence[Allowed]] = None, **options: Any) -> Dict[str, int]:
-        """Makes so many drawn runs, each of which has to end as allowed, and counts how they end. The options are those of
-        `wathread.run`, as seed, fuel, limit and strategy."""
+    def runs(self, module: Union[str, Path], name: str, args: Sequence[Argument] = (), *, count: int = 1000,
+             first: int = 1, allow: Optional[Sequence[Allowed]] = None, **options: Any) -> Dict[str, int]:
+        """Makes so many drawn runs, each of which has to end as allowed, and counts how they end. The options are those
+        of `wathread.run`, as seed, fuel, limit and strategy."""
         __tracebackhide__ = True
         data = self.read(module)
         met: Dict[str, int] = {}
@@ -115,7 +116,8 @@ class Modules:
                        replayed.object)
         return replayed
 
-    def _record_of(self, data: bytes, name: str, args: Sequence[Argument], ending: Ending, states: int) -> Optional[bytes]:
+    def _record_of(self, data: bytes, name: str, args: Sequence[Argument], ending: Ending,
+                   states: int) -> Optional[bytes]:
         """The record of a run that ends so: of a drawn one, or of one that the program looks for."""
         until = time.monotonic() + SECONDS
         for number in range(1, self._runs + 1):

@@ -43,5 +43,9 @@ fn main() -> Result<(), Box<dyn Error>> {
         threads.into_iter().map(|it| it.join().unwrap_or(0)).sum()
     });
     println!("{} threads: {} of {} runs ended as before", THREADS, sum, THREADS * calls);
-    if sum == THREADS * calls { Ok(()) } else { Err("a run ended otherwise".into()) }
+    if sum == THREADS * calls {
+        Ok(())
+    } else {
+        Err("a run ended otherwise".into())
+    }
 }

@@ -1,5 +1,5 @@
-//! The calls with slices in place of pointers, and a [`Result`] in place of a status. They may be made on several threads
-//! at once.
+//! The calls with slices in place of pointers, and a [`Result`] in place of a status. They may be made on several
+//! threads at once.
 use crate::*;
 use std::fmt;
 
@@ -273,7 +273,7 @@ fn raw_words(args: &[Word]) -> Vec<wathread_word> {
     args.iter().map(raw).collect()
 }
 
-/// Makes a call that writes a text, once more where that wants more room, and gives whether all is well, and its object.
+/// Makes a call that writes a text, once more where that wants more room. Gives whether all is well, and its object.
 fn with_text(mut call: impl FnMut(&mut [u8], &mut wathread_answer) -> u32) -> Result<(bool, String), Error> {
     let (mut text, mut answer) = (vec![0; FIRST_TEXT], wathread_answer::default());
     let mut status = call(&mut text, &mut answer);

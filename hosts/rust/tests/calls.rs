@@ -68,7 +68,8 @@ fn every_order_is_gone_through() {
 fn a_module_is_refused_with_kind_and_place() {
     let module = &example("atomic_add.wasm")[..5];
     let none = Options::default();
-    for fault in [check(module).unwrap_err(), made(module, "f", &[]).unwrap_err(), search(module, "f", &[], &none).unwrap_err()] {
+    let (run, search) = (made(module, "f", &[]), search(module, "f", &[], &none));
+    for fault in [check(module).unwrap_err(), run.unwrap_err(), search.unwrap_err()] {
         assert_eq!(fault.to_string(), "module refused: read 1 at 5");
         assert!(matches!(fault, Error::Module { stage: Stage::Read, number: 1, offset: Some(5), function: None, .. }));
     }

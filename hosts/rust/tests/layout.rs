@@ -34,7 +34,8 @@ fn said_in_rust() -> String {
     numbers!(to, WATHREAD_MIX WATHREAD_RANDOM WATHREAD_PRIORITIES WATHREAD_SPIN);
     let it = WATHREAD_OPTIONS;
     let (seed, run, fuel) = (it.seed, it.run, it.fuel);
-    writeln!(to, "plain {seed} {run} {fuel} {} {} {} {} {}", it.limit, it.strategy, it.depth, it.states, it.dump).unwrap();
+    let (limit, strategy, depth, states, dump) = (it.limit, it.strategy, it.depth, it.states, it.dump);
+    writeln!(to, "plain {seed} {run} {fuel} {limit} {strategy} {depth} {states} {dump}").unwrap();
     to
 }
 
@@ -43,8 +44,9 @@ fn said_in_c() -> String {
     let include = env::var("WATHREAD_INCLUDE_DIR").map_or_else(|_| top.join("../../include"), Into::into);
     let program = Path::new(env!("CARGO_TARGET_TMPDIR")).join("layout");
     let compiler = env::var("CC").unwrap_or_else(|_| "cc".into());
-    let status = Command::new(compiler).arg("-I").arg(include).arg(top.join("tests/layout.c")).arg("-o").arg(&program).status();
-    assert!(status.expect("a C compiler").success());
+    let mut command = Command::new(compiler);
+    command.arg("-I").arg(include).arg(top.join("tests/layout.c")).arg("-o").arg(&program);
+    assert!(command.status().expect("a C compiler").success());
     String::from_utf8(Command::new(program).output().unwrap().stdout).unwrap()
 }
 
