@@ -3,7 +3,7 @@
 # whose name has a space; and says of each whether it passed, failed, or was skipped since the machine hasn't what it
 # takes. The status is 1 where one failed.
 #
-#   hosts/test.sh [NAME..]    of these alone: shared c pkgconfig cmake cxx python mypy pip rust go manual deb
+#   hosts/test.sh [NAME..]    of these alone: versions shared c pkgconfig cmake cxx python mypy pip rust go manual deb
 #
 # CALLS is how many calls each thread of an example makes, without it 1,000. CC, CXX and PYTHON name commands.
 set -eu
@@ -50,7 +50,7 @@ test_shared() {
     has nm || return 77
     local names declared
     names=$(nm -D --defined-only "$place/lib/libwathread.so" | sed -n 's/.* [^A] //p' | sed 's/@.*//' | LC_ALL=C sort)
-    declared=$(grep -o '\bwathread_[a-z_]*(' "$place/include/wathread.h" | tr -d '(' | LC_ALL=C sort)
+    declared=$(grep -o '\bwathread_[a-z_0-9]*(' "$place/include/wathread.h" | tr -d '(' | LC_ALL=C sort -u)
     [ "$names" = "$declared" ] || { echo "it exports $names"; return 1; }
     has readelf || return 0
     readelf -d "$place/lib/libwathread.so.0" | grep -q 'SONAME.*\[libwathread.so.0\]'
@@ -173,6 +173,16 @@ test_deb() {
     ! has lintian || lintian --fail-on error,warning --allow-root "$package" >&2
 }
 
+# Whether the packages have the program's version.
+test_versions() {
+    local version it
+    version=$("$place/bin/wathread" --version | sed 's/^wathread //')
+    [ "$version" = "$(version_of_sources)" ] || return
+    for it in python/pyproject.toml rust/Cargo.toml; do
+        grep -qx "version = \"$version\"" "$top/hosts/$it" || { echo "hosts/$it has another version"; return 1; }
+    done
+}
+
 # Runs a test in a shell of its own.
 try() {
     local status=0
@@ -184,7 +194,7 @@ try() {
     esac
 }
 
-[ $# != 0 ] || set -- shared c pkgconfig cmake cxx python mypy pip rust go manual deb
+[ $# != 0 ] || set -- versions shared c pkgconfig cmake cxx python mypy pip rust go manual deb
 for it in "$@"; do declare -F "test_$it" >/dev/null || { sed -n 's/^#   //p' "$0" >&2; exit 3; }; done
 "$top/wathread" --install "$place" >"$room/log" 2>&1 && [ -f "$place/lib/libwathread.so" ] ||
     { cat "$room/log"; echo "hosts/test.sh: it couldn't be installed"; exit 1; }

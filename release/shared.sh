@@ -35,7 +35,7 @@ link_shared() {
 }
 
 # Prints the calls that the header declares.
-declared() { sed -n 's/^uint32_t \(wathread_[a-z_0-9]*\)(.*/\1/p' "$top/include/wathread.h" | LC_ALL=C sort; }
+declared() { grep -o '\bwathread_[a-z_0-9]*(' "$top/include/wathread.h" | tr -d '(' | LC_ALL=C sort -u; }
 
 # Prints what the shared object $1 exports, without versions.
 exported() { "$nm" -D --defined-only "$1" | awk '$2 != "A" {sub(/@.*/, "", $3); print $3}' | LC_ALL=C sort; }
