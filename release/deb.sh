@@ -71,9 +71,8 @@ put_changelog() {
 
 put_overrides() {
     cat <<'END'
-# The program and the archive are byte for byte those that are proved and built, and that ./wathread --prove compares.
+# The program is byte for byte the one that is proved and built, and that ./wathread --prove compares.
 wathread: unstripped-binary-or-object [usr/libexec/wathread/wathread]
-wathread: unstripped-static-library *
 # One package has the program and the library, which has no other users in Debian.
 wathread: package-name-doesnt-match-sonames libwathread0
 wathread: link-to-shared-library-in-wrong-package *
