@@ -240,12 +240,15 @@ for words in '--prove x' '--prove --anew x' '--install' '--install a b'; do
 done
 ends 3 '' "$USAGE" "${bare[@]}" ./wathread --install ''
 mkdir -p share/man/man1 && echo 'a page' >share/man/man1/wathread.1
-INSTALLED="$work/a place/bin/wathread"$'\n'"$work/a place/bin/wathread-cc"$'\n'"$work/a place/bin/wathread-rustc"
-ends 0 "$INSTALLED" '' "${bare[@]}" ./wathread --install "$work/a place"
+INSTALLED="$work/a place/bin/wathread"$'\n('"$work/a place/lib/libwathread.a"$'\n)?'"$work/a place/bin/wathread-cc"
+INSTALLED+=$'\n'"$work/a place/bin/wathread-rustc"
+LACKS="release/shared.sh: there's neither a C compiler nor ld, which link it"$'\n'"$work/a place/lib/libwathread.so isn't"
+LACKS+=" installed|wathread: the library isn't installed: the shipped library is of other sources[^"$'\n'"]*"
+ends 0 "$INSTALLED" "$LACKS" "${bare[@]}" ./wathread --install "$work/a place"
 ends 0 "$ADDED" '' "${bare[@]}" bash -c '"$0" "${@:2}"' "$work/a place/bin/wathread" "${run[@]}"
 cmp -s "$work/a place/libexec/wathread/wathread" crates/wathread/out/wathread.by-rattle || say "another program is installed"
 [ "$(<"$work/a place/share/man/man1/wathread.1")" = 'a page' ] || say "no page is installed"
-ends 0 "$INSTALLED" '' "${bare[@]}" ./wathread --install "$work/a place"
+ends 0 "$INSTALLED" "$LACKS" "${bare[@]}" ./wathread --install "$work/a place"
 ends 5 '' '.*/dev/null.*' "${bare[@]}" ./wathread --install /dev/null/place
 if command -v clang >/dev/null; then
     ends 0 '' '' "$work/a place/bin/wathread-cc" examples/c/counter.c -o "$work/counter.wasm"

@@ -36,6 +36,9 @@ sum_of_sources() {
         find "${parts[@]}" -type f -print0 2>/dev/null | LC_ALL=C sort -z | xargs -0 sha256sum) | sha256sum | cut -c1-64
 }
 
+# Prints the version that the program says it is.
+version_of_sources() { sed -n 's/.*\.version("\([0-9.]*\)").*/\1/p' "$top/crates/report_command/src/commands.rt"; }
+
 sum_of() { sha256sum <"$1" | cut -c1-64; }
 
 # Prints what stands behind the word $1 in the file $2.

@@ -3,7 +3,7 @@
 
     host.py LIBRARY MODULE [NAME [RUNS]]
 
-LIBRARY is libwathread.so, which `make.sh` makes of lib/libwathread.a.
+LIBRARY is libwathread.so, which `release/shared.sh` makes of lib/libwathread.a.
 """
 import collections
 import ctypes

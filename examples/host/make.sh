@@ -12,7 +12,7 @@ if [ "${1-}" = --tests ]; then
     exec "$out/tests" "$top/examples"
 fi
 $cc -O2 -Wall -I "$top/include" "$top/examples/host/host.c" "$top/lib/libwathread.a" -o "$out/host"
-$cc -shared -o "$out/libwathread.so" -Wl,--whole-archive "$top/lib/libwathread.a" -Wl,--no-whole-archive
+"$top/release/shared.sh" "$top/lib/libwathread.a" "$out" >/dev/null
 module=$top/examples/c/broken_lock.wasm
 echo "in C:"
 "$out/host" "$module" main 1000

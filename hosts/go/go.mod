@@ -1,0 +1,3 @@
+module wathread.invalid/wathread
+
+go 1.18

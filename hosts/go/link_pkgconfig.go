@@ -1,0 +1,6 @@
+//go:build wathread_pkgconfig
+
+package wathread
+
+// #cgo pkg-config: wathread
+import "C"

@@ -1,0 +1,13 @@
+# Completions of wathread-cc for fish. Made by release/manual_cc.py out of what wathread-cc says of itself.
+complete -c wathread-cc -l threads -x -d 'how many threads may be started, 1 to 63 (15)'
+complete -c wathread-cc -l stack -x -d 'the stack of each thread, 64 to 16777216 (4096)'
+complete -c wathread-cc -l pool -x -d 'what malloc has, 64 to 16777216 (16384)'
+complete -c wathread-cc -l spurious -d 'waits also wake, and trylocks, weak compare-exchanges, timed waits and malloc also fail, for nothing; --spurious=LIST: these alone, of waits,trials,exchanges,timeouts,malloc'
+complete -c wathread-cc -l reuse -d 'malloc gives a thread the blocks again that it freed'
+complete -c wathread-cc -l volatile-atomic -d 'accesses of volatile variables are atomic, relaxed ones'
+complete -c wathread-cc -l orders -x -a 'c11 sc' -d 'simulate C11'\''s memory orders (docs/ORDERS.md); sc: all are seq_cst, as without, and no line says so'
+complete -c wathread-cc -s o -r -d 'the module (a.wasm)'
+complete -c wathread-cc -s c -d 'as with clang: an object, an assembly text, what the preprocessor makes of a source'
+complete -c wathread-cc -s S -d 'as with clang: an object, an assembly text, what the preprocessor makes of a source'
+complete -c wathread-cc -s E -d 'as with clang: an object, an assembly text, what the preprocessor makes of a source'
+complete -c wathread-cc -l help -d 'this text'
