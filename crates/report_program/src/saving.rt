@@ -1,4 +1,5 @@
 //! The file of a record.
+ghost use Rattle.std.specs.Prelude.{◌≤◌, length, IfOk};
 
 use crate::beside::Beside;
 use crate::reading::STANDARD;
@@ -164,7 +165,9 @@ impl<'a> SavedFile<'a> {
     }
 
     /// Writes some of these bytes, the first ones to a file that is made then.
-    fn write_some(&mut self, bytes: &[u8]) -> io::Result<usize> {
+    fn write_some(&mut self, bytes: &[u8]) -> io::Result<usize>
+        ensures { IfOk result (λ count. count ≤ length bytes.now) }
+    {
         if self.file.is_none() {
             self.file = Some(self.open()?);
         }
