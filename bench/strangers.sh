@@ -184,6 +184,9 @@ ends 0 "$ADDED"$'\n'"$(<whole)" '' sh -c './wathread run atomic_add.wasm --invok
 ends 0 "$ADDED" '' "${add[@]}" --record /dev/null
 [ -c /dev/null ] || say '/dev/null is no device'
 ends 5 "$ADDED" "file fault: /dev/full$full" "${add[@]}" --record /dev/full
+for page in --html --trace; do
+    ends 5 '' "file fault: /dev/full$full" ./wathread show atomic_add.wasm whole "$page" /dev/full
+done
 # a limit on the size of files stands for a full disk
 echo old >folder/a.record
 said=$(trap '' XFSZ; ulimit -f 0; "${add[@]}" --record folder/a.record 2>&1; echo $?)
