@@ -172,7 +172,7 @@ planted "an acquire joins no view" orders.c 's/^    if \(acquires\(order\)\)$/  
 planted "a release leaves no view" orders.c 's/mine = releases\(order\) \?/mine = 0 ?/' MP+rel+acq
 planted "no old message is read" orders.c 's/^        p -= choose\(newest - least \+ 1\);/        p -= 0;/' SB+rlx+rlx
 planted "a message is passed by" orders.c 's/^    return oldest > sc \? oldest : sc;/    return sc;/' CoWR+rlx+rlx
-planted "a store comes in between" orders.c 's/^        made->glued = glued;/        ;/' RMW+late
+planted "a store comes in between" orders.c 's/ \| \(glued \? GLUED : 0\);/;/' RMW+late
 planted "a fence that releases nothing" orders.c 's/copy\(&orders.released\[t\], &orders.current\[t\]\);/;/' MP+frel+acq
 planted "a fence that acquires nothing" orders.c 's/add\(&orders.current\[t\], &orders.acquirable\[t\]\);/;/' MP+rel+facq
 planted "a fence out of order" orders.c 's/^        join_psc\(t\);/        ;/' SB+fsc
