@@ -16,6 +16,7 @@ sys.dont_write_bytecode = True
 from files import Refused, write  # noqa: E402
 from ir import edit  # noqa: E402
 from masks import declared, mask  # noqa: E402
+from rust import MARK  # noqa: E402
 from simulate import is_weaker  # noqa: E402
 
 SAID = re.compile(r'.*?: (?:fatal )?(?:error|warning|note): ')
@@ -160,6 +161,8 @@ class Compiler:
             with open(words[-1], encoding='utf-8', errors='surrogateescape') as file:
                 text = file.read()
             masked = mask(text)
+            if text.startswith(MARK) and 'typed' not in self.edits:
+                words = [*words[:-1], '-mno-type-check', words[-1]]
             if masked != text:
                 source, words = words[-1], [*words[:-1], self.way('s')]
                 with open(words[-1], 'w', encoding='utf-8', errors='surrogateescape') as file:
