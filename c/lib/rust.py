@@ -16,7 +16,7 @@ TYPE = re.compile(rf'^\s*\.functype\s+{NAMED} (\(.*)$', re.M)
 ALIAS = re.compile(rf'^\s*(?:\.set\s+{NAMED}\s*,|{NAMED}\s*=)\s*{NAMED}$', re.M)
 CALL = re.compile(rf'^\s*call\s+{NAMED}$', re.M)
 SIZE = re.compile(r'^\s*\.size\s+.*, \.Lfunc_end.*$', re.M)
-LOOP = re.compile(r'^(\s*br\s+\d+(?:\n(?!\s*[a-z]).*)*\n)(\s*end_loop)$', re.M)
+INSTRUCTION = re.compile(r'[ \t]+([a-z]\S*)[ \t]*(\S*)')
 OF_LLVM = {'__muloti4': '(i32, i64, i64, i64, i64, i32) -> ()', **dict.fromkeys(('__ashlti3', '__ashrti3', '__lshrti3'),
                                                                                '(i32, i64, i64, i32) -> ()')}
 
@@ -41,9 +41,27 @@ def undeclared(text):
     return ''.join(f'\t.functype\t{name} {type_}\n' for name, type_ in more.items())
 
 
+def with_ends(lines):
+    """The lines, with a value in front of the end of each loop that has one and never ends, which version 14 wants there."""
+    out, kinds, last = [], [], ''
+    for line in lines:
+        found = INSTRUCTION.match(line)
+        if found:
+            word, kind = found.groups()
+            if word in ('block', 'loop', 'if', 'try'):
+                kinds.append(kind)
+            elif word.startswith('end_') and kinds:
+                kind = kinds.pop()
+                if word == 'end_loop' and last == 'br' and kind in ('i32', 'i64'):
+                    line = f'\t{kind}.const\t0; {line.strip()}'
+            last = word
+        out.append(line)
+    return out
+
+
 def edit(text):
-    """The text as clang takes it. Version 14 wants a value behind a loop that has one, even where it never ends."""
-    return MARK + undeclared(text) + declared(LOOP.sub(r'\1\tunreachable; \2', SIZE.sub('', text)))
+    """The text as clang takes it."""
+    return MARK + undeclared(text) + declared('\n'.join(with_ends(SIZE.sub('', text).split('\n'))))
 
 
 def main(path):
