@@ -45,7 +45,8 @@ class Objects:
     def where(self, function, place, source):
         file, _, line = os.fsdecode(place).rpartition(':')
         function = function.strip('"').replace('__original_main', 'main')
-        return f', used in {function}' + (f', {"line " + line if file == source else file + ":" + line}' if line else '')
+        place = f'line {line}' if file == source else f'{file}:{line}'
+        return f', used in {function}' + (f', {place}' if line else '')
 
     def undefined(self, found):
         """The lines of undefined symbols, by pairs of object and symbol."""

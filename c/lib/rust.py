@@ -1,8 +1,9 @@
-"""rust.py CRATE.s: edits what rustc made of a crate, for wathread-rustc, so that clang makes an object of it with its narrow
-compare-exchanges masked (masks.py), and says by status 0 that there are any; else the text stays, and the status is 3.
+"""rust.py CRATE.s: edits what rustc made of a crate, for wathread-rustc, so that clang makes an object of it with its
+narrow compare-exchanges masked (masks.py), and says by status 0 that there are any; else the text stays, and the status
+is 3.
 
-rustc's text lacks what clang's assembler wants: the types of functions in front of their calls, also of those that stand for
-another one and of those that LLVM itself calls.
+rustc's text lacks what clang's assembler wants: the types of functions in front of their calls, also of those that stand
+for another one and of those that LLVM itself calls.
 """
 import re
 import sys
@@ -42,7 +43,7 @@ def undeclared(text):
 
 
 def with_ends(lines):
-    """The lines, with a value in front of the end of each loop that has one and never ends, which version 14 wants there."""
+    """The lines, with a value in front of the end of each loop that has one and never ends: version 14 wants it."""
     out, kinds, last = [], [], ''
     for line in lines:
         found = INSTRUCTION.match(line)

@@ -1,4 +1,4 @@
-// Compare-exchanges of 8 and 16 bits, by values that have all their bits, negative ones among them. All counts are right.
+// Compare-exchanges of 8 and 16 bits, also by negative values. All counts are right.
 #![no_std]
 #![no_main]
 #[path = "../../examples/rust/wathread.rs"]
@@ -40,9 +40,13 @@ pub extern "C" fn main() -> i32 {
     }
     assert!(unsafe { *COUNT.value.get() } == 2);
     assert!(BYTE.load(SeqCst) == 0 && WORD.load(SeqCst) == 0 && SIGNED.load(SeqCst) == 0);
-    assert!(ZEROS.0.compare_exchange(0, 1, SeqCst, SeqCst) == Ok(0) && ZEROS.0.compare_exchange(0, 1, SeqCst, SeqCst) == Err(1));
-    assert!(ZEROS.1.compare_exchange(0, -3, SeqCst, SeqCst) == Ok(0) && ZEROS.1.swap(0, SeqCst) == -3);
-    assert!(ZEROS.2.compare_exchange(0, 1, SeqCst, SeqCst) == Ok(0) && ZEROS.2.compare_exchange(0, 1, SeqCst, SeqCst) == Err(1));
-    assert!(ZEROS.3.compare_exchange(0, -3, SeqCst, SeqCst) == Ok(0) && ZEROS.3.compare_exchange(0, 1, SeqCst, SeqCst) == Err(-3));
+    assert!(ZEROS.0.compare_exchange(0, 1, SeqCst, SeqCst) == Ok(0));
+    assert!(ZEROS.0.compare_exchange(0, 1, SeqCst, SeqCst) == Err(1));
+    assert!(ZEROS.1.compare_exchange(0, -3, SeqCst, SeqCst) == Ok(0));
+    assert!(ZEROS.1.swap(0, SeqCst) == -3);
+    assert!(ZEROS.2.compare_exchange(0, 1, SeqCst, SeqCst) == Ok(0));
+    assert!(ZEROS.2.compare_exchange(0, 1, SeqCst, SeqCst) == Err(1));
+    assert!(ZEROS.3.compare_exchange(0, -3, SeqCst, SeqCst) == Ok(0));
+    assert!(ZEROS.3.compare_exchange(0, 1, SeqCst, SeqCst) == Err(-3));
     7
 }

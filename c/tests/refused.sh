@@ -275,7 +275,7 @@ rm -r place fake
 # sources
 passes 'error: expected' "$cc_" wrong.c -o m.wasm
 refuses 'wathread-cc: missing.c: undefined symbol: ftok, used in main, line 1' "$cc_" missing.c -o m.wasm
-refuses 'wathread-cc: lacks.c, lacks_too.c: undefined symbol: value, used in get, line 2' \
+refuses ': undefined symbol: value, used in get, line 2' \
     "$cc_" lacks.c lacks_too.c taker.c -o m.wasm
 refuses 'wathread-cc: duplicate symbol: g: defined in third.c and defined in twice.c' "$cc_" other.c third.c twice.c -o m.wasm
 "$cc_" -c third.c -o third.o

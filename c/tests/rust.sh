@@ -34,13 +34,16 @@ counts() {
     local said lines=()
     tried=$((tried + 1))
     [ "$1" != 0 ] || lines=(-C debuginfo=0)
-    "$here/wathread-rustc" -C opt-level="$1" "${lines[@]}" "$here/tests/narrow.rs" -o m.wasm || say "clang $version, $1: no module"
+    "$here/wathread-rustc" -C opt-level="$1" "${lines[@]}" "$here/tests/narrow.rs" -o m.wasm ||
+        say "clang $version, $1: no module"
     said=$("$wathread" search m.wasm --invoke main --all --states 300000 --jobs 1 2>&1)
-    [[ $said = *'thread 0: ok i32:7;'*'all: 1 ending, '*', no race'*'every state can end'* ]] || say "clang $version, $1: $said"
+    [[ $said = *'thread 0: ok i32:7;'*'all: 1 ending, '*', no race'*'every state can end'* ]] ||
+        say "clang $version, $1: $said"
     [ "$1" != 0 ] || return
     rm -f run
     "$wathread" run m.wasm --invoke main --record run >/dev/null 2>&1
-    "$wathread" show m.wasm run --addr COUNT | grep cmpxchg | head -1 | grep -q 'narrow\.rs:27' || say "clang $version, $1: no line"
+    "$wathread" show m.wasm run --addr COUNT | grep cmpxchg | head -1 | grep -q 'narrow\.rs:27' ||
+        say "clang $version, $1: no line"
 }
 
 echo '#![no_std]
