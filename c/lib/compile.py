@@ -15,7 +15,9 @@ import sys
 sys.dont_write_bytecode = True
 from files import Refused, write  # noqa: E402
 from ir import edit  # noqa: E402
+from linked import Objects  # noqa: E402
 from masks import declared, mask  # noqa: E402
+from rust import MARK  # noqa: E402
 from simulate import is_weaker  # noqa: E402
 
 SAID = re.compile(r'.*?: (?:fatal )?(?:error|warning|note): ')
@@ -55,7 +57,8 @@ def jobs(clang, words):
 
 class Compiler:
     def __init__(self, work, edits):
-        self.work, self.edits, self.made, self.ways = work, edits, {}, 0
+        self.work, self.edits, self.made, self.ways, self.objects = work, edits, {}, 0, Objects(work)
+        self.said = set()                               # the lines of clang's front about the source
 
     def way(self, end):
         self.ways += 1
@@ -76,8 +79,10 @@ class Compiler:
             done = self.source(words, made)
         elif '-cc1as' in words[:2]:
             done = self.assembly(words, made)
-        else:
+        elif '-cc1' in words[:2]:
             done = run(words)
+        else:
+            done = self.link(words)
         if made != out:
             self.made[out] = made
         return done
@@ -89,8 +94,9 @@ class Compiler:
         at = words.index(out)
         front = ['-emit-llvm' if word == mode else word for word in words]
         front[at] = text
-        if not run([*front[:2], '-disable-llvm-passes', *front[2:]]):
+        if not self.front([*front[:2], '-disable-llvm-passes', *front[2:]]):
             return False
+        self.objects.add(out, words[-1], text)
         with open(text, encoding='utf-8', errors='surrogateescape') as file:
             made = file.read()
         self.tell_orders(made, words[-1])
@@ -117,6 +123,24 @@ class Compiler:
             file.write(declared(masked))
         return mode == '-S' or self.assemble(words, assembly, out, names)
 
+    def front(self, words):
+        done = subprocess.run(words, stderr=subprocess.PIPE, check=False)
+        if done.returncode < 0:
+            raise Refused(f'{os.path.basename(words[0])} ended by signal {-done.returncode}')
+        sys.stderr.buffer.write(done.stderr)
+        sys.stderr.flush()
+        self.said = set(done.stderr.split(b'\n'))
+        return done.returncode == 0
+
+    def link(self, words):
+        """Links, and says by names of sources what fails there."""
+        done = subprocess.run(words, stderr=subprocess.PIPE, check=False)
+        for line in self.objects.told(os.fsdecode(done.stderr)):
+            print(line, file=sys.stderr)
+        if done.returncode < 0:
+            raise Refused(f'{os.path.basename(words[0])} ended by signal {-done.returncode}')
+        return done.returncode == 0
+
     def tell_orders(self, text, source):
         """Tells once of memory orders that come to nothing."""
         if 'strong' in self.edits and is_weaker(text):
@@ -133,7 +157,9 @@ class Compiler:
             again[again.index('-o') + 1] = self.way('o')
             if words[-1] != '-' and not run(again):
                 return False
-        sys.stderr.buffer.write(done.stderr)
+        lines = [line for line in done.stderr.split(b'\n') if line not in self.said]
+        sys.stderr.buffer.write(b'\n'.join([*lines, b'']) if lines else b'')
+        sys.stderr.flush()
         return done.returncode == 0
 
     def assemble(self, words, assembly, out, names):
@@ -156,10 +182,13 @@ class Compiler:
 
     def assembly(self, words, out):
         """From assembly to an object."""
+        self.objects.add(out, words[-1])
         if os.path.isfile(words[-1]):
             with open(words[-1], encoding='utf-8', errors='surrogateescape') as file:
                 text = file.read()
             masked = mask(text)
+            if text.startswith(MARK) and 'typed' not in self.edits:
+                words = [*words[:-1], '-mno-type-check', words[-1]]
             if masked != text:
                 source, words = words[-1], [*words[:-1], self.way('s')]
                 with open(words[-1], 'w', encoding='utf-8', errors='surrogateescape') as file:

@@ -22,9 +22,12 @@ def masked(lines):
     out, label, named = [], None, None
     locals_, own, place = [], {}, 0                     # of the function: what it has, what is added, where that is said
     for line in lines:
-        found = LABEL.match(line)
+        found = LABEL.match(line) if ':' in line else None
         if found:
             label = found.group(1)
+        if '.' not in line:                             # most lines of a long text
+            out.append(line)
+            continue
         function = FUNCTION.match(line)
         if function and function.group(1) == label:
             locals_, own, place = types(function.group(2)), {}, len(out)

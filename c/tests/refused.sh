@@ -84,6 +84,11 @@ int g(void);
 EXPORT("f") int f(void) { return g(); }
 END
 echo 'int g(void) { return 2; }' >third.c
+echo 'int g(void) { return 4; }' >twice.c
+echo 'int g(int); int main(void) { return g(1); }' >another.c
+printf '%s\n' 'extern int value;' 'static int get(void) { return value; }' \
+    'int take_too(void); int take(void) { return get() + take_too(); }' >lacks.c
+echo 'extern int value; int take_too(void) { return value; }' >lacks_too.c
 echo 'static int x = 3 int main(void) { return x; }' >wrong.c
 echo 'int ftok(const char *, int); int main(void) { return ftok("a", 1); }' >missing.c
 echo '#include <poll.h>
@@ -143,6 +148,26 @@ for option in stack pool; do
     done
 done
 refuses 'is a module and no source' "$cc_" good.c m.wasm
+for option in -D -U -I -L -l -x -include -isystem -idirafter -Xclang -Xlinker -MF -MT -mllvm --param -target; do
+    refuses "$option wants a value; usage:" "$cc_" good.c $option
+    refuses "$option wants a value; usage:" "$cc_" good.c -o m.wasm $option
+done
+for option in -D -U -I -include -x -MF; do
+    refuses "$option wants a value, and -o is an option" "$cc_" good.c $option -o m.wasm
+done
+refuses 'no source' "$cc_" -x c -o m.wasm
+refuses 'no source' "$cc_" -D X -I . -o m.wasm
+for option in --target=x86_64 '-target x86_64' -m64 -m32 -march=native -mcpu=generic -shared; do
+    # shellcheck disable=SC2086
+    refuses "$option: the target is always wasm32, with threads" "$cc_" $option good.c -o m.wasm
+done
+makes m.wasm "$cc_" --target=wasm32 -target wasm32 -D X=3 -U X -I . -x c good.c -x none -L . -o m.wasm
+for words in '' --help 'a b c' 'm.wasm stack 2 m.wasm c d' 'a b c d e f g'; do
+    # shellcheck disable=SC2086
+    refuses 'usage: wathread-link LINKED STACK' "$(dirname "$cc_")/wathread-link" $words
+done
+refuses 'nowhere: No such file' "$(dirname "$cc_")/wathread-link" nowhere 64 1 m.wasm nowhere nowhere
+[ "$("$cc_" -Wsuch-thing good.c -o m.wasm 2>&1 | grep -c "'-Wsuch-thing'")" = 1 ] || say "a warning isn't told once"
 
 # what is compiled isn't written over, whatever its name there
 cp good.c kept.c && ln good.c hard.c && ln -s good.c soft.c && echo good.c -O1 >words
@@ -249,7 +274,13 @@ rm -r place fake
 
 # sources
 passes 'error: expected' "$cc_" wrong.c -o m.wasm
-passes 'undefined symbol: ftok' "$cc_" missing.c -o m.wasm
+refuses 'wathread-cc: missing.c: undefined symbol: ftok, used in main, line 1' "$cc_" missing.c -o m.wasm
+refuses ': undefined symbol: value, used in get, line 2' \
+    "$cc_" lacks.c lacks_too.c taker.c -o m.wasm
+refuses 'wathread-cc: duplicate symbol: g: defined in third.c and defined in twice.c' "$cc_" other.c third.c twice.c -o m.wasm
+"$cc_" -c third.c -o third.o
+refuses 'wathread-cc: duplicate symbol: g: defined in third.o and defined in twice.c' "$cc_" other.c third.o twice.c -o m.wasm
+refuses 'in third.c' "$cc_" another.c third.c -o m.wasm
 passes 'statement.c:1:' "$cc_" statement.c -o m.wasm
 passes "'stdin' is unavailable: wathread has no files and no input" "$cc_" input.c -o m.wasm
 passes "'sigaction' is unavailable: wathread has no signals" "$cc_" signal.c -o m.wasm
