@@ -31,7 +31,8 @@ enum {
     PLACES = FROM_TO(64, MOST_PLACES, ORDERS_POOL / 256 / 4 * 4), /* that threads share at a time */
     NEAR = 4,                                 /* messages of a place that lie beside it */
     PAGE = 8,                                 /* and so many lie together behind these */
-    PAGES = FROM_TO(16, 256, ORDERS_POOL / 1024), /* of all places together */
+    MOST_PAGES = 256,
+    PAGES = FROM_TO(16, MOST_PAGES, ORDERS_POOL / 1024), /* of all places together */
     FREED = ORDERS_POOL / 32 + 1,             /* blocks that were freed: a block in between, with its front, has as many bytes */
     NUMBERS = 64,
     FRONT = 16                                /* in front of each block of malloc's */

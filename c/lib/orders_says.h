@@ -224,3 +224,5 @@ TRAPS use_after_free(u32 at) { say_freed(at); FAILS }
 TRAPS atomics_of_mixed_sizes(u32 at) { say_mixed(at); FAILS }
 TRAPS orders_full_of_places__use_a_greater_pool(void) FAILS
 TRAPS orders_full_of_messages__use_a_greater_pool(void) FAILS
+TRAPS orders_full_of_places__no_pool_has_more(void) FAILS
+TRAPS orders_full_of_messages__no_pool_has_more(void) FAILS

@@ -215,7 +215,7 @@ static __attribute__((noinline)) void add_page(int l, int count) {
     while (page < PAGES && orders.next[page])
         page++;
     if (page == PAGES)
-        orders_full_of_messages__use_a_greater_pool();
+        PAGES < MOST_PAGES ? orders_full_of_messages__use_a_greater_pool() : orders_full_of_messages__no_pool_has_more();
     orders.next[page] = LAST;
     if (!before)
         orders.far[l] = page + 1;
@@ -399,7 +399,7 @@ static void move_place(int from, int to) {
 static void put_in(int l, u64 p) {
     int count = places();
     if (count == PLACES)
-        orders_full_of_places__use_a_greater_pool();
+        PLACES < MOST_PLACES ? orders_full_of_places__use_a_greater_pool() : orders_full_of_places__no_pool_has_more();
     for (int k = count; k > l; k--)
         move_place(k - 1, k);
     orders.places[l] = p;
