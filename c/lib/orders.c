@@ -86,13 +86,35 @@ static void read_message(int t, int l, int p, int oldest, int order) {
         mark(STILL);
 }
 
-/* What a message carries: of one that is GLUED behind another also what that one does. There is none in V yet. */
-static void release_view(int t, int l, view *v, const view *glued, int order) {
-    const view *mine = releases(order) ? &orders.current[t] : fences() ? &orders.released[t] : 0;
+/* Whether a word of a thread's view has more than that of its message, of other places than that one. Of a place that nobody
+   wrote since it is one, all know what was written. */
+static __attribute__((noinline)) int has_more(u64 mine, u64 carried, int w, int l) {
+    for (int k = PER_WORD; k--;) {
+        int i = w * PER_WORD + k;
+        cell has = mine >> CELL_BITS * k, had = carried >> CELL_BITS * k, lacks = has & ~had & ALL_KNOWN;
+        if (has == had || (i >= l && i < l + cells_of(l)))
+            continue;
+        if ((has & 255) > (had & 255) || lacks & ~WRITE_KNOWN || (lacks && orders.wrote[i]))
+            return 1;
+    }
+    return 0;
+}
+
+/* What a message carries: of one that is GLUED behind another also what that one does. There is none in V yet. Answers what
+   isn't known with it of what the thread did before: UNRELEASED, all of it; or SINCE its last release fence; or nothing. */
+static u64 release_view(int t, int l, view *v, const view *glued, int order) {
+    u32 fence = releases(order) ? 0 : own_fence();
+    const view *mine = releases(order) ? &orders.current[t] : fence ? &orders.released[t] : 0;
+    int since = 0;
     for (int w = words_used(); w--;) {
         u64 word = glued ? glued->words[w] : 0;
         if (mine)
             word = join(word, mine->words[w]);
+        if (fence && !since) {
+            u64 all = orders.current[t].words[w];
+            if (join(word, all) != word)
+                since = has_more(all, word, w, l);
+        }
         if (word)
             v->words[w] = word;
     }
@@ -100,14 +122,8 @@ static void release_view(int t, int l, view *v, const view *glued, int order) {
     if (releases(order))
         add(&orders.sequences[t][l], &orders.current[t]);
     add(v, &orders.sequences[t][l]);
-#else
-    (void)l;
 #endif
-}
-
-/* Whether who reads a message doesn't know by it what the thread did before. */
-static u32 is_unreleased(int t, int order) {
-    return releases(order) || (fences() && !is_clear(&orders.released[t])) ? 0 : UNRELEASED;
+    return mine ? since ? SINCE_FENCE(SITE(fence)) : 0 : UNRELEASED;
 }
 
 /* A new message at position P; those from there on go up. Its value is put in by who calls, whose row in a trace has
@@ -124,9 +140,9 @@ static void write_message(int t, int l, int p, int count, int order, int glued) 
     }
     set_count(l, count, count + 1);
     message *made = message_at(l, p);
-    made->about = by_me() | is_unreleased(t, order) | (glued ? GLUED : 0);
     set_position(&orders.current[t], l, p);
-    release_view(t, l, &made->view, glued ? &message_at(l, p - 1)->view : 0, order);
+    u64 lacks = release_view(t, l, &made->view, glued ? &message_at(l, p - 1)->view : 0, order);
+    made->about = by_me() | lacks | (glued ? GLUED : 0);
     if (order == SEQ_CST && (!has_psc() || p > position(&orders.psc, l))) {
         use_psc();
         set_position(&orders.psc, l, p);
@@ -257,10 +273,10 @@ static int knows_what(int t, u32 thread) {
 
 /* What is read is news to the thread: whether with it nothing is known of what its writer did before. */
 static void look_at_news(int t, int l, int p, int order, u32 at, int log) {
-    u32 by = writer_of(l, p);
-    if (!ORDERS_NEWS || !by || (acquires(order) && !(by & UNRELEASED)) || knows_what(t, THREAD(by)))
+    u64 by = about_of(l, p);
+    if (!ORDERS_NEWS || !by || (acquires(order) && !(by & (UNRELEASED | SINCE))) || knows_what(t, THREAD(by)))
         return;
-    say_news(at, log, message_at(l, p)->value, by, acquires(order), fences());
+    say_news(at, log, message_at(l, p)->value, by, by & SINCE ? FENCE_OF(by) | FENCED : 0, acquires(order), fences());
 }
 
 static u64 begin_load(u32 at, int log, int order) {
@@ -446,7 +462,7 @@ static void join_psc(int t) {
     }
 }
 
-void __wathread_fence(int order) {
+void __wathread_fence(int order, u32 site) {
     if (!is_parallel() || order == RELAXED)
         return;
     begin_operation(0, FENCES);
@@ -457,8 +473,10 @@ void __wathread_fence(int order) {
     }
     if (order == SEQ_CST)
         join_psc(t);
-    if (releases(order))
+    if (releases(order)) {
         copy(&orders.released[t], &orders.current[t]);
+        set_fence(site | FENCED);
+    }
     end_access(t);
 }
 
@@ -592,6 +610,7 @@ static void take_end(int t, int of) {
 static void end_all(int t) {
     forget_views(t);
     set_counted(0);
+    set_fence(0);
     if (has_psc())
         clear(&orders.psc);
     for (int l = places(); l--;) {
@@ -642,6 +661,7 @@ void orders_ends(int thread, unsigned result) {
     is_gone(t);
     forget_own(t);
     set_counted(0); /* what has ended makes no states */
+    set_fence(0);
     set_done(0);
     forget_what_was_told();
     if (by >= 0) {
@@ -746,8 +766,10 @@ int orders_joins(int thread, unsigned *result, long long nanoseconds) {
         if (sleeps(me(), thread + 1, nanoseconds) == 2 && is_late(me(), slots[thread]))
             return 2;
         set_parallel(simulates);
-        if (!simulates)
+        if (!simulates) {
             set_counted(0);
+            set_fence(0);
+        }
     }
     *result = results[thread];
     return 0;

@@ -57,6 +57,7 @@ OWN(often, u32, i32)    /* what it may have done twice */
 OWN(failed, int, i32)   /* its last weak compare-exchange, until that is asked for */
 OWN(noted, int, i32)    /* how many plain accesses it has noted */
 OWN(counted, int, i32)  /* whether it has counted what it read */
+OWN(fence, u32, i32)    /* where its last release fence is, and FENCED (orders.c); 0 where it has made none */
 OWN(done, u64, i64)     /* what it may have done to a place before */
 OWN(site, u32, i32)     /* where in the source it is (sites.py), while it is in the runtime, or 0 */
 OWN(letters, u64, i64)  /* of a line that it says, what isn't in its text yet (orders_says.h) */

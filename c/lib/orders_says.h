@@ -111,6 +111,7 @@ enum { SITE_BITS = 24 };
 #define THREAD(by) (((by) >> SITE_BITS & 127) - 1)
 #define UNRELEASED (1u << 31) /* what the thread had done before isn't known to who reads it */
 #define WHO_READ (1u << 31)   /* of a race: a thread that read it, or -1 */
+#define FENCED (1u << 31)     /* beside the site of a fence, which may be 0 */
 INLINE u32 by_me(void) { return own_site() | (u32)(thread_self() + 1) << SITE_BITS; }
 
 static void say_where(u32 by) {
@@ -154,8 +155,9 @@ static __attribute__((noinline)) void say_old(u32 at, int log, u64 value, u64 ne
     end_line();
 }
 
-/* A message that is news, where what its writer did before isn't known with it. */
-static __attribute__((noinline)) void say_news(u32 at, int log, u64 value, u32 by, int acquired, int fenced) {
+/* A message that is news, where what its writer did before isn't known with it, or where that has made a release fence, what
+   it did since. */
+static __attribute__((noinline)) void say_news(u32 at, int log, u64 value, u32 by, u32 fence, int acquired, int fenced) {
     say_reads(at, log, value);
     if (!acquired)
         SAY(" without acquire");
@@ -163,14 +165,26 @@ static __attribute__((noinline)) void say_news(u32 at, int log, u64 value, u32 b
     say_thread(THREAD(by));
     SAY(" wrote");
     say_where(by);
-    if (by & UNRELEASED)
+    if (by & UNRELEASED || fence)
         SAY(" without release");
-    SAY(": what ");
-    say_thread(THREAD(by));
-    if (fenced && !acquired && !(by & UNRELEASED))
-        SAY(" did before is known only behind an acquire fence");
-    else
-        SAY(" did before isn't known with it");
+    SAY(": ");
+    if (!fence || !acquired) {
+        SAY("what ");
+        say_thread(THREAD(by));
+        if (fenced && !acquired && !(by & UNRELEASED))
+            SAY(" did before is known only behind an acquire fence");
+        else
+            SAY(" did before isn't known with it");
+        if (fence)
+            SAY(", and ");
+    }
+    if (fence) {
+        SAY("nothing orders what ");
+        say_thread(THREAD(by));
+        SAY(" did since its release fence");
+        say_where(fence);
+        SAY(" before that store");
+    }
     end_line();
 }
 

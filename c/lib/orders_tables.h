@@ -17,9 +17,13 @@ enum { CELL_BITS = 16, PER_WORD = 4, WORDS = PLACES / PER_WORD, LANE = 127, READ
 typedef union { cell at[PLACES]; u64 words[WORDS]; } view;
 
 /* Below: who wrote it (orders_says.h), but of the oldest one, which nobody reads as news. GLUED: a read-modify-write put it
-   there, and nothing comes between it and what that read. */
+   there, and nothing comes between it and what that read. SINCE: it was put there behind a release fence, whose site stands
+   above, and who did it had done in between what isn't known with it. */
 typedef struct { u64 value, about; view view; } message;
 #define GLUED (1ull << 32)
+#define SINCE (1ull << 33)
+#define SINCE_FENCE(site) (SINCE | (u64)(site) << 34)
+#define FENCE_OF(about) ((u32)((about) >> 34))
 
 /* A place is a word: its address, the logarithm of its bytes, MORE where the next cell is its own too, which is then BEHIND;
    a bit for each thread that read it plainly since the last plain write; and how many messages it has, none where there was
@@ -181,7 +185,8 @@ static __attribute__((noinline)) message *far_message(int l, int m) {
 
 INLINE message *message_at(int l, int m) { return m < NEAR ? &orders.near[l][m] : far_message(l, m); }
 
-INLINE u32 writer_of(int l, int m) { return (u32)message_at(l, m)->about; }
+INLINE u64 about_of(int l, int m) { return message_at(l, m)->about; }
+INLINE u32 writer_of(int l, int m) { return (u32)about_of(l, m); }
 
 static void clear_message(message *m) {
     put(&m->value, 0);
