@@ -906,7 +906,7 @@ void orders_freed(void *block, unsigned size) {
         return;
     begin_operation(0, OTHERS);
     forget_places((u32)block, size, 1);
-    if (size) /* malloc(0) has a front alone */
+    if (size) { /* malloc(0) has a front alone */
         put_in_freed((u32)block, size);
     leave(me());
 }
@@ -923,6 +923,8 @@ void orders_taken(void *block, unsigned size) {
             continue;
         leave_out_freed(i);
         if (at - first > FRONT)
+        ((u32 *)block)[-1] = by_me();
+    }
             put_in_freed(first, at - first - FRONT);
         if (first + had > at + size + FRONT)
             put_in_freed(at + size + FRONT, first + had - at - size - FRONT);

@@ -208,13 +208,16 @@ static __attribute__((noinline)) void say_race(u32 at, enum does does, u32 by) {
     end_line();
 }
 
-static __attribute__((noinline)) void say_freed(u32 at) {
+static __attribute__((noinline)) void say_freed(u32 at, u32 by) {
     begin_line();
     SAY("use after free: ");
     say_here();
     SAY("touches ");
     say_name(own_site(), at);
-    SAY(", in a block that was freed");
+    SAY(", in a block that ");
+    say_thread(THREAD(by));
+    SAY(" freed");
+    say_where(by);
     end_line();
 }
 
@@ -234,7 +237,7 @@ static __attribute__((noinline)) void say_mixed(u32 at) {
 #define FAILS { fails_inside(); __builtin_trap(); }
 /* The load is a row that has the name of the data. */
 TRAPS data_race(u32 at, enum does does, u32 by) { (void)*(volatile u8 *)at; say_race(at, does, by); FAILS }
-TRAPS use_after_free(u32 at) { say_freed(at); FAILS }
+TRAPS use_after_free(u32 at, u32 by) { say_freed(at, by); FAILS }
 TRAPS atomics_of_mixed_sizes(u32 at) { say_mixed(at); FAILS }
 TRAPS orders_full_of_places__use_a_greater_pool(void) FAILS
 TRAPS orders_full_of_messages__use_a_greater_pool(void) FAILS

@@ -496,13 +496,21 @@ static void remove_known(void) {
     }
 }
 
+/* Who freed the block that has this address, in a row of such that begins at the first one. */
+static u32 who_freed(u32 first, u32 at) {
+    u32 size;
+    while (size = ((u32 *)first)[-FRONT / 4], first + size <= at && size)
+        first += size;
+    return ((u32 *)first)[-1];
+}
+
 /* A place that nobody touched since threads run: what is there is known to all, or to who writes it now. */
 static int new_place(u32 at, int log, int writer) {
     if (places() == PLACES)
         remove_known();
     for (int i = 0; i < FREED && orders.freed[i].size; i++)
         if (at - orders.freed[i].at < orders.freed[i].size)
-            use_after_free(at);
+            use_after_free(at, who_freed(orders.freed[i].at, at));
     int l = find(at);
     put_in(l, a_place(at, log));
     if (writer >= 0) {
