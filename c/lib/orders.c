@@ -12,6 +12,10 @@
 #include <wathread.h>
 #define ORDERS
 #include "orders.h"
+
+/* Nothing here is in the debug information but what the compiler's text calls and what is there for rows: so a trace and a
+   stack have the program's words, and none of these. */
+#pragma clang attribute push(__attribute__((nodebug)), apply_to = any(hasType(functionType), variable(unless(is_parameter))))
 #include "orders_gate.h"
 #include "orders_says.h"
 #include "orders_tables.h"
@@ -297,7 +301,9 @@ static u64 begin_load(u32 at, int log, int order) {
 }
 
 /* What was read where a newer message is there: a row of `show` has it, and the next one the newest. */
+#pragma clang attribute pop
 static volatile u64 reads_old;
+#pragma clang attribute push(__attribute__((nodebug)), apply_to = any(hasType(functionType), variable(unless(is_parameter))))
 
 INLINE void show_old(u32 at, int log, u64 value, u64 found) {
     reads_old = value;
@@ -492,8 +498,8 @@ static u32 thread_of(int slot) {
 }
 
 static void say_view(int t, int l, int newest, int log) {
-    SAY(", and t");
-    say_number(thread_of(t), 10);
+    SAY(", and ");
+    say_thread(thread_of(t));
     SAY(" may still read ");
     for (int p = position(&orders.current[t], l); p < newest; p++) {
         if (p != position(&orders.current[t], l))
@@ -733,7 +739,7 @@ static int is_late(int t, int of) {
     if (late) {
         joiner[of] = 0;
         set_joining(joining & ~BIT(t));
-        asleep[t] = 0;
+        waits_for[t] = 0;
         sleeping &= ~BIT(t);
     }
     leave(me());
@@ -755,7 +761,7 @@ static __attribute__((noinline)) int begin_join(int thread, long long nanosecond
     } else {
         joiner[of] = t + 1;
         set_joining(joining | BIT(t));
-        falls_asleep(t, thread + 1);
+        falls_asleep(t, mark_of(thread));
     }
     end_access(t);
     return waits;
@@ -763,7 +769,7 @@ static __attribute__((noinline)) int begin_join(int thread, long long nanosecond
 
 int orders_joins(int thread, unsigned *result, long long nanoseconds) {
     if (begin_join(thread, nanoseconds)) {
-        if (sleeps(me(), thread + 1, nanoseconds) == 2 && is_late(me(), slots[thread]))
+        if (sleeps(me(), mark_of(thread), nanoseconds) == 2 && is_late(me(), slots[thread]))
             return 2;
         set_parallel(simulates);
         if (!simulates) {
@@ -804,7 +810,7 @@ static int ends_by_time(int t) {
         i++;
     if (i < THREADS) {
         unqueue(i);
-        asleep[t] = 0;
+        waits_for[t] = 0;
         sleeping &= ~BIT(t);
     }
     leave(me());
@@ -845,7 +851,7 @@ unsigned __wathread_notify(u32 word, unsigned most) {
     begin_operation(word, WAITS);
     unsigned many = 0;
     for (int i = 0; many < most && i < THREADS && queue[i];)
-        if (asleep[queue[i] - 1] == word) {
+        if (waits_for[queue[i] - 1] == word) {
             int t = queue[i] - 1;
             unqueue(i);
             sleeping &= ~BIT(t);
@@ -923,8 +929,6 @@ void orders_taken(void *block, unsigned size) {
             continue;
         leave_out_freed(i);
         if (at - first > FRONT)
-        ((u32 *)block)[-1] = by_me();
-    }
             put_in_freed(first, at - first - FRONT);
         if (first + had > at + size + FRONT)
             put_in_freed(at + size + FRONT, first + had - at - size - FRONT);
@@ -997,5 +1001,6 @@ int __wathread_failed(void) {
     return failed;
 }
 void __wathread_at(u32 site) { set_site(site); } /* around a call of the library */
+#pragma clang attribute pop
 void __wathread_reads(u32 at, u32 size, u32 site) { note(at, size, READ, site); }
 void __wathread_writes(u32 at, u32 size, u32 site) { note(at, size, WRITE, site); }

@@ -44,14 +44,12 @@ static void end_line(void) {
     set_lettered(0);
 }
 
-static __attribute__((noinline)) void say_number(u64 value, u32 base) {
+static __attribute__((noinline)) void say_number(u64 value) {
     u64 scale = 1;
-    while (value / scale >= base)
-        scale *= base;
-    for (; scale; scale /= base) {
-        u32 digit = value / scale % base;
-        put_letters(digit < 10 ? '0' + digit : 'a' + digit - 10, 1);
-    }
+    while (value / scale >= 10)
+        scale *= 10;
+    for (; scale; scale /= 10)
+        put_letters('0' + value / scale % 10, 1);
 }
 
 static void say_value(u64 value, int log) {
@@ -59,12 +57,12 @@ static void say_value(u64 value, int log) {
     int64_t number = (int64_t)(value << unused) >> unused;
     if (number < 0)
         put_letters('-', 1);
-    say_number(number < 0 ? -(u64)number : (u64)number, 10);
+    say_number(number < 0 ? -(u64)number : (u64)number);
 }
 
 static void say_thread(u32 thread) {
     put_letters('t', 1);
-    say_number(thread, 10);
+    say_number(thread);
 }
 
 /* ---- Sites: two texts, each up to the first word whose last byte is zero (sites.py) ---- */
@@ -91,8 +89,8 @@ static __attribute__((noinline)) void say_name(u32 site, u32 at) {
     if (site && *(const u64 *)site)
         say_piece(site);
     else {
-        SAY("0x");
-        say_number(at, 16);
+        SAY("address ");
+        say_number(at);
     }
 }
 

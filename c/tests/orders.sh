@@ -91,7 +91,7 @@ planted_loop() { # what, file, edit, algorithm
 # be there too.
 said() {
     "$WATHREAD" show "$work/m.wasm" "$work/r" --text |
-        sed -E '/: seen == 42$/d; s/^[0-9]+ +//; s/0x[0-9a-f]+/x/; s/, and t0 may still read 0//; / is [0-9]*$/d'
+        sed -E '/: seen == 42$/d; s/^[0-9]+ +//; s/address [0-9]+/x/; s/, and t0 may still read 0//; / is [0-9]*$/d'
 }
 
 # What t2 has to say of a program of tests/orders/accesses, NAME being how its file is called there.
@@ -157,7 +157,8 @@ quiet() { # the compiler's folder, a program
         "$WATHREAD" search "$work/m.wasm" --invoke main --from $run --runs 1 --find 'thread 0: ok' --limit 60000 \
             --record "$work/r" >"$work/out"
         grep -q '^found in run' "$work/out" || return
-        ! "$WATHREAD" show "$work/m.wasm" "$work/r" --text | grep -E "isn't known with it|acquire fence|release fence" || return
+        ! "$WATHREAD" show "$work/m.wasm" "$work/r" --text |
+            grep -E "isn't known with it|acquire fence|release fence" || return
     done
 }
 
@@ -195,7 +196,7 @@ all_told() {
     planted_said "another place is told" orders_plain.h 's/^        set_site\(access >> 40\);/        ;/' unreleased
     planted_said "it's said where nothing lacks" orders.c 's/^    if \(!ORDERS_NEWS .*/    if (!by)/' futex
     planted_said "all is known behind a fence" orders.c 's/since = has_more\(.*\);/since = 0;/' fenced
-    planted_quiet "nothing is known behind a fence" orders.c 's/^            if \(join\(word, all\) != word\)$/            if (all)/;
+    planted_quiet "nothing is known behind a fence" orders.c 's/^( +)if \(join\(word, all\) != word\)$/\1if (all)/;
         s/since = has_more\(.*\);/since = 1;/' fenced_ok
     planted_quiet "a place's own message counts" orders.c 's/\|\| \(i >= l && i < l \+ cells_of\(l\)\)/|| 0/' fenced_ok
     planted_quiet "what nobody wrote counts" orders.c 's/\(lacks \&\& orders.wrote\[i\]\)/lacks/' fenced_ok
