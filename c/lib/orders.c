@@ -508,7 +508,7 @@ static void say_view(int t, int l, int newest, int log) {
     }
 }
 
-static void say_views(void) {
+static void say_all_views(void) {
     u64 readers = looking;
     for (int l = 0; l < places(); l++) {
         u64 place = orders.places[l];
@@ -529,10 +529,19 @@ static void say_views(void) {
 void __wathread_traps(void) {
     if (is_parallel()) {
         enter_behind_start(me(), 0, 0);
-        say_views();
+        say_all_views();
         fails_inside();
     } else
         tell_helper(OVER);
+}
+
+/* The same at a moment that the program chooses. */
+void __wathread_views(void) {
+    if (!is_parallel())
+        return;
+    begin_operation(0, OTHERS);
+    say_all_views();
+    leave(me());
 }
 
 /* ---- Threads ---- */
@@ -914,6 +923,8 @@ void orders_freed(void *block, unsigned size) {
     forget_places((u32)block, size, 1);
     if (size) { /* malloc(0) has a front alone */
         put_in_freed((u32)block, size);
+        ((u32 *)block)[-1] = by_me();
+    }
     leave(me());
 }
 
@@ -990,6 +1001,7 @@ void orders_writes(void *to, unsigned size) { note((u32)to, size, WRITE, own_sit
         AT_SITE(had = modify(at, log, kind, x & MASK(log), expected & MASK(log), order, failing))                      \
         return had;                                                                                                    \
     }
+#pragma clang attribute pop
 ATOMICS(8, 0, u32)
 ATOMICS(16, 1, u32)
 ATOMICS(32, 2, u32)
@@ -1001,6 +1013,5 @@ int __wathread_failed(void) {
     return failed;
 }
 void __wathread_at(u32 site) { set_site(site); } /* around a call of the library */
-#pragma clang attribute pop
 void __wathread_reads(u32 at, u32 size, u32 site) { note(at, size, READ, site); }
 void __wathread_writes(u32 at, u32 size, u32 site) { note(at, size, WRITE, site); }

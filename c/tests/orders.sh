@@ -123,7 +123,14 @@ acquire fence, and $since its release fence at $2:7 before that store
 $2:15 reads data = 0, which is old: t1 wrote 42 at $2:8, $late
 data is 42, and t2 may still read 0
 END
-    freed) echo "use after free: $2:13 touches x, in a block that was freed" ;;
+    views) cat <<END ;;
+$2:13 reads ready = 1, which t1 wrote at $2:9 without release: what t1 did before $unknown
+data is 42, and t2 may still read 0
+$2:15 reads data = 0, which is old: t1 wrote 42 at $2:8, $late
+data is 42, and t2 may still read 0
+END
+    freed) echo "use after free: $2:13 touches x, in a block that t1 freed at $2:7" ;;
+    freed_row) echo "use after free: $2:18 touches x, in a block that t3 freed at $2:12" ;;
     mixed) echo "mixed sizes: $2:9 touches both.half by an atomic access of another size than before, or not aligned:" \
         "C has none" ;;
     esac | sed 's/^/t2 says: /'
@@ -186,7 +193,7 @@ planted_said() { # what, file, edit, program
 
 all_told() {
     local name
-    for name in mp_stale unacquired unreleased fenced fenced_old freed mixed futex; do
+    for name in mp_stale unacquired unreleased fenced fenced_old views freed freed_row mixed futex; do
         told $name $name.c
     done
     quietly fenced_ok
