@@ -2,7 +2,7 @@
 #include <assert.h>
 #include <pthread.h>
 #include <stdatomic.h>
-static int data, more; static _Atomic int ready, unused, count;
+static int data, more; static _Atomic int ready, unused, late, count;
 static void *writer(void *p) {
     data = 42;
     (void)atomic_load_explicit(&unused, memory_order_relaxed);
@@ -20,6 +20,7 @@ static void *second(void *p) {
     while (!atomic_compare_exchange_weak_explicit(&count, &had, 2, memory_order_relaxed, memory_order_relaxed))
         had = 1;
     atomic_thread_fence(memory_order_release);
+    (void)atomic_load_explicit(&late, memory_order_relaxed); /* which nobody writes */
     atomic_store_explicit(&ready, 1, memory_order_relaxed);
     return p;
 }
