@@ -1,0 +1,4 @@
+pub mod Systems
+pub mod Explored
+pub mod Ample
+pub mod Found
