@@ -78,7 +78,7 @@ module _ {S L A : Type 0} (k : System S L A) (laws : AreIndependent k) (e : Expl
     pub alike : k.alike (k.next (after k s ns) thread) (after k (k.next s thread) ns)
     pub rank : rank_of (λ u. e.rank next u) ns < rank_of (λ u. e.rank i u) ns
 
-  goes-apart : (i m n : ℕ) → e.goes i m ≡ true → e.goes i n ≡ false → n ≢ m
+  pub goes-apart : (i m n : ℕ) → e.goes i m ≡ true → e.goes i n ≡ false → n ≢ m
   goes-apart i m n h g q = true≢false (sym h ∙ (ap (λ v. e.goes i v) (sym q) ∙ g))
 
   module _ (n : ℕ) (below : HoldsBelow n) where
