@@ -1,267 +1,183 @@
 -- Where only some threads go on, footprints hold of all runs, and all ends, all that is wanted and all conflicts are found.
-use Rattle.std.specs.Prelude.{◌≡◌, ◌<◌, ◌≤◌, ◌⊎◌, ℕ, zero, suc, Bool, true, false, List, [], ◌∷◌, length, refl}
-use Rattle.std.proofs.Common.{ap, subst, sym, ◌∙◌, inl, inr, arith, true≢false}
+use Rattle.std.specs.Prelude.{◌≡◌, ◌<◌, ◌⊎◌, ℕ, zero, suc, Bool, true, false, List, [], ◌∷◌, length, refl}
+use Rattle.std.proofs.Common.{sym, inl, inr, arith}
 use Rattle.std.proofs.lemmas.Bool.{cases_Bool}
 use Rattle.search_graph.specs.Paths.{Reaches}
 use Rattle.search_graph.specs.Graph.{Moves, Steps}
-use Rattle.search_ample.specs.Systems.{System, CanGo, label_of, Conflict, IsOver, Runs, after, AreIndependent}
+use Rattle.search_ample.specs.Systems.{System, Conflict, IsOver, Runs, AreIndependent}
 use Rattle.search_ample.specs.Explored.{Explored, IsExploredOf}
 use Rattle.search_ample.specs.Ample.{IsAmple}
-use Rattle.search_ample.specs.Found.{IsFound, BothAreFound, EndsAreFound, WantedAreFound, ConflictsAreFound, FootprintsHold, ComesBack, AllComeBack}
-use Rattle.search_ample.proofs.Runs.{can-alike, among-after, runs-alike}
-use Rattle.search_ample.proofs.Ways.{From, HoldsBelow, ComesFirst, ComesBeside, goes-apart, by-ways}
+use Rattle.search_ample.specs.Found.{IsRun, IsFound, WantIsFound, BothAreFound, FootprintsHold, EndsAreFound, WantsAreFound, ConflictsAreFound}
+use Rattle.search_ample.specs.Found.{ComesBack, AllComeBack}
+use Rattle.search_ample.proofs.Ways.{HoldsBelow, ComesFirst, ComesBeside, goes-apart, minds-listed, by-ways}
 
-module _ {S L A : Type 0} (k : System S L A) (laws : AreIndependent k) (e : Explored A) (stands : ℕ → S → Type 0) (x : IsExploredOf k stands e)
+module _ {S A : Type 0} (k : System S A) (laws : AreIndependent k) (stands : ℕ → S → Type 0) (e : Explored A) (x : IsExploredOf k stands e)
     (c : IsAmple k.conflict e) where
-  abbrev RunOf : ℕ → S → List ℕ → Type 0
-  RunOf = From k laws e stands x c
+  abbrev RunOf : ℕ → S → List ℕ → S → Type 0
+  RunOf = IsRun k stands e
 
-  abbrev First : ℕ → S → List ℕ → Type 0
-  First = ComesFirst k laws e stands x c
+  abbrev First : ℕ → S → List ℕ → S → Type 0
+  First = ComesFirst k laws stands e x c
 
-  abbrev Beside : ℕ → S → List ℕ → Type 0
-  Beside = ComesBeside k laws e stands x c
+  abbrev Beside : ℕ → S → List ℕ → S → Type 0
+  Beside = ComesBeside k laws stands e x c
 
   -- What threads want at the run's end is in their footprints.
-  abbrev HoldsOf : ℕ → S → List ℕ → Type 0
-  HoldsOf i s ns = (u : ℕ) → CanGo k (after k s ns) u → e.may i u (label_of k (after k s ns) u) ≡ true
+  abbrev HoldsOf : ℕ → S → List ℕ → S → Type 0
+  HoldsOf i s ns z = (u : ℕ) (a : A) → k.wants z u a → e.may i u a ≡ true
 
-  wanted-here : (i : ℕ) (s : S) → stands i s → (u : ℕ) → u < e.threads → CanGo k s u → e.may i u (label_of k s u) ≡ true
-  wanted-here i s at u few can =
-      subst (λ a. e.may i u a ≡ true) (sym (x.label i u s at few)) (c.wanted i u (x.state i s at) few (sym (x.can i u s at few) ∙ can))
+  wanted-here : (i : ℕ) (s : S) → stands i s → (u : ℕ) (a : A) → k.wants s u a → e.may i u a ≡ true
+  wanted-here i s at u a w = c.wanted i u a (x.state i s at) (x.few_want s u a (x.among i s at) w) (x.wants i u s a at w)
 
-  among-end : (i : ℕ) (s : S) (ns : List ℕ) → RunOf i s ns → k.among (after k s ns)
-  among-end i s ns f = among-after k laws ns s (x.among i s f.begins) f.runs
+  -- What a thread that goes on wants at the end conflicts with nothing that one that waits may still want.
+  never-both : (i : ℕ) (s : S) (ns : List ℕ) (z : S) → RunOf i s ns z → (w : Beside i s ns z) → (m u : ℕ) (a b : A) → m < e.threads → u < e.threads
+      → e.goes i m ≡ true → e.goes i u ≡ false → k.wants z m a → e.may i u b ≡ true → Conflict k a b → ⊥
+  never-both i s ns z f w m u a b few_m few_u gm gu wants may cf =
+      c.apart i m u a b (x.state i s f.begins) few_m few_u gm gu
+      (minds-listed k laws stands e x c i m s a f.begins (inl (((w.kept m few_m gm).wants a).1 wants))) may cf
 
-  few-at-end : (i : ℕ) (s : S) (ns : List ℕ) → RunOf i s ns → (u : ℕ) → CanGo k (after k s ns) u → u < e.threads
-  few-at-end i s ns f u can = x.few (after k s ns) u (among-end i s ns f) can
-
-  by-first : (i : ℕ) (s : S) (ns : List ℕ) → RunOf i s ns → (w : First i s ns) → HoldsOf w.next (k.next s w.thread) w.rest → HoldsOf i s ns
-  by-first i s ns f w h u can =
-      let there = after k (k.next s w.thread) w.rest in
-      let same : k.local (after k s ns) u ≡ k.local there u = laws.states.local (after k s ns) there u w.alike in
-      c.kept i w.thread w.next u (label_of k (after k s ns) u) w.move (few-at-end i s ns f u can)
-      (subst (λ l. e.may w.next u (k.label l) ≡ true) (sym same) (h u (can-alike k laws (after k s ns) there u w.alike can)))
-
-  by-beside : (i : ℕ) (s : S) (ns : List ℕ) → RunOf i s ns → (w : Beside i s ns) → HoldsOf w.next (k.next s w.thread) ns → HoldsOf i s ns
-  by-beside i s ns f w h u can = by (cases_Bool (e.goes i u))
+  -- What one that waits wants there, it wants behind the other's step.
+  waits-still : (i : ℕ) (s : S) (ns : List ℕ) (z : S) → RunOf i s ns z → (w : Beside i s ns z) → HoldsOf w.next w.world ns w.end
+      → (u : ℕ) (a : A) → e.goes i u ≡ false → k.wants z u a → k.wants w.end u a
+  waits-still i s ns z f w h u a gu wants =
+      by (laws.still z w.end u w.thread a f.among (λ q. goes-apart k laws stands e x c i w.thread u w.goes_on gu (sym q)) w.last wants)
     where
-      z : S
-      z = after k s ns
-
       few : u < e.threads
-      few = few-at-end i s ns f u can
+      few = x.few_want z u a f.among wants
 
-      -- What the thread is where the other one moved behind the run, it is where that moved before.
-      beyond : k.local (k.next z w.thread) u ≡ k.local (after k (k.next s w.thread) ns) u
-      beyond = laws.states.local (k.next z w.thread) (after k (k.next s w.thread) ns) u w.alike
+      by : k.wants w.end u a ⊎ ((b : A) × (d : A) × k.wants w.end u b × k.wants z w.thread d × Conflict k d b) → k.wants w.end u a
+      by (inl there) = there
+      by (inr p) =
+          absurd (never-both i s ns z f w w.thread u p.1 p.0 w.few few w.goes_on gu p.3 (c.kept i w.thread w.next u p.0 w.move few (h u p.0 p.2)) p.4)
 
-      holds : CanGo k (k.next z w.thread) u → e.may i u (label_of k (k.next z w.thread) u) ≡ true
-      holds go =
-          c.kept i w.thread w.next u (label_of k (k.next z w.thread) u) w.move few
-          (subst (λ l. e.may w.next u (k.label l) ≡ true) (sym beyond) (h u (ap k.can (sym beyond) ∙ go)))
+  by-first : (i : ℕ) (s : S) (ns : List ℕ) (z : S) → RunOf i s ns z → (w : First i s ns z) → HoldsOf w.next w.world w.rest z → HoldsOf i s ns z
+  by-first i s ns z f w h u a wants = c.kept i w.thread w.next u a w.move (x.few_want z u a f.among wants) (h u a wants)
 
-      waits : e.goes i u ≡ false
-          → (k.local (k.next z w.thread) u ≡ k.local z u) ⊎ (CanGo k (k.next z w.thread) u × Conflict k (label_of k z w.thread) (label_of k (k.next z w.thread) u))
-          → e.may i u (label_of k z u) ≡ true
-      waits g (inl same) = subst (λ l. e.may i u (k.label l) ≡ true) same (holds (ap k.can same ∙ can))
-      waits g (inr p) =
-          let label : label_of k z w.thread ≡ e.label i w.thread = ap k.label (w.kept w.thread w.few w.goes_on) ∙ x.label i w.thread s f.begins w.few in
-          absurd (c.apart i w.thread u (label_of k (k.next z w.thread) u) (x.state i s f.begins) w.few few w.goes_on g (holds p.0)
-          (subst (λ a. Conflict k a (label_of k (k.next z w.thread) u)) label p.1))
+  by-beside : (i : ℕ) (s : S) (ns : List ℕ) (z : S) → RunOf i s ns z → (w : Beside i s ns z) → HoldsOf w.next w.world ns w.end → HoldsOf i s ns z
+  by-beside i s ns z f w h u a wants = by (cases_Bool (e.goes i u))
+    where
+      few : u < e.threads
+      few = x.few_want z u a f.among wants
 
-      by : (e.goes i u ≡ true) ⊎ (e.goes i u ≡ false) → e.may i u (label_of k z u) ≡ true
-      by (inl g) =
-          let same = w.kept u few g in
-          subst (λ l. e.may i u (k.label l) ≡ true) (sym same) (wanted-here i s f.begins u few (ap k.can (sym same) ∙ can))
-      by (inr g) =
-          waits g (laws.stays z u w.thread (among-end i s ns f) (λ q. goes-apart k laws e stands x c i w.thread u w.goes_on g (sym q)) can w.can)
+      by : (e.goes i u ≡ true) ⊎ (e.goes i u ≡ false) → e.may i u a ≡ true
+      by (inl g) = wanted-here i s f.begins u a (((w.kept u few g).wants a).1 wants)
+      by (inr g) = c.kept i w.thread w.next u a w.move few (h u a (waits-still i s ns z f w h u a g wants))
 
-  holds-below : (n : ℕ) → HoldsBelow k laws e stands x c n
-  holds-below zero i s ns u len f can = absurd (omega arith)
-  holds-below (suc n) i s ns u len f can =
-      by-ways k laws e stands x c n (holds-below n) HoldsOf
-      (λ j z at v go. wanted-here j z at v (x.few z v (x.among j z at) go) go)
-      (λ j z us l g w h. by-first j z us g w h)
-      (λ j z us l g w h. by-beside j z us g w h)
-      i s ns (omega arith) f u can
+  -- No step is made: what is wanted is wanted where the run begins.
+  here : (i : ℕ) (s z : S) → RunOf i s [] z → (u : ℕ) (a : A) → k.wants z u a → k.wants s u a
+  here i s z f u a wants = ((laws.states.same s z u (x.among i s f.begins) f.among f.runs).wants a).1 wants
+
+  holds-below : (n : ℕ) → HoldsBelow k laws stands e x c n
+  holds-below zero i s ns z len f u a wants = absurd (omega arith)
+  holds-below (suc n) i s ns z len f u a wants =
+      by-ways k laws stands e x c n (holds-below n) HoldsOf
+      (λ j v y g t b w. wanted-here j v g.begins t b (here j v y g t b w))
+      by-first by-beside i s ns z (omega arith) f u a wants
 
   pub footprints-hold : FootprintsHold k stands e
-  footprints-hold i s ns n at r can = holds-below (suc (length ns)) i s ns n (omega arith) (record { begins = at; runs = r }) can
+  footprints-hold i s ns z f = holds-below (suc (length ns)) i s ns z (omega arith) f
 
   -- The principle, now that footprints hold of all runs.
-  ways : (Q : ℕ → S → List ℕ → Type 0) → ((i : ℕ) (s : S) → stands i s → Q i s [])
-      → ((i : ℕ) (s : S) (ns : List ℕ) → RunOf i s ns → (w : First i s ns) → Q w.next (k.next s w.thread) w.rest → Q i s ns)
-      → ((i : ℕ) (s : S) (ns : List ℕ) → RunOf i s ns → (w : Beside i s ns) → Q w.next (k.next s w.thread) ns → Q i s ns)
-      → (i : ℕ) (s : S) (ns : List ℕ) → RunOf i s ns → Q i s ns
-  ways Q none one other i s ns f =
-      by-ways k laws e stands x c (length ns) (holds-below (length ns)) Q none (λ j z us l g w h. one j z us g w h) (λ j z us l g w h. other j z us g w h)
-      i s ns (omega arith) f
+  ways : (Q : ℕ → S → List ℕ → S → Type 0) → ((i : ℕ) (s z : S) → RunOf i s [] z → Q i s [] z)
+      → ((i : ℕ) (s : S) (ns : List ℕ) (z : S) → RunOf i s ns z → (w : First i s ns z) → Q w.next w.world w.rest z → Q i s ns z)
+      → ((i : ℕ) (s : S) (ns : List ℕ) (z : S) → RunOf i s ns z → (w : Beside i s ns z) → Q w.next w.world ns w.end → Q i s ns z)
+      → (i : ℕ) (s : S) (ns : List ℕ) (z : S) → RunOf i s ns z → Q i s ns z
+  ways Q none one other i s ns z f =
+      by-ways k laws stands e x c (length ns) (holds-below (length ns)) Q none one other i s ns z (omega arith) f
 
   further : (i t j h : ℕ) → Moves e.moves i t j → Reaches (Steps e.moves) j h → Reaches (Steps e.moves) i h
   further i t j h m p = record { count = suc p.count; path = (j, record { thread = t; is = m }, p.path) }
 
-  found-further : (i t j : ℕ) (v z : S) → Moves e.moves i t j → k.alike v z → IsFound k stands e j z → IsFound k stands e i v
-  found-further i t j v z m a f = record {
-    state = f.state;
-    path = further i t j f.state m f.path;
-    world = f.world;
-    is = f.is;
-    alike = laws.states.in_turn v z f.world a f.alike;
-  }
+  nowhere : (i : ℕ) → Reaches (Steps e.moves) i i
+  nowhere i = record { count = 0; path = refl }
 
-  found-here : (i : ℕ) (s : S) → stands i s → IsFound k stands e i s
-  found-here i s at = record { state = i; path = record { count = 0; path = refl }; world = s; is = at; alike = laws.states.itself s }
+  found-further : (i t j : ℕ) (z : S) → Moves e.moves i t j → IsFound k stands e j z → IsFound k stands e i z
+  found-further i t j z m f =
+      record { state = f.state; path = further i t j f.state m f.path; world = f.world; is = f.is; alike = f.alike }
 
-  EndsWell : ℕ → S → List ℕ → Type 0
-  EndsWell i s ns = IsOver k (after k s ns) → IsFound k stands e i (after k s ns)
+  found-here : (i : ℕ) (s z : S) → RunOf i s [] z → IsFound k stands e i z
+  found-here i s z f = record { state = i; path = nowhere i; world = s; is = f.begins; alike = laws.states.back s z f.runs }
+
+  abbrev EndsWell : ℕ → S → List ℕ → S → Type 0
+  EndsWell i s ns z = IsOver k z → IsFound k stands e i z
 
   pub ends-are-found : EndsAreFound k stands e
-  unfolding EndsWell
-  ends-are-found i s ns at r over =
+  ends-are-found i s ns z f over =
       ways EndsWell
-      (λ j z st _. found-here j z st)
-      (λ j z us g w h done. (let there = after k (k.next z w.thread) w.rest in
-      found-further j w.thread w.next (after k z us) there w.move w.alike
-      (h (λ n can. done n (can-alike k laws there (after k z us) n (laws.states.back (after k z us) there w.alike) can)))))
-      (λ j z us g w h done. absurd (done w.thread w.can))
-      i s ns (record { begins = at; runs = r }) over
+      (λ j v y g _. found-here j v y g)
+      (λ j v us y g w h done. found-further j w.thread w.next y w.move (h done))
+      (λ j v us y g w h done. absurd (done w.thread (w.end, w.last)))
+      i s ns z f over
 
-  both-further : (i t j n u : ℕ) (v z : S) → Moves e.moves i t j → k.local v n ≡ k.local z n → k.local v u ≡ k.local z u
-      → BothAreFound k stands e j z n u → BothAreFound k stands e i v n u
-  both-further i t j n u v z m a b f = record {
-    state = f.state;
-    path = further i t j f.state m f.path;
-    world = f.world;
-    is = f.is;
-    one = a ∙ f.one;
-    other = b ∙ f.other;
-  }
+  both-further : (i t j n u : ℕ) (a b : A) → Moves e.moves i t j → BothAreFound k stands e j n u a b → BothAreFound k stands e i n u a b
+  both-further i t j n u a b m f =
+      record { state = f.state; path = further i t j f.state m f.path; world = f.world; is = f.is; one = f.one; other = f.other }
 
-  -- Two threads want what conflicts, or are the same.
-  abbrev Together : S → ℕ → ℕ → Type 0
-  Together z n u = (n ≡ u) ⊎ Conflict k (label_of k z n) (label_of k z u)
+  -- Two threads want what conflicts, or they are one.
+  abbrev Both : ℕ → S → List ℕ → S → Type 0
+  Both i s ns z = (n u : ℕ) (a b : A) → k.wants z n a → k.wants z u b → (n ≡ u) ⊎ Conflict k a b → BothAreFound k stands e i n u a b
 
-  together-as : (v z : S) (n u : ℕ) → k.local v n ≡ k.local z n → k.local v u ≡ k.local z u → Together v n u → Together z n u
-  together-as v z n u a b (inl same) = inl same
-  together-as v z n u a b (inr f) = inr (subst (λ l. Conflict k (k.label l) (label_of k z u)) a (subst (λ l. Conflict k (label_of k v n) (k.label l)) b f))
-
-  abbrev Both : ℕ → S → List ℕ → Type 0
-  Both i s ns = (n u : ℕ) → CanGo k (after k s ns) n → CanGo k (after k s ns) u → Together (after k s ns) n u
-      → BothAreFound k stands e i (after k s ns) n u
-
-  both-first : (i : ℕ) (s : S) (ns : List ℕ) → RunOf i s ns → (w : First i s ns) → Both w.next (k.next s w.thread) w.rest → Both i s ns
-  both-first i s ns f w h n u can_n can_u t =
-      let v = after k s ns in
-      let z = after k (k.next s w.thread) w.rest in
-      let a = laws.states.local v z n w.alike in
-      let b = laws.states.local v z u w.alike in
-      both-further i w.thread w.next n u v z w.move a b
-      (h n u (can-alike k laws v z n w.alike can_n) (can-alike k laws v z u w.alike can_u) (together-as v z n u a b t))
-
-  both-beside : (i : ℕ) (s : S) (ns : List ℕ) → RunOf i s ns → (w : Beside i s ns) → Both w.next (k.next s w.thread) ns → Both i s ns
-  both-beside i s ns f w h n u can_n can_u t = by (cases_Bool (e.goes i n)) (cases_Bool (e.goes i u))
+  both-beside : (i : ℕ) (s : S) (ns : List ℕ) (z : S) → RunOf i s ns z → (w : Beside i s ns z) → Both w.next w.world ns w.end → Both i s ns z
+  both-beside i s ns z f w h n u a b wn wu t = by (cases_Bool (e.goes i n)) (cases_Bool (e.goes i u))
     where
-      v : S
-      v = after k s ns
+      few_n : n < e.threads
+      few_n = x.few_want z n a f.among wn
 
-      z : S
-      z = after k (k.next s w.thread) ns
-
-      there : S
-      there = k.next v w.thread
-
-      holds : (m : ℕ) → CanGo k v m → e.may i m (label_of k v m) ≡ true
-      holds m can = footprints-hold i s ns m f.begins f.runs can
-
-      few : (m : ℕ) → CanGo k v m → m < e.threads
-      few m can = few-at-end i s ns f m can
+      few_u : u < e.threads
+      few_u = x.few_want z u b f.among wu
 
       -- Of two that conflict, not only one goes on.
-      mixed : (m q : ℕ) → CanGo k v m → CanGo k v q → e.goes i m ≡ true → e.goes i q ≡ false → Together v m q → BothAreFound k stands e i v n u
-      mixed m q cm cq gm gq (inl same) = absurd (goes-apart k laws e stands x c i m q gm gq (sym same))
-      mixed m q cm cq gm gq (inr cf) =
-          let label : label_of k v m ≡ e.label i m = ap k.label (w.kept m (few m cm) gm) ∙ x.label i m s f.begins (few m cm) in
-          absurd (c.apart i m q (label_of k v q) (x.state i s f.begins) (few m cm) (few q cq) gm gq (holds q cq)
-          (subst (λ a. Conflict k a (label_of k v q)) label cf))
+      mixed : (m q : ℕ) (d g : A) → m < e.threads → q < e.threads → e.goes i m ≡ true → e.goes i q ≡ false → k.wants z m d → k.wants z q g
+          → (m ≡ q) ⊎ Conflict k d g → BothAreFound k stands e i n u a b
+      mixed m q d g fm fq gm gq wm wq (inl same) = absurd (goes-apart k laws stands e x c i m q gm gq (sym same))
+      mixed m q d g fm fq gm gq wm wq (inr cf) = absurd (never-both i s ns z f w m q d g fm fq gm gq wm (footprints-hold i s ns z f q g wq) cf)
 
-      flip : Together v n u → Together v u n
+      flip : (n ≡ u) ⊎ Conflict k a b → (u ≡ n) ⊎ Conflict k b a
       flip (inl same) = inl (sym same)
-      flip (inr cf) = inr (laws.mutual_is (label_of k v n) (label_of k v u) cf)
+      flip (inr cf) = inr (laws.mutual_is a b cf)
 
-      -- One that waits is behind the move as before it.
-      waits : (m : ℕ) → CanGo k v m → e.goes i m ≡ false → k.local v m ≡ k.local there m
-      waits m can g =
-          let label : label_of k v w.thread ≡ e.label i w.thread = ap k.label (w.kept w.thread w.few w.goes_on) ∙ x.label i w.thread s f.begins w.few in
-          sym (laws.kept v m w.thread (among-end i s ns f) (λ q. goes-apart k laws e stands x c i w.thread m w.goes_on g (sym q)) w.can
-          (λ cf. c.apart i w.thread m (label_of k v m) (x.state i s f.begins) w.few (few m can) w.goes_on g (holds m can)
-          (subst (λ a. Conflict k a (label_of k v m)) label (laws.mutual_is (label_of k v m) (label_of k v w.thread) cf))))
+      still : (m : ℕ) (d : A) → e.goes i m ≡ false → k.wants z m d → k.wants w.end m d
+      still m d g wants = waits-still i s ns z f w (footprints-hold w.next w.world ns w.end w.run) m d g wants
 
-      waits-there : (m : ℕ) → CanGo k v m → e.goes i m ≡ false → k.local v m ≡ k.local z m
-      waits-there m can g = waits m can g ∙ laws.states.local there z m w.alike
-
-      by : (e.goes i n ≡ true) ⊎ (e.goes i n ≡ false) → (e.goes i u ≡ true) ⊎ (e.goes i u ≡ false) → BothAreFound k stands e i v n u
+      by : (e.goes i n ≡ true) ⊎ (e.goes i n ≡ false) → (e.goes i u ≡ true) ⊎ (e.goes i u ≡ false) → BothAreFound k stands e i n u a b
       by (inl gn) (inl gu) = record {
         state = i;
-        path = record { count = 0; path = refl };
+        path = nowhere i;
         world = s;
         is = f.begins;
-        one = w.kept n (few n can_n) gn;
-        other = w.kept u (few u can_u) gu;
+        one = ((w.kept n few_n gn).wants a).1 wn;
+        other = ((w.kept u few_u gu).wants b).1 wu;
       }
-      by (inl gn) (inr gu) = mixed n u can_n can_u gn gu t
-      by (inr gn) (inl gu) = mixed u n can_u can_n gu gn (flip t)
-      by (inr gn) (inr gu) =
-          let a = waits-there n can_n gn in
-          let b = waits-there u can_u gu in
-          both-further i w.thread w.next n u v z w.move a b (h n u (ap k.can (sym a) ∙ can_n) (ap k.can (sym b) ∙ can_u) (together-as v z n u a b t))
+      by (inl gn) (inr gu) = mixed n u a b few_n few_u gn gu wn wu t
+      by (inr gn) (inl gu) = mixed u n b a few_u few_n gu gn wu wn (flip t)
+      by (inr gn) (inr gu) = both-further i w.thread w.next n u a b w.move (h n u a b (still n a gn wn) (still u b gu wu) t)
 
-  both-found : (i : ℕ) (s : S) (ns : List ℕ) → RunOf i s ns → Both i s ns
-  both-found i s ns f = ways Both
-      (λ j z at n u a b t. record { state = j; path = record { count = 0; path = refl }; world = z; is = at; one = refl; other = refl })
-      both-first both-beside i s ns f
+  both-found : (i : ℕ) (s : S) (ns : List ℕ) (z : S) → RunOf i s ns z → Both i s ns z
+  both-found = ways Both
+      (λ i s z f n u a b wn wu t.
+          record { state = i; path = nowhere i; world = s; is = f.begins; one = here i s z f n a wn; other = here i s z f u b wu })
+      (λ i s ns z f w h n u a b wn wu t. both-further i w.thread w.next n u a b w.move (h n u a b wn wu t))
+      both-beside
 
   pub conflicts-are-found : ConflictsAreFound k stands e
-  conflicts-are-found i s ns n u at r can_n can_u cf = both-found i s ns (record { begins = at; runs = r }) n u can_n can_u (inr cf)
+  conflicts-are-found i s ns z f n u a b wn wu cf = both-found i s ns z f n u a b wn wu (inr cf)
 
-  pub wanted-are-found : WantedAreFound k stands e
-  wanted-are-found i s ns n at r can = both-found i s ns (record { begins = at; runs = r }) n n can can (inl refl)
+  pub wants-are-found : WantsAreFound k stands e
+  wants-are-found i s ns z f n a w =
+      let r = both-found i s ns z f n n a a w w (inl refl) in
+      record { state = r.state; path = r.path; world = r.world; is = r.is; wants = r.one }
 
-  -- A run from a state that nobody tells apart from another one goes on from that too.
-  back-as : (i : ℕ) (v z : S) → k.among v → k.among z → k.alike v z → ComesBack k stands e i z → ComesBack k stands e i v
-  back-as i v z am az a b =
-      let r = runs-alike k laws b.run z v az am (laws.states.back v z a) b.runs in
-      let f = b.found in
-      record {
-        run = b.run;
-        runs = r.0;
-        found = record {
-          state = f.state;
-          path = f.path;
-          world = f.world;
-          is = f.is;
-          alike = laws.states.in_turn (after k v b.run) (after k z b.run) f.world (laws.states.back (after k z b.run) (after k v b.run) r.1) f.alike;
-        };
-      }
-
-  back-further : (i t j : ℕ) (v : S) → Moves e.moves i t j → ComesBack k stands e j v → ComesBack k stands e i v
-  back-further i t j v m b =
-      record { run = b.run; runs = b.runs; found = found-further i t j (after k v b.run) (after k v b.run) m (laws.states.itself (after k v b.run)) b.found }
-
-  BackOf : ℕ → S → List ℕ → Type 0
-  BackOf i s ns = ComesBack k stands e i (after k s ns)
+  abbrev BackOf : ℕ → S → List ℕ → S → Type 0
+  BackOf i s ns z = ComesBack k stands e i z
 
   pub all-come-back : AllComeBack k stands e
-  unfolding BackOf
-  all-come-back i s ns at r =
+  all-come-back =
       ways BackOf
-      (λ j z st. record { run = []; runs = tt; found = found-here j z st })
-      (λ j z us g w h. back-further j w.thread w.next (after k z us) w.move
-          (back-as w.next (after k z us) (after k (k.next z w.thread) w.rest) (among-end j z us g)
-          (among-end w.next (k.next z w.thread) w.rest w.from) w.alike h))
-      (λ j z us g w h. (let v = after k z us in
-      let there = k.next v w.thread in
-      let b = back-as w.next there (after k (k.next z w.thread) us) (laws.states.among v w.thread (among-end j z us g) w.can)
-          (among-end w.next (k.next z w.thread) us w.from) w.alike h in
-      back-further j w.thread w.next v w.move (record { run = w.thread ∷ b.run; runs = (w.can, b.runs); found = b.found })))
-      i s ns (record { begins = at; runs = r })
+      (λ i s z f. record { run = []; end = z; runs = laws.states.itself z; found = found-here i s z f })
+      (λ i s ns z f w h. record { run = h.run; end = h.end; runs = h.runs; found = found-further i w.thread w.next h.end w.move h.found })
+      (λ i s ns z f w h. record {
+        run = w.thread ∷ h.run;
+        end = h.end;
+        runs = (w.end, w.last, h.runs);
+        found = found-further i w.thread w.next h.end w.move h.found;
+      })

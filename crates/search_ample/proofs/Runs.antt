@@ -1,73 +1,87 @@
--- Runs of a system: a move that conflicts with none of theirs comes before them as well.
-use Rattle.std.specs.Prelude.{◌≡◌, ◌≢◌, ℕ, true, List, [], ◌∷◌, ◌++◌, refl}
-use Rattle.std.proofs.Common.{ap, subst, sym, ◌∙◌}
-use Rattle.search_ample.specs.Systems.{System, CanGo, label_of, Conflict, Runs, after, AreStates, AreIndependent}
+-- Runs of a system: a step that is apart from all of theirs comes before them as well.
+use Rattle.std.specs.Prelude.{◌≡◌, ◌≢◌, ◌⊎◌, ◌↔◌, ℕ, Bool, true, List, [], ◌∷◌, ◌++◌, refl}
+use Rattle.std.proofs.Common.{ap, subst, sym, ◌∙◌, inl, inr}
+use Rattle.search_ample.specs.Systems.{System, CanGo, Conflict, Runs, Minds, IsSame, AreApart, AreStates, AreIndependent}
 
-module _ {S L A : Type 0} (k : System S L A) where
-  pub after-append : (ps ns : List ℕ) (s : S) → after k s (ps ++ ns) ≡ after k (after k s ps) ns
-  after-append [] ns s = refl
-  after-append (p ∷ ps) ns s = after-append ps ns (k.next s p)
+module _ {S A : Type 0} (k : System S A) (laws : AreIndependent k) where
+  -- Being the same goes on and back.
+  pub same-on : (s z v : S) (n : ℕ) → IsSame k s z n → IsSame k z v n → IsSame k s v n
+  same-on s z v n a b = record {
+    can = (λ h. b.can.0 (a.can.0 h), λ h. a.can.1 (b.can.1 h));
+    wants = λ x. (λ h. (b.wants x).0 ((a.wants x).0 h), λ h. (a.wants x).1 ((b.wants x).1 h));
+    heeds = λ x. (λ h. (b.heeds x).0 ((a.heeds x).0 h), λ h. (a.heeds x).1 ((b.heeds x).1 h));
+  }
 
-  pub runs-split : (ps ns : List ℕ) (s : S) → Runs k s (ps ++ ns) → Runs k s ps × Runs k (after k s ps) ns
-  runs-split [] ns s r = (tt, r)
-  runs-split (p ∷ ps) ns s r = let rest = runs-split ps ns (k.next s p) r.1 in ((r.0, rest.0), rest.1)
+  pub minds-back : (s z : S) (n : ℕ) (a : A) → IsSame k s z n → Minds k z n a → Minds k s n a
+  minds-back s z n a same (inl h) = inl ((same.wants a).1 h)
+  minds-back s z n a same (inr h) = inr ((same.heeds a).1 h)
 
-  pub runs-join : (ps ns : List ℕ) (s : S) → Runs k s ps → Runs k (after k s ps) ns → Runs k s (ps ++ ns)
-  runs-join [] ns s a b = b
-  runs-join (p ∷ ps) ns s a b = (a.0, runs-join ps ns (k.next s p) a.1 b)
+  -- The same runs begin where nobody tells the state apart.
+  pub runs-from : (ns : List ℕ) (s v z : S) → k.among s → k.among v → k.alike s v → Runs k v ns z → Runs k s ns z
+  runs-from [] s v z x y a r = laws.states.in_turn s v z a r
+  runs-from (n ∷ ns) s v z x y a r =
+      let step = laws.states.steps n v s r.0 y x (laws.states.back s v a) r.1 in
+      (step.0, step.1, runs-from ns step.0 r.0 z (laws.states.among n s step.0 x step.1) (laws.states.among n v r.0 y r.1)
+          (laws.states.back r.0 step.0 step.2) r.2)
 
-  -- Each of its moves is another thread's, and doesn't conflict with the label.
-  abbrev pub Clear : ℕ → A → S → List ℕ → Type 0
-  Clear m a s [] = Unit {0}
-  Clear m a s (n ∷ ns) = (n ≢ m) × (Conflict k a (label_of k s n) → ⊥) × Clear m a (k.next s n) ns
+  pub runs-join : (ps ns : List ℕ) (s v z : S) → k.among s → k.among v → Runs k s ps v → Runs k v ns z → Runs k s (ps ++ ns) z
+  runs-join [] ns s v z x y a r = runs-from ns s v z x y a r
+  runs-join (p ∷ ps) ns s v z x y a r = (a.0, a.1, runs-join ps ns a.0 v z (laws.states.among p s a.0 x a.1) y a.2 r)
 
-  module _ (laws : AreIndependent k) where
-    states : AreStates k
-    states = laws.states
+  -- A run in two parts.
+  pub record Parts (ps ns : List ℕ) (s z : S) : Type 0 where
+    pub middle : S
+    pub among : k.among middle
+    pub first : Runs k s ps middle
+    pub second : Runs k middle ns z
 
-    pub can-alike : (s z : S) (n : ℕ) → k.alike s z → CanGo k s n → CanGo k z n
-    can-alike s z n a h = ap k.can (sym (laws.states.local s z n a)) ∙ h
+  pub runs-split : (ps ns : List ℕ) (s z : S) → k.among s → Runs k s (ps ++ ns) z → Parts ps ns s z
+  runs-split [] ns s z x r = record { middle = s; among = x; first = laws.states.itself s; second = r }
+  runs-split (p ∷ ps) ns s z x r =
+      let rest = runs-split ps ns r.0 z (laws.states.among p s r.0 x r.1) r.2 in
+      record { middle = rest.middle; among = rest.among; first = (r.0, r.1, rest.first); second = rest.second }
 
-    pub among-after : (ns : List ℕ) (s : S) → k.among s → Runs k s ns → k.among (after k s ns)
-    among-after [] s x r = x
-    among-after (n ∷ ns) s x r = among-after ns (k.next s n) (laws.states.among s n x r.0) r.1
+  -- Each step of it is another thread's, and conflicts with none of these.
+  abbrev pub IsClear : ℕ → (A → Type 0) → (s : S) (ns : List ℕ) (z : S) → Runs k s ns z → Type 0
+  IsClear m M s [] z r = Unit {0}
+  IsClear m M s (n ∷ ns) z r = (n ≢ m) × ((a b : A) → M a → k.wants s n b → Conflict k a b → ⊥) × IsClear m M r.0 ns z r.2
 
-    -- From states that nobody tells apart the same runs come to such states.
-    pub runs-alike : (ns : List ℕ) (s z : S) → k.among s → k.among z → k.alike s z → Runs k s ns
-        → Runs k z ns × k.alike (after k s ns) (after k z ns)
-    runs-alike [] s z x y a r = (tt, a)
-    runs-alike (n ∷ ns) s z x y a r =
-        let h = can-alike s z n a r.0 in
-        let rest = runs-alike ns (k.next s n) (k.next z n) (laws.states.among s n x r.0) (laws.states.among z n y h) (laws.states.next s z n x y a r.0) r.1 in
-        ((h, rest.0), rest.1)
+  -- So a thread that minds no others stays the same, if some such thread can go on.
+  pub kept-along : (m n : ℕ) (M N : A → Type 0) (ns : List ℕ) (s z : S) → k.among s → k.among z → (r : Runs k s ns z) → CanGo k s m
+      → ((a : A) → Minds k s m a → M a) → ((a : A) → Minds k s n a → N a) → IsClear m M s ns z r → IsClear n N s ns z r
+      → IsSame k s z n
+  kept-along m n M N [] s z x y r can min nin c d = laws.states.same s z n x y r
+  kept-along m n M N (t ∷ ns) s z x y r can min nin c d =
+      let one = laws.kept s r.0 m t m x c.0 c.0 can r.1 (λ a b p w. c.1 a b (min a p) w) in
+      let other = laws.kept s r.0 n t m x d.0 c.0 can r.1 (λ a b p w. d.1 a b (nin a p) w) in
+      same-on s r.0 z n other (kept-along m n M N ns r.0 z (laws.states.among t s r.0 x r.1) y r.2 (one.can.0 can)
+      (λ a p. min a (minds-back s r.0 m a one p)) (λ a p. nin a (minds-back s r.0 n a other p)) c.2 d.2)
 
-    -- A label that a thread has, and nothing conflicts with it.
-    clear-here : (s : S) (m n : ℕ) (l : L) → k.local s m ≡ l → (Conflict k (k.label l) (label_of k s n) → ⊥)
-        → Conflict k (label_of k s m) (label_of k s n) → ⊥
-    clear-here s m n l e not c = not (subst (λ v. Conflict k (k.label v) (label_of k s n)) e c)
+  -- And its step comes first as well.
+  pub record IsMoved (m : ℕ) (ns : List ℕ) (v z : S) : Type 0 where
+    pub end : S
+    pub last : k.steps m z end
+    pub runs : Runs k v ns end
 
-    -- So the thread stays as it is.
-    pub kept-along : (ns : List ℕ) (s : S) (m : ℕ) (l : L) → k.among s → Runs k s ns → k.local s m ≡ l → Clear m (k.label l) s ns
-        → k.local (after k s ns) m ≡ l
-    kept-along [] s m l x r e c = e
-    kept-along (n ∷ ns) s m l x r e c =
-        kept-along ns (k.next s n) m l (laws.states.among s n x r.0) r.1 (laws.kept s m n x c.0 r.0 (clear-here s m n l e c.1) ∙ e) c.2
-
-    -- And its move may come first.
-    pub comes-first : (ns : List ℕ) (s : S) (m : ℕ) (l : L) → k.among s → Runs k s ns → k.local s m ≡ l → k.can l ≡ true → Clear m (k.label l) s ns
-        → Runs k (k.next s m) ns × k.alike (k.next (after k s ns) m) (after k (k.next s m) ns)
-    comes-first [] s m l x r e h c = (tt, laws.states.itself (k.next s m))
-    comes-first (n ∷ ns) s m l x r e h c =
-        let no = clear-here s m n l e c.1 in
-        let can_m : CanGo k s m = ap k.can e ∙ h in
-        let still_n : k.local (k.next s m) n ≡ k.local s n =
-        laws.kept s n m x (λ q. c.0 (sym q)) can_m (λ f. no (laws.mutual_is (label_of k s n) (label_of k s m) f)) in
-        let still_m : k.local (k.next s n) m ≡ l = laws.kept s m n x c.0 r.0 no ∙ e in
-        let can_n : CanGo k (k.next s m) n = ap k.can still_n ∙ r.0 in
-        let can_m' : CanGo k (k.next s n) m = ap k.can still_m ∙ h in
-        let on_n = laws.states.among s n x r.0 in
-        let on_m = laws.states.among s m x can_m in
-        let later = comes-first ns (k.next s n) m l on_n r.1 still_m h c.2 in
-        let moved = runs-alike ns (k.next (k.next s n) m) (k.next (k.next s m) n)
-            (laws.states.among (k.next s n) m on_n can_m') (laws.states.among (k.next s m) n on_m can_n) (laws.swap s m n x c.0 can_m r.0 no) later.0 in
-        ((can_n, moved.0), laws.states.in_turn (k.next (after k (k.next s n) ns) m) _ _ later.1 moved.1)
+  pub comes-first : (m : ℕ) (M : A → Type 0) (ns : List ℕ) (s v z : S) → k.among s → k.among z → (r : Runs k s ns z) → k.steps m s v
+      → ((a : A) → Minds k s m a → M a) → IsClear m M s ns z r → IsMoved m ns v z
+  comes-first m M [] s v z x y r step min c =
+      let moved = laws.states.steps m s z v x y r step in
+      record { end = moved.0; last = moved.1; runs = moved.2 }
+  comes-first m M (t ∷ ns) s v z x y r step min c =
+      let apart = λ (a b : A) (p : Minds k s m a) (w : k.wants s t b). c.1 a b (min a p) w in
+      let on = laws.states.among t s r.0 x r.1 in
+      let first = laws.states.among m s v x step in
+      let same = laws.kept s r.0 m t m x c.0 c.0 (v, step) r.1 apart in
+      let both = laws.swap s v r.0 m t x c.0 step r.1 apart in
+      let later = comes-first m M ns r.0 both.0 z on y r.2 both.2 (λ a p. min a (minds-back s r.0 m a same p)) c.2 in
+      record {
+        end = later.end;
+        last = later.last;
+        runs = (
+          both.1,
+          both.3,
+          runs-from ns both.1 both.0 later.end (laws.states.among t v both.1 first both.3) (laws.states.among m r.0 both.0 on both.2)
+              (laws.states.back both.0 both.1 both.4) later.runs,
+        );
+      }

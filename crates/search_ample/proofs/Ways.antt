@@ -1,12 +1,13 @@
--- What becomes of a run where only some threads go on: one of them moves first, or beside it.
-use Rattle.std.specs.Prelude.{◌≡◌, ◌≢◌, ◌<◌, ◌≤◌, ◌+◌, ◌⊎◌, ℕ, zero, suc, Bool, true, false, List, [], ◌∷◌, ◌++◌, length, refl}
+-- What becomes of a run where only some threads go on: one of them steps first, or beside it.
+use Rattle.std.specs.Prelude.{◌≡◌, ◌≢◌, ◌<◌, ◌≤◌, ◌+◌, ◌⊎◌, ℕ, zero, suc, Bool, true, false, List, [], ◌∷◌, ◌++◌, Contains, length, refl}
 use Rattle.std.proofs.Common.{ap, subst, sym, ◌∙◌, inl, inr, arith, true≢false, length-append}
 use Rattle.std.proofs.lemmas.Bool.{cases_Bool}
 use Rattle.search_graph.specs.Graph.{Moves}
-use Rattle.search_ample.specs.Systems.{System, CanGo, label_of, Conflict, Runs, after, AreIndependent}
+use Rattle.search_ample.specs.Systems.{System, CanGo, Conflict, Runs, Minds, IsSame, AreIndependent}
 use Rattle.search_ample.specs.Explored.{Explored, IsExploredOf}
-use Rattle.search_ample.specs.Ample.{IsAmple}
-use Rattle.search_ample.proofs.Runs.{Clear, after-append, runs-split, runs-join, can-alike, among-after, runs-alike, kept-along, comes-first}
+use Rattle.search_ample.specs.Ample.{IsAmple, Nears}
+use Rattle.search_ample.specs.Found.{IsRun}
+use Rattle.search_ample.proofs.Runs.{IsClear, runs-from, runs-join, runs-split, kept-along, comes-first}
 
 -- None of these threads goes on.
 abbrev pub NoneGoes : (ℕ → Bool) → List ℕ → Type 0
@@ -43,161 +44,177 @@ abbrev pub rank_of : (ℕ → ℕ) → List ℕ → ℕ
 rank_of rank [] = 0
 rank_of rank (n ∷ ns) = rank n
 
-module _ {S L A : Type 0} (k : System S L A) (laws : AreIndependent k) (e : Explored A) (stands : ℕ → S → Type 0) (x : IsExploredOf k stands e)
+module _ {S A : Type 0} (k : System S A) (laws : AreIndependent k) (stands : ℕ → S → Type 0) (e : Explored A) (x : IsExploredOf k stands e)
     (c : IsAmple k.conflict e) where
-  -- A run from what a state stands for.
-  pub record From (i : ℕ) (s : S) (ns : List ℕ) : Type 0 where
-    pub begins : stands i s
-    pub runs : Runs k s ns
-
   -- What threads want at the ends of runs shorter than this was in their footprints.
   abbrev pub HoldsBelow : ℕ → Type 0
-  HoldsBelow n = (i : ℕ) (s : S) (ns : List ℕ) (u : ℕ) → length ns < n → From i s ns → CanGo k (after k s ns) u
-      → e.may i u (label_of k (after k s ns) u) ≡ true
+  HoldsBelow n = (i : ℕ) (s : S) (ns : List ℕ) (z : S) → length ns < n → IsRun k stands e i s ns z
+      → (u : ℕ) (a : A) → k.wants z u a → e.may i u a ≡ true
 
-  -- The move of a thread that goes on comes first.
-  pub record ComesFirst (i : ℕ) (s : S) (ns : List ℕ) : Type 0 where
+  -- The step of a thread that goes on comes first.
+  pub record ComesFirst (i : ℕ) (s : S) (ns : List ℕ) (z : S) : Type 0 where
     pub thread : ℕ
     pub next : ℕ
     pub move : Moves e.moves i thread next
+    pub world : S
     pub rest : List ℕ
     pub len : suc (length rest) ≡ length ns
-    pub from : From next (k.next s thread) rest
-    pub alike : k.alike (after k s ns) (after k (k.next s thread) rest)
+    pub run : IsRun k stands e next world rest z
 
-  -- The run has none, and leaves those that go on as they are; one of them may move before it as behind it.
-  pub record ComesBeside (i : ℕ) (s : S) (ns : List ℕ) : Type 0 where
-    pub kept : (u : ℕ) → u < e.threads → e.goes i u ≡ true → k.local (after k s ns) u ≡ k.local s u
+  -- The run has none, and leaves those that go on as they are; one of them may step before it as behind it.
+  pub record ComesBeside (i : ℕ) (s : S) (ns : List ℕ) (z : S) : Type 0 where
+    pub kept : (u : ℕ) → u < e.threads → e.goes i u ≡ true → IsSame k s z u
     pub thread : ℕ
     pub few : thread < e.threads
     pub goes_on : e.goes i thread ≡ true
-    pub can : CanGo k (after k s ns) thread
     pub next : ℕ
     pub move : Moves e.moves i thread next
-    pub from : From next (k.next s thread) ns
-    pub alike : k.alike (k.next (after k s ns) thread) (after k (k.next s thread) ns)
+    pub world : S
+    pub end : S
+    pub last : k.steps thread z end
+    pub run : IsRun k stands e next world ns end
     pub rank : rank_of (λ u. e.rank next u) ns < rank_of (λ u. e.rank i u) ns
 
   pub goes-apart : (i m n : ℕ) → e.goes i m ≡ true → e.goes i n ≡ false → n ≢ m
   goes-apart i m n h g q = true≢false (sym h ∙ (ap (λ v. e.goes i v) (sym q) ∙ g))
 
+  -- What a thread minds at what a state stands for.
+  pub minds-listed : (i m : ℕ) (s : S) (a : A) → stands i s → Minds k s m a → Contains (e.wants i m) a ⊎ Contains (e.heeds i m) a
+  minds-listed i m s a at (inl w) = inl (x.wants i m s a at w)
+  minds-listed i m s a at (inr h) = inr (x.heeds i m s a at h)
+
+  -- Where one that doesn't go on can, one that does nears it.
+  near : (i t : ℕ) (s : S) → stands i s → CanGo k s t → e.goes i t ≡ false → Nears k.conflict e i t
+  near i t s at can g = c.nears i t (record {
+    state = x.state i s at;
+    few = x.few s t (x.among i s at) can;
+    can = x.can i t s at can;
+    waits = g;
+  })
+
+  near-can : (i t : ℕ) (s : S) (at : stands i s) (r : Nears k.conflict e i t) → CanGo k s r.thread
+  near-can i t s at r = let step = x.leads i r.thread r.next s at r.move in (step.0, step.1)
+
   module _ (n : ℕ) (below : HoldsBelow n) where
     module _ (i : ℕ) (s : S) (begins : stands i s) (m : ℕ) (few : m < e.threads) (h : e.goes i m ≡ true) where
-      one-apart : (ps : List ℕ) (u : ℕ) → length ps < n → Runs k s ps → CanGo k (after k s ps) u → e.goes i u ≡ false
-          → Conflict k (k.label (k.local s m)) (label_of k (after k s ps) u) → ⊥
-      one-apart ps u len r can g f =
-          let few_u = x.few (after k s ps) u (among-after k laws ps s (x.among i s begins) r) can in
-          c.apart i m u (label_of k (after k s ps) u) (x.state i s begins) few few_u h g (below i s ps u len (record { begins = begins; runs = r }) can)
-          (subst (λ a. Conflict k a (label_of k (after k s ps) u)) (x.label i m s begins few) f)
-
-      -- What the others do behind some of their moves doesn't conflict with its label.
-      clear-behind : (ns ps : List ℕ) → length ps + length ns ≤ n → Runs k s ps → Runs k (after k s ps) ns → NoneGoes (λ u. e.goes i u) ns
-          → Clear k m (k.label (k.local s m)) (after k s ps) ns
-      clear-behind [] ps len a b g = tt
-      clear-behind (t ∷ ns) ps len a b g =
-          let more : after k s (ps ++ t ∷ []) ≡ k.next (after k s ps) t = after-append k ps (t ∷ []) s in
+      -- What the others do behind some of their steps doesn't conflict with what it minds.
+      clear-behind : (ns ps : List ℕ) (v z : S) → length ps + length ns ≤ n → Runs k s ps v → k.among v → (r : Runs k v ns z) → NoneGoes (λ u. e.goes i u) ns
+          → IsClear k laws m (λ a. Minds k s m a) v ns z r
+      clear-behind [] ps v z len b y r g = tt
+      clear-behind (t ∷ ns) ps v z len b y r g =
+          let y' = laws.states.among t v r.0 y r.1 in
           (
             goes-apart i m t h g.0,
-            one-apart ps t (omega arith) a b.0 g.0,
-            subst (λ z. Clear k m (k.label (k.local s m)) z ns) more
-                (clear-behind ns (ps ++ t ∷ []) (omega (arith, length-append ps (t ∷ []))) (runs-join k ps (t ∷ []) s a (b.0, tt))
-                (subst (λ z. Runs k z ns) (sym more) b.1) g.1),
+            λ a d p w f. c.apart i m t a d (x.state i s begins) few (x.few_want v t d y w) h g.0 (minds-listed i m s a begins p)
+                (below i s ps v (omega arith) (record { begins = begins; runs = b; among = y }) t d w) f,
+            clear-behind ns (ps ++ t ∷ []) r.0 z (omega (arith, length-append ps (t ∷ [])))
+                (runs-join k laws ps (t ∷ []) s v r.0 (x.among i s begins) y b (r.0, r.1, laws.states.itself r.0)) y' r.2 g.1,
           )
 
-      clear : (ns : List ℕ) → length ns ≤ n → Runs k s ns → NoneGoes (λ u. e.goes i u) ns → Clear k m (k.label (k.local s m)) s ns
-      clear ns len r g = clear-behind ns [] (omega arith) tt r g
+      clear : (ns : List ℕ) (z : S) → length ns ≤ n → (r : Runs k s ns z) → NoneGoes (λ u. e.goes i u) ns → IsClear k laws m (λ a. Minds k s m a) s ns z r
+      clear ns z len r g = clear-behind ns [] s z (omega arith) (laws.states.itself s) (x.among i s begins) r g
 
-    -- A thread that goes on, and can move where the run has come, can move at once.
-    first : (i : ℕ) (s : S) (ns : List ℕ) → length ns ≤ n → From i s ns → FirstGoing (λ u. e.goes i u) ns → ComesFirst i s ns
-    first i s ns len f g =
+    -- Steps of others leave it as it is.
+    kept-so : (i : ℕ) (s : S) (ns : List ℕ) (z : S) → stands i s → k.among z → length ns ≤ n → (r : Runs k s ns z) → NoneGoes (λ u. e.goes i u) ns
+        → (m : ℕ) → m < e.threads → e.goes i m ≡ true → IsSame k s z m
+    kept-so i s [] z at y len r g m few h = laws.states.same s z m (x.among i s at) y r
+    kept-so i s (t ∷ ns) z at y len r g m few h =
+        let by = near i t s at (r.0, r.1) g.0 in
+        kept-along k laws by.thread m (λ a. Minds k s by.thread a) (λ a. Minds k s m a) (t ∷ ns) s z (x.among i s at) y r (near-can i t s at by)
+        (λ a p. p) (λ a p. p) (clear i s at by.thread by.few by.goes (t ∷ ns) z len r g) (clear i s at m few h (t ∷ ns) z len r g)
+
+    -- A thread that goes on, and makes a step where the run has come, can make it at once.
+    first : (i : ℕ) (s : S) (ns : List ℕ) (z : S) → length ns ≤ n → IsRun k stands e i s ns z → FirstGoing (λ u. e.goes i u) ns → ComesFirst i s ns z
+    first i s ns z len f g =
         let m = g.thread in
-        let among = x.among i s f.begins in
-        let split = runs-split k g.before (m ∷ g.rest) s (subst (λ l. Runs k s l) g.is f.runs) in
-        let there = after k s g.before in
-        let can_there : CanGo k there m = split.1.0 in
-        let among_there = among-after k laws g.before s among split.0 in
-        let few = x.few there m among_there can_there in
-        let lengths = length-append g.before (m ∷ g.rest) in
+        let at = f.begins in
+        let among = x.among i s at in
+        let parts = runs-split k laws g.before (m ∷ g.rest) s z among (subst (λ l. Runs k s l z) g.is f.runs) in
+        let there = parts.middle in
+        let step = parts.second in
+        let few = x.few there m parts.among (step.0, step.1) in
         let counted : length ns ≡ length (g.before ++ m ∷ g.rest) = ap length g.is in
-        let free = clear i s f.begins m few g.goes_on g.before (omega (arith, lengths, counted)) split.0 g.none in
-        let same : k.local there m ≡ k.local s m = kept-along k laws g.before s m (k.local s m) among split.0 refl free in
-        let can : CanGo k s m = ap k.can (sym same) ∙ can_there in
-        let moved = comes-first k laws g.before s m (k.local s m) among split.0 refl can free in
-        let on = laws.states.among s m among can in
-        let on_there = laws.states.among there m among_there can_there in
-        let then = runs-alike k laws g.rest (k.next there m) (after k (k.next s m) g.before) on_there
-            (among-after k laws g.before (k.next s m) on moved.0) moved.1 split.1.1 in
-        let go = c.followed i m (x.state i s f.begins) few g.goes_on (sym (x.can i m s f.begins few) ∙ can) in
+        let lengths = length-append g.before (m ∷ g.rest) in
+        let within : length g.before ≤ n = omega arith in
+        let same = kept-so i s g.before there at parts.among within parts.first g.none m few g.goes_on in
+        let can = same.can.1 (step.0, step.1) in
+        let go = c.followed i m (x.state i s at) few g.goes_on (x.can i m s at can) in
+        let led = x.leads i m go.next s at go.is in
+        let on = x.among go.next led.0 led.2 in
+        let moved = comes-first k laws m (λ a. Minds k s m a) g.before s led.0 there among parts.among parts.first led.1 (λ a p. p)
+            (clear i s at m few g.goes_on g.before there within parts.first g.none) in
+        let beyond = laws.states.among m there moved.end parts.among moved.last in
+        let beyond' = laws.states.among m there step.0 parts.among step.1 in
+        let then = runs-from k laws g.rest moved.end step.0 z beyond beyond'
+            (laws.states.one m there moved.end step.0 parts.among moved.last step.1) step.2 in
         record {
           thread = m;
           next = go.next;
           move = go.is;
+          world = led.0;
           rest = g.before ++ g.rest;
-          len = omega (arith, lengths, counted, length-append g.before g.rest);
-          from = record { begins = x.leads i m go.next s f.begins can go.is; runs = runs-join k g.before g.rest (k.next s m) moved.0 then.0 };
-          alike = subst (λ z. k.alike z (after k (k.next s m) (g.before ++ g.rest)))
-              (sym (ap (λ l. after k s l) g.is ∙ after-append k g.before (m ∷ g.rest) s))
-              (subst (λ z. k.alike (after k (k.next there m) g.rest) z) (sym (after-append k g.before g.rest (k.next s m))) then.1);
+          len = omega (arith, length-append g.before g.rest);
+          run = record { begins = led.2; runs = runs-join k laws g.before g.rest led.0 moved.end z on beyond moved.runs then; among = f.among };
         }
 
-    -- Where none of them does, each is left as it is; and where the first thread waits, one of them moves before.
-    beside : (i : ℕ) (s : S) (t : ℕ) (ns : List ℕ) → length (t ∷ ns) ≤ n → From i s (t ∷ ns) → NoneGoes (λ u. e.goes i u) (t ∷ ns)
-        → ComesBeside i s (t ∷ ns)
-    beside i s t ns len f g =
-        let among = x.among i s f.begins in
-        let state = x.state i s f.begins in
-        let few_t = x.few s t among f.runs.0 in
-        let near = c.nears i t state few_t (sym (x.can i t s f.begins few_t) ∙ f.runs.0, g.0) in
-        let m = near.thread in
-        let free = clear i s f.begins m near.few near.goes (t ∷ ns) len f.runs g in
-        let can : CanGo k s m = x.can i m s f.begins near.few ∙ near.can in
-        let moved = comes-first k laws (t ∷ ns) s m (k.local s m) among f.runs refl can free in
-        let same = kept-along k laws (t ∷ ns) s m (k.local s m) among f.runs refl free in
+    -- Where none of them steps, each is left as it is; and where the first thread waits, one of them steps before.
+    beside : (i : ℕ) (s : S) (t : ℕ) (ns : List ℕ) (z : S) → length (t ∷ ns) ≤ n → IsRun k stands e i s (t ∷ ns) z → NoneGoes (λ u. e.goes i u) (t ∷ ns)
+        → ComesBeside i s (t ∷ ns) z
+    beside i s t ns z len f g =
+        let at = f.begins in
+        let by = near i t s at (f.runs.0, f.runs.1) g.0 in
+        let m = by.thread in
+        let led = x.leads i m by.next s at by.move in
+        let moved = comes-first k laws m (λ a. Minds k s m a) (t ∷ ns) s led.0 z (x.among i s at) f.among f.runs led.1 (λ a p. p)
+            (clear i s at m by.few by.goes (t ∷ ns) z len f.runs g) in
         record {
-          kept = λ u few h. kept-along k laws (t ∷ ns) s u (k.local s u) among f.runs refl (clear i s f.begins u few h (t ∷ ns) len f.runs g);
+          kept = kept-so i s (t ∷ ns) z at f.among len f.runs g;
           thread = m;
-          few = near.few;
-          goes_on = near.goes;
-          can = ap k.can same ∙ can;
-          next = near.next;
-          move = near.move;
-          from = record { begins = x.leads i m near.next s f.begins can near.move; runs = moved.0 };
-          alike = moved.1;
-          rank = near.rank;
+          few = by.few;
+          goes_on = by.goes;
+          next = by.next;
+          move = by.move;
+          world = led.0;
+          end = moved.end;
+          last = moved.last;
+          run = record { begins = led.2; runs = moved.runs; among = laws.states.among m z moved.end f.among moved.last };
+          rank = by.falls;
         }
 
-    -- What holds of no moves, and of a run where it holds of what becomes of it, holds of each run.
-    module _ (Q : ℕ → S → List ℕ → Type 0) (none : (i : ℕ) (s : S) → stands i s → Q i s [])
-        (by_first : (i : ℕ) (s : S) (ns : List ℕ) → length ns ≤ n → From i s ns → (w : ComesFirst i s ns) → Q w.next (k.next s w.thread) w.rest → Q i s ns)
-        (by_beside : (i : ℕ) (s : S) (ns : List ℕ) → length ns ≤ n → From i s ns → (w : ComesBeside i s ns) → Q w.next (k.next s w.thread) ns → Q i s ns) where
-      -- By induction on a bound of the rank, where it holds of shorter runs.
-      with-rank : (most : ℕ) → most ≤ n → ((i : ℕ) (s : S) (ns : List ℕ) → length ns < most → From i s ns → Q i s ns)
-          → (bound i : ℕ) (s : S) (ns : List ℕ) → length ns ≤ most → rank_of (λ u. e.rank i u) ns < bound → From i s ns → Q i s ns
-      with-rank most within shorter zero i s ns len r f = absurd (omega arith)
-      with-rank most within shorter (suc bound) i s ns len r f =
-          go ns len r f (λ j z us l q h. with-rank most within shorter bound j z us l q h)
+    -- What holds of no steps, and of a run where it holds of what becomes of it, holds of each run.
+    module _ (Q : ℕ → S → List ℕ → S → Type 0) (none : (i : ℕ) (s z : S) → IsRun k stands e i s [] z → Q i s [] z)
+        (by_first : (i : ℕ) (s : S) (ns : List ℕ) (z : S) → IsRun k stands e i s ns z → (w : ComesFirst i s ns z) → Q w.next w.world w.rest z → Q i s ns z)
+        (by_beside : (i : ℕ) (s : S) (ns : List ℕ) (z : S) → IsRun k stands e i s ns z → (w : ComesBeside i s ns z) → Q w.next w.world ns w.end → Q i s ns z)
         where
-          go : (ns : List ℕ) → length ns ≤ most → rank_of (λ u. e.rank i u) ns < suc bound → From i s ns
-              → ((j : ℕ) (z : S) (us : List ℕ) → length us ≤ most → rank_of (λ u. e.rank j u) us < bound → From j z us → Q j z us) → Q i s ns
-          go [] len r f rest = none i s f.begins
+      -- By induction on a bound of the rank, where it holds of shorter runs.
+      with-rank : (most : ℕ) → most ≤ n → ((i : ℕ) (s : S) (ns : List ℕ) (z : S) → length ns < most → IsRun k stands e i s ns z → Q i s ns z)
+          → (bound i : ℕ) (s : S) (ns : List ℕ) (z : S) → length ns ≤ most → rank_of (λ u. e.rank i u) ns < bound → IsRun k stands e i s ns z → Q i s ns z
+      with-rank most within shorter zero i s ns z len r f = absurd (omega arith)
+      with-rank most within shorter (suc bound) i s ns z len r f =
+          go ns len r f (λ j v us y l q h. with-rank most within shorter bound j v us y l q h)
+        where
+          go : (ns : List ℕ) → length ns ≤ most → rank_of (λ u. e.rank i u) ns < suc bound → IsRun k stands e i s ns z
+              → ((j : ℕ) (v : S) (us : List ℕ) (y : S) → length us ≤ most → rank_of (λ u. e.rank j u) us < bound → IsRun k stands e j v us y → Q j v us y)
+              → Q i s ns z
+          go [] len r f rest = none i s z f
           go (t ∷ ns) len r f rest = by (first_going (λ u. e.goes i u) (t ∷ ns))
             where
-              by : FirstGoing (λ u. e.goes i u) (t ∷ ns) ⊎ NoneGoes (λ u. e.goes i u) (t ∷ ns) → Q i s (t ∷ ns)
+              by : FirstGoing (λ u. e.goes i u) (t ∷ ns) ⊎ NoneGoes (λ u. e.goes i u) (t ∷ ns) → Q i s (t ∷ ns) z
               by (inl g) =
-                  let w = first i s (t ∷ ns) (omega arith) f g in
+                  let w = first i s (t ∷ ns) z (omega arith) f g in
                   let fewer = w.len in
-                  by_first i s (t ∷ ns) (omega arith) f w (shorter w.next (k.next s w.thread) w.rest (omega arith) w.from)
+                  by_first i s (t ∷ ns) z f w (shorter w.next w.world w.rest z (omega arith) w.run)
               by (inr g) =
-                  let w = beside i s t ns (omega arith) f g in
+                  let w = beside i s t ns z (omega arith) f g in
                   let falls = w.rank in
-                  by_beside i s (t ∷ ns) (omega arith) f w (rest w.next (k.next s w.thread) (t ∷ ns) len (omega arith) w.from)
+                  by_beside i s (t ∷ ns) z f w (rest w.next w.world (t ∷ ns) w.end len (omega arith) w.run)
 
-      up-to : (most : ℕ) → most ≤ n → (i : ℕ) (s : S) (ns : List ℕ) → length ns ≤ most → From i s ns → Q i s ns
-      up-to zero within i s ns len f =
-          with-rank zero within (λ j z us l g. absurd (omega arith)) (suc (rank_of (λ u. e.rank i u) ns)) i s ns len (omega arith) f
-      up-to (suc most) within i s ns len f =
-          with-rank (suc most) within (λ j z us l g. up-to most (omega arith) j z us (omega arith) g) (suc (rank_of (λ u. e.rank i u) ns)) i s ns len
+      up-to : (most : ℕ) → most ≤ n → (i : ℕ) (s : S) (ns : List ℕ) (z : S) → length ns ≤ most → IsRun k stands e i s ns z → Q i s ns z
+      up-to zero within i s ns z len f =
+          with-rank zero within (λ j v us y l g. absurd (omega arith)) (suc (rank_of (λ u. e.rank i u) ns)) i s ns z len (omega arith) f
+      up-to (suc most) within i s ns z len f =
+          with-rank (suc most) within (λ j v us y l g. up-to most (omega arith) j v us y (omega arith) g) (suc (rank_of (λ u. e.rank i u) ns)) i s ns z len
           (omega arith) f
 
-      pub by-ways : (i : ℕ) (s : S) (ns : List ℕ) → length ns ≤ n → From i s ns → Q i s ns
-      by-ways i s ns len f = up-to n (omega arith) i s ns len f
+      pub by-ways : (i : ℕ) (s : S) (ns : List ℕ) (z : S) → length ns ≤ n → IsRun k stands e i s ns z → Q i s ns z
+      by-ways i s ns z len f = up-to n (omega arith) i s ns z len f

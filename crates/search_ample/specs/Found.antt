@@ -2,11 +2,11 @@
 use Rattle.std.specs.Prelude.{◌≡◌, ℕ, true, List}
 use Rattle.search_graph.specs.Paths.{Reaches}
 use Rattle.search_graph.specs.Graph.{Steps}
-use Rattle.search_ample.specs.Systems.{System, CanGo, label_of, Conflict, IsOver, Runs, after}
+use Rattle.search_ample.specs.Systems.{System, Conflict, IsOver, Runs}
 use Rattle.search_ample.specs.Explored.{Explored}
 
-module _ {S L A : Type 0} (k : System S L A) (stands : ℕ → S → Type 0) (e : Explored A) where
-  -- Explored moves lead from the state to one that stands for this.
+module _ {S A : Type 0} (k : System S A) (stands : ℕ → S → Type 0) (e : Explored A) where
+  -- Explored moves lead from the state to one that stands for this, or for what nobody tells apart from it.
   pub record IsFound (i : ℕ) (z : S) : Type 0 where
     pub state : ℕ
     pub path : Reaches (Steps e.moves) i state
@@ -14,42 +14,53 @@ module _ {S L A : Type 0} (k : System S L A) (stands : ℕ → S → Type 0) (e 
     pub is : stands state world
     pub alike : k.alike z world
 
-  -- They lead to one that stands for a state where both threads are as they are here.
-  pub record BothAreFound (i : ℕ) (z : S) (n u : ℕ) : Type 0 where
+  -- They lead to one at which the thread wants this.
+  pub record WantIsFound (i n : ℕ) (a : A) : Type 0 where
     pub state : ℕ
     pub path : Reaches (Steps e.moves) i state
     pub world : S
     pub is : stands state world
-    pub one : k.local z n ≡ k.local world n
-    pub other : k.local z u ≡ k.local world u
+    pub wants : k.wants world n a
 
-  -- Each end of a run is found.
+  -- They lead to one at which both want these, each its own.
+  pub record BothAreFound (i n u : ℕ) (a b : A) : Type 0 where
+    pub state : ℕ
+    pub path : Reaches (Steps e.moves) i state
+    pub world : S
+    pub is : stands state world
+    pub one : k.wants world n a
+    pub other : k.wants world u b
+
+  -- A run leads from what the state stands for to this.
+  pub record IsRun (i : ℕ) (s : S) (ns : List ℕ) (z : S) : Type 0 where
+    pub begins : stands i s
+    pub runs : Runs k s ns z
+    pub among : k.among z
+
+  -- What a thread wants at a run's end its footprint had at the beginning.
+  abbrev pub FootprintsHold : Type 0
+  FootprintsHold = (i : ℕ) (s : S) (ns : List ℕ) (z : S) → IsRun i s ns z
+      → (n : ℕ) (a : A) → k.wants z n a → e.may i n a ≡ true
+
+  -- Each run's end at which nobody can go on is found.
   abbrev pub EndsAreFound : Type 0
-  EndsAreFound = (i : ℕ) (s : S) (ns : List ℕ) → stands i s → Runs k s ns → IsOver k (after k s ns)
-      → IsFound i (after k s ns)
+  EndsAreFound = (i : ℕ) (s : S) (ns : List ℕ) (z : S) → IsRun i s ns z → IsOver k z → IsFound i z
 
-  -- Each local state in which a thread can move is found; and so are each two of them in which threads want what conflicts,
-  -- both at once.
-  abbrev pub WantedAreFound : Type 0
-  WantedAreFound = (i : ℕ) (s : S) (ns : List ℕ) (n : ℕ) → stands i s → Runs k s ns → CanGo k (after k s ns) n
-      → BothAreFound i (after k s ns) n n
+  -- So is all that threads want in any run; and where two want what conflicts, that is found of both at once.
+  abbrev pub WantsAreFound : Type 0
+  WantsAreFound = (i : ℕ) (s : S) (ns : List ℕ) (z : S) → IsRun i s ns z
+      → (n : ℕ) (a : A) → k.wants z n a → WantIsFound i n a
 
   abbrev pub ConflictsAreFound : Type 0
-  ConflictsAreFound = (i : ℕ) (s : S) (ns : List ℕ) (n u : ℕ) → stands i s → Runs k s ns
-      → CanGo k (after k s ns) n → CanGo k (after k s ns) u
-      → Conflict k (label_of k (after k s ns) n) (label_of k (after k s ns) u)
-      → BothAreFound i (after k s ns) n u
+  ConflictsAreFound = (i : ℕ) (s : S) (ns : List ℕ) (z : S) → IsRun i s ns z
+      → (n u : ℕ) (a b : A) → k.wants z n a → k.wants z u b → Conflict k a b → BothAreFound i n u a b
 
-  -- What a thread wants at the end of a run was in its footprint at the beginning.
-  abbrev pub FootprintsHold : Type 0
-  FootprintsHold = (i : ℕ) (s : S) (ns : List ℕ) (n : ℕ) → stands i s → Runs k s ns → CanGo k (after k s ns) n
-      → e.may i n (label_of k (after k s ns) n) ≡ true
-
-  -- The run goes on to one that is found.
+  -- A run goes on from there to what is found.
   pub record ComesBack (i : ℕ) (z : S) : Type 0 where
     pub run : List ℕ
-    pub runs : Runs k z run
-    pub found : IsFound i (after k z run)
+    pub end : S
+    pub runs : Runs k z run end
+    pub found : IsFound i end
 
   abbrev pub AllComeBack : Type 0
-  AllComeBack = (i : ℕ) (s : S) (ns : List ℕ) → stands i s → Runs k s ns → ComesBack i (after k s ns)
+  AllComeBack = (i : ℕ) (s : S) (ns : List ℕ) (z : S) → IsRun i s ns z → ComesBack i z

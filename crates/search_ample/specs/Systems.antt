@@ -1,62 +1,69 @@
--- Threads that move one at a time, and which of their moves are independent. Types: states S, of a state the local states L
--- of its threads, and labels A.
-use Rattle.std.specs.Prelude.{◌≡◌, ◌≢◌, ◌⊎◌, ℕ, Bool, true, List, [], ◌∷◌}
+-- Threads that make steps one at a time, and which of their steps are independent. Types: states S, and A for what a step
+-- does.
+use Rattle.std.specs.Prelude.{◌≡◌, ◌≢◌, ◌⊎◌, ◌↔◌, ℕ, Bool, true, List, [], ◌∷◌}
 
--- A local state fixes whether the thread can move, and by a label what its move does; one that can't move has a label
--- too, of what it waits for. `conflict`: that two labels aren't independent. `next`: the state after the move of a thread
--- that can move. `among`: the states that are meant. `alike`: nobody tells these states apart.
-pub record System (S L A : Type 0) : Type 1 where
-  pub local : S → ℕ → L
-  pub can : L → Bool
-  pub label : L → A
+-- `steps`: from which state to which the thread makes its next step. `wants`: what all the thread does by that step, as it
+-- would be made now. `heeds`: what another one's step has to do to wake the thread or start it. `conflict`: that the two
+-- aren't independent. `among`: the states that are meant. `alike`: nobody tells the two states apart.
+pub record System (S A : Type 0) : Type 1 where
+  pub steps : ℕ → S → S → Type 0
+  pub wants : S → ℕ → A → Type 0
+  pub heeds : S → ℕ → A → Type 0
   pub conflict : A → A → Bool
-  pub next : S → ℕ → S
   pub among : S → Type 0
   pub alike : S → S → Type 0
 
-module _ {S L A : Type 0} (k : System S L A) where
-  abbrev pub CanGo : S → ℕ → Type 0
-  CanGo s n = k.can (k.local s n) ≡ true
-
-  abbrev pub label_of : S → ℕ → A
-  label_of s n = k.label (k.local s n)
-
+module _ {S A : Type 0} (k : System S A) where
   abbrev pub Conflict : A → A → Type 0
   Conflict a b = k.conflict a b ≡ true
 
-  -- Nobody can move there: a run has ended.
+  abbrev pub CanGo : S → ℕ → Type 0
+  CanGo s n = (z : S) × k.steps n s z
+
+  -- Nobody can go on there.
   abbrev pub IsOver : S → Type 0
   IsOver s = (n : ℕ) → CanGo s n → ⊥
 
-  -- A run: threads move in this order, each where it can; and the state that it comes to.
-  abbrev pub Runs : S → List ℕ → Type 0
-  Runs s [] = Unit {0}
-  Runs s (n ∷ ns) = CanGo s n × Runs (k.next s n) ns
+  -- A run: threads make steps in this order, up to a state or to one that nobody tells apart from it.
+  abbrev pub Runs : S → List ℕ → S → Type 0
+  Runs s [] z = k.alike s z
+  Runs s (n ∷ ns) z = (v : S) × k.steps n s v × Runs v ns z
 
-  abbrev pub after : S → List ℕ → S
-  after s [] = s
-  after s (n ∷ ns) = after (k.next s n) ns
+  -- What the thread wants or heeds.
+  abbrev pub Minds : S → ℕ → A → Type 0
+  Minds s n a = k.wants s n a ⊎ k.heeds s n a
 
-  -- Moves lead from states that are meant to such states; and being alike is an equivalence that moves keep.
+  -- The thread is the same at both states.
+  pub record IsSame (s z : S) (n : ℕ) : Type 0 where
+    pub can : CanGo s n ↔ CanGo z n
+    pub wants : (a : A) → k.wants s n a ↔ k.wants z n a
+    pub heeds : (a : A) → k.heeds s n a ↔ k.heeds z n a
+
+  -- Nothing that thread u does by its step conflicts with what thread n wants or heeds.
+  abbrev pub AreApart : S → ℕ → ℕ → Type 0
+  AreApart s n u = (a b : A) → Minds s n a → k.wants s u b → Conflict a b → ⊥
+
+  -- Steps don't leave the states that are meant, and a thread makes one step alone; being alike is an equivalence that
+  -- steps keep.
   pub record AreStates : Type 0 where
-    pub among : (s : S) (n : ℕ) → k.among s → CanGo s n → k.among (k.next s n)
+    pub among : (n : ℕ) (s z : S) → k.among s → k.steps n s z → k.among z
+    pub one : (n : ℕ) (s z v : S) → k.among s → k.steps n s z → k.steps n s v → k.alike z v
     pub itself : (s : S) → k.alike s s
     pub back : (s z : S) → k.alike s z → k.alike z s
     pub in_turn : (s z v : S) → k.alike s z → k.alike z v → k.alike s v
-    pub local : (s z : S) (n : ℕ) → k.alike s z → k.local s n ≡ k.local z n
-    pub next : (s z : S) (n : ℕ) → k.among s → k.among z → k.alike s z → CanGo s n → k.alike (k.next s n) (k.next z n)
+    pub same : (s z : S) (n : ℕ) → k.among s → k.among z → k.alike s z → IsSame s z n
+    pub steps : (n : ℕ) (s z v : S) → k.among s → k.among z → k.alike s z → k.steps n s v
+        → (w : S) × k.steps n z w × k.alike v w
 
-  -- Another thread's move that doesn't conflict with a thread's label leaves its local state as it is; such a move wakes
-  -- nobody and starts nobody. Two moves whose labels don't conflict may change places. And a thread that can move is left
-  -- as it is by any move, or can still move behind it, and its label conflicts with that move's.
+  -- Where thread u makes a step that is apart from thread n, and some other thread can go on too, thread n stays the same.
+  -- Two steps that are apart may be made in either order. And what thread n wants it still wants behind thread u's step,
+  -- or it wants something there that conflicts with this.
   pub record AreIndependent : Type 0 where
     pub states : AreStates
     pub mutual_is : (a b : A) → Conflict a b → Conflict b a
-    pub kept : (s : S) (n u : ℕ) → k.among s → u ≢ n → CanGo s u → (Conflict (label_of s n) (label_of s u) → ⊥)
-        → k.local (k.next s u) n ≡ k.local s n
-    pub swap : (s : S) (n u : ℕ) → k.among s → u ≢ n → CanGo s n → CanGo s u
-        → (Conflict (label_of s n) (label_of s u) → ⊥)
-        → k.alike (k.next (k.next s u) n) (k.next (k.next s n) u)
-    pub stays : (s : S) (n u : ℕ) → k.among s → u ≢ n → CanGo s n → CanGo s u
-        → (k.local (k.next s u) n ≡ k.local s n)
-        ⊎ (CanGo (k.next s u) n × Conflict (label_of s u) (label_of (k.next s u) n))
+    pub kept : (s z : S) (n u other : ℕ) → k.among s → u ≢ n → u ≢ other → CanGo s other → k.steps u s z → AreApart s n u
+        → IsSame s z n
+    pub swap : (s z v : S) (n u : ℕ) → k.among s → u ≢ n → k.steps n s z → k.steps u s v → AreApart s n u
+        → (x : S) × (y : S) × k.steps n v x × k.steps u z y × k.alike x y
+    pub still : (s z : S) (n u : ℕ) (a : A) → k.among s → u ≢ n → k.steps u s z → k.wants s n a
+        → k.wants z n a ⊎ ((c : A) × (b : A) × k.wants z n c × k.wants s u b × Conflict b c)
