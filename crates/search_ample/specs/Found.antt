@@ -2,8 +2,9 @@
 use Rattle.std.specs.Prelude.{◌≡◌, ℕ, true, List}
 use Rattle.search_graph.specs.Paths.{Reaches}
 use Rattle.search_graph.specs.Graph.{Steps}
-use Rattle.search_ample.specs.Systems.{System, Conflict, IsOver, Runs}
-use Rattle.search_ample.specs.Explored.{Explored}
+use Rattle.search_ample.specs.Systems.{System, Conflict, IsOver, Runs, AreIndependent}
+use Rattle.search_ample.specs.Explored.{Explored, IsExploredOf}
+use Rattle.search_ample.specs.Ample.{IsAmple}
 
 module _ {S A : Type 0} (k : System S A) (stands : ℕ → S → Type 0) (e : Explored A) where
   -- Explored moves lead from the state to one that stands for this, or for what nobody tells apart from it.
@@ -64,3 +65,7 @@ module _ {S A : Type 0} (k : System S A) (stands : ℕ → S → Type 0) (e : Ex
 
   abbrev pub AllComeBack : Type 0
   AllComeBack = (i : ℕ) (s : S) (ns : List ℕ) (z : S) → IsRun i s ns z → ComesBack i z
+
+-- It is so of whatever was explored of a system whose steps are independent, where the check of its guess passes.
+abbrev pub WhereAmple : {S A : Type 0} → System S A → (ℕ → S → Type 0) → (Explored A → Type 0) → Type 0
+WhereAmple k stands P = (e : Explored _) → AreIndependent k → IsExploredOf k stands e → IsAmple k.conflict e → P e

@@ -1,2 +1,6 @@
 //! At a state only the threads of a set go on, and nothing that is said of all runs is lost.
 #![tactic(auto)]
+
+mod laws;
+
+pub use laws::{Threads, it_is_enough_that_some_go_on};
