@@ -1,7 +1,7 @@
 -- Runs of a system: a step that is apart from all of theirs comes before them as well.
-use Rattle.std.specs.Prelude.{◌≡◌, ◌≢◌, ◌⊎◌, ◌↔◌, ℕ, Bool, true, List, [], ◌∷◌, ◌++◌, refl}
-use Rattle.std.proofs.Common.{ap, subst, sym, ◌∙◌, inl, inr}
-use Rattle.search_ample.specs.Systems.{System, CanGo, Conflict, Runs, Minds, IsSame, AreApart, AreStates, AreIndependent}
+use Rattle.std.specs.Prelude.{◌≢◌, ℕ, List, [], ◌∷◌, ◌++◌}
+use Rattle.std.proofs.Common.{inl, inr}
+use Rattle.search_ample.specs.Systems.{System, CanGo, Runs, Minds, IsSame, AreIndependent}
 
 module _ {S A : Type 0} (k : System S A) (laws : AreIndependent k) where
   -- Being the same goes on and back.
@@ -44,7 +44,7 @@ module _ {S A : Type 0} (k : System S A) (laws : AreIndependent k) where
   -- Each step of it is another thread's, and conflicts with none of these.
   abbrev pub IsClear : ℕ → (A → Type 0) → (s : S) (ns : List ℕ) (z : S) → Runs k s ns z → Type 0
   IsClear m M s [] z r = Unit {0}
-  IsClear m M s (n ∷ ns) z r = (n ≢ m) × ((a b : A) → M a → k.wants s n b → Conflict k a b → ⊥) × IsClear m M r.0 ns z r.2
+  IsClear m M s (n ∷ ns) z r = (n ≢ m) × ((a b : A) → M a → k.wants s n b → k.conflict a b → ⊥) × IsClear m M r.0 ns z r.2
 
   -- So a thread that minds no others stays the same, if some such thread can go on.
   pub kept-along : (m n : ℕ) (M N : A → Type 0) (ns : List ℕ) (s z : S) → k.among s → k.among z → (r : Runs k s ns z) → CanGo k s m

@@ -3,10 +3,10 @@ use Rattle.std.specs.Prelude.{◌≡◌, ◌≢◌, ◌<◌, ◌≤◌, ◌+◌,
 use Rattle.std.proofs.Common.{ap, subst, sym, ◌∙◌, inl, inr, arith, true≢false, length-append}
 use Rattle.std.proofs.lemmas.Bool.{cases_Bool}
 use Rattle.search_graph.specs.Graph.{Moves}
-use Rattle.search_ample.specs.Systems.{System, CanGo, Conflict, Runs, Minds, IsSame, AreIndependent}
-use Rattle.search_ample.specs.Explored.{Explored, IsExploredOf}
+use Rattle.search_ample.specs.Systems.{System, CanGo, Runs, Minds, IsSame, AreIndependent}
+use Rattle.search_ample.specs.Explored.{Explored, Meaning, IsExploredOf}
 use Rattle.search_ample.specs.Ample.{IsAmple, Nears}
-use Rattle.search_ample.specs.Found.{IsRun}
+use Rattle.search_ample.specs.Found.{IsRun, IsInFootprint}
 use Rattle.search_ample.proofs.Runs.{IsClear, runs-from, runs-join, runs-split, kept-along, comes-first}
 
 -- None of these threads goes on.
@@ -44,12 +44,11 @@ abbrev pub rank_of : (ℕ → ℕ) → List ℕ → ℕ
 rank_of rank [] = 0
 rank_of rank (n ∷ ns) = rank n
 
-module _ {S A : Type 0} (k : System S A) (laws : AreIndependent k) (stands : ℕ → S → Type 0) (e : Explored A) (x : IsExploredOf k stands e)
-    (c : IsAmple k.conflict e) where
+module _ {S A : Type 0} (k : System S A) (laws : AreIndependent k) (mean : Meaning S A) (e : Explored) (x : IsExploredOf k mean e) (c : IsAmple e) where
   -- What threads want at the ends of runs shorter than this was in their footprints.
   abbrev pub HoldsBelow : ℕ → Type 0
-  HoldsBelow n = (i : ℕ) (s : S) (ns : List ℕ) (z : S) → length ns < n → IsRun k stands e i s ns z
-      → (u : ℕ) (a : A) → k.wants z u a → e.may i u a ≡ true
+  HoldsBelow n = (i : ℕ) (s : S) (ns : List ℕ) (z : S) → length ns < n → IsRun k mean e i s ns z
+      → (u : ℕ) (a : A) → k.wants z u a → IsInFootprint k mean e i u a
 
   -- The step of a thread that goes on comes first.
   pub record ComesFirst (i : ℕ) (s : S) (ns : List ℕ) (z : S) : Type 0 where
@@ -59,7 +58,7 @@ module _ {S A : Type 0} (k : System S A) (laws : AreIndependent k) (stands : ℕ
     pub world : S
     pub rest : List ℕ
     pub len : suc (length rest) ≡ length ns
-    pub run : IsRun k stands e next world rest z
+    pub run : IsRun k mean e next world rest z
 
   -- The run has none, and leaves those that go on as they are; one of them may step before it as behind it.
   pub record ComesBeside (i : ℕ) (s : S) (ns : List ℕ) (z : S) : Type 0 where
@@ -72,19 +71,27 @@ module _ {S A : Type 0} (k : System S A) (laws : AreIndependent k) (stands : ℕ
     pub world : S
     pub end : S
     pub last : k.steps thread z end
-    pub run : IsRun k stands e next world ns end
+    pub run : IsRun k mean e next world ns end
     pub rank : rank_of (λ u. e.rank next u) ns < rank_of (λ u. e.rank i u) ns
 
   pub goes-apart : (i m n : ℕ) → e.goes i m ≡ true → e.goes i n ≡ false → n ≢ m
   goes-apart i m n h g q = true≢false (sym h ∙ (ap (λ v. e.goes i v) (sym q) ∙ g))
 
-  -- What a thread minds at what a state stands for.
-  pub minds-listed : (i m : ℕ) (s : S) (a : A) → stands i s → Minds k s m a → Contains (e.wants i m) a ⊎ Contains (e.heeds i m) a
-  minds-listed i m s a at (inl w) = inl (x.wants i m s a at w)
-  minds-listed i m s a at (inr h) = inr (x.heeds i m s a at h)
+  -- What a thread that goes on minds where it begins conflicts with nothing in the footprint of one that doesn't.
+  pub apart-of : (i m u : ℕ) (s : S) (a b : A) → mean.stands i s → m < e.threads → u < e.threads → e.goes i m ≡ true → e.goes i u ≡ false
+      → Minds k s m a → IsInFootprint k mean e i u b → k.conflict a b → ⊥
+  apart-of i m u s a b at few_m few_u gm gu minds may cf = by minds
+    where
+      so : (p : ℕ) → mean.names p a → Contains (e.wants i m) p ⊎ Contains (e.heeds i m) p → ⊥
+      so p name among =
+          c.apart i m u p may.number (x.state i s at) few_m few_u gm gu among may.may (x.conflicts p may.number a b name may.names cf)
+
+      by : k.wants s m a ⊎ k.heeds s m a → ⊥
+      by (inl w) = let l = x.wants i m s a at w in so l.number l.names (inl l.among)
+      by (inr h) = let l = x.heeds i m s a at h in so l.number l.names (inr l.among)
 
   -- Where one that doesn't go on can, one that does nears it.
-  near : (i t : ℕ) (s : S) → stands i s → CanGo k s t → e.goes i t ≡ false → Nears k.conflict e i t
+  near : (i t : ℕ) (s : S) → mean.stands i s → CanGo k s t → e.goes i t ≡ false → Nears e i t
   near i t s at can g = c.nears i t (record {
     state = x.state i s at;
     few = x.few s t (x.among i s at) can;
@@ -92,11 +99,11 @@ module _ {S A : Type 0} (k : System S A) (laws : AreIndependent k) (stands : ℕ
     waits = g;
   })
 
-  near-can : (i t : ℕ) (s : S) (at : stands i s) (r : Nears k.conflict e i t) → CanGo k s r.thread
+  near-can : (i t : ℕ) (s : S) (at : mean.stands i s) (r : Nears e i t) → CanGo k s r.thread
   near-can i t s at r = let step = x.leads i r.thread r.next s at r.move in (step.0, step.1)
 
   module _ (n : ℕ) (below : HoldsBelow n) where
-    module _ (i : ℕ) (s : S) (begins : stands i s) (m : ℕ) (few : m < e.threads) (h : e.goes i m ≡ true) where
+    module _ (i : ℕ) (s : S) (begins : mean.stands i s) (m : ℕ) (few : m < e.threads) (h : e.goes i m ≡ true) where
       -- What the others do behind some of their steps doesn't conflict with what it minds.
       clear-behind : (ns ps : List ℕ) (v z : S) → length ps + length ns ≤ n → Runs k s ps v → k.among v → (r : Runs k v ns z) → NoneGoes (λ u. e.goes i u) ns
           → IsClear k laws m (λ a. Minds k s m a) v ns z r
@@ -105,7 +112,7 @@ module _ {S A : Type 0} (k : System S A) (laws : AreIndependent k) (stands : ℕ
           let y' = laws.states.among t v r.0 y r.1 in
           (
             goes-apart i m t h g.0,
-            λ a d p w f. c.apart i m t a d (x.state i s begins) few (x.few_want v t d y w) h g.0 (minds-listed i m s a begins p)
+            λ a d p w f. apart-of i m t s a d begins few (x.few_want v t d y w) h g.0 p
                 (below i s ps v (omega arith) (record { begins = begins; runs = b; among = y }) t d w) f,
             clear-behind ns (ps ++ t ∷ []) r.0 z (omega (arith, length-append ps (t ∷ [])))
                 (runs-join k laws ps (t ∷ []) s v r.0 (x.among i s begins) y b (r.0, r.1, laws.states.itself r.0)) y' r.2 g.1,
@@ -115,7 +122,7 @@ module _ {S A : Type 0} (k : System S A) (laws : AreIndependent k) (stands : ℕ
       clear ns z len r g = clear-behind ns [] s z (omega arith) (laws.states.itself s) (x.among i s begins) r g
 
     -- Steps of others leave it as it is.
-    kept-so : (i : ℕ) (s : S) (ns : List ℕ) (z : S) → stands i s → k.among z → length ns ≤ n → (r : Runs k s ns z) → NoneGoes (λ u. e.goes i u) ns
+    kept-so : (i : ℕ) (s : S) (ns : List ℕ) (z : S) → mean.stands i s → k.among z → length ns ≤ n → (r : Runs k s ns z) → NoneGoes (λ u. e.goes i u) ns
         → (m : ℕ) → m < e.threads → e.goes i m ≡ true → IsSame k s z m
     kept-so i s [] z at y len r g m few h = laws.states.same s z m (x.among i s at) y r
     kept-so i s (t ∷ ns) z at y len r g m few h =
@@ -124,7 +131,7 @@ module _ {S A : Type 0} (k : System S A) (laws : AreIndependent k) (stands : ℕ
         (λ a p. p) (λ a p. p) (clear i s at by.thread by.few by.goes (t ∷ ns) z len r g) (clear i s at m few h (t ∷ ns) z len r g)
 
     -- A thread that goes on, and makes a step where the run has come, can make it at once.
-    first : (i : ℕ) (s : S) (ns : List ℕ) (z : S) → length ns ≤ n → IsRun k stands e i s ns z → FirstGoing (λ u. e.goes i u) ns → ComesFirst i s ns z
+    first : (i : ℕ) (s : S) (ns : List ℕ) (z : S) → length ns ≤ n → IsRun k mean e i s ns z → FirstGoing (λ u. e.goes i u) ns → ComesFirst i s ns z
     first i s ns z len f g =
         let m = g.thread in
         let at = f.begins in
@@ -158,7 +165,7 @@ module _ {S A : Type 0} (k : System S A) (laws : AreIndependent k) (stands : ℕ
         }
 
     -- Where none of them steps, each is left as it is; and where the first thread waits, one of them steps before.
-    beside : (i : ℕ) (s : S) (t : ℕ) (ns : List ℕ) (z : S) → length (t ∷ ns) ≤ n → IsRun k stands e i s (t ∷ ns) z → NoneGoes (λ u. e.goes i u) (t ∷ ns)
+    beside : (i : ℕ) (s : S) (t : ℕ) (ns : List ℕ) (z : S) → length (t ∷ ns) ≤ n → IsRun k mean e i s (t ∷ ns) z → NoneGoes (λ u. e.goes i u) (t ∷ ns)
         → ComesBeside i s (t ∷ ns) z
     beside i s t ns z len f g =
         let at = f.begins in
@@ -182,19 +189,19 @@ module _ {S A : Type 0} (k : System S A) (laws : AreIndependent k) (stands : ℕ
         }
 
     -- What holds of no steps, and of a run where it holds of what becomes of it, holds of each run.
-    module _ (Q : ℕ → S → List ℕ → S → Type 0) (none : (i : ℕ) (s z : S) → IsRun k stands e i s [] z → Q i s [] z)
-        (by_first : (i : ℕ) (s : S) (ns : List ℕ) (z : S) → IsRun k stands e i s ns z → (w : ComesFirst i s ns z) → Q w.next w.world w.rest z → Q i s ns z)
-        (by_beside : (i : ℕ) (s : S) (ns : List ℕ) (z : S) → IsRun k stands e i s ns z → (w : ComesBeside i s ns z) → Q w.next w.world ns w.end → Q i s ns z)
+    module _ (Q : ℕ → S → List ℕ → S → Type 0) (none : (i : ℕ) (s z : S) → IsRun k mean e i s [] z → Q i s [] z)
+        (by_first : (i : ℕ) (s : S) (ns : List ℕ) (z : S) → IsRun k mean e i s ns z → (w : ComesFirst i s ns z) → Q w.next w.world w.rest z → Q i s ns z)
+        (by_beside : (i : ℕ) (s : S) (ns : List ℕ) (z : S) → IsRun k mean e i s ns z → (w : ComesBeside i s ns z) → Q w.next w.world ns w.end → Q i s ns z)
         where
       -- By induction on a bound of the rank, where it holds of shorter runs.
-      with-rank : (most : ℕ) → most ≤ n → ((i : ℕ) (s : S) (ns : List ℕ) (z : S) → length ns < most → IsRun k stands e i s ns z → Q i s ns z)
-          → (bound i : ℕ) (s : S) (ns : List ℕ) (z : S) → length ns ≤ most → rank_of (λ u. e.rank i u) ns < bound → IsRun k stands e i s ns z → Q i s ns z
+      with-rank : (most : ℕ) → most ≤ n → ((i : ℕ) (s : S) (ns : List ℕ) (z : S) → length ns < most → IsRun k mean e i s ns z → Q i s ns z)
+          → (bound i : ℕ) (s : S) (ns : List ℕ) (z : S) → length ns ≤ most → rank_of (λ u. e.rank i u) ns < bound → IsRun k mean e i s ns z → Q i s ns z
       with-rank most within shorter zero i s ns z len r f = absurd (omega arith)
       with-rank most within shorter (suc bound) i s ns z len r f =
           go ns len r f (λ j v us y l q h. with-rank most within shorter bound j v us y l q h)
         where
-          go : (ns : List ℕ) → length ns ≤ most → rank_of (λ u. e.rank i u) ns < suc bound → IsRun k stands e i s ns z
-              → ((j : ℕ) (v : S) (us : List ℕ) (y : S) → length us ≤ most → rank_of (λ u. e.rank j u) us < bound → IsRun k stands e j v us y → Q j v us y)
+          go : (ns : List ℕ) → length ns ≤ most → rank_of (λ u. e.rank i u) ns < suc bound → IsRun k mean e i s ns z
+              → ((j : ℕ) (v : S) (us : List ℕ) (y : S) → length us ≤ most → rank_of (λ u. e.rank j u) us < bound → IsRun k mean e j v us y → Q j v us y)
               → Q i s ns z
           go [] len r f rest = none i s z f
           go (t ∷ ns) len r f rest = by (first_going (λ u. e.goes i u) (t ∷ ns))
@@ -209,12 +216,12 @@ module _ {S A : Type 0} (k : System S A) (laws : AreIndependent k) (stands : ℕ
                   let falls = w.rank in
                   by_beside i s (t ∷ ns) z f w (rest w.next w.world (t ∷ ns) w.end len (omega arith) w.run)
 
-      up-to : (most : ℕ) → most ≤ n → (i : ℕ) (s : S) (ns : List ℕ) (z : S) → length ns ≤ most → IsRun k stands e i s ns z → Q i s ns z
+      up-to : (most : ℕ) → most ≤ n → (i : ℕ) (s : S) (ns : List ℕ) (z : S) → length ns ≤ most → IsRun k mean e i s ns z → Q i s ns z
       up-to zero within i s ns z len f =
           with-rank zero within (λ j v us y l g. absurd (omega arith)) (suc (rank_of (λ u. e.rank i u) ns)) i s ns z len (omega arith) f
       up-to (suc most) within i s ns z len f =
           with-rank (suc most) within (λ j v us y l g. up-to most (omega arith) j v us y (omega arith) g) (suc (rank_of (λ u. e.rank i u) ns)) i s ns z len
           (omega arith) f
 
-      pub by-ways : (i : ℕ) (s : S) (ns : List ℕ) (z : S) → length ns ≤ n → IsRun k stands e i s ns z → Q i s ns z
+      pub by-ways : (i : ℕ) (s : S) (ns : List ℕ) (z : S) → length ns ≤ n → IsRun k mean e i s ns z → Q i s ns z
       by-ways i s ns z len f = up-to n (omega arith) i s ns z len f

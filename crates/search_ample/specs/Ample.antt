@@ -1,9 +1,9 @@
 -- That it is enough if only some threads go on: what is checked of a guess, state by state and move by move.
-use Rattle.std.specs.Prelude.{◌≡◌, ◌<◌, ◌⊎◌, ℕ, Bool, true, false, Contains}
+use Rattle.std.specs.Prelude.{◌≡◌, ◌<◌, ◌⊎◌, ℕ, true, false, Contains}
 use Rattle.search_graph.specs.Graph.{Moves, CanMove}
 use Rattle.search_ample.specs.Explored.{Explored}
 
-module _ {A : Type 0} (conflict : A → A → Bool) (e : Explored A) where
+module _ (e : Explored) where
   -- The thread can go on there, and isn't one of those that do.
   pub record IsWaiting (i n : ℕ) : Type 0 where
     pub state : i < e.states
@@ -24,11 +24,10 @@ module _ {A : Type 0} (conflict : A → A → Bool) (e : Explored A) where
     -- each thread that goes on is followed
     pub followed : (i n : ℕ) → i < e.states → n < e.threads → e.goes i n ≡ true → e.can i n ≡ true → CanMove e.moves i n
     -- a thread's footprint has what it wants, and what it has behind each move
-    pub wanted : (i n : ℕ) (a : A) → i < e.states → n < e.threads → Contains (e.wants i n) a → e.may i n a ≡ true
-    pub kept : (i t j n : ℕ) (a : A) → Moves e.moves i t j → n < e.threads → e.may j n a ≡ true → e.may i n a ≡ true
+    pub wanted : (i n p : ℕ) → i < e.states → n < e.threads → Contains (e.wants i n) p → e.may i n p ≡ true
+    pub kept : (i t j n p : ℕ) → Moves e.moves i t j → n < e.threads → e.may j n p ≡ true → e.may i n p ≡ true
     -- what a thread that goes on wants or heeds conflicts with nothing that another one may still want
-    pub apart : (i n u : ℕ) (a b : A) → i < e.states → n < e.threads → u < e.threads → e.goes i n ≡ true
-        → e.goes i u ≡ false → Contains (e.wants i n) a ⊎ Contains (e.heeds i n) a → e.may i u b ≡ true
-        → conflict a b ≡ true → ⊥
+    pub apart : (i n u p q : ℕ) → i < e.states → n < e.threads → u < e.threads → e.goes i n ≡ true → e.goes i u ≡ false
+        → Contains (e.wants i n) p ⊎ Contains (e.heeds i n) p → e.may i u q ≡ true → e.conflicts p q ≡ true → ⊥
     -- a thread that waits isn't put off for ever
     pub nears : (i n : ℕ) → IsWaiting i n → Nears i n

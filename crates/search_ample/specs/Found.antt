@@ -2,17 +2,17 @@
 use Rattle.std.specs.Prelude.{◌≡◌, ℕ, true, List}
 use Rattle.search_graph.specs.Paths.{Reaches}
 use Rattle.search_graph.specs.Graph.{Steps}
-use Rattle.search_ample.specs.Systems.{System, Conflict, IsOver, Runs, AreIndependent}
-use Rattle.search_ample.specs.Explored.{Explored, IsExploredOf}
+use Rattle.search_ample.specs.Systems.{System, IsOver, Runs, AreIndependent}
+use Rattle.search_ample.specs.Explored.{Explored, Meaning, IsExploredOf}
 use Rattle.search_ample.specs.Ample.{IsAmple}
 
-module _ {S A : Type 0} (k : System S A) (stands : ℕ → S → Type 0) (e : Explored A) where
+module _ {S A : Type 0} (k : System S A) (m : Meaning S A) (e : Explored) where
   -- Explored moves lead from the state to one that stands for this, or for what nobody tells apart from it.
   pub record IsFound (i : ℕ) (z : S) : Type 0 where
     pub state : ℕ
     pub path : Reaches (Steps e.moves) i state
     pub world : S
-    pub is : stands state world
+    pub is : m.stands state world
     pub alike : k.alike z world
 
   -- They lead to one at which the thread wants this.
@@ -20,7 +20,7 @@ module _ {S A : Type 0} (k : System S A) (stands : ℕ → S → Type 0) (e : Ex
     pub state : ℕ
     pub path : Reaches (Steps e.moves) i state
     pub world : S
-    pub is : stands state world
+    pub is : m.stands state world
     pub wants : k.wants world n a
 
   -- They lead to one at which both want these, each its own.
@@ -28,20 +28,26 @@ module _ {S A : Type 0} (k : System S A) (stands : ℕ → S → Type 0) (e : Ex
     pub state : ℕ
     pub path : Reaches (Steps e.moves) i state
     pub world : S
-    pub is : stands state world
+    pub is : m.stands state world
     pub one : k.wants world n a
     pub other : k.wants world u b
 
   -- A run leads from what the state stands for to this.
   pub record IsRun (i : ℕ) (s : S) (ns : List ℕ) (z : S) : Type 0 where
-    pub begins : stands i s
+    pub begins : m.stands i s
     pub runs : Runs k s ns z
     pub among : k.among z
+
+  -- The thread's footprint has it.
+  pub record IsInFootprint (i n : ℕ) (a : A) : Type 0 where
+    pub number : ℕ
+    pub names : m.names number a
+    pub may : e.may i n number ≡ true
 
   -- What a thread wants at a run's end its footprint had at the beginning.
   abbrev pub FootprintsHold : Type 0
   FootprintsHold = (i : ℕ) (s : S) (ns : List ℕ) (z : S) → IsRun i s ns z
-      → (n : ℕ) (a : A) → k.wants z n a → e.may i n a ≡ true
+      → (n : ℕ) (a : A) → k.wants z n a → IsInFootprint i n a
 
   -- Each run's end at which nobody can go on is found.
   abbrev pub EndsAreFound : Type 0
@@ -54,7 +60,7 @@ module _ {S A : Type 0} (k : System S A) (stands : ℕ → S → Type 0) (e : Ex
 
   abbrev pub ConflictsAreFound : Type 0
   ConflictsAreFound = (i : ℕ) (s : S) (ns : List ℕ) (z : S) → IsRun i s ns z
-      → (n u : ℕ) (a b : A) → k.wants z n a → k.wants z u b → Conflict k a b → BothAreFound i n u a b
+      → (n u : ℕ) (a b : A) → k.wants z n a → k.wants z u b → k.conflict a b → BothAreFound i n u a b
 
   -- A run goes on from there to what is found.
   pub record ComesBack (i : ℕ) (z : S) : Type 0 where
@@ -67,5 +73,5 @@ module _ {S A : Type 0} (k : System S A) (stands : ℕ → S → Type 0) (e : Ex
   AllComeBack = (i : ℕ) (s : S) (ns : List ℕ) (z : S) → IsRun i s ns z → ComesBack i z
 
 -- It is so of whatever was explored of a system whose steps are independent, where the check of its guess passes.
-abbrev pub WhereAmple : {S A : Type 0} → System S A → (ℕ → S → Type 0) → (Explored A → Type 0) → Type 0
-WhereAmple k stands P = (e : Explored _) → AreIndependent k → IsExploredOf k stands e → IsAmple k.conflict e → P e
+abbrev pub WhereAmple : {S A : Type 0} → System S A → Meaning S A → (Explored → Type 0) → Type 0
+WhereAmple k m P = (e : Explored) → AreIndependent k → IsExploredOf k m e → IsAmple e → P e

@@ -1,6 +1,6 @@
 -- Threads that make steps one at a time, and which of their steps are independent. Types: states S, and A for what a step
 -- does.
-use Rattle.std.specs.Prelude.{◌≡◌, ◌≢◌, ◌⊎◌, ◌↔◌, ℕ, Bool, true, List, [], ◌∷◌}
+use Rattle.std.specs.Prelude.{◌≢◌, ◌⊎◌, ◌↔◌, ℕ, List, [], ◌∷◌}
 
 -- `steps`: from which state to which the thread makes its next step. `wants`: what all the thread does by that step, as it
 -- would be made now. `heeds`: what another one's step has to do to wake the thread or start it. `conflict`: that the two
@@ -9,14 +9,11 @@ pub record System (S A : Type 0) : Type 1 where
   pub steps : ℕ → S → S → Type 0
   pub wants : S → ℕ → A → Type 0
   pub heeds : S → ℕ → A → Type 0
-  pub conflict : A → A → Bool
+  pub conflict : A → A → Type 0
   pub among : S → Type 0
   pub alike : S → S → Type 0
 
 module _ {S A : Type 0} (k : System S A) where
-  abbrev pub Conflict : A → A → Type 0
-  Conflict a b = k.conflict a b ≡ true
-
   abbrev pub CanGo : S → ℕ → Type 0
   CanGo s n = (z : S) × k.steps n s z
 
@@ -41,7 +38,7 @@ module _ {S A : Type 0} (k : System S A) where
 
   -- Nothing that thread u does by its step conflicts with what thread n wants or heeds.
   abbrev pub AreApart : S → ℕ → ℕ → Type 0
-  AreApart s n u = (a b : A) → Minds s n a → k.wants s u b → Conflict a b → ⊥
+  AreApart s n u = (a b : A) → Minds s n a → k.wants s u b → k.conflict a b → ⊥
 
   -- Steps don't leave the states that are meant, and a thread makes one step alone; being alike is an equivalence that
   -- steps keep.
@@ -60,10 +57,10 @@ module _ {S A : Type 0} (k : System S A) where
   -- or it wants something there that conflicts with this.
   pub record AreIndependent : Type 0 where
     pub states : AreStates
-    pub mutual_is : (a b : A) → Conflict a b → Conflict b a
+    pub mutual_is : (a b : A) → k.conflict a b → k.conflict b a
     pub kept : (s z : S) (n u other : ℕ) → k.among s → u ≢ n → u ≢ other → CanGo s other → k.steps u s z → AreApart s n u
         → IsSame s z n
     pub swap : (s z v : S) (n u : ℕ) → k.among s → u ≢ n → k.steps n s z → k.steps u s v → AreApart s n u
         → (x : S) × (y : S) × k.steps n v x × k.steps u z y × k.alike x y
     pub still : (s z : S) (n u : ℕ) (a : A) → k.among s → u ≢ n → k.steps u s z → k.wants s n a
-        → k.wants z n a ⊎ ((c : A) × (b : A) × k.wants z n c × k.wants s u b × Conflict b c)
+        → k.wants z n a ⊎ ((c : A) × (b : A) × k.wants z n c × k.wants s u b × k.conflict b c)

@@ -1,6 +1,6 @@
 //! What is found of all runs where only some threads go on. The function here does nothing, and its contract is the law.
-ghost use Rattle.std.specs.Prelude.{ℕ};
 ghost use Rattle.search_ample.specs.Systems.{System};
+ghost use Rattle.search_ample.specs.Explored.{Meaning};
 ghost use Rattle.search_ample.specs.Found.{
   WhereAmple,
   FootprintsHold,
@@ -19,22 +19,22 @@ pub trait Threads {
 
     ghost system: { Self → System World Act };
 
-    /// Which states the number of an explored one stands for.
-    ghost stands: { Self → ℕ → World → Type 0 };
+    /// What numbers are of.
+    ghost meaning: { Self → Meaning World Act };
 }
 
 /// Where steps that don't conflict are independent, and the check of which threads go on passes: what threads want is in
 /// their footprints, in all runs; each end is found, and all that a thread wants, and each two wants that conflict, both
 /// at once; and each run can go on to what is found.
 pub fn it_is_enough_that_some_go_on<T: Threads>(threads: &T)
-    ensures footprints { WhereAmple (T.system threads.now) (T.stands threads.now)
-        (FootprintsHold (T.system threads.now) (T.stands threads.now)) }
-    ensures ends { WhereAmple (T.system threads.now) (T.stands threads.now)
-        (EndsAreFound (T.system threads.now) (T.stands threads.now)) }
-    ensures wants { WhereAmple (T.system threads.now) (T.stands threads.now)
-        (WantsAreFound (T.system threads.now) (T.stands threads.now)) }
-    ensures conflicts { WhereAmple (T.system threads.now) (T.stands threads.now)
-        (ConflictsAreFound (T.system threads.now) (T.stands threads.now)) }
-    ensures back { WhereAmple (T.system threads.now) (T.stands threads.now)
-        (AllComeBack (T.system threads.now) (T.stands threads.now)) }
+    ensures footprints { WhereAmple (T.system threads.now) (T.meaning threads.now)
+        (FootprintsHold (T.system threads.now) (T.meaning threads.now)) }
+    ensures ends { WhereAmple (T.system threads.now) (T.meaning threads.now)
+        (EndsAreFound (T.system threads.now) (T.meaning threads.now)) }
+    ensures wants { WhereAmple (T.system threads.now) (T.meaning threads.now)
+        (WantsAreFound (T.system threads.now) (T.meaning threads.now)) }
+    ensures conflicts { WhereAmple (T.system threads.now) (T.meaning threads.now)
+        (ConflictsAreFound (T.system threads.now) (T.meaning threads.now)) }
+    ensures back { WhereAmple (T.system threads.now) (T.meaning threads.now)
+        (AllComeBack (T.system threads.now) (T.meaning threads.now)) }
 {}
