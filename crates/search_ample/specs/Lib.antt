@@ -2,3 +2,4 @@ pub mod Systems
 pub mod Explored
 pub mod Ample
 pub mod Found
+pub mod Certificate

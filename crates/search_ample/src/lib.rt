@@ -1,6 +1,9 @@
 //! At a state only the threads of a set go on, and nothing that is said of all runs is lost.
 #![tactic(auto)]
 
+mod certificate;
 mod laws;
+mod rows;
 
+pub use certificate::{Certificate, Parts, Standing};
 pub use laws::{Threads, it_is_enough_that_some_go_on};
