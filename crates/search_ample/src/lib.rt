@@ -2,6 +2,7 @@
 #![tactic(auto)]
 
 mod certificate;
+mod checked;
 mod laws;
 mod rows;
 
