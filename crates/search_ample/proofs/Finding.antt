@@ -1,5 +1,5 @@
 -- Where only some threads go on, footprints hold of all runs, and all ends, all that is wanted and all conflicts are found.
-use Rattle.std.specs.Prelude.{◌≡◌, ◌<◌, ◌⊎◌, ℕ, zero, suc, true, false, List, [], ◌∷◌, length, refl}
+use Rattle.std.specs.Prelude.{◌≡◌, ◌<◌, ◌⊎◌, ℕ, zero, suc, true, false, List, [], ◌∷◌, ◌++◌, length, refl}
 use Rattle.std.proofs.Common.{sym, inl, inr, arith}
 use Rattle.std.proofs.lemmas.Bool.{cases_Bool}
 use Rattle.search_graph.specs.Paths.{Reaches}
@@ -54,7 +54,7 @@ module _ {S A : Type 0} (k : System S A) (laws : AreIndependent k) (mean : Meani
       by (inr p) =
           absurd (never-both i s ns z f w w.thread u p.1 p.0 w.few few w.goes_on gu p.3 (before i w.thread w.next u p.0 w.move few (h u p.0 p.2)) p.4)
 
-  by-first : (i : ℕ) (s : S) (ns : List ℕ) (z : S) → RunOf i s ns z → (w : First i s ns z) → HoldsOf w.next w.world w.rest z → HoldsOf i s ns z
+  by-first : (i : ℕ) (s : S) (ns : List ℕ) (z : S) → RunOf i s ns z → (w : First i s ns z) → HoldsOf w.next w.world (w.before ++ w.behind) z → HoldsOf i s ns z
   by-first i s ns z f w h u a wants = before i w.thread w.next u a w.move (x.few_want z u a f.among wants) (h u a wants)
 
   by-beside : (i : ℕ) (s : S) (ns : List ℕ) (z : S) → RunOf i s ns z → (w : Beside i s ns z) → HoldsOf w.next w.world ns w.end → HoldsOf i s ns z
@@ -71,7 +71,7 @@ module _ {S A : Type 0} (k : System S A) (laws : AreIndependent k) (mean : Meani
   here : (i : ℕ) (s z : S) → RunOf i s [] z → (u : ℕ) (a : A) → k.wants z u a → k.wants s u a
   here i s z f u a wants = ((laws.states.same s z u (x.among i s f.begins) f.among f.runs).wants a).1 wants
 
-  holds-below : (n : ℕ) → HoldsBelow k laws mean e x c n
+  pub holds-below : (n : ℕ) → HoldsBelow k laws mean e x c n
   holds-below zero i s ns z len f u a wants = absurd (omega arith)
   holds-below (suc n) i s ns z len f u a wants =
       by-ways k laws mean e x c n (holds-below n) HoldsOf
@@ -83,7 +83,7 @@ module _ {S A : Type 0} (k : System S A) (laws : AreIndependent k) (mean : Meani
 
   -- The principle, now that footprints hold of all runs.
   ways : (Q : ℕ → S → List ℕ → S → Type 0) → ((i : ℕ) (s z : S) → RunOf i s [] z → Q i s [] z)
-      → ((i : ℕ) (s : S) (ns : List ℕ) (z : S) → RunOf i s ns z → (w : First i s ns z) → Q w.next w.world w.rest z → Q i s ns z)
+      → ((i : ℕ) (s : S) (ns : List ℕ) (z : S) → RunOf i s ns z → (w : First i s ns z) → Q w.next w.world (w.before ++ w.behind) z → Q i s ns z)
       → ((i : ℕ) (s : S) (ns : List ℕ) (z : S) → RunOf i s ns z → (w : Beside i s ns z) → Q w.next w.world ns w.end → Q i s ns z)
       → (i : ℕ) (s : S) (ns : List ℕ) (z : S) → RunOf i s ns z → Q i s ns z
   ways Q none one other i s ns z f =

@@ -56,9 +56,11 @@ module _ {S A : Type 0} (k : System S A) (laws : AreIndependent k) (mean : Meani
     pub next : ℕ
     pub move : Moves e.moves i thread next
     pub world : S
-    pub rest : List ℕ
-    pub len : suc (length rest) ≡ length ns
-    pub run : IsRun k mean e next world rest z
+    pub before : List ℕ
+    pub behind : List ℕ
+    pub is : ns ≡ before ++ thread ∷ behind
+    pub none : NoneGoes (λ u. e.goes i u) before
+    pub run : IsRun k mean e next world (before ++ behind) z
 
   -- The run has none, and leaves those that go on as they are; one of them may step before it as behind it.
   pub record ComesBeside (i : ℕ) (s : S) (ns : List ℕ) (z : S) : Type 0 where
@@ -91,7 +93,7 @@ module _ {S A : Type 0} (k : System S A) (laws : AreIndependent k) (mean : Meani
       by (inr h) = let l = x.heeds i m s a at h in so l.number l.names (inr l.among)
 
   -- Where one that doesn't go on can, one that does nears it.
-  near : (i t : ℕ) (s : S) → mean.stands i s → CanGo k s t → e.goes i t ≡ false → Nears e i t
+  pub near : (i t : ℕ) (s : S) → mean.stands i s → CanGo k s t → e.goes i t ≡ false → Nears e i t
   near i t s at can g = c.nears i t (record {
     state = x.state i s at;
     few = x.few s t (x.among i s at) can;
@@ -99,7 +101,7 @@ module _ {S A : Type 0} (k : System S A) (laws : AreIndependent k) (mean : Meani
     waits = g;
   })
 
-  near-can : (i t : ℕ) (s : S) (at : mean.stands i s) (r : Nears e i t) → CanGo k s r.thread
+  pub near-can : (i t : ℕ) (s : S) (at : mean.stands i s) (r : Nears e i t) → CanGo k s r.thread
   near-can i t s at r = let step = x.leads i r.thread r.next s at r.move in (step.0, step.1)
 
   module _ (n : ℕ) (below : HoldsBelow n) where
@@ -131,7 +133,7 @@ module _ {S A : Type 0} (k : System S A) (laws : AreIndependent k) (mean : Meani
         (λ a p. p) (λ a p. p) (clear i s at by.thread by.few by.goes (t ∷ ns) z len r g) (clear i s at m few h (t ∷ ns) z len r g)
 
     -- A thread that goes on, and makes a step where the run has come, can make it at once.
-    first : (i : ℕ) (s : S) (ns : List ℕ) (z : S) → length ns ≤ n → IsRun k mean e i s ns z → FirstGoing (λ u. e.goes i u) ns → ComesFirst i s ns z
+    pub first : (i : ℕ) (s : S) (ns : List ℕ) (z : S) → length ns ≤ n → IsRun k mean e i s ns z → FirstGoing (λ u. e.goes i u) ns → ComesFirst i s ns z
     first i s ns z len f g =
         let m = g.thread in
         let at = f.begins in
@@ -159,8 +161,10 @@ module _ {S A : Type 0} (k : System S A) (laws : AreIndependent k) (mean : Meani
           next = go.next;
           move = go.is;
           world = led.0;
-          rest = g.before ++ g.rest;
-          len = omega (arith, length-append g.before g.rest);
+          before = g.before;
+          behind = g.rest;
+          is = g.is;
+          none = g.none;
           run = record { begins = led.2; runs = runs-join k laws g.before g.rest led.0 moved.end z on beyond moved.runs then; among = f.among };
         }
 
@@ -190,7 +194,7 @@ module _ {S A : Type 0} (k : System S A) (laws : AreIndependent k) (mean : Meani
 
     -- What holds of no steps, and of a run where it holds of what becomes of it, holds of each run.
     module _ (Q : ℕ → S → List ℕ → S → Type 0) (none : (i : ℕ) (s z : S) → IsRun k mean e i s [] z → Q i s [] z)
-        (by_first : (i : ℕ) (s : S) (ns : List ℕ) (z : S) → IsRun k mean e i s ns z → (w : ComesFirst i s ns z) → Q w.next w.world w.rest z → Q i s ns z)
+        (by_first : (i : ℕ) (s : S) (ns : List ℕ) (z : S) → IsRun k mean e i s ns z → (w : ComesFirst i s ns z) → Q w.next w.world (w.before ++ w.behind) z → Q i s ns z)
         (by_beside : (i : ℕ) (s : S) (ns : List ℕ) (z : S) → IsRun k mean e i s ns z → (w : ComesBeside i s ns z) → Q w.next w.world ns w.end → Q i s ns z)
         where
       -- By induction on a bound of the rank, where it holds of shorter runs.
@@ -209,8 +213,10 @@ module _ {S A : Type 0} (k : System S A) (laws : AreIndependent k) (mean : Meani
               by : FirstGoing (λ u. e.goes i u) (t ∷ ns) ⊎ NoneGoes (λ u. e.goes i u) (t ∷ ns) → Q i s (t ∷ ns) z
               by (inl g) =
                   let w = first i s (t ∷ ns) z (omega arith) f g in
-                  let fewer = w.len in
-                  by_first i s (t ∷ ns) z f w (shorter w.next w.world w.rest z (omega arith) w.run)
+                  let counted : length (t ∷ ns) ≡ length (w.before ++ w.thread ∷ w.behind) = ap length w.is in
+                  let lengths = length-append w.before (w.thread ∷ w.behind) in
+                  by_first i s (t ∷ ns) z f w
+                  (shorter w.next w.world (w.before ++ w.behind) z (omega (arith, length-append w.before w.behind)) w.run)
               by (inr g) =
                   let w = beside i s t ns z (omega arith) f g in
                   let falls = w.rank in

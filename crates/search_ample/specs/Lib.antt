@@ -3,3 +3,4 @@ pub mod Explored
 pub mod Ample
 pub mod Found
 pub mod Certificate
+pub mod Fair
