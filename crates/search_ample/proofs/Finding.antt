@@ -177,11 +177,12 @@ module _ {S A : Type 0} (k : System S A) (laws : AreIndependent k) (mean : Meani
   pub all-come-back : AllComeBack k mean e
   all-come-back =
       ways BackOf
-      (λ i s z f. record { run = []; end = z; runs = laws.states.itself z; found = found-here i s z f })
-      (λ i s ns z f w h. record { run = h.run; end = h.end; runs = h.runs; found = found-further i w.thread w.next h.end w.move h.found })
+      (λ i s z f. record { run = []; end = z; among = f.among; runs = laws.states.itself z; found = found-here i s z f })
+      (λ i s ns z f w h. record { run = h.run; end = h.end; among = h.among; runs = h.runs; found = found-further i w.thread w.next h.end w.move h.found })
       (λ i s ns z f w h. record {
         run = w.thread ∷ h.run;
         end = h.end;
+        among = h.among;
         runs = (w.end, w.last, h.runs);
         found = found-further i w.thread w.next h.end w.move h.found;
       })

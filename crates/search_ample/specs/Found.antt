@@ -66,6 +66,7 @@ module _ {S A : Type 0} (k : System S A) (m : Meaning S A) (e : Explored) where
   pub record ComesBack (i : ℕ) (z : S) : Type 0 where
     pub run : List ℕ
     pub end : S
+    pub among : k.among end
     pub runs : Runs k z run end
     pub found : IsFound i end
 

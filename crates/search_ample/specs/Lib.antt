@@ -4,3 +4,4 @@ pub mod Ample
 pub mod Found
 pub mod Certificate
 pub mod Fair
+pub mod Ending
