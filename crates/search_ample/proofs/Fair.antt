@@ -1,16 +1,15 @@
 -- A fair run without end makes a fair run of what was explored: of what is left of it, the first step of a thread that goes
 -- on is always made first.
-use Rattle.std.specs.Prelude.{◌≡◌, ◌≢◌, ◌<◌, ◌≤◌, ◌+◌, ◌-◌, ◌⊎◌, ℕ, zero, suc, Bool, true, false, Option, Some, List, [], ◌∷◌, ◌++◌, length, refl}
+use Rattle.std.specs.Prelude.{◌≡◌, ◌≢◌, ◌<◌, ◌≤◌, ◌+◌, ◌-◌, ◌⊎◌, ℕ, zero, suc, Bool, true, false, Some, List, [], ◌∷◌, ◌++◌, length, refl}
 use Rattle.std.proofs.Common.{ap, subst, sym, ◌∙◌, inl, inr, arith, true≢false, length-append}
 use Rattle.std.proofs.lemmas.Bool.{cases_Bool, cases_eq}
 use Rattle.search_graph.specs.Graph.{Moves, CanMove}
 use Rattle.search_graph.specs.Runs.{Run, GetsTurn, IsFair, EveryFairRunEnds}
-use Rattle.search_graph.specs.Worlds.{Persists, EndlessRun, IsFairRun, FairRun}
+use Rattle.search_graph.specs.Worlds.{Persists, EndlessRun, IsFairRun}
 use Rattle.search_graph.proofs.Having.{decide}
 use Rattle.search_ample.specs.Systems.{System, CanGo, Runs, AreIndependent}
 use Rattle.search_ample.specs.Explored.{Explored, Meaning, IsExploredOf}
 use Rattle.search_ample.specs.Ample.{IsAmple}
-use Rattle.search_ample.specs.Found.{IsRun}
 use Rattle.search_ample.specs.Fair.{worlds_of, OnlyTheseGo, NoFairRunGoesOn}
 use Rattle.search_ample.proofs.Runs.{runs-join}
 use Rattle.search_ample.proofs.Ways.{NoneGoes, FirstGoing, first_going, ComesFirst, near, near-can, first}

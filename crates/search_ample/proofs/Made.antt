@@ -1,15 +1,14 @@
 -- What explored moves make of the states that are stood for: runs to an end, and fair runs without one.
-use Rattle.std.specs.Prelude.{◌≡◌, ◌≢◌, ◌<◌, ◌≤◌, ◌+◌, ◌-◌, ◌⊎◌, ◌↔◌, ℕ, zero, suc, Bool, true, false, Option, Some, List, [], ◌∷◌, ◌++◌, refl}
-use Rattle.std.proofs.Common.{ap, subst, sym, ◌∙◌, inl, inr, arith, true≢false}
+use Rattle.std.specs.Prelude.{◌≡◌, ◌≤◌, ◌+◌, ◌-◌, ◌⊎◌, ℕ, zero, suc, Bool, false, Some, List, [], ◌∷◌, ◌++◌, refl}
+use Rattle.std.proofs.Common.{subst, sym, ◌∙◌, inl, inr, arith, true≢false}
 use Rattle.std.proofs.lemmas.Bool.{cases_eq}
-use Rattle.search_graph.specs.Paths.{Goes, Reaches}
+use Rattle.search_graph.specs.Paths.{Goes}
 use Rattle.search_graph.specs.Graph.{Moves, Steps, CanEnd, IsMarked}
 use Rattle.search_graph.specs.Runs.{Turns, Run}
-use Rattle.search_graph.specs.Worlds.{Persists, EndlessRun, GetsStep, IsFairRun, FairRun}
-use Rattle.search_ample.specs.Systems.{System, CanGo, IsOver, Runs, AreIndependent}
+use Rattle.search_graph.specs.Worlds.{Persists, EndlessRun, GetsStep, IsFairRun}
+use Rattle.search_ample.specs.Systems.{System, CanGo, AreIndependent}
 use Rattle.search_ample.specs.Explored.{Explored, Meaning, IsExploredOf}
 use Rattle.search_ample.specs.Ample.{IsAmple}
-use Rattle.search_ample.specs.Found.{IsRun}
 use Rattle.search_ample.specs.Ending.{ComesToEnd, MarkEnds, EndsAreExact, AllComeToEnds}
 use Rattle.search_ample.specs.Fair.{worlds_of, IsFairAsSeen, FairRunsAreMade}
 use Rattle.search_ample.proofs.Runs.{runs-from, runs-join}

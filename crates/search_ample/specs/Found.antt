@@ -73,6 +73,9 @@ module _ {S A : Type 0} (k : System S A) (m : Meaning S A) (e : Explored) where
   abbrev pub AllComeBack : Type 0
   AllComeBack = (i : ℕ) (s : S) (ns : List ℕ) (z : S) → IsRun i s ns z → ComesBack i z
 
--- It is so of whatever was explored of a system whose steps are independent, where the check of its guess passes.
+-- It is so of whatever was explored of a system whose steps are independent; and where the check of the guess passes.
+abbrev pub WhereExplored : {S A : Type 0} → System S A → Meaning S A → (Explored → Type 0) → Type 0
+WhereExplored k m P = (e : Explored) → AreIndependent k → IsExploredOf k m e → P e
+
 abbrev pub WhereAmple : {S A : Type 0} → System S A → Meaning S A → (Explored → Type 0) → Type 0
-WhereAmple k m P = (e : Explored) → AreIndependent k → IsExploredOf k m e → IsAmple e → P e
+WhereAmple k m P = WhereExplored k m (λ e. IsAmple e → P e)

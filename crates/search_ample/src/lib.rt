@@ -7,4 +7,4 @@ mod laws;
 mod rows;
 
 pub use certificate::{Certificate, Parts, Standing};
-pub use laws::{Threads, it_is_enough_that_some_go_on};
+pub use laws::{Threads, ends_are_told, fair_runs_are_told, it_is_enough_that_some_go_on};
