@@ -3,7 +3,7 @@ use Rattle.std.specs.Prelude.{◌≢◌, ℕ, List, [], ◌∷◌, ◌++◌}
 use Rattle.std.proofs.Common.{inl, inr}
 use Rattle.search_ample.specs.Systems.{System, CanGo, Runs, Minds, IsSame, AreIndependent}
 
-module _ {S A : Type 0} (k : System S A) (laws : AreIndependent k) where
+module _ {S A : Type 0} (k : System S A) where
   -- Being the same goes on and back.
   pub same-on : (s z v : S) (n : ℕ) → IsSame k s z n → IsSame k z v n → IsSame k s v n
   same-on s z v n a b = record {
@@ -16,6 +16,7 @@ module _ {S A : Type 0} (k : System S A) (laws : AreIndependent k) where
   minds-back s z n a same (inl h) = inl ((same.wants a).1 h)
   minds-back s z n a same (inr h) = inr ((same.heeds a).1 h)
 
+module _ {S A : Type 0} (k : System S A) (laws : AreIndependent k) where
   -- The same runs begin where nobody tells the state apart.
   pub runs-from : (ns : List ℕ) (s v z : S) → k.among s → k.among v → k.alike s v → Runs k v ns z → Runs k s ns z
   runs-from [] s v z x y a r = laws.states.in_turn s v z a r
@@ -54,8 +55,8 @@ module _ {S A : Type 0} (k : System S A) (laws : AreIndependent k) where
   kept-along m n M N (t ∷ ns) s z x y r can min nin c d =
       let one = laws.kept s r.0 m t m x c.0 c.0 can r.1 (λ a b p w. c.1 a b (min a p) w) in
       let other = laws.kept s r.0 n t m x d.0 c.0 can r.1 (λ a b p w. d.1 a b (nin a p) w) in
-      same-on s r.0 z n other (kept-along m n M N ns r.0 z (laws.states.among t s r.0 x r.1) y r.2 (one.can.0 can)
-      (λ a p. min a (minds-back s r.0 m a one p)) (λ a p. nin a (minds-back s r.0 n a other p)) c.2 d.2)
+      same-on k s r.0 z n other (kept-along m n M N ns r.0 z (laws.states.among t s r.0 x r.1) y r.2 (one.can.0 can)
+      (λ a p. min a (minds-back k s r.0 m a one p)) (λ a p. nin a (minds-back k s r.0 n a other p)) c.2 d.2)
 
   -- And its step comes first as well.
   pub record IsMoved (m : ℕ) (ns : List ℕ) (v z : S) : Type 0 where
@@ -74,7 +75,7 @@ module _ {S A : Type 0} (k : System S A) (laws : AreIndependent k) where
       let first = laws.states.among m s v x step in
       let same = laws.kept s r.0 m t m x c.0 c.0 (v, step) r.1 apart in
       let both = laws.swap s v r.0 m t x c.0 step r.1 apart in
-      let later = comes-first m M ns r.0 both.0 z on y r.2 both.2 (λ a p. min a (minds-back s r.0 m a same p)) c.2 in
+      let later = comes-first m M ns r.0 both.0 z on y r.2 both.2 (λ a p. min a (minds-back k s r.0 m a same p)) c.2 in
       record {
         end = later.end;
         last = later.last;

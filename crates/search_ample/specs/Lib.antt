@@ -5,3 +5,4 @@ pub mod Found
 pub mod Certificate
 pub mod Fair
 pub mod Ending
+pub mod Turns
