@@ -242,3 +242,167 @@ module _ {S A : Type 0} (t : TurnSystem S A) (laws : AreTurns t) where
               );
               heeds = rest.1;
             }
+
+    -- No turn of a step of thread u does.
+    abbrev AreFree : S → Type 0
+    AreFree s = (c d : ℕ) (a b : A) → WantsIn t c n a s → WantsIn t d u b s → t.conflict a b ≡ true → ⊥
+
+    abbrev HeedsNone : S → Type 0
+    HeedsNone s = (d : ℕ) (a b : A) → t.heeds s n a → WantsIn t d u b s → t.conflict a b ≡ true → ⊥
+
+    same-steps : (count o : ℕ) (g : A) (s z : S) → t.among s → AreFree s → HeedsNone s → u ≢ o → t.wants s o ≡ Some g → StepsIn t count u s z
+        → IsSame (steps_of t) s z n
+    same-steps zero o g s z x f heed d ho w =
+        subst (λ v. IsSame (steps_of t) s v n) w.is
+        (same-turn w.act s o g x w.wants (λ c a q. f c 0 a w.act q w.wants) (λ a h. heed 0 a w.act h w.wants) d ho)
+    same-steps (suc count) o g s z x f heed d ho w =
+        let p = w.0 in
+        let one = same-turn p.act s o g x p.wants (λ c a q. f c 0 a p.act q p.wants) (λ a h. heed 0 a p.act h p.wants) d ho in
+        let on = still-there (laws.still s o u g p.act x d ho p.wants) in
+        same-on (steps_of t) s (t.next s u) z n one
+        (same-steps count o on.0 (t.next s u) z (laws.states.among s u p.act x p.wants)
+        (λ c m a b q r. (let back = (one.wants a).1 (record { count = c; is = q }) in f back.count (suc m) a b back.is (p, r)))
+        (λ m a b h r. heed (suc m) a b ((one.heeds a).1 h) (p, r)) d on.1 w.1)
+      where
+        still-there : (t.wants (t.next s u) o ≡ Some g) ⊎ ((c : A) × (t.wants (t.next s u) o ≡ Some c) × (t.conflict (w.0).act c ≡ true))
+            → (c : A) × (t.wants (t.next s u) o ≡ Some c)
+        still-there (inl h) = (g, h)
+        still-there (inr r) = (r.0, r.1)
+
+    -- Both steps in either order.
+    record Crossed (s z v : S) : Type 0 where
+      one : S
+      other_one : S
+      makes : MakesStep t n v one
+      makes_other : MakesStep t u z other_one
+      alike : t.alike one other_one
+
+    cross : (d c : ℕ) (s z v : S) → t.among s → AreFree s → StepsIn t c n s z → StepsIn t d u s v → Crossed s z v
+    cross zero c s z v x f m w =
+        let push = push-step c w.act s z x w.wants (λ e a q. f e 0 a w.act q w.wants) m in
+        record {
+          one = push.end;
+          other_one = t.next z u;
+          makes = record { count = c; is = subst (λ y. StepsIn t c n y push.end) w.is push.steps };
+          makes_other = record { count = 0; is = record { act = w.act; wants = push.wants; event = w.event; is = refl } };
+          alike = laws.states.back (t.next z u) push.end push.alike;
+        }
+    cross (suc d) c s z v x f m w =
+        let p = w.0 in
+        let free : IsFree p.act s = λ e a q. f e 0 a p.act q p.wants in
+        let push = push-step c p.act s z x p.wants free m in
+        let y = laws.states.among s u p.act x p.wants in
+        let here = first-step c n s z m in
+        let rest = cross d c (t.next s u) push.end v y
+            (λ e i a b q r. f e (suc i) a b (pull-want e a p.act s x p.wants free here.0 here.1 q) (p, r)) push.steps w.1 in
+        let az = among-step c n s z x m in
+        let back = step-alike (rest.makes_other).count u push.end (t.next z u) rest.other_one (among-step c n (t.next s u) push.end y push.steps)
+            (laws.states.among z u p.act az push.wants) (laws.states.back (t.next z u) push.end push.alike) (rest.makes_other).is in
+        record {
+          one = rest.one;
+          other_one = back.end;
+          makes = rest.makes;
+          makes_other = record {
+            count = suc (rest.makes_other).count;
+            is = (record { act = p.act; wants = push.wants; plain = p.plain }, back.steps);
+          };
+          alike = laws.states.in_turn rest.one rest.other_one back.end rest.alike back.alike;
+        }
+
+    -- What thread n comes to want it does behind a turn, or something that conflicts with it.
+    abbrev StillOr : A → S → A → Type 0
+    StillOr b z a = ComesToWant t z n a ⊎ ((c : A) × ComesToWant t z n c × (t.conflict b c ≡ true))
+
+    still-turn : (count : ℕ) (a b : A) (s : S) → t.among s → t.wants s u ≡ Some b → WantsIn t count n a s → StillOr b (t.next s u) a
+    still-turn zero a b s x hu w = by (laws.still s n u a b x other w hu)
+      where
+        by : (t.wants (t.next s u) n ≡ Some a) ⊎ ((c : A) × (t.wants (t.next s u) n ≡ Some c) × (t.conflict b c ≡ true)) → StillOr b (t.next s u) a
+        by (inl h) = inl (want-now (t.next s u) n a h)
+        by (inr r) = inr (r.0, want-now (t.next s u) n r.0 r.1, r.2)
+    still-turn (suc count) a b s x hu w =
+        by (cases_Bool (t.conflict (w.0).act b)) (λ there. still-turn count a b (t.next s n) (laws.states.among s n (w.0).act x (w.0).wants) there w.1)
+      where
+        p : IsPlainTurn t s n
+        p = w.0
+
+        hit : t.conflict p.act b ≡ true
+            → (t.wants (t.next s u) n ≡ Some p.act) ⊎ ((c : A) × (t.wants (t.next s u) n ≡ Some c) × (t.conflict b c ≡ true)) → StillOr b (t.next s u) a
+        hit cf (inl h) = inr (p.act, want-now (t.next s u) n p.act h, laws.mutual_is p.act b cf)
+        hit cf (inr r) = inr (r.0, want-now (t.next s u) n r.0 r.1, r.2)
+
+        kept-then : t.conflict p.act b ≡ false → t.wants (t.next s u) n ≡ Some p.act
+        kept-then free = laws.kept s n u p.act b x other p.wants hu free
+
+        kept-other : t.conflict p.act b ≡ false → t.wants (t.next s n) u ≡ Some b
+        kept-other free =
+            laws.kept s u n b p.act x (λ q. other (sym q)) hu p.wants
+            (not-so (t.conflict b p.act) (λ f. true≢false (sym (laws.mutual_is b p.act f) ∙ free)))
+
+        carry : t.conflict p.act b ≡ false → (c : A) → ComesToWant t (t.next (t.next s n) u) n c → ComesToWant t (t.next s u) n c
+        carry free c q =
+            let h = kept-then free in
+            let there = kept-other free in
+            before-want (t.next s u) n c (record { act = p.act; wants = h; plain = p.plain })
+            (comes-alike (t.next (t.next s n) u) (t.next (t.next s u) n) n c
+            (laws.states.among (t.next s n) u b (laws.states.among s n p.act x p.wants) there)
+            (laws.states.among (t.next s u) n p.act (laws.states.among s u b x hu) h)
+            (laws.states.back (t.next (t.next s u) n) (t.next (t.next s n) u) (laws.swap s n u p.act b x other p.wants hu free)) q)
+
+        by : (t.conflict p.act b ≡ true) ⊎ (t.conflict p.act b ≡ false) → (t.wants (t.next s n) u ≡ Some b → StillOr b (t.next (t.next s n) u) a)
+            → StillOr b (t.next s u) a
+        by (inl cf) rest = hit cf (laws.still s n u p.act b x other p.wants hu)
+        by (inr free) rest =
+            on (rest (kept-other free))
+          where
+            on : StillOr b (t.next (t.next s n) u) a → StillOr b (t.next s u) a
+            on (inl q) = inl (carry free a q)
+            on (inr r) = inr (r.0, carry free r.0 r.1, r.2)
+
+    -- So behind a step.
+    abbrev StillOrBehind : S → S → A → Type 0
+    StillOrBehind s z a = ComesToWant t z n a ⊎ ((c : A) × (b : A) × ComesToWant t z n c × ComesToWant t s u b × (t.conflict b c ≡ true))
+
+    still-behind : (d : ℕ) (a : A) (s z : S) → t.among s → StepsIn t d u s z → ComesToWant t s n a → StillOrBehind s z a
+    still-behind zero a s z x w q = by (still-turn q.count a w.act s x w.wants q.is)
+      where
+        there : (c : A) → ComesToWant t (t.next s u) n c → ComesToWant t z n c
+        there c r = subst (λ v. ComesToWant t v n c) w.is r
+
+        by : StillOr w.act (t.next s u) a → StillOrBehind s z a
+        by (inl r) = inl (there a r)
+        by (inr r) = inr (r.0, w.act, there r.0 r.1, want-now s u w.act w.wants, r.2)
+    still-behind (suc d) a s z x w q =
+        by (still-turn q.count a (w.0).act s x (w.0).wants q.is)
+        (λ c r. still-behind d c (t.next s u) z (laws.states.among s u (w.0).act x (w.0).wants) w.1 r)
+      where
+        p : IsPlainTurn t s u
+        p = w.0
+
+        later : (c : A) → StillOrBehind (t.next s u) z c → ComesToWant t z n c
+            ⊎ ((g : A) × (b : A) × ComesToWant t z n g × ComesToWant t s u b × (t.conflict b g ≡ true))
+        later c (inl r) = inl r
+        later c (inr r) = inr (r.0, r.1, r.2, before-want s u r.1 p r.3, r.4)
+
+        hit : (c : A) → t.conflict p.act c ≡ true → ComesToWant t z n c
+            ⊎ ((g : A) × (b : A) × ComesToWant t z n g × ComesToWant t s u b × (t.conflict b g ≡ true)) → StillOrBehind s z a
+        hit c cf (inl r) = inr (c, p.act, r, want-now s u p.act p.wants, cf)
+        hit c cf (inr r) = inr r
+
+        by : StillOr p.act (t.next s u) a → ((c : A) → ComesToWant t (t.next s u) n c → StillOrBehind (t.next s u) z c) → StillOrBehind s z a
+        by (inl r) rest = later a (rest a r)
+        by (inr r) rest = hit r.0 r.2 (later r.0 (rest r.0 r.1))
+
+  pub bundles-are-independent : AreIndependent (steps_of t)
+  bundles-are-independent = record {
+    states = bundle-states;
+    mutual_is = laws.mutual_is;
+    kept = λ s z n u o x d d' can m apart.
+        (let w = first-step (can.1).count o s can.0 (can.1).is in
+        same-steps n u d m.count o w.0 s z x (λ c e a b p q. apart a b (inl (record { count = c; is = p })) (record { count = e; is = q }))
+        (λ e a b h q. apart a b (inr h) (record { count = e; is = q })) d' w.1 m.is);
+    swap = λ s z v n u x d m q apart.
+        (let r = cross n u d q.count m.count s z v x
+            (λ c e a b f g. apart a b (inl (record { count = c; is = f })) (record { count = e; is = g })) m.is q.is in
+        (r.one, r.other_one, r.makes, r.makes_other, r.alike));
+    still = λ s z n u a x d m w. still-behind n u d m.count a s z x m.is w;
+  }
