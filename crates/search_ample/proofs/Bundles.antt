@@ -7,7 +7,7 @@ use Rattle.search_ample.specs.Systems.{CanGo, Minds, IsSame, AreApart, AreStates
 use Rattle.search_ample.proofs.Runs.{same-on}
 use Rattle.search_ample.specs.Turns.{TurnSystem, IsPlainTurn, IsEvent, WantsIn, StepsIn, ComesToWant, MakesStep, steps_of, AreTurns}
 
-some-injective : {A : Type 0} (a b : A) → Some a ≡ Some b → a ≡ b
+pub some-injective : {A : Type 0} (a b : A) → Some a ≡ Some b → a ≡ b
 some-injective a b e = cc e
 
 not-so : (b : Bool) → (b ≡ true → ⊥) → b ≡ false
@@ -16,10 +16,10 @@ not-so false h = refl
 
 module _ {S A : Type 0} (t : TurnSystem S A) (laws : AreTurns t) where
   -- Of states that nobody tells apart.
-  wants-alike : (s z : S) (n : ℕ) (a : A) → t.among s → t.among z → t.alike s z → t.wants s n ≡ Some a → t.wants z n ≡ Some a
+  pub wants-alike : (s z : S) (n : ℕ) (a : A) → t.among s → t.among z → t.alike s z → t.wants s n ≡ Some a → t.wants z n ≡ Some a
   wants-alike s z n a x y l h = sym (laws.states.wants s z n x y l) ∙ h
 
-  turn-alike : (s z : S) (n : ℕ) → t.among s → t.among z → t.alike s z → IsPlainTurn t s n → IsPlainTurn t z n
+  pub turn-alike : (s z : S) (n : ℕ) → t.among s → t.among z → t.alike s z → IsPlainTurn t s n → IsPlainTurn t z n
   turn-alike s z n x y l p = record { act = p.act; wants = wants-alike s z n p.act x y l p.wants; plain = p.plain }
 
   want-alike : (count n : ℕ) (a : A) (s z : S) → t.among s → t.among z → t.alike s z → WantsIn t count n a s → WantsIn t count n a z
@@ -32,12 +32,12 @@ module _ {S A : Type 0} (t : TurnSystem S A) (laws : AreTurns t) where
             (laws.states.next s z n w.0.act x y l w.0.wants) w.1,
       )
 
-  record Comes (count n : ℕ) (v z : S) : Type 0 where
-    end : S
-    steps : StepsIn t count n z end
-    alike : t.alike v end
+  pub record Comes (count n : ℕ) (v z : S) : Type 0 where
+    pub end : S
+    pub steps : StepsIn t count n z end
+    pub alike : t.alike v end
 
-  step-alike : (count n : ℕ) (s z v : S) → t.among s → t.among z → t.alike s z → StepsIn t count n s v → Comes count n v z
+  pub step-alike : (count n : ℕ) (s z v : S) → t.among s → t.among z → t.alike s z → StepsIn t count n s v → Comes count n v z
   step-alike zero n s z v x y l w = record {
     end = t.next z n;
     steps = record { act = w.act; wants = wants-alike s z n w.act x y l w.wants; event = w.event; is = refl };
@@ -49,12 +49,12 @@ module _ {S A : Type 0} (t : TurnSystem S A) (laws : AreTurns t) where
           (laws.states.next s z n w.0.act x y l w.0.wants) w.1 in
       record { end = rest.end; steps = (p, rest.steps); alike = rest.alike }
 
-  among-step : (count n : ℕ) (s z : S) → t.among s → StepsIn t count n s z → t.among z
+  pub among-step : (count n : ℕ) (s z : S) → t.among s → StepsIn t count n s z → t.among z
   among-step zero n s z x w = subst t.among w.is (laws.states.among s n w.act x w.wants)
   among-step (suc count) n s z x w = among-step count n (t.next s n) z (laws.states.among s n w.0.act x w.0.wants) w.1
 
   -- A thread makes one step.
-  one-step : (c d n : ℕ) (s z v : S) → StepsIn t c n s z → StepsIn t d n s v → z ≡ v
+  pub one-step : (c d n : ℕ) (s z v : S) → StepsIn t c n s z → StepsIn t d n s v → z ≡ v
   one-step zero zero n s z v a b = sym a.is ∙ b.is
   one-step zero (suc d) n s z v a b =
       let same = some-injective a.act b.0.act (sym a.wants ∙ b.0.wants) in
@@ -91,40 +91,40 @@ module _ {S A : Type 0} (t : TurnSystem S A) (laws : AreTurns t) where
   }
 
   -- What one comes to want, and a step, begin with what it wants.
-  first-want : (count n : ℕ) (a : A) (s : S) → WantsIn t count n a s → (d : A) × (t.wants s n ≡ Some d)
+  pub first-want : (count n : ℕ) (a : A) (s : S) → WantsIn t count n a s → (d : A) × (t.wants s n ≡ Some d)
   first-want zero n a s w = (a, w)
   first-want (suc count) n a s w = (w.0.act, w.0.wants)
 
-  first-step : (count n : ℕ) (s z : S) → StepsIn t count n s z → (d : A) × (t.wants s n ≡ Some d)
+  pub first-step : (count n : ℕ) (s z : S) → StepsIn t count n s z → (d : A) × (t.wants s n ≡ Some d)
   first-step zero n s z w = (w.act, w.wants)
   first-step (suc count) n s z w = (w.0.act, w.0.wants)
 
-  before-want : (s : S) (n : ℕ) (a : A) → IsPlainTurn t s n → ComesToWant t (t.next s n) n a → ComesToWant t s n a
+  pub before-want : (s : S) (n : ℕ) (a : A) → IsPlainTurn t s n → ComesToWant t (t.next s n) n a → ComesToWant t s n a
   before-want s n a p w = record { count = suc w.count; is = (p, w.is) }
 
-  want-now : (s : S) (n : ℕ) (a : A) → t.wants s n ≡ Some a → ComesToWant t s n a
+  pub want-now : (s : S) (n : ℕ) (a : A) → t.wants s n ≡ Some a → ComesToWant t s n a
   want-now s n a h = record { count = 0; is = h }
 
-  comes-alike : (s z : S) (n : ℕ) (a : A) → t.among s → t.among z → t.alike s z → ComesToWant t s n a → ComesToWant t z n a
+  pub comes-alike : (s z : S) (n : ℕ) (a : A) → t.among s → t.among z → t.alike s z → ComesToWant t s n a → ComesToWant t z n a
   comes-alike s z n a x y l w = record { count = w.count; is = want-alike w.count n a s z x y l w.is }
 
   -- One turn of thread u.
   module _ (n u : ℕ) (other : u ≢ n) where
     -- It conflicts with nothing that thread n comes to want.
-    abbrev IsFree : A → S → Type 0
+    abbrev pub IsFree : A → S → Type 0
     IsFree b s = (count : ℕ) (a : A) → WantsIn t count n a s → t.conflict a b ≡ true → ⊥
 
     free-next : (b : A) (s : S) → IsFree b s → IsPlainTurn t s n → IsFree b (t.next s n)
     free-next b s f p count a w = f (suc count) a (p, w)
 
-    kept-here : (s : S) (a b : A) → t.among s → t.wants s n ≡ Some a → t.wants s u ≡ Some b → IsFree b s → t.wants (t.next s u) n ≡ Some a
+    pub kept-here : (s : S) (a b : A) → t.among s → t.wants s n ≡ Some a → t.wants s u ≡ Some b → IsFree b s → t.wants (t.next s u) n ≡ Some a
     kept-here s a b x hn hu f = laws.kept s n u a b x other hn hu (not-so (t.conflict a b) (f 0 a hn))
 
-    kept-there : (s : S) (a b : A) → t.among s → t.wants s n ≡ Some a → t.wants s u ≡ Some b → IsFree b s → t.wants (t.next s n) u ≡ Some b
+    pub kept-there : (s : S) (a b : A) → t.among s → t.wants s n ≡ Some a → t.wants s u ≡ Some b → IsFree b s → t.wants (t.next s n) u ≡ Some b
     kept-there s a b x hn hu f =
         laws.kept s u n b a x (λ q. other (sym q)) hu hn (not-so (t.conflict b a) (λ c. f 0 a hn (laws.mutual_is b a c)))
 
-    either-way : (s : S) (a b : A) → t.among s → t.wants s n ≡ Some a → t.wants s u ≡ Some b → IsFree b s
+    pub either-way : (s : S) (a b : A) → t.among s → t.wants s n ≡ Some a → t.wants s u ≡ Some b → IsFree b s
         → t.alike (t.next (t.next s u) n) (t.next (t.next s n) u)
     either-way s a b x hn hu f = laws.swap s n u a b x other hn hu (not-so (t.conflict a b) (f 0 a hn))
 
@@ -150,7 +150,7 @@ module _ {S A : Type 0} (t : TurnSystem S A) (laws : AreTurns t) where
               (laws.states.back (t.next (t.next s u) n) (t.next (t.next s n) u) (either-way s p.act b x p.wants hu f)) rest,
         )
 
-    pull-want : (count : ℕ) (a b : A) (s : S) → t.among s → t.wants s u ≡ Some b → IsFree b s → (d : A) → t.wants s n ≡ Some d
+    pub pull-want : (count : ℕ) (a b : A) (s : S) → t.among s → t.wants s u ≡ Some b → IsFree b s → (d : A) → t.wants s n ≡ Some d
         → WantsIn t count n a (t.next s u) → WantsIn t count n a s
     pull-want zero a b s x hu f d hn w = hn ∙ (sym (kept-here s d b x hn hu f) ∙ w)
     pull-want (suc count) a b s x hu f d hn w =
@@ -162,13 +162,13 @@ module _ {S A : Type 0} (t : TurnSystem S A) (laws : AreTurns t) where
         (p, pull-want count a b (t.next s n) (laws.states.among s n d x hn) (kept-there s d b x hn hu f) (free-next b s f p) on.0 on.1 rest)
 
     -- So of a step.
-    record Pushed (b : A) (count : ℕ) (s z : S) : Type 0 where
-      end : S
-      steps : StepsIn t count n (t.next s u) end
-      wants : t.wants z u ≡ Some b
-      alike : t.alike (t.next z u) end
+    pub record Pushed (b : A) (count : ℕ) (s z : S) : Type 0 where
+      pub end : S
+      pub steps : StepsIn t count n (t.next s u) end
+      pub wants : t.wants z u ≡ Some b
+      pub alike : t.alike (t.next z u) end
 
-    push-step : (count : ℕ) (b : A) (s z : S) → t.among s → t.wants s u ≡ Some b → IsFree b s → StepsIn t count n s z → Pushed b count s z
+    pub push-step : (count : ℕ) (b : A) (s z : S) → t.among s → t.wants s u ≡ Some b → IsFree b s → StepsIn t count n s z → Pushed b count s z
     push-step zero b s z x hu f w = record {
       end = t.next (t.next s u) n;
       steps = record { act = w.act; wants = kept-here s w.act b x w.wants hu f; event = w.event; is = refl };
@@ -190,7 +190,7 @@ module _ {S A : Type 0} (t : TurnSystem S A) (laws : AreTurns t) where
           alike = laws.states.in_turn (t.next z u) rest.end here.end rest.alike here.alike;
         }
 
-    pull-step : (count : ℕ) (b : A) (s z : S) → t.among s → t.wants s u ≡ Some b → IsFree b s → (d : A) → t.wants s n ≡ Some d
+    pub pull-step : (count : ℕ) (b : A) (s z : S) → t.among s → t.wants s u ≡ Some b → IsFree b s → (d : A) → t.wants s n ≡ Some d
         → StepsIn t count n (t.next s u) z → (v : S) × StepsIn t count n s v
     pull-step zero b s z x hu f d hn w =
         let same : w.act ≡ d = some-injective w.act d (sym w.wants ∙ kept-here s d b x hn hu f) in

@@ -6,3 +6,4 @@ pub mod Certificate
 pub mod Fair
 pub mod Ending
 pub mod Turns
+pub mod TurnRuns

@@ -65,7 +65,8 @@ module _ {S A : Type 0} (t : TurnSystem S A) where
 
   -- A turn that doesn't conflict with what a thread wants leaves that as it is, and both may be made in either order. Where
   -- it does conflict, the thread still wants that, or what conflicts with the turn. One that can't go on stays so, if the
-  -- turn doesn't conflict with what it heeds and some other thread can go on, too. And behind a plain turn a thread can.
+  -- turn doesn't conflict with what it heeds and some other thread can go on, too; or if it is plain. And behind a plain
+  -- turn a thread can go on.
   pub record AreTurns : Type 0 where
     pub states : AreTurnStates
     pub mutual_is : (a b : A) → t.conflict a b ≡ true → t.conflict b a ≡ true
@@ -78,6 +79,8 @@ module _ {S A : Type 0} (t : TurnSystem S A) where
     pub asleep : (s : S) (n u other : ℕ) (b d : A) → t.among s → u ≢ n → u ≢ other → t.wants s other ≡ Some d
         → t.wants s n ≡ None → t.wants s u ≡ Some b → ((a : A) → t.heeds s n a → t.conflict a b ≡ true → ⊥)
         → (t.wants (t.next s u) n ≡ None) × ((a : A) → t.heeds s n a ↔ t.heeds (t.next s u) n a)
+    pub quiet : (s : S) (n u : ℕ) (b : A) → t.among s → u ≢ n → t.wants s n ≡ None → t.wants s u ≡ Some b
+        → t.plain b ≡ true → t.wants (t.next s u) n ≡ None
     pub awake : (s : S) (n : ℕ) (a b : A) → t.among s → t.wants s n ≡ Some a → t.heeds s n b → ⊥
     pub goes_on : (s : S) (n : ℕ) (a : A) → t.among s → t.wants s n ≡ Some a → t.plain a ≡ true
         → (b : A) × (t.wants (t.next s n) n ≡ Some b)
