@@ -10,6 +10,8 @@ use Rattle.search_ample.specs.Ample.{IsAmple}
 use Rattle.search_ample.specs.Found.{IsRun, IsFound, BothAreFound}
 use Rattle.search_ample.specs.Turns.{TurnSystem, IsPlainTurn, IsEvent, WantsIn, StepsIn, ComesToWant, MakesStep, steps_of, AreTurns}
 use Rattle.search_ample.specs.TurnRuns.{TurnRuns, IsStopped, NoneRaceAt, NoneRaceThere, IsTurnRun, TurnEndsAreFound, TurnConflictsAreFound, NoTurnsRace}
+use Rattle.search_ample.specs.TurnRuns.{AllComeToStop}
+use Rattle.search_ample.proofs.Made.{all-come-to-ends}
 use Rattle.search_ample.proofs.Runs.{runs-join}
 use Rattle.search_ample.proofs.Bundles.{Pushed, wants-alike, turn-alike, step-alike, one-step, among-step, first-want, first-step, before-want, want-now, comes-alike}
 use Rattle.search_ample.proofs.Bundles.{IsFree, push-step, pull-want, pull-step, bundles-are-independent}
@@ -158,3 +160,231 @@ module _ {S A : Type 0} (t : TurnSystem S A) (laws : AreTurns t) where
         plainly = g.plainly;
       }
       by (inr d) g = past d g
+
+  plain-to : (ns : List ℕ) (s z v : S) → t.alike z v → PlainRun s ns z → PlainRun s ns v
+  plain-to [] s z v l r = laws.states.in_turn s z v r l
+  plain-to (n ∷ ns) s z v l r = (r.0, plain-to ns (t.next s n) z v l r.1)
+
+  -- Runs of turns, from states that nobody tells apart, and one after the other.
+  turns-from : (ns : List ℕ) (s v z : S) → t.among s → t.among v → t.alike s v → TurnRuns t v ns z → TurnRuns t s ns z
+  turns-from [] s v z x y l r = laws.states.in_turn s v z l r
+  turns-from (n ∷ ns) s v z x y l r =
+      let h = wants-alike t laws v s n r.0 y x (laws.states.back s v l) r.1 in
+      (
+        r.0,
+        h,
+        turns-from ns (t.next s n) (t.next v n) z (laws.states.among s n r.0 x h) (laws.states.among v n r.0 y r.1)
+            (laws.states.next s v n r.0 x y l h) r.2,
+      )
+
+  turns-join : (ms ns : List ℕ) (s v z : S) → t.among s → t.among v → TurnRuns t s ms v → TurnRuns t v ns z → TurnRuns t s (ms ++ ns) z
+  turns-join [] ns s v z x y a b = turns-from ns s v z x y a b
+  turns-join (m ∷ ms) ns s v z x y a b = (a.0, a.1, turns-join ms ns (t.next s m) v z (laws.states.among s m a.0 x a.1) y a.2 b)
+
+  -- A run of steps is one of turns.
+  abbrev SomeTurns : S → S → Type 0
+  SomeTurns s z = (ns : List ℕ) × TurnRuns t s ns z
+
+  turns-of-step : (count n : ℕ) (s v z : S) → StepsIn t count n s v → SomeTurns v z → SomeTurns s z
+  turns-of-step zero n s v z w r = (n ∷ r.0, (w.act, w.wants, subst (λ q. TurnRuns t q r.0 z) (sym w.is) r.1))
+  turns-of-step (suc count) n s v z w r =
+      let rest = turns-of-step count n (t.next s n) v z w.1 r in
+      (n ∷ rest.0, ((w.0).act, (w.0).wants, rest.1))
+
+  turns-of : (ns : List ℕ) (s z : S) → Runs (steps_of t) s ns z → SomeTurns s z
+  turns-of [] s z r = ([], r)
+  turns-of (n ∷ ns) s z r = turns-of-step (r.1).count n s r.0 z (r.1).is (turns-of ns r.0 z r.2)
+
+  -- Nowhere in runs of turns from there do two threads race.
+  abbrev NoneRaceFrom : S → Type 0
+  NoneRaceFrom s = (ns : List ℕ) (v : S) → t.among v → TurnRuns t s ns v → (n u : ℕ) (a b : A) → u ≢ n → t.wants v n ≡ Some a → t.wants v u ≡ Some b
+      → t.plain a ≡ true → t.conflict a b ≡ true → ⊥
+
+  none-on : (s : S) (n : ℕ) (a : A) → t.wants s n ≡ Some a → NoneRaceFrom s → NoneRaceFrom (t.next s n)
+  none-on s n a h none ns v y r = none (n ∷ ns) v y (a, h, r)
+
+  -- So a plain turn comes first in a run to where nobody can go on.
+  plain-first : (ns : List ℕ) (s z : S) (n : ℕ) → t.among s → t.among z → IsPlainTurn t s n → NoneRaceFrom s → IsStopped t z → TurnRuns t s ns z
+      → SomeTurns (t.next s n) z
+  plain-first [] s z n x y p none stop r = absurd (none-some p.act (sym (stop n) ∙ wants-alike t laws s z n p.act x y r p.wants))
+  plain-first (m ∷ ns) s z n x y p none stop r =
+      by (cases_eq m n) (λ q. plain-first ns (t.next s m) z n (laws.states.among s m r.0 x r.1) y q (none-on s m r.0 r.1 none) stop r.2)
+    where
+      apart : m ≢ n → t.conflict p.act r.0 ≡ false
+      apart d = so (cases_Bool (t.conflict p.act r.0))
+        where
+          so : (t.conflict p.act r.0 ≡ true) ⊎ (t.conflict p.act r.0 ≡ false) → t.conflict p.act r.0 ≡ false
+          so (inl f) = absurd (none [] s x (laws.states.itself s) n m p.act r.0 d p.wants r.1 p.plain f)
+          so (inr f) = f
+
+      apart-back : m ≢ n → t.conflict r.0 p.act ≡ false
+      apart-back d = so (cases_Bool (t.conflict r.0 p.act))
+        where
+          so : (t.conflict r.0 p.act ≡ true) ⊎ (t.conflict r.0 p.act ≡ false) → t.conflict r.0 p.act ≡ false
+          so (inl f) = absurd (true≢false (sym (laws.mutual_is r.0 p.act f) ∙ apart d))
+          so (inr f) = f
+
+      by : (m ≡ n) ⊎ (m ≡ n → ⊥) → (IsPlainTurn t (t.next s m) n → SomeTurns (t.next (t.next s m) n) z) → SomeTurns (t.next s n) z
+      by (inl q) rest = (ns, subst (λ v. TurnRuns t (t.next s v) ns z) q r.2)
+      by (inr d) rest =
+          let still_n = laws.kept s n m p.act r.0 x d p.wants r.1 (apart d) in
+          let still_m = laws.kept s m n r.0 p.act x (λ q. d (sym q)) r.1 p.wants (apart-back d) in
+          let there = rest (record { act = p.act; wants = still_n; plain = p.plain }) in
+          (
+            m ∷ there.0,
+            (
+              r.0,
+              still_m,
+              turns-from there.0 (t.next (t.next s n) m) (t.next (t.next s m) n) z
+                  (laws.states.among (t.next s n) m r.0 (laws.states.among s n p.act x p.wants) still_m)
+                  (laws.states.among (t.next s m) n p.act (laws.states.among s m r.0 x r.1) still_n)
+                  (laws.states.back (t.next (t.next s m) n) (t.next (t.next s n) m) (laws.swap s n m p.act r.0 x d p.wants r.1 (apart d))) there.1,
+            ),
+          )
+
+  all-first : (off ns : List ℕ) (s v z : S) → t.among s → t.among v → t.among z → PlainRun s off v → NoneRaceFrom s → IsStopped t z → TurnRuns t s ns z
+      → SomeTurns v z
+  all-first [] ns s v z x w y p none stop r = (ns, turns-from ns v s z w x (laws.states.back s v p) r)
+  all-first (n ∷ off) ns s v z x w y p none stop r =
+      let on = plain-first ns s z n x y p.0 none stop r in
+      all-first off on.0 (t.next s n) v z (laws.states.among s n (p.0).act x (p.0).wants) w y p.1 (none-on s n (p.0).act (p.0).wants none) stop on.1
+
+  module _ (mean : Meaning S A) (e : Explored) (x : IsExploredOf (steps_of t) mean e) (c : IsAmple e) (races : NoneRaceThere t mean e) where
+    none-at : (i : ℕ) (s : S) (ns : List ℕ) (v : S) → IsRun (steps_of t) mean e i s ns v → NoneRaceAt t v
+    none-at i s ns v r n u a b d wn wu p f =
+        let found = conflicts-are-found (steps_of t) (bundles-are-independent t laws) mean e x c i s ns v r n u a b wn wu f in
+        races found.state found.world found.is n u a b d found.one found.other p f
+
+    -- A run of steps, and behind it plain turns.
+    record Normal (i : ℕ) (s z : S) : Type 0 where
+      run : List ℕ
+      middle : S
+      reached : IsRun (steps_of t) mean e i s run middle
+      off : List ℕ
+      plainly : PlainRun middle off z
+
+    add : (i : ℕ) (s z : S) (n : ℕ) (a : A) → t.among z → Normal i s z → t.wants z n ≡ Some a → Normal i s (t.next z n)
+    add i s z n a y f h = by (cases_Bool (t.plain a))
+      where
+        begins : mean.stands i s
+        begins = (f.reached).begins
+
+        from : t.among s
+        from = x.among i s begins
+
+        there : t.among f.middle
+        there = (f.reached).among
+
+        by : (t.plain a ≡ true) ⊎ (t.plain a ≡ false) → Normal i s (t.next z n)
+        by (inl p) = record {
+          run = f.run;
+          middle = f.middle;
+          reached = f.reached;
+          off = f.off ++ n ∷ [];
+          plainly = plain-more f.off f.middle z (t.next z n) n there y f.plainly (record { act = a; wants = h; plain = p }) (laws.states.itself (t.next z n));
+        }
+        by (inr p) =
+            let g = gather f.off f.middle z (t.next z n) n there y (none-at i s f.run f.middle f.reached) f.plainly
+                (record { act = a; wants = h; event = p; is = refl }) in
+            record {
+              run = f.run ++ n ∷ [];
+              middle = g.middle;
+              reached = record {
+                begins = begins;
+                runs = runs-join (steps_of t) (bundles-are-independent t laws) f.run (n ∷ []) s f.middle g.middle from there (f.reached).runs
+                    (g.middle, g.step, laws.states.itself g.middle);
+                among = among-step t laws (g.step).count n f.middle g.middle there (g.step).is;
+              };
+              off = g.off;
+              plainly = g.plainly;
+            }
+
+    add-all : (i : ℕ) (s : S) (ns : List ℕ) (z v : S) → t.among z → Normal i s z → TurnRuns t z ns v → Normal i s v
+    add-all i s [] z v y f r =
+        record { run = f.run; middle = f.middle; reached = f.reached; off = f.off; plainly = plain-to f.off f.middle z v r f.plainly }
+    add-all i s (n ∷ ns) z v y f r = add-all i s ns (t.next z n) v (laws.states.among z n r.0 y r.1) (add i s z n r.0 y f r.1) r.2
+
+    normal : (i : ℕ) (s : S) (ns : List ℕ) (z : S) → IsTurnRun t mean e i s ns z → Normal i s z
+    normal i s ns z r =
+        let from = x.among i s r.begins in
+        add-all i s ns s z from
+        (record {
+          run = [];
+          middle = s;
+          reached = record { begins = r.begins; runs = laws.states.itself s; among = from };
+          off = [];
+          plainly = laws.states.itself s;
+        })
+        r.runs
+
+    pub turn-conflicts-are-found : TurnConflictsAreFound t mean e
+    turn-conflicts-are-found i s ns z r n u a b wn wu f =
+        let nf = normal i s ns z r in
+        let at = nf.reached in
+        let none = none-at i s nf.run nf.middle at in
+        conflicts-are-found (steps_of t) (bundles-are-independent t laws) mean e x c i s nf.run nf.middle at n u a b
+        (wanted-first nf.off nf.middle z n a at.among r.among none nf.plainly wn)
+        (wanted-first nf.off nf.middle z u b at.among r.among none nf.plainly wu) f
+
+    pub no-turns-race : NoTurnsRace t mean e
+    no-turns-race i s ns z r n u a b d wn wu p f =
+        let found = turn-conflicts-are-found i s ns z r n u a b wn wu f in
+        races found.state found.world found.is n u a b d found.one found.other p f
+
+    -- Where nobody can go on there are no plain turns that were put off.
+    none-off : (off : List ℕ) (s z : S) → t.among s → t.among z → PlainRun s off z → IsStopped t z → t.alike s z
+    none-off [] s z x' y r stop = r
+    none-off (n ∷ off) s z x' y r stop =
+        let p = r.0 in
+        let on = laws.goes_on s n p.act x' p.wants p.plain in
+        let at = awake-along off (t.next s n) z n on.0 (laws.states.among s n p.act x' p.wants) y r.1 on.1 in
+        absurd (none-some at.0 (sym (stop n) ∙ at.1))
+
+    pub turn-ends-are-found : TurnEndsAreFound t mean e
+    turn-ends-are-found i s ns z r stop =
+        let nf = normal i s ns z r in
+        let at = nf.reached in
+        let same = none-off nf.off nf.middle z at.among r.among nf.plainly stop in
+        let over : IsOver (steps_of t) nf.middle = λ n can.
+            (let w = first-step t laws (can.1).count n nf.middle can.0 (can.1).is in
+            none-some w.0 (sym (stop n) ∙ wants-alike t laws nf.middle z n w.0 at.among r.among same w.1)) in
+        let found = ends-are-found (steps_of t) (bundles-are-independent t laws) mean e x c i s nf.run nf.middle at over in
+        record {
+          state = found.state;
+          path = found.path;
+          world = found.world;
+          is = found.is;
+          alike = laws.states.in_turn z nf.middle found.world (laws.states.back nf.middle z same) found.alike;
+        }
+
+    pub all-come-to-stop : AllComeToStop t mean e
+    all-come-to-stop steps ended marks i s ns z r all =
+        let nf = normal i s ns z r in
+        let at = nf.reached in
+        let k = steps_of t in
+        let indep = bundles-are-independent t laws in
+        let end = all-come-to-ends k indep mean e x c ended marks i s nf.run nf.middle at all in
+        let from = x.among i s r.begins in
+        let whole = runs-join k indep nf.run end.run s nf.middle end.end from at.among at.runs end.runs in
+        let found = ends-are-found k indep mean e x c i s (nf.run ++ end.run) end.end
+            (record { begins = r.begins; runs = whole; among = end.among }) end.over in
+        let stop : IsStopped t end.end = stopped end.end found.world end.among (x.among found.state found.world found.is) found.alike end.over
+            (λ n a h. steps found.state found.world n a found.is h) in
+        let first = turns-of nf.run s nf.middle at.runs in
+        let none : NoneRaceFrom nf.middle = λ ms v y w n u a b d.
+            no-turns-race i s (first.0 ++ ms) v
+            (record { begins = r.begins; runs = turns-join first.0 ms s nf.middle v from at.among first.1 w; among = y }) n u a b d in
+        let rest = turns-of end.run nf.middle end.end end.runs in
+        let there = all-first nf.off rest.0 nf.middle z end.end at.among r.among end.among nf.plainly none stop rest.1 in
+        record { run = there.0; end = end.end; among = end.among; runs = there.1; stopped = stop }
+      where
+        stopped : (z v : S) → t.among z → t.among v → t.alike z v → IsOver (steps_of t) z → ((n : ℕ) (a : A) → t.wants v n ≡ Some a → CanGo (steps_of t) v n)
+            → IsStopped t z
+        stopped z v y w l over steps n = by (t.wants z n) refl
+          where
+            by : (o : Option A) → t.wants z n ≡ o → t.wants z n ≡ None
+            by None h = h
+            by (Some a) h =
+                let can = steps n a (wants-alike t laws z v n a y w l h) in
+                let back = step-alike t laws (can.1).count n v z can.0 w y (laws.states.back z v l) (can.1).is in
+                absurd (over n (back.end, record { count = (can.1).count; is = back.steps }))

@@ -2,6 +2,7 @@
 use Rattle.std.specs.Prelude.{◌≡◌, ◌≢◌, ℕ, Bool, true, Some, None, List, [], ◌∷◌}
 use Rattle.search_graph.specs.Paths.{Reaches}
 use Rattle.search_graph.specs.Graph.{Steps, CanEnd}
+use Rattle.search_ample.specs.Systems.{CanGo}
 use Rattle.search_ample.specs.Explored.{Explored, Meaning}
 use Rattle.search_ample.specs.Found.{IsFound, BothAreFound}
 use Rattle.search_ample.specs.Ending.{MarkEnds}
@@ -26,6 +27,10 @@ module _ {S A : Type 0} (t : TurnSystem S A) where
     -- It is so wherever was explored.
     abbrev pub NoneRaceThere : Type 0
     NoneRaceThere = (i : ℕ) (s : S) → m.stands i s → NoneRaceAt s
+
+    -- Each thread that can make a turn where something was explored can make a step.
+    abbrev pub AllStepThere : Type 0
+    AllStepThere = (i : ℕ) (s : S) (n : ℕ) (a : A) → m.stands i s → t.wants s n ≡ Some a → CanGo (steps_of t) s n
 
     pub record IsTurnRun (i : ℕ) (s : S) (ns : List ℕ) (z : S) : Type 0 where
       pub begins : m.stands i s
@@ -56,5 +61,5 @@ module _ {S A : Type 0} (t : TurnSystem S A) where
       pub stopped : IsStopped end
 
     abbrev pub AllComeToStop : Type 0
-    AllComeToStop = (ended : List Bool) → MarkEnds (steps_of t) m e ended → (i : ℕ) (s : S) (ns : List ℕ) (z : S)
+    AllComeToStop = AllStepThere → (ended : List Bool) → MarkEnds (steps_of t) m e ended → (i : ℕ) (s : S) (ns : List ℕ) (z : S)
         → IsTurnRun i s ns z → ((j : ℕ) → Reaches (Steps e.moves) i j → CanEnd e.moves ended j) → ComesToStop z
