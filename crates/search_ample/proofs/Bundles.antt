@@ -3,7 +3,7 @@ use Rattle.std.specs.Prelude.{◌≡◌, ◌≢◌, ◌⊎◌, ◌↔◌, ℕ, z
 use Rattle.std.proofs.Common.{ap, subst, sym, ◌∙◌, inl, inr, true≢false}
 use Rattle.std.proofs.lemmas.Bool.{cases_Bool}
 use Rattle.std.proofs.lemmas.Option.{none-some}
-use Rattle.search_ample.specs.Systems.{CanGo, Minds, IsSame, AreApart, AreStates, AreIndependent}
+use Rattle.search_ample.specs.Systems.{CanGo, IsAwake, Minds, IsSame, AreApart, AreStates, AreIndependent}
 use Rattle.search_ample.proofs.Runs.{same-on}
 use Rattle.search_ample.specs.Turns.{TurnSystem, IsPlainTurn, IsEvent, WantsIn, StepsIn, ComesToWant, MakesStep, steps_of, AreTurns}
 
@@ -392,12 +392,16 @@ module _ {S A : Type 0} (t : TurnSystem S A) (laws : AreTurns t) where
         by (inl r) rest = later a (rest a r)
         by (inr r) rest = hit r.0 r.2 (later r.0 (rest r.0 r.1))
 
+  first-awake : (o : ℕ) (s : S) → IsAwake (steps_of t) s o → (d : A) × (t.wants s o ≡ Some d)
+  first-awake o s (inl can) = first-step (can.1).count o s can.0 (can.1).is
+  first-awake o s (inr w) = first-want (w.1).count o w.0 s (w.1).is
+
   pub bundles-are-independent : AreIndependent (steps_of t)
   bundles-are-independent = record {
     states = bundle-states;
     mutual_is = laws.mutual_is;
     kept = λ s z n u o x d d' can m apart.
-        (let w = first-step (can.1).count o s can.0 (can.1).is in
+        (let w = first-awake o s can in
         same-steps n u d m.count o w.0 s z x (λ c e a b p q. apart a b (inl (record { count = c; is = p })) (record { count = e; is = q }))
         (λ e a b h q. apart a b (inr h) (record { count = e; is = q })) d' w.1 m.is);
     swap = λ s z v n u x d m q apart.
@@ -405,4 +409,5 @@ module _ {S A : Type 0} (t : TurnSystem S A) (laws : AreTurns t) where
             (λ c e a b f g. apart a b (inl (record { count = c; is = f })) (record { count = e; is = g })) m.is q.is in
         (r.one, r.other_one, r.makes, r.makes_other, r.alike));
     still = λ s z n u a x d m w. still-behind n u d m.count a s z x m.is w;
+    awake = λ s n a b x w h. (let d = first-want w.count n a s w.is in laws.awake s n d.0 b x d.1 h);
   }

@@ -4,11 +4,11 @@ use Rattle.std.proofs.Common.{sym, inl, inr, arith}
 use Rattle.std.proofs.lemmas.Bool.{cases_Bool}
 use Rattle.search_graph.specs.Paths.{Reaches}
 use Rattle.search_graph.specs.Graph.{Moves, Steps}
-use Rattle.search_ample.specs.Systems.{System, IsOver, AreIndependent}
+use Rattle.search_ample.specs.Systems.{System, CanGo, IsOver, AreApart, AreIndependent}
 use Rattle.search_ample.specs.Explored.{Explored, Meaning, IsExploredOf}
 use Rattle.search_ample.specs.Ample.{IsAmple}
 use Rattle.search_ample.specs.Found.{IsRun, IsInFootprint, IsFound, BothAreFound, FootprintsHold, EndsAreFound, WantsAreFound, ConflictsAreFound}
-use Rattle.search_ample.specs.Found.{ComesBack, AllComeBack}
+use Rattle.search_ample.specs.Found.{ComesBack, AllComeBack, AllCanGoOn}
 use Rattle.search_ample.proofs.Ways.{HoldsBelow, ComesFirst, ComesBeside, goes-apart, apart-of, by-ways}
 
 module _ {S A : Type 0} (k : System S A) (laws : AreIndependent k) (mean : Meaning S A) (e : Explored) (x : IsExploredOf k mean e) (c : IsAmple e) where
@@ -186,3 +186,37 @@ module _ {S A : Type 0} (k : System S A) (laws : AreIndependent k) (mean : Meani
         runs = (w.end, w.last, h.runs);
         found = found-further i w.thread w.next h.end w.move h.found;
       })
+
+  -- One that can go on behind another's step could before.
+  can-before : (i : ℕ) (s : S) (ns : List ℕ) (z : S) → RunOf i s ns z → (w : Beside i s ns z) → (n : ℕ) (a : A) → e.goes i n ≡ false → k.wants z n a
+      → CanGo k w.end n → CanGo k z n
+  can-before i s ns z f w n a g wants can =
+      let d = λ (q : w.thread ≡ n). goes-apart k laws mean e x c i w.thread n w.goes_on g (sym q) in
+      (laws.kept z w.end n w.thread n f.among d d (inr (a, wants)) w.last apart).can.1 can
+    where
+      few : n < e.threads
+      few = x.few_want z n a f.among wants
+
+      apart : AreApart k z n w.thread
+      apart b h (inl wb) wh cf =
+          never-both i s ns z f w w.thread n h b w.few few w.goes_on g wh (footprints-hold i s ns z f n b wb) (laws.mutual_is b h cf)
+      apart b h (inr hb) wh cf = laws.awake z n a b f.among wants hb
+
+  abbrev CanOf : ℕ → S → List ℕ → S → Type 0
+  CanOf i s ns z = (n : ℕ) (a : A) → k.wants z n a → CanGo k z n
+
+  pub all-can-go-on : AllCanGoOn k mean e
+  all-can-go-on there =
+      ways CanOf
+      (λ i s z f n a wants. (laws.states.same s z n (x.among i s f.begins) f.among f.runs).can.0 (there i s f.begins n a (here i s z f n a wants)))
+      (λ i s ns z f w h. h)
+      (λ i s ns z f w h n a wants. by i s ns z f w h n a wants (cases_Bool (e.goes i n)))
+    where
+      by : (i : ℕ) (s : S) (ns : List ℕ) (z : S) (f : RunOf i s ns z) (w : Beside i s ns z) → CanOf w.next w.world ns w.end → (n : ℕ) (a : A)
+          → k.wants z n a → (e.goes i n ≡ true) ⊎ (e.goes i n ≡ false) → CanGo k z n
+      by i s ns z f w h n a wants (inl g) =
+          let same = w.kept n (x.few_want z n a f.among wants) g in
+          same.can.0 (there i s f.begins n a ((same.wants a).1 wants))
+      by i s ns z f w h n a wants (inr g) =
+          can-before i s ns z f w n a g wants
+          (h n a (waits-still i s ns z f w (footprints-hold w.next w.world ns w.end w.run) n a g wants))

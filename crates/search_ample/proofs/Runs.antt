@@ -53,8 +53,8 @@ module _ {S A : Type 0} (k : System S A) (laws : AreIndependent k) where
       → IsSame k s z n
   kept-along m n M N [] s z x y r can min nin c d = laws.states.same s z n x y r
   kept-along m n M N (t ∷ ns) s z x y r can min nin c d =
-      let one = laws.kept s r.0 m t m x c.0 c.0 can r.1 (λ a b p w. c.1 a b (min a p) w) in
-      let other = laws.kept s r.0 n t m x d.0 c.0 can r.1 (λ a b p w. d.1 a b (nin a p) w) in
+      let one = laws.kept s r.0 m t m x c.0 c.0 (inl can) r.1 (λ a b p w. c.1 a b (min a p) w) in
+      let other = laws.kept s r.0 n t m x d.0 c.0 (inl can) r.1 (λ a b p w. d.1 a b (nin a p) w) in
       same-on k s r.0 z n other (kept-along m n M N ns r.0 z (laws.states.among t s r.0 x r.1) y r.2 (one.can.0 can)
       (λ a p. min a (minds-back k s r.0 m a one p)) (λ a p. nin a (minds-back k s r.0 n a other p)) c.2 d.2)
 
@@ -73,7 +73,7 @@ module _ {S A : Type 0} (k : System S A) (laws : AreIndependent k) where
       let apart = λ (a b : A) (p : Minds k s m a) (w : k.wants s t b). c.1 a b (min a p) w in
       let on = laws.states.among t s r.0 x r.1 in
       let first = laws.states.among m s v x step in
-      let same = laws.kept s r.0 m t m x c.0 c.0 (v, step) r.1 apart in
+      let same = laws.kept s r.0 m t m x c.0 c.0 (inl (v, step)) r.1 apart in
       let both = laws.swap s v r.0 m t x c.0 step r.1 apart in
       let later = comes-first m M ns r.0 both.0 z on y r.2 both.2 (λ a p. min a (minds-back k s r.0 m a same p)) c.2 in
       record {

@@ -2,7 +2,7 @@
 use Rattle.std.specs.Prelude.{◌≡◌, ℕ, true, List}
 use Rattle.search_graph.specs.Paths.{Reaches}
 use Rattle.search_graph.specs.Graph.{Steps}
-use Rattle.search_ample.specs.Systems.{System, IsOver, Runs, AreIndependent}
+use Rattle.search_ample.specs.Systems.{System, CanGo, IsOver, Runs, AreIndependent}
 use Rattle.search_ample.specs.Explored.{Explored, Meaning, IsExploredOf}
 use Rattle.search_ample.specs.Ample.{IsAmple}
 
@@ -72,6 +72,14 @@ module _ {S A : Type 0} (k : System S A) (m : Meaning S A) (e : Explored) where
 
   abbrev pub AllComeBack : Type 0
   AllComeBack = (i : ℕ) (s : S) (ns : List ℕ) (z : S) → IsRun i s ns z → ComesBack i z
+
+  -- Where each thread that wants something at an explored state can go on there, each can in all runs.
+  abbrev pub AllCanThere : Type 0
+  AllCanThere = (i : ℕ) (s : S) → m.stands i s → (n : ℕ) (a : A) → k.wants s n a → CanGo k s n
+
+  abbrev pub AllCanGoOn : Type 0
+  AllCanGoOn = AllCanThere → (i : ℕ) (s : S) (ns : List ℕ) (z : S) → IsRun i s ns z
+      → (n : ℕ) (a : A) → k.wants z n a → CanGo k z n
 
 -- It is so of whatever was explored of a system whose steps are independent; and where the check of the guess passes.
 abbrev pub WhereExplored : {S A : Type 0} → System S A → Meaning S A → (Explored → Type 0) → Type 0

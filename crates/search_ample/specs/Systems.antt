@@ -17,6 +17,10 @@ module _ {S A : Type 0} (k : System S A) where
   abbrev pub CanGo : S → ℕ → Type 0
   CanGo s n = (z : S) × k.steps n s z
 
+  -- It can, or wants something.
+  abbrev pub IsAwake : S → ℕ → Type 0
+  IsAwake s n = CanGo s n ⊎ ((a : A) × k.wants s n a)
+
   -- Nobody can go on there.
   abbrev pub IsOver : S → Type 0
   IsOver s = (n : ℕ) → CanGo s n → ⊥
@@ -52,15 +56,16 @@ module _ {S A : Type 0} (k : System S A) where
     pub steps : (n : ℕ) (s z v : S) → k.among s → k.among z → k.alike s z → k.steps n s v
         → (w : S) × k.steps n z w × k.alike v w
 
-  -- Where thread u makes a step that is apart from thread n, and some other thread can go on too, thread n stays the same.
+  -- Where thread u makes a step that is apart from thread n, and some other thread is awake too, thread n stays the same.
   -- Two steps that are apart may be made in either order. And what thread n wants it still wants behind thread u's step,
-  -- or it wants something there that conflicts with this.
+  -- or it wants something there that conflicts with this. Who wants something heeds nothing.
   pub record AreIndependent : Type 0 where
     pub states : AreStates
     pub mutual_is : (a b : A) → k.conflict a b → k.conflict b a
-    pub kept : (s z : S) (n u other : ℕ) → k.among s → u ≢ n → u ≢ other → CanGo s other → k.steps u s z → AreApart s n u
+    pub kept : (s z : S) (n u other : ℕ) → k.among s → u ≢ n → u ≢ other → IsAwake s other → k.steps u s z → AreApart s n u
         → IsSame s z n
     pub swap : (s z v : S) (n u : ℕ) → k.among s → u ≢ n → k.steps n s z → k.steps u s v → AreApart s n u
         → (x : S) × (y : S) × k.steps n v x × k.steps u z y × k.alike x y
     pub still : (s z : S) (n u : ℕ) (a : A) → k.among s → u ≢ n → k.steps u s z → k.wants s n a
         → k.wants z n a ⊎ ((c : A) × (b : A) × k.wants z n c × k.wants s u b × k.conflict b c)
+    pub awake : (s : S) (n : ℕ) (a b : A) → k.among s → k.wants s n a → k.heeds s n b → ⊥
