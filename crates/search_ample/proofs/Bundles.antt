@@ -1,11 +1,11 @@
 -- Steps of plain turns and one that isn't plain keep the laws of steps, where turns keep those of turns.
-use Rattle.std.specs.Prelude.{◌≡◌, ◌≢◌, ◌⊎◌, ◌↔◌, ℕ, zero, suc, Bool, true, false, Option, Some, None, refl}
+use Rattle.std.specs.Prelude.{◌≡◌, ◌≢◌, ◌⊎◌, ℕ, zero, suc, Bool, true, false, Option, Some, None, refl}
 use Rattle.std.proofs.Common.{ap, subst, sym, ◌∙◌, inl, inr, true≢false}
 use Rattle.std.proofs.lemmas.Bool.{cases_Bool}
 use Rattle.std.proofs.lemmas.Option.{none-some}
-use Rattle.search_ample.specs.Systems.{CanGo, IsAwake, Minds, IsSame, AreApart, AreStates, AreIndependent}
+use Rattle.search_ample.specs.Systems.{IsAwake, IsSame, AreStates, AreIndependent}
 use Rattle.search_ample.proofs.Runs.{same-on}
-use Rattle.search_ample.specs.Turns.{TurnSystem, IsPlainTurn, IsEvent, WantsIn, StepsIn, ComesToWant, MakesStep, steps_of, AreTurns}
+use Rattle.search_ample.specs.Turns.{TurnSystem, IsPlainTurn, WantsIn, StepsIn, ComesToWant, MakesStep, steps_of, AreTurns}
 
 pub some-injective : {A : Type 0} (a b : A) → Some a ≡ Some b → a ≡ b
 some-injective a b e = cc e

@@ -1,21 +1,21 @@
 -- Where no two threads race at what was explored, each run of turns is a run of steps, behind which some threads have made plain
 -- turns.
-use Rattle.std.specs.Prelude.{◌≡◌, ◌≢◌, ◌⊎◌, ℕ, zero, suc, Bool, true, false, Option, Some, None, List, [], ◌∷◌, ◌++◌, refl}
+use Rattle.std.specs.Prelude.{◌≡◌, ◌≢◌, ◌⊎◌, ℕ, zero, suc, true, false, Option, Some, None, List, [], ◌∷◌, ◌++◌, refl}
 use Rattle.std.proofs.Common.{ap, subst, sym, ◌∙◌, inl, inr, true≢false}
 use Rattle.std.proofs.lemmas.Bool.{cases_Bool, cases_eq}
 use Rattle.std.proofs.lemmas.Option.{none-some}
-use Rattle.search_ample.specs.Systems.{System, CanGo, IsOver, Runs}
+use Rattle.search_ample.specs.Systems.{CanGo, IsOver, Runs}
 use Rattle.search_ample.specs.Explored.{Explored, Meaning, IsExploredOf}
 use Rattle.search_ample.specs.Ample.{IsAmple}
-use Rattle.search_ample.specs.Found.{IsRun, IsFound, BothAreFound}
-use Rattle.search_ample.specs.Turns.{TurnSystem, IsPlainTurn, IsEvent, WantsIn, StepsIn, ComesToWant, MakesStep, steps_of, AreTurns}
+use Rattle.search_ample.specs.Found.{IsRun}
+use Rattle.search_ample.specs.Turns.{TurnSystem, IsPlainTurn, IsEvent, StepsIn, ComesToWant, MakesStep, steps_of, AreTurns}
 use Rattle.search_ample.specs.TurnRuns.{TurnRuns, IsStopped, NoneRaceAt, NoneRaceThere, IsTurnRun, TurnEndsAreFound, TurnConflictsAreFound, NoTurnsRace}
-use Rattle.search_ample.specs.TurnRuns.{AllComeToStop}
+use Rattle.search_ample.specs.TurnRuns.{AllComeToStop, AllStep}
 use Rattle.search_ample.proofs.Made.{all-come-to-ends}
 use Rattle.search_ample.proofs.Runs.{runs-join}
-use Rattle.search_ample.proofs.Bundles.{Pushed, wants-alike, turn-alike, step-alike, one-step, among-step, first-want, first-step, before-want, want-now, comes-alike}
-use Rattle.search_ample.proofs.Bundles.{IsFree, push-step, pull-want, pull-step, bundles-are-independent}
-use Rattle.search_ample.proofs.Finding.{ends-are-found, conflicts-are-found}
+use Rattle.search_ample.proofs.Bundles.{wants-alike, turn-alike, step-alike, one-step, among-step, first-want, first-step, before-want, want-now}
+use Rattle.search_ample.proofs.Bundles.{IsFree, push-step, pull-want, pull-step, some-injective, bundles-are-independent}
+use Rattle.search_ample.proofs.Finding.{ends-are-found, conflicts-are-found, all-can-go-on}
 
 module _ {S A : Type 0} (t : TurnSystem S A) (laws : AreTurns t) where
   -- These threads make plain turns.
@@ -160,6 +160,31 @@ module _ {S A : Type 0} (t : TurnSystem S A) (laws : AreTurns t) where
         plainly = g.plainly;
       }
       by (inr d) g = past d g
+
+  -- A step that could be made before plain turns can be made behind them, by what is left of it.
+  can-along : (off : List ℕ) (s z y : S) (n count : ℕ) → t.among s → t.among z → NoneRaceAt t s → PlainRun s off z → StepsIn t count n s y
+      → CanGo (steps_of t) z n
+  can-along [] s z y n count x w none r m =
+      let there = step-alike t laws count n s z y x w r m in
+      (there.end, record { count = count; is = there.steps })
+  can-along (u ∷ off) s z y n count x w none r m =
+      by (cases_eq u n) count m (λ c v q. can-along off (t.next s u) z v n c on w (none-behind s u x none p) r.1 q)
+    where
+      p : IsPlainTurn t s u
+      p = r.0
+
+      on : t.among (t.next s u)
+      on = laws.states.among s u p.act x p.wants
+
+      by : (u ≡ n) ⊎ (u ≡ n → ⊥) → (c : ℕ) → StepsIn t c n s y → ((d : ℕ) (v : S) → StepsIn t d n (t.next s u) v → CanGo (steps_of t) z n)
+          → CanGo (steps_of t) z n
+      by (inl q) zero m rest =
+          let same : m.act ≡ p.act = some-injective m.act p.act (sym m.wants ∙ subst (λ v. t.wants s v ≡ Some p.act) q p.wants) in
+          absurd (true≢false (sym p.plain ∙ (ap t.plain (sym same) ∙ m.event)))
+      by (inl q) (suc c) m rest = rest c y (subst (λ v. StepsIn t c n (t.next s v) y) (sym q) m.1)
+      by (inr d) c m rest =
+          let pushed = push-step t laws n u d c p.act s y x p.wants (free-of s n u d x none p) m in
+          rest c pushed.end pushed.steps
 
   plain-to : (ns : List ℕ) (s z v : S) → t.alike z v → PlainRun s ns z → PlainRun s ns v
   plain-to [] s z v l r = laws.states.in_turn s z v r l
@@ -356,6 +381,17 @@ module _ {S A : Type 0} (t : TurnSystem S A) (laws : AreTurns t) where
           is = found.is;
           alike = laws.states.in_turn z nf.middle found.world (laws.states.back nf.middle z same) found.alike;
         }
+
+    pub all-step : AllStep t mean e
+    all-step steps i s ns z r n a h =
+        let nf = normal i s ns z r in
+        let at = nf.reached in
+        let none = none-at i s nf.run nf.middle at in
+        let there = λ (j : ℕ) (v : S) (st : mean.stands j v) (m : ℕ) (b : A) (w : ComesToWant t v m b).
+            (let d = first-want t laws w.count m b v w.is in steps j v m d.0 st d.1) in
+        let can = all-can-go-on (steps_of t) (bundles-are-independent t laws) mean e x c there i s nf.run nf.middle at n a
+            (wanted-first nf.off nf.middle z n a at.among r.among none nf.plainly h) in
+        can-along nf.off nf.middle z can.0 n (can.1).count at.among r.among none nf.plainly (can.1).is
 
     pub all-come-to-stop : AllComeToStop t mean e
     all-come-to-stop steps ended marks i s ns z r all =

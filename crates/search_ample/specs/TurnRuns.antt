@@ -3,10 +3,11 @@ use Rattle.std.specs.Prelude.{◌≡◌, ◌≢◌, ℕ, Bool, true, Some, None,
 use Rattle.search_graph.specs.Paths.{Reaches}
 use Rattle.search_graph.specs.Graph.{Steps, CanEnd}
 use Rattle.search_ample.specs.Systems.{CanGo}
-use Rattle.search_ample.specs.Explored.{Explored, Meaning}
+use Rattle.search_ample.specs.Explored.{Explored, Meaning, IsExploredOf}
+use Rattle.search_ample.specs.Ample.{IsAmple}
 use Rattle.search_ample.specs.Found.{IsFound, BothAreFound}
 use Rattle.search_ample.specs.Ending.{MarkEnds}
-use Rattle.search_ample.specs.Turns.{TurnSystem, ComesToWant, steps_of}
+use Rattle.search_ample.specs.Turns.{TurnSystem, ComesToWant, steps_of, AreTurns}
 
 module _ {S A : Type 0} (t : TurnSystem S A) where
   -- Threads make turns in this order, up to a state or to one that nobody tells apart from it.
@@ -53,6 +54,11 @@ module _ {S A : Type 0} (t : TurnSystem S A) where
         → (n u : ℕ) (a b : A) → u ≢ n → t.wants z n ≡ Some a → t.wants z u ≡ Some b → t.plain a ≡ true
         → t.conflict a b ≡ true → ⊥
 
+    -- Each thread that can make a turn, in whatever run, comes to an event.
+    abbrev pub AllStep : Type 0
+    AllStep = AllStepThere → (i : ℕ) (s : S) (ns : List ℕ) (z : S) → IsTurnRun i s ns z
+        → (n : ℕ) (a : A) → t.wants z n ≡ Some a → CanGo (steps_of t) z n
+
     pub record ComesToStop (z : S) : Type 0 where
       pub run : List ℕ
       pub end : S
@@ -63,3 +69,8 @@ module _ {S A : Type 0} (t : TurnSystem S A) where
     abbrev pub AllComeToStop : Type 0
     AllComeToStop = AllStepThere → (ended : List Bool) → MarkEnds (steps_of t) m e ended → (i : ℕ) (s : S) (ns : List ℕ) (z : S)
         → IsTurnRun i s ns z → ((j : ℕ) → Reaches (Steps e.moves) i j → CanEnd e.moves ended j) → ComesToStop z
+
+-- It is so of whatever was explored of the steps of threads whose turns keep the laws, where the check of the guess passes and
+-- none race.
+abbrev pub WhereNoneRace : {S A : Type 0} → TurnSystem S A → Meaning S A → (Explored → Type 0) → Type 0
+WhereNoneRace t m P = (e : Explored) → AreTurns t → IsExploredOf (steps_of t) m e → IsAmple e → NoneRaceThere t m e → P e
