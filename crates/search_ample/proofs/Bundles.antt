@@ -25,8 +25,7 @@ module _ {S A : Type 0} (t : TurnSystem S A) (laws : AreTurns t) where
   want-alike : (count n : ℕ) (a : A) (s z : S) → t.among s → t.among z → t.alike s z → WantsIn t count n a s → WantsIn t count n a z
   want-alike zero n a s z x y l w = wants-alike s z n a x y l w
   want-alike (suc count) n a s z x y l w =
-      let p = turn-alike s z n x y l w.0 in
-      (
+      let p = turn-alike s z n x y l w.0 in (
         p,
         want-alike count n a (t.next s n) (t.next z n) (laws.states.among s n w.0.act x w.0.wants) (laws.states.among z n p.act y p.wants)
             (laws.states.next s z n w.0.act x y l w.0.wants) w.1,
@@ -46,7 +45,7 @@ module _ {S A : Type 0} (t : TurnSystem S A) (laws : AreTurns t) where
   step-alike (suc count) n s z v x y l w =
       let p = turn-alike s z n x y l w.0 in
       let rest = step-alike count n (t.next s n) (t.next z n) v (laws.states.among s n w.0.act x w.0.wants) (laws.states.among z n p.act y p.wants)
-          (laws.states.next s z n w.0.act x y l w.0.wants) w.1 in
+      (laws.states.next s z n w.0.act x y l w.0.wants) w.1 in
       record { end = rest.end; steps = (p, rest.steps); alike = rest.alike }
 
   pub among-step : (count n : ℕ) (s z : S) → t.among s → StepsIn t count n s z → t.among z
@@ -143,8 +142,7 @@ module _ {S A : Type 0} (t : TurnSystem S A) (laws : AreTurns t) where
     push-want (suc count) a b s x hu f w =
         let p = w.0 in
         let there = kept-there s p.act b x p.wants hu f in
-        let rest = push-want count a b (t.next s n) (laws.states.among s n p.act x p.wants) there (free-next b s f p) w.1 in
-        (
+        let rest = push-want count a b (t.next s n) (laws.states.among s n p.act x p.wants) there (free-next b s f p) w.1 in (
           turn-here s b x p hu f,
           want-alike count n a (t.next (t.next s n) u) (t.next (t.next s u) n) (among-there s p.act b x p.wants hu f) (among-here s p.act b x p.wants hu f)
               (laws.states.back (t.next (t.next s u) n) (t.next (t.next s n) u) (either-way s p.act b x p.wants hu f)) rest,
@@ -158,7 +156,7 @@ module _ {S A : Type 0} (t : TurnSystem S A) (laws : AreTurns t) where
         let p : IsPlainTurn t s n = record { act = d; wants = hn; plain = ap t.plain (sym same) ∙ w.0.plain } in
         let on = laws.goes_on s n d x hn p.plain in
         let rest = want-alike count n a (t.next (t.next s u) n) (t.next (t.next s n) u) (among-here s d b x hn hu f) (among-there s d b x hn hu f)
-            (either-way s d b x hn hu f) w.1 in
+        (either-way s d b x hn hu f) w.1 in
         (p, pull-want count a b (t.next s n) (laws.states.among s n d x hn) (kept-there s d b x hn hu f) (free-next b s f p) on.0 on.1 rest)
 
     -- So of a step.
@@ -181,8 +179,8 @@ module _ {S A : Type 0} (t : TurnSystem S A) (laws : AreTurns t) where
         let there = kept-there s p.act b x p.wants hu f in
         let rest = push-step count b (t.next s n) z (laws.states.among s n p.act x p.wants) there (free-next b s f p) w.1 in
         let here = step-alike count n (t.next (t.next s n) u) (t.next (t.next s u) n) rest.end (among-there s p.act b x p.wants hu f)
-            (among-here s p.act b x p.wants hu f)
-            (laws.states.back (t.next (t.next s u) n) (t.next (t.next s n) u) (either-way s p.act b x p.wants hu f)) rest.steps in
+        (among-here s p.act b x p.wants hu f)
+        (laws.states.back (t.next (t.next s u) n) (t.next (t.next s n) u) (either-way s p.act b x p.wants hu f)) rest.steps in
         record {
           end = here.end;
           steps = (turn-here s b x p hu f, here.steps);
@@ -200,9 +198,9 @@ module _ {S A : Type 0} (t : TurnSystem S A) (laws : AreTurns t) where
         let p : IsPlainTurn t s n = record { act = d; wants = hn; plain = ap t.plain (sym same) ∙ w.0.plain } in
         let on = laws.goes_on s n d x hn p.plain in
         let moved = step-alike count n (t.next (t.next s u) n) (t.next (t.next s n) u) z (among-here s d b x hn hu f) (among-there s d b x hn hu f)
-            (either-way s d b x hn hu f) w.1 in
+        (either-way s d b x hn hu f) w.1 in
         let rest = pull-step count b (t.next s n) moved.end (laws.states.among s n d x hn) (kept-there s d b x hn hu f) (free-next b s f p) on.0 on.1
-            moved.steps in
+        moved.steps in
         (rest.0, (p, rest.1))
 
     -- Such a turn leaves thread n the same.
@@ -294,10 +292,10 @@ module _ {S A : Type 0} (t : TurnSystem S A) (laws : AreTurns t) where
         let y = laws.states.among s u p.act x p.wants in
         let here = first-step c n s z m in
         let rest = cross d c (t.next s u) push.end v y
-            (λ e i a b q r. f e (suc i) a b (pull-want e a p.act s x p.wants free here.0 here.1 q) (p, r)) push.steps w.1 in
+        (λ e i a b q r. f e (suc i) a b (pull-want e a p.act s x p.wants free here.0 here.1 q) (p, r)) push.steps w.1 in
         let az = among-step c n s z x m in
         let back = step-alike (rest.makes_other).count u push.end (t.next z u) rest.other_one (among-step c n (t.next s u) push.end y push.steps)
-            (laws.states.among z u p.act az push.wants) (laws.states.back (t.next z u) push.end push.alike) (rest.makes_other).is in
+        (laws.states.among z u p.act az push.wants) (laws.states.back (t.next z u) push.end push.alike) (rest.makes_other).is in
         record {
           one = rest.one;
           other_one = back.end;
@@ -406,7 +404,7 @@ module _ {S A : Type 0} (t : TurnSystem S A) (laws : AreTurns t) where
         (λ e a b h q. apart a b (inr h) (record { count = e; is = q })) d' w.1 m.is);
     swap = λ s z v n u x d m q apart.
         (let r = cross n u d q.count m.count s z v x
-            (λ c e a b f g. apart a b (inl (record { count = c; is = f })) (record { count = e; is = g })) m.is q.is in
+        (λ c e a b f g. apart a b (inl (record { count = c; is = f })) (record { count = e; is = g })) m.is q.is in
         (r.one, r.other_one, r.makes, r.makes_other, r.alike));
     still = λ s z n u a x d m w. still-behind n u d m.count a s z x m.is w;
     awake = λ s n a b x w h. (let d = first-want w.count n a s w.is in laws.awake s n d.0 b x d.1 h);

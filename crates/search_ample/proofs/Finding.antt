@@ -159,7 +159,7 @@ module _ {S A : Type 0} (k : System S A) (laws : AreIndependent k) (mean : Meani
   both-found : (i : ℕ) (s : S) (ns : List ℕ) (z : S) → RunOf i s ns z → Both i s ns z
   both-found = ways Both
       (λ i s z f n u a b wn wu t.
-          record { state = i; path = nowhere i; world = s; is = f.begins; one = here i s z f n a wn; other = here i s z f u b wu })
+      record { state = i; path = nowhere i; world = s; is = f.begins; one = here i s z f n a wn; other = here i s z f u b wu })
       (λ i s ns z f w h n u a b wn wu t. both-further i w.thread w.next n u a b w.move (h n u a b wn wu t))
       both-beside
 

@@ -26,8 +26,7 @@ module _ {S A : Type 0} (t : TurnSystem S A) (laws : AreTurns t) where
   plain-from : (ns : List ℕ) (s v z : S) → t.among s → t.among v → t.alike s v → PlainRun v ns z → PlainRun s ns z
   plain-from [] s v z x y l r = laws.states.in_turn s v z l r
   plain-from (n ∷ ns) s v z x y l r =
-      let p = turn-alike t laws v s n y x (laws.states.back s v l) r.0 in
-      (
+      let p = turn-alike t laws v s n y x (laws.states.back s v l) r.0 in (
         p,
         plain-from ns (t.next s n) (t.next v n) z (laws.states.among s n p.act x p.wants) (laws.states.among v n (r.0).act y (r.0).wants)
             (laws.states.next s v n p.act x y l p.wants) r.1,
@@ -135,7 +134,7 @@ module _ {S A : Type 0} (t : TurnSystem S A) (laws : AreTurns t) where
           let pulled = pull-step t laws n u d (g.step).count p.act s g.middle x p.wants free now.0 now.1 (g.step).is in
           let pushed = push-step t laws n u d (g.step).count p.act s pulled.0 x p.wants free pulled.1 in
           let same : pushed.end ≡ g.middle =
-              one-step t laws (g.step).count (g.step).count n (t.next s u) pushed.end g.middle pushed.steps (g.step).is in
+          one-step t laws (g.step).count (g.step).count n (t.next s u) pushed.end g.middle pushed.steps (g.step).is in
           let there = among-step t laws (g.step).count n s pulled.0 x pulled.1 in
           record {
             middle = pulled.0;
@@ -194,8 +193,7 @@ module _ {S A : Type 0} (t : TurnSystem S A) (laws : AreTurns t) where
   turns-from : (ns : List ℕ) (s v z : S) → t.among s → t.among v → t.alike s v → TurnRuns t v ns z → TurnRuns t s ns z
   turns-from [] s v z x y l r = laws.states.in_turn s v z l r
   turns-from (n ∷ ns) s v z x y l r =
-      let h = wants-alike t laws v s n r.0 y x (laws.states.back s v l) r.1 in
-      (
+      let h = wants-alike t laws v s n r.0 y x (laws.states.back s v l) r.1 in (
         r.0,
         h,
         turns-from ns (t.next s n) (t.next v n) z (laws.states.among s n r.0 x h) (laws.states.among v n r.0 y r.1)
@@ -254,8 +252,7 @@ module _ {S A : Type 0} (t : TurnSystem S A) (laws : AreTurns t) where
       by (inr d) rest =
           let still_n = laws.kept s n m p.act r.0 x d p.wants r.1 (apart d) in
           let still_m = laws.kept s m n r.0 p.act x (λ q. d (sym q)) r.1 p.wants (apart-back d) in
-          let there = rest (record { act = p.act; wants = still_n; plain = p.plain }) in
-          (
+          let there = rest (record { act = p.act; wants = still_n; plain = p.plain }) in (
             m ∷ there.0,
             (
               r.0,
@@ -310,7 +307,7 @@ module _ {S A : Type 0} (t : TurnSystem S A) (laws : AreTurns t) where
         }
         by (inr p) =
             let g = gather f.off f.middle z (t.next z n) n there y (none-at i s f.run f.middle f.reached) f.plainly
-                (record { act = a; wants = h; event = p; is = refl }) in
+            (record { act = a; wants = h; event = p; is = refl }) in
             record {
               run = f.run ++ n ∷ [];
               middle = g.middle;
@@ -371,8 +368,8 @@ module _ {S A : Type 0} (t : TurnSystem S A) (laws : AreTurns t) where
         let at = nf.reached in
         let same = none-off nf.off nf.middle z at.among r.among nf.plainly stop in
         let over : IsOver (steps_of t) nf.middle = λ n can.
-            (let w = first-step t laws (can.1).count n nf.middle can.0 (can.1).is in
-            none-some w.0 (sym (stop n) ∙ wants-alike t laws nf.middle z n w.0 at.among r.among same w.1)) in
+        (let w = first-step t laws (can.1).count n nf.middle can.0 (can.1).is in
+        none-some w.0 (sym (stop n) ∙ wants-alike t laws nf.middle z n w.0 at.among r.among same w.1)) in
         let found = ends-are-found (steps_of t) (bundles-are-independent t laws) mean e x c i s nf.run nf.middle at over in
         record {
           state = found.state;
@@ -388,9 +385,9 @@ module _ {S A : Type 0} (t : TurnSystem S A) (laws : AreTurns t) where
         let at = nf.reached in
         let none = none-at i s nf.run nf.middle at in
         let there = λ (j : ℕ) (v : S) (st : mean.stands j v) (m : ℕ) (b : A) (w : ComesToWant t v m b).
-            (let d = first-want t laws w.count m b v w.is in steps j v m d.0 st d.1) in
+        (let d = first-want t laws w.count m b v w.is in steps j v m d.0 st d.1) in
         let can = all-can-go-on (steps_of t) (bundles-are-independent t laws) mean e x c there i s nf.run nf.middle at n a
-            (wanted-first nf.off nf.middle z n a at.among r.among none nf.plainly h) in
+        (wanted-first nf.off nf.middle z n a at.among r.among none nf.plainly h) in
         can-along nf.off nf.middle z can.0 n (can.1).count at.among r.among none nf.plainly (can.1).is
 
     pub all-come-to-stop : AllComeToStop t mean e
@@ -403,13 +400,13 @@ module _ {S A : Type 0} (t : TurnSystem S A) (laws : AreTurns t) where
         let from = x.among i s r.begins in
         let whole = runs-join k indep nf.run end.run s nf.middle end.end from at.among at.runs end.runs in
         let found = ends-are-found k indep mean e x c i s (nf.run ++ end.run) end.end
-            (record { begins = r.begins; runs = whole; among = end.among }) end.over in
+        (record { begins = r.begins; runs = whole; among = end.among }) end.over in
         let stop : IsStopped t end.end = stopped end.end found.world end.among (x.among found.state found.world found.is) found.alike end.over
-            (λ n a h. steps found.state found.world n a found.is h) in
+        (λ n a h. steps found.state found.world n a found.is h) in
         let first = turns-of nf.run s nf.middle at.runs in
         let none : NoneRaceFrom nf.middle = λ ms v y w n u a b d.
-            no-turns-race i s (first.0 ++ ms) v
-            (record { begins = r.begins; runs = turns-join first.0 ms s nf.middle v from at.among first.1 w; among = y }) n u a b d in
+        no-turns-race i s (first.0 ++ ms) v
+        (record { begins = r.begins; runs = turns-join first.0 ms s nf.middle v from at.among first.1 w; among = y }) n u a b d in
         let rest = turns-of end.run nf.middle end.end end.runs in
         let there = all-first nf.off rest.0 nf.middle z end.end at.among r.among end.among nf.plainly none stop rest.1 in
         record { run = there.0; end = end.end; among = end.among; runs = there.1; stopped = stop }

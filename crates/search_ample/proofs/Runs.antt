@@ -21,9 +21,12 @@ module _ {S A : Type 0} (k : System S A) (laws : AreIndependent k) where
   pub runs-from : (ns : List ℕ) (s v z : S) → k.among s → k.among v → k.alike s v → Runs k v ns z → Runs k s ns z
   runs-from [] s v z x y a r = laws.states.in_turn s v z a r
   runs-from (n ∷ ns) s v z x y a r =
-      let step = laws.states.steps n v s r.0 y x (laws.states.back s v a) r.1 in
-      (step.0, step.1, runs-from ns step.0 r.0 z (laws.states.among n s step.0 x step.1) (laws.states.among n v r.0 y r.1)
-          (laws.states.back r.0 step.0 step.2) r.2)
+      let step = laws.states.steps n v s r.0 y x (laws.states.back s v a) r.1 in (
+        step.0,
+        step.1,
+        runs-from ns step.0 r.0 z (laws.states.among n s step.0 x step.1) (laws.states.among n v r.0 y r.1)
+            (laws.states.back r.0 step.0 step.2) r.2,
+      )
 
   pub runs-join : (ps ns : List ℕ) (s v z : S) → k.among s → k.among v → Runs k s ps v → Runs k v ns z → Runs k s (ps ++ ns) z
   runs-join [] ns s v z x y a r = runs-from ns s v z x y a r

@@ -111,8 +111,7 @@ module _ {S A : Type 0} (k : System S A) (laws : AreIndependent k) (mean : Meani
           → IsClear k laws m (λ a. Minds k s m a) v ns z r
       clear-behind [] ps v z len b y r g = tt
       clear-behind (t ∷ ns) ps v z len b y r g =
-          let y' = laws.states.among t v r.0 y r.1 in
-          (
+          let y' = laws.states.among t v r.0 y r.1 in (
             goes-apart i m t h g.0,
             λ a d p w f. apart-of i m t s a d begins few (x.few_want v t d y w) h g.0 p
                 (below i s ps v (omega arith) (record { begins = begins; runs = b; among = y }) t d w) f,
@@ -151,11 +150,11 @@ module _ {S A : Type 0} (k : System S A) (laws : AreIndependent k) (mean : Meani
         let led = x.leads i m go.next s at go.is in
         let on = x.among go.next led.0 led.2 in
         let moved = comes-first k laws m (λ a. Minds k s m a) g.before s led.0 there among parts.among parts.first led.1 (λ a p. p)
-            (clear i s at m few g.goes_on g.before there within parts.first g.none) in
+        (clear i s at m few g.goes_on g.before there within parts.first g.none) in
         let beyond = laws.states.among m there moved.end parts.among moved.last in
         let beyond' = laws.states.among m there step.0 parts.among step.1 in
         let then = runs-from k laws g.rest moved.end step.0 z beyond beyond'
-            (laws.states.one m there moved.end step.0 parts.among moved.last step.1) step.2 in
+        (laws.states.one m there moved.end step.0 parts.among moved.last step.1) step.2 in
         record {
           thread = m;
           next = go.next;
@@ -177,7 +176,7 @@ module _ {S A : Type 0} (k : System S A) (laws : AreIndependent k) (mean : Meani
         let m = by.thread in
         let led = x.leads i m by.next s at by.move in
         let moved = comes-first k laws m (λ a. Minds k s m a) (t ∷ ns) s led.0 z (x.among i s at) f.among f.runs led.1 (λ a p. p)
-            (clear i s at m by.few by.goes (t ∷ ns) z len f.runs g) in
+        (clear i s at m by.few by.goes (t ∷ ns) z len f.runs g) in
         record {
           kept = kept-so i s (t ∷ ns) z at f.among len f.runs g;
           thread = m;
@@ -196,38 +195,38 @@ module _ {S A : Type 0} (k : System S A) (laws : AreIndependent k) (mean : Meani
     module _ (Q : ℕ → S → List ℕ → S → Type 0) (none : (i : ℕ) (s z : S) → IsRun k mean e i s [] z → Q i s [] z)
         (by_first : (i : ℕ) (s : S) (ns : List ℕ) (z : S) → IsRun k mean e i s ns z → (w : ComesFirst i s ns z) → Q w.next w.world (w.before ++ w.behind) z → Q i s ns z)
         (by_beside : (i : ℕ) (s : S) (ns : List ℕ) (z : S) → IsRun k mean e i s ns z → (w : ComesBeside i s ns z) → Q w.next w.world ns w.end → Q i s ns z)
-        where
-      -- By induction on a bound of the rank, where it holds of shorter runs.
-      with-rank : (most : ℕ) → most ≤ n → ((i : ℕ) (s : S) (ns : List ℕ) (z : S) → length ns < most → IsRun k mean e i s ns z → Q i s ns z)
-          → (bound i : ℕ) (s : S) (ns : List ℕ) (z : S) → length ns ≤ most → rank_of (λ u. e.rank i u) ns < bound → IsRun k mean e i s ns z → Q i s ns z
-      with-rank most within shorter zero i s ns z len r f = absurd (omega arith)
-      with-rank most within shorter (suc bound) i s ns z len r f =
-          go ns len r f (λ j v us y l q h. with-rank most within shorter bound j v us y l q h)
-        where
-          go : (ns : List ℕ) → length ns ≤ most → rank_of (λ u. e.rank i u) ns < suc bound → IsRun k mean e i s ns z
-              → ((j : ℕ) (v : S) (us : List ℕ) (y : S) → length us ≤ most → rank_of (λ u. e.rank j u) us < bound → IsRun k mean e j v us y → Q j v us y)
-              → Q i s ns z
-          go [] len r f rest = none i s z f
-          go (t ∷ ns) len r f rest = by (first_going (λ u. e.goes i u) (t ∷ ns))
-            where
-              by : FirstGoing (λ u. e.goes i u) (t ∷ ns) ⊎ NoneGoes (λ u. e.goes i u) (t ∷ ns) → Q i s (t ∷ ns) z
-              by (inl g) =
-                  let w = first i s (t ∷ ns) z (omega arith) f g in
-                  let counted : length (t ∷ ns) ≡ length (w.before ++ w.thread ∷ w.behind) = ap length w.is in
-                  let lengths = length-append w.before (w.thread ∷ w.behind) in
-                  by_first i s (t ∷ ns) z f w
-                  (shorter w.next w.world (w.before ++ w.behind) z (omega (arith, length-append w.before w.behind)) w.run)
-              by (inr g) =
-                  let w = beside i s t ns z (omega arith) f g in
-                  let falls = w.rank in
-                  by_beside i s (t ∷ ns) z f w (rest w.next w.world (t ∷ ns) w.end len (omega arith) w.run)
+      where
+        -- By induction on a bound of the rank, where it holds of shorter runs.
+        with-rank : (most : ℕ) → most ≤ n → ((i : ℕ) (s : S) (ns : List ℕ) (z : S) → length ns < most → IsRun k mean e i s ns z → Q i s ns z)
+            → (bound i : ℕ) (s : S) (ns : List ℕ) (z : S) → length ns ≤ most → rank_of (λ u. e.rank i u) ns < bound → IsRun k mean e i s ns z → Q i s ns z
+        with-rank most within shorter zero i s ns z len r f = absurd (omega arith)
+        with-rank most within shorter (suc bound) i s ns z len r f =
+            go ns len r f (λ j v us y l q h. with-rank most within shorter bound j v us y l q h)
+          where
+            go : (ns : List ℕ) → length ns ≤ most → rank_of (λ u. e.rank i u) ns < suc bound → IsRun k mean e i s ns z
+                → ((j : ℕ) (v : S) (us : List ℕ) (y : S) → length us ≤ most → rank_of (λ u. e.rank j u) us < bound → IsRun k mean e j v us y → Q j v us y)
+                → Q i s ns z
+            go [] len r f rest = none i s z f
+            go (t ∷ ns) len r f rest = by (first_going (λ u. e.goes i u) (t ∷ ns))
+              where
+                by : FirstGoing (λ u. e.goes i u) (t ∷ ns) ⊎ NoneGoes (λ u. e.goes i u) (t ∷ ns) → Q i s (t ∷ ns) z
+                by (inl g) =
+                    let w = first i s (t ∷ ns) z (omega arith) f g in
+                    let counted : length (t ∷ ns) ≡ length (w.before ++ w.thread ∷ w.behind) = ap length w.is in
+                    let lengths = length-append w.before (w.thread ∷ w.behind) in
+                    by_first i s (t ∷ ns) z f w
+                    (shorter w.next w.world (w.before ++ w.behind) z (omega (arith, length-append w.before w.behind)) w.run)
+                by (inr g) =
+                    let w = beside i s t ns z (omega arith) f g in
+                    let falls = w.rank in
+                    by_beside i s (t ∷ ns) z f w (rest w.next w.world (t ∷ ns) w.end len (omega arith) w.run)
 
-      up-to : (most : ℕ) → most ≤ n → (i : ℕ) (s : S) (ns : List ℕ) (z : S) → length ns ≤ most → IsRun k mean e i s ns z → Q i s ns z
-      up-to zero within i s ns z len f =
-          with-rank zero within (λ j v us y l g. absurd (omega arith)) (suc (rank_of (λ u. e.rank i u) ns)) i s ns z len (omega arith) f
-      up-to (suc most) within i s ns z len f =
-          with-rank (suc most) within (λ j v us y l g. up-to most (omega arith) j v us y (omega arith) g) (suc (rank_of (λ u. e.rank i u) ns)) i s ns z len
-          (omega arith) f
+        up-to : (most : ℕ) → most ≤ n → (i : ℕ) (s : S) (ns : List ℕ) (z : S) → length ns ≤ most → IsRun k mean e i s ns z → Q i s ns z
+        up-to zero within i s ns z len f =
+            with-rank zero within (λ j v us y l g. absurd (omega arith)) (suc (rank_of (λ u. e.rank i u) ns)) i s ns z len (omega arith) f
+        up-to (suc most) within i s ns z len f =
+            with-rank (suc most) within (λ j v us y l g. up-to most (omega arith) j v us y (omega arith) g) (suc (rank_of (λ u. e.rank i u) ns)) i s ns z len
+            (omega arith) f
 
-      pub by-ways : (i : ℕ) (s : S) (ns : List ℕ) (z : S) → length ns ≤ n → IsRun k mean e i s ns z → Q i s ns z
-      by-ways i s ns z len f = up-to n (omega arith) i s ns z len f
+        pub by-ways : (i : ℕ) (s : S) (ns : List ℕ) (z : S) → length ns ≤ n → IsRun k mean e i s ns z → Q i s ns z
+        by-ways i s ns z len f = up-to n (omega arith) i s ns z len f

@@ -78,7 +78,8 @@ module _ (c : Certificate) where
   IsApartAt i n = (u : ℕ) → u < c.threads → (standing_at i u).goes ≡ false → ArePartsApart (part_at i n) (part_at i u)
 
   module _ (moves : List Move) where
-    -- The move of this index is from the state, of a thread that goes on there, and leads to a smaller rank of this one.
+    -- The move of this index is from the state, of a thread that goes on there, and leads to a smaller rank of this
+    -- one.
     pub record IsNearing (i n k : ℕ) : Type 0 where
       pub move : Move
       pub is : slice_get moves k ≡ Some move
@@ -87,10 +88,12 @@ module _ (c : Certificate) where
       pub goes : (standing_at i move.thread).goes ≡ true
       pub falls : (standing_at move.next n).rank < (standing_at i n).rank
 
-    -- A thread that goes on at the state is apart from those that don't, and followed; and one that doesn't comes nearer.
+    -- A thread that goes on at the state is apart from those that don't, and followed; and one that doesn't comes
+    -- nearer.
     pub record IsShownAt (i n : ℕ) : Type 0 where
       pub apart : (standing_at i n).goes ≡ true → IsApartAt i n
-      pub follows : (standing_at i n).goes ≡ true → can_of (part_at i n) ≡ true → IsOwnMove moves i n (standing_at i n).by
+      pub follows : (standing_at i n).goes ≡ true → can_of (part_at i n) ≡ true
+          → IsOwnMove moves i n (standing_at i n).by
       pub nears : (standing_at i n).goes ≡ false → can_of (part_at i n) ≡ true → IsNearing i n (standing_at i n).by
 
     abbrev pub AreShownAt : ℕ → Type 0

@@ -19,8 +19,8 @@ module _ {S A : Type 0} (k : System S A) (m : Meaning S A) (e : Explored) where
   abbrev pub MarkEnds : List Bool → Type 0
   MarkEnds ended = (i : ℕ) (s : S) → m.stands i s → IsMarked ended i ↔ IsOver k s
 
-  -- Explored moves lead from a state to a marked one just where a run leads to an end; and where they do from all that they
-  -- lead to, each run can still end.
+  -- Explored moves lead from a state to a marked one just where a run leads to an end; and where they do from all
+  -- that they lead to, each run can still end.
   abbrev pub EndsAreExact : Type 0
   EndsAreExact = (ended : List Bool) → MarkEnds ended → (i : ℕ) (s : S) → m.stands i s
       → CanEnd e.moves ended i ↔ ComesToEnd s

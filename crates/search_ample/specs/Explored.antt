@@ -4,10 +4,11 @@ use Rattle.search_graph.specs.declared.graph.Move.{Move}
 use Rattle.search_graph.specs.Graph.{Moves}
 use Rattle.search_ample.specs.Systems.{System, CanGo}
 
--- States and threads are the numbers below these, and what steps do has numbers too. `moves`: the moves that were explored.
--- `can`, `wants` and `heeds`: of a thread at a state, whether it can go on, and all that it wants and heeds there.
--- `conflicts`: of two things that steps do. And a guess, which nobody has to trust: `goes`, that the thread is one of those
--- that go on there; `may`, its footprint, which is what it may still want; and `rank`, of a state for a thread.
+-- States and threads are the numbers below these, and what steps do has numbers too. `moves`: the moves that were
+-- explored. `can`, `wants` and `heeds`: of a thread at a state, whether it can go on, and all that it wants and heeds
+-- there. `conflicts`: of two things that steps do. And a guess, which nobody has to trust: `goes`, that the thread is
+-- one of those that go on there; `may`, its footprint, which is what it may still want; and `rank`, of a state for a
+-- thread.
 pub record Explored : Type 0 where
   pub states : ℕ
   pub threads : ℕ
@@ -31,8 +32,8 @@ pub record IsListed {S A : Type 0} (m : Meaning S A) (a : A) (ps : List ℕ) : T
   pub names : m.names number a
   pub among : Contains ps number
 
--- Each state has what the threads are there, and an explored move is the thread's step from there to what the next state
--- stands for.
+-- Each state has what the threads are there, and an explored move is the thread's step from there to what the next
+-- state stands for.
 pub record IsExploredOf {S A : Type 0} (k : System S A) (m : Meaning S A) (e : Explored) : Type 0 where
   pub among : (i : ℕ) (s : S) → m.stands i s → k.among s
   pub state : (i : ℕ) (s : S) → m.stands i s → i < e.states

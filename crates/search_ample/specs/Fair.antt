@@ -14,14 +14,14 @@ worlds_of k = record { steps = k.steps; can = CanGo k }
 abbrev pub OnlyTheseGo : Explored → Type 0
 OnlyTheseGo e = (i t j : ℕ) → Moves e.moves i t j → e.goes i t ≡ true
 
--- Where a thread that can go on can until it makes a step, and each fair run of what was explored ends, no fair run goes on
--- from there for ever.
+-- Where a thread that can go on can until it makes a step, and each fair run of what was explored ends, no fair run
+-- goes on from there for ever.
 abbrev pub NoFairRunGoesOn : {S A : Type 0} → System S A → Meaning S A → Explored → Type 0
 NoFairRunGoesOn k m e = Persists (worlds_of k) k.among → OnlyTheseGo e → EveryFairRunEnds e.moves
     → (i : ℕ) (s : _) → m.stands i s → FairRun (worlds_of k) s → ⊥
 
--- A run of what was explored that never idles: each thread that can go on at a moment makes a move then or later, or can't go
--- on at some later moment.
+-- A run of what was explored that never idles: each thread that can go on at a moment makes a move then or later, or
+-- can't go on at some later moment.
 pub record IsFairAsSeen (e : Explored) (run : Run e.moves) : Type 0 where
   pub busy : (n : ℕ) → (t : ℕ) × (run.by n ≡ Some t)
   pub turns : (n t : ℕ) → e.can (run.at n) t ≡ true

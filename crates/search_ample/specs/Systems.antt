@@ -1,10 +1,10 @@
--- Threads that make steps one at a time, and which of their steps are independent. Types: states S, and A for what a step
--- does.
+-- Threads that make steps one at a time, and which of their steps are independent. Types: states S, and A for what a
+-- step does.
 use Rattle.std.specs.Prelude.{◌≢◌, ◌⊎◌, ◌↔◌, ℕ, List, [], ◌∷◌}
 
--- `steps`: from which state to which the thread makes its next step. `wants`: what all the thread does by that step, as it
--- would be made now. `heeds`: what another one's step has to do to wake the thread or start it. `conflict`: that the two
--- aren't independent. `among`: the states that are meant. `alike`: nobody tells the two states apart.
+-- `steps`: from which state to which the thread makes its next step. `wants`: what all the thread does by that step,
+-- as it would be made now. `heeds`: what another one's step has to do to wake the thread or start it. `conflict`:
+-- that the two aren't independent. `among`: the states that are meant. `alike`: nobody tells the two states apart.
 pub record System (S A : Type 0) : Type 1 where
   pub steps : ℕ → S → S → Type 0
   pub wants : S → ℕ → A → Type 0
@@ -56,14 +56,14 @@ module _ {S A : Type 0} (k : System S A) where
     pub steps : (n : ℕ) (s z v : S) → k.among s → k.among z → k.alike s z → k.steps n s v
         → (w : S) × k.steps n z w × k.alike v w
 
-  -- Where thread u makes a step that is apart from thread n, and some other thread is awake too, thread n stays the same.
-  -- Two steps that are apart may be made in either order. And what thread n wants it still wants behind thread u's step,
-  -- or it wants something there that conflicts with this. Who wants something heeds nothing.
+  -- Where thread u makes a step that is apart from thread n, and some other thread is awake too, thread n stays the
+  -- same. Two steps that are apart may be made in either order. And what thread n wants it still wants behind thread
+  -- u's step, or it wants something there that conflicts with this. Who wants something heeds nothing.
   pub record AreIndependent : Type 0 where
     pub states : AreStates
     pub mutual_is : (a b : A) → k.conflict a b → k.conflict b a
-    pub kept : (s z : S) (n u other : ℕ) → k.among s → u ≢ n → u ≢ other → IsAwake s other → k.steps u s z → AreApart s n u
-        → IsSame s z n
+    pub kept : (s z : S) (n u other : ℕ) → k.among s → u ≢ n → u ≢ other → IsAwake s other → k.steps u s z
+        → AreApart s n u → IsSame s z n
     pub swap : (s z v : S) (n u : ℕ) → k.among s → u ≢ n → k.steps n s z → k.steps u s v → AreApart s n u
         → (x : S) × (y : S) × k.steps n v x × k.steps u z y × k.alike x y
     pub still : (s z : S) (n u : ℕ) (a : A) → k.among s → u ≢ n → k.steps u s z → k.wants s n a

@@ -38,8 +38,8 @@ module _ {S A : Type 0} (t : TurnSystem S A) where
       pub runs : TurnRuns s ns z
       pub among : t.among z
 
-    -- Each end of a run of turns is found. So are each two turns that conflict, if two threads want them next; and so none
-    -- races. And a run can still end, if that is so of each explored state that the first one leads to.
+    -- Each end of a run of turns is found. So are each two turns that conflict, if two threads want them next; and so
+    -- none races. And a run can still end, if that is so of each explored state that the first one leads to.
     abbrev pub TurnEndsAreFound : Type 0
     TurnEndsAreFound = (i : ℕ) (s : S) (ns : List ℕ) (z : S) → IsTurnRun i s ns z → IsStopped z
         → IsFound (steps_of t) m e i z
@@ -67,10 +67,11 @@ module _ {S A : Type 0} (t : TurnSystem S A) where
       pub stopped : IsStopped end
 
     abbrev pub AllComeToStop : Type 0
-    AllComeToStop = AllStepThere → (ended : List Bool) → MarkEnds (steps_of t) m e ended → (i : ℕ) (s : S) (ns : List ℕ) (z : S)
-        → IsTurnRun i s ns z → ((j : ℕ) → Reaches (Steps e.moves) i j → CanEnd e.moves ended j) → ComesToStop z
+    AllComeToStop = AllStepThere → (ended : List Bool) → MarkEnds (steps_of t) m e ended
+        → (i : ℕ) (s : S) (ns : List ℕ) (z : S) → IsTurnRun i s ns z → ((j : ℕ) → Reaches (Steps e.moves) i j → CanEnd e.moves ended j) → ComesToStop z
 
--- It is so of whatever was explored of the steps of threads whose turns keep the laws, where the check of the guess passes and
--- none race.
+-- It is so of whatever was explored of the steps of threads whose turns keep the laws, where the check of the guess
+-- passes and none race.
 abbrev pub WhereNoneRace : {S A : Type 0} → TurnSystem S A → Meaning S A → (Explored → Type 0) → Type 0
-WhereNoneRace t m P = (e : Explored) → AreTurns t → IsExploredOf (steps_of t) m e → IsAmple e → NoneRaceThere t m e → P e
+WhereNoneRace t m P = (e : Explored) → AreTurns t → IsExploredOf (steps_of t) m e → IsAmple e → NoneRaceThere t m e
+    → P e

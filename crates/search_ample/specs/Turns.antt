@@ -1,5 +1,5 @@
--- Threads that make turns, one access at a time, of which some are plain. A step of a thread is then its plain turns up to
--- one that isn't, and that one.
+-- Threads that make turns, one access at a time, of which some are plain. A step of a thread is then its plain turns
+-- up to one that isn't, and that one.
 use Rattle.std.specs.Prelude.{◌≡◌, ◌≢◌, ◌⊎◌, ◌↔◌, ℕ, zero, suc, Bool, true, false, Option, Some, None}
 use Rattle.search_ample.specs.Systems.{System}
 
@@ -25,7 +25,8 @@ module _ {S A : Type 0} (t : TurnSystem S A) where
     pub event : t.plain act ≡ false
     pub is : t.next s n ≡ z
 
-  -- Behind so many turns of the thread alone, each plain, it does this; or makes one that isn't plain, and comes to there.
+  -- Behind so many turns of the thread alone, each plain, it does this; or makes one that isn't plain, and comes to
+  -- there.
   abbrev pub WantsIn : ℕ → ℕ → A → S → Type 0
   WantsIn zero n a s = t.wants s n ≡ Some a
   WantsIn (suc count) n a s = IsPlainTurn s n × WantsIn count n a (t.next s n)
@@ -63,10 +64,10 @@ module _ {S A : Type 0} (t : TurnSystem S A) where
     pub next : (s z : S) (n : ℕ) (a : A) → t.among s → t.among z → t.alike s z → t.wants s n ≡ Some a
         → t.alike (t.next s n) (t.next z n)
 
-  -- A turn that doesn't conflict with what a thread wants leaves that as it is, and both may be made in either order. Where
-  -- it does conflict, the thread still wants that, or what conflicts with the turn. One that can't go on stays so, if the
-  -- turn doesn't conflict with what it heeds and some other thread can go on, too; or if it is plain. And behind a plain
-  -- turn a thread can go on.
+  -- A turn that doesn't conflict with what a thread wants leaves that as it is, and both may be made in either order.
+  -- Where it does conflict, the thread still wants that, or what conflicts with the turn. One that can't go on stays
+  -- so, if the turn doesn't conflict with what it heeds and some other thread can go on, too; or if it is plain. And
+  -- behind a plain turn a thread can go on.
   pub record AreTurns : Type 0 where
     pub states : AreTurnStates
     pub mutual_is : (a b : A) → t.conflict a b ≡ true → t.conflict b a ≡ true

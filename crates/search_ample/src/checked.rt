@@ -131,7 +131,8 @@ impl Certificate {
                 m.from as usize == state
                     && (m.thread as usize) < self.threads
                     && self.standing(state, m.thread as usize).goes
-                    && self.standing(m.next as usize, thread).rank < self.standing(state, thread).rank
+                    && self.standing(m.next as usize, thread).rank
+                        < self.standing(state, thread).rank
             }
             None => false,
         }
@@ -189,7 +190,8 @@ impl Certificate {
         self.holds_wants() && self.keeps_all_footprints(moves) && self.are_all_shown(moves)
     }
 
-    /// Whether the data show that it is enough if the threads go on that are meant to. Whoever made them is not trusted.
+    /// Whether the data show that it is enough if the threads go on that are meant to. Whoever made them is not
+    /// trusted.
     pub fn is_ample(&self, moves: &[Move]) -> bool
         ensures exact { IsTrue result ↔ IsShown self.now moves.now }
         ensures ample { IsTrue result → IsAmple (explored_of self.now moves.now) }

@@ -36,10 +36,10 @@ pub trait Threads {
     ghost meaning: { Self → Meaning World Act };
 }
 
-/// Where steps that don't conflict are independent, and the check of which threads go on passes: what threads want is in
-/// their footprints, in all runs; each end is found, and all that a thread wants, and each two wants that conflict, both
-/// at once; each run can go on to what is found; and a thread that wants something can go on, in all runs, if it can
-/// wherever was explored.
+/// Where steps that don't conflict are independent, and the check of which threads go on passes: what threads want is
+/// in their footprints, in all runs; each end is found, and all that a thread wants, and each two wants that
+/// conflict, both at once; each run can go on to what is found; and a thread that wants something can go on, in all
+/// runs, if it can wherever was explored.
 pub fn it_is_enough_that_some_go_on<T: Threads>(threads: &T)
     ensures footprints { WhereAmple (T.system threads.now) (T.meaning threads.now)
         (FootprintsHold (T.system threads.now) (T.meaning threads.now)) }
@@ -63,8 +63,8 @@ pub fn ends_are_told<T: Threads>(threads: &T)
         (AllComeToEnds (T.system threads.now) (T.meaning threads.now)) }
 {}
 
-/// There, no fair run goes on for ever where each fair run of what was explored ends. And one of what was explored, fair to
-/// all threads that can go on, is one of the threads.
+/// There, no fair run goes on for ever where each fair run of what was explored ends. And one of what was explored,
+/// fair to all threads that can go on, is one of the threads.
 pub fn fair_runs_are_told<T: Threads>(threads: &T)
     ensures none { WhereAmple (T.system threads.now) (T.meaning threads.now)
         (NoFairRunGoesOn (T.system threads.now) (T.meaning threads.now)) }

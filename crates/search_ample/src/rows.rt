@@ -63,7 +63,9 @@ pub(crate) fn are_disjoint(row: &[bool], other: &[bool]) -> bool
 pub(crate) fn are_all_marked(numbers: &[u32], row: &[bool]) -> bool
     ensures { IsTrue result ↔ All (IsMarked row.now) numbers.now }
 {
-    numbers.iter().all(|number| is_marked(row, *number as usize))
+    numbers
+        .iter()
+        .all(|number| is_marked(row, *number as usize))
 }
 
 /// Whether the rows of these indices have nothing in common with this one.
