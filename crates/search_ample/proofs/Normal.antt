@@ -10,12 +10,12 @@ use Rattle.search_ample.specs.Ample.{IsAmple}
 use Rattle.search_ample.specs.Found.{IsRun}
 use Rattle.search_ample.specs.Turns.{TurnSystem, IsPlainTurn, IsEvent, StepsIn, ComesToWant, MakesStep, steps_of, AreTurns}
 use Rattle.search_ample.specs.TurnRuns.{TurnRuns, IsStopped, NoneRaceAt, NoneRaceThere, IsTurnRun, TurnEndsAreFound, TurnConflictsAreFound, NoTurnsRace}
-use Rattle.search_ample.specs.TurnRuns.{AllComeToStop, AllStep}
+use Rattle.search_ample.specs.TurnRuns.{TurnWantsAreFound, AllComeToStop, AllStep}
 use Rattle.search_ample.proofs.Made.{all-come-to-ends}
 use Rattle.search_ample.proofs.Runs.{runs-join}
 use Rattle.search_ample.proofs.Bundles.{wants-alike, turn-alike, step-alike, one-step, among-step, first-want, first-step, before-want, want-now}
 use Rattle.search_ample.proofs.Bundles.{IsFree, push-step, pull-want, pull-step, some-injective, bundles-are-independent}
-use Rattle.search_ample.proofs.Finding.{ends-are-found, conflicts-are-found, all-can-go-on}
+use Rattle.search_ample.proofs.Finding.{ends-are-found, wants-are-found, conflicts-are-found, all-can-go-on}
 
 module _ {S A : Type 0} (t : TurnSystem S A) (laws : AreTurns t) where
   -- These threads make plain turns.
@@ -338,6 +338,13 @@ module _ {S A : Type 0} (t : TurnSystem S A) (laws : AreTurns t) where
           plainly = laws.states.itself s;
         })
         r.runs
+
+    pub turn-wants-are-found : TurnWantsAreFound t mean e
+    turn-wants-are-found i s ns z r n a h =
+        let nf = normal i s ns z r in
+        let at = nf.reached in
+        wants-are-found (steps_of t) (bundles-are-independent t laws) mean e x c i s nf.run nf.middle at n a
+        (wanted-first nf.off nf.middle z n a at.among r.among (none-at i s nf.run nf.middle at) nf.plainly h)
 
     pub turn-conflicts-are-found : TurnConflictsAreFound t mean e
     turn-conflicts-are-found i s ns z r n u a b wn wu f =

@@ -5,7 +5,7 @@ use Rattle.search_graph.specs.Graph.{Steps, CanEnd}
 use Rattle.search_ample.specs.Systems.{CanGo}
 use Rattle.search_ample.specs.Explored.{Explored, Meaning, IsExploredOf}
 use Rattle.search_ample.specs.Ample.{IsAmple}
-use Rattle.search_ample.specs.Found.{IsFound, BothAreFound}
+use Rattle.search_ample.specs.Found.{IsFound, WantIsFound, BothAreFound}
 use Rattle.search_ample.specs.Ending.{MarkEnds}
 use Rattle.search_ample.specs.Turns.{TurnSystem, ComesToWant, steps_of, AreTurns}
 
@@ -38,11 +38,16 @@ module _ {S A : Type 0} (t : TurnSystem S A) where
       pub runs : TurnRuns s ns z
       pub among : t.among z
 
-    -- Each end of a run of turns is found. So are each two turns that conflict, if two threads want them next; and so
-    -- none races. And a run can still end, if that is so of each explored state that the first one leads to.
+    -- Each end of a run of turns is found. So is each turn that a thread wants next, and each two that conflict, if two
+    -- threads want them next; and so none races. And a run can still end, if that is so of each explored state that the
+    -- first one leads to.
     abbrev pub TurnEndsAreFound : Type 0
     TurnEndsAreFound = (i : ℕ) (s : S) (ns : List ℕ) (z : S) → IsTurnRun i s ns z → IsStopped z
         → IsFound (steps_of t) m e i z
+
+    abbrev pub TurnWantsAreFound : Type 0
+    TurnWantsAreFound = (i : ℕ) (s : S) (ns : List ℕ) (z : S) → IsTurnRun i s ns z
+        → (n : ℕ) (a : A) → t.wants z n ≡ Some a → WantIsFound (steps_of t) m e i n a
 
     abbrev pub TurnConflictsAreFound : Type 0
     TurnConflictsAreFound = (i : ℕ) (s : S) (ns : List ℕ) (z : S) → IsTurnRun i s ns z

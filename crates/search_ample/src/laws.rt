@@ -17,6 +17,7 @@ ghost use Rattle.search_ample.specs.Turns.{TurnSystem, steps_of, AreTurns};
 ghost use Rattle.search_ample.specs.TurnRuns.{
   WhereNoneRace,
   TurnEndsAreFound,
+  TurnWantsAreFound,
   TurnConflictsAreFound,
   NoTurnsRace,
   AllStep,
@@ -90,12 +91,15 @@ pub fn steps_are_independent<T: TurningThreads>(threads: &T)
     ensures { AreTurns (T.system threads.now) → AreIndependent (steps_of (T.system threads.now)) }
 {}
 
-/// So it is enough to explore steps, of some threads: where no two threads race wherever was explored, none race in any
-/// run of turns; each end of one is found, and each two turns that conflict; a thread that can make a turn comes to an
-/// event, if it does wherever was explored; and then each run can still end, where that is so of all that was explored.
+/// So it is enough to explore steps, of some threads: where no two threads race wherever was explored, none race in
+/// any run of turns; each end of one is found, each turn that a thread wants, and each two that conflict; a thread that
+/// can make a turn comes to an event, if it does wherever was explored; and then each run can still end, where that is
+/// so of all that was explored.
 pub fn runs_of_turns_are_told<T: TurningThreads>(threads: &T)
     ensures ends { WhereNoneRace (T.system threads.now) (T.meaning threads.now)
         (TurnEndsAreFound (T.system threads.now) (T.meaning threads.now)) }
+    ensures wants { WhereNoneRace (T.system threads.now) (T.meaning threads.now)
+        (TurnWantsAreFound (T.system threads.now) (T.meaning threads.now)) }
     ensures conflicts { WhereNoneRace (T.system threads.now) (T.meaning threads.now)
         (TurnConflictsAreFound (T.system threads.now) (T.meaning threads.now)) }
     ensures races { WhereNoneRace (T.system threads.now) (T.meaning threads.now)
