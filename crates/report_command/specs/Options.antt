@@ -241,10 +241,9 @@ pub record AsksSought (f : Found) (s : Sought) : Type 0 where
   pub dump : HasNumber f (codes "dump") s.dump
   pub target : AsksTarget f s.target
 
--- The words say which runs are drawn, or what one of them may spend.
+-- The words say which runs are drawn.
 abbrev pub names_runs : Found → Bool
 names_runs f = is_said f (codes "runs") || is_said f (codes "from") || is_said f (codes "seed") || is_said f (codes "strategy")
-    || is_said f (codes "limit") || is_said f (codes "fuel")
 
 -- How many states are met at most, where every order is gone through, and whether that is so before runs are drawn: unless
 -- they are drawn at once.

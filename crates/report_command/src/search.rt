@@ -15,7 +15,7 @@ use crate::form::{Form, form_of};
 use crate::limits::{DEFAULT_SHRINK_SECONDS, DEFAULT_STATES, FIRST_STATES};
 use crate::lines::{Standing, endless_of, result_of, standing_of};
 use crate::options::{
-    ALL, ALLOW_RACES, DEEP, DUMP, EXPECT, FILE, FIND, FROM, FUEL, JOBS, LIMIT, ORDERS, RACES, RUNS,
+    ALL, ALLOW_RACES, DEEP, DUMP, EXPECT, FILE, FIND, FROM, JOBS, LIMIT, ORDERS, RACES, RUNS,
     SEARCH_RECORD, SEED, SHRINK, SHRINK_TIME, STATES, STRATEGY, TIME, UNTIL,
 };
 use crate::places::{ValueReader, decimal_in};
@@ -224,7 +224,7 @@ fn sought_of<'a>(
     })
 }
 
-/// Whether the words say which runs are drawn, or what one of them may spend.
+/// Whether the words say which runs are drawn.
 fn names_runs(matches: &ArgMatches) -> bool
     ensures { result ≡ names_runs (found_of matches.now) }
 {
@@ -232,8 +232,6 @@ fn names_runs(matches: &ArgMatches) -> bool
         || FROM.is_said(matches)
         || SEED.is_said(matches)
         || STRATEGY.is_said(matches)
-        || LIMIT.is_said(matches)
-        || FUEL.is_said(matches)
 }
 
 /// Whether a run is looked for by words that only lines have of threads whose units or whose record's room ran out.

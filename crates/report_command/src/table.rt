@@ -97,8 +97,8 @@ pub(crate) static OF_A_RUN: [OptionRow; 7] = [
 /// Which runs a search makes.
 pub(crate) static OF_RUNS: [OptionRow; 13] = [
     row!(RUNS, for [Search],
-    "Draw so many runs at most. Without this, --from, --seed, --strategy, --limit and --fuel it goes through every \
-    order first, as --all does, by up to 50000 states, and draws runs where that settles not all", defaults: &["10000"]),
+    "Draw so many runs at most. Without this, --from, --seed and --strategy it goes through every order first, as \
+    --all does, by up to 50000 states, and draws runs where that settles not all", defaults: &["10000"]),
     row!(FROM, for [Search],
     "The number of the first run", defaults: &["1"]),
     row!(SEED, for [Search],
