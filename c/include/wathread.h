@@ -35,6 +35,11 @@ int thread_self(void);
 
 #define WATHREAD_WORD(word) _Generic((char (*)[sizeof *(word)])0, char (*)[4]: (void *)(word), char (*)[8]: (void *)(word))
 
+/* With --orders c11 (docs/ORDERS.md): the thread says, as if it printed it, of each atomic of which somebody may still read
+   what is old, the newest value, and who may read what. It's an operation like others. Without that it does nothing. */
+#define say_views() __wathread_views()
+void __wathread_views(void);
+
 /* In front of a function: it can be called by this name, as `--invoke NAME`, beside `main` or in its place. */
 #define EXPORT(name) __attribute__((export_name(name)))
 WATHREAD_END

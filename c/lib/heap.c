@@ -101,7 +101,7 @@ void free(void *block) {
     if ((*front & MARK_BITS) != MARK)
         __builtin_trap();
     orders_freed(block, size - FRONT);
-    *front = 0;
+    *front = orders_front(size);
     memset(block, FREED, size - FRONT);
     keep_freed(block, size);
 }

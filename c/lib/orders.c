@@ -12,6 +12,10 @@
 #include <wathread.h>
 #define ORDERS
 #include "orders.h"
+
+/* Nothing here is in the debug information but what the compiler's text calls and what is there for rows: so a trace and a
+   stack have the program's words, and none of these. */
+#pragma clang attribute push(__attribute__((nodebug)), apply_to = any(hasType(functionType), variable(unless(is_parameter))))
 #include "orders_gate.h"
 #include "orders_says.h"
 #include "orders_tables.h"
@@ -86,13 +90,35 @@ static void read_message(int t, int l, int p, int oldest, int order) {
         mark(STILL);
 }
 
-/* What a message carries: of one that is GLUED behind another also what that one does. There is none in V yet. */
-static void release_view(int t, int l, view *v, const view *glued, int order) {
-    const view *mine = releases(order) ? &orders.current[t] : fences() ? &orders.released[t] : 0;
+/* Whether a word of a thread's view has more than that of its message, of other places than that one. Of a place that nobody
+   wrote since it is one, all know what was written. */
+static __attribute__((noinline)) int has_more(u64 mine, u64 carried, int w, int l) {
+    for (int k = PER_WORD; k--;) {
+        int i = w * PER_WORD + k;
+        cell has = mine >> CELL_BITS * k, had = carried >> CELL_BITS * k, lacks = has & ~had & ALL_KNOWN;
+        if (has == had || (i >= l && i < l + cells_of(l)))
+            continue;
+        if ((has & 255) > (had & 255) || lacks & ~WRITE_KNOWN || (lacks && orders.wrote[i]))
+            return 1;
+    }
+    return 0;
+}
+
+/* What a message carries: of one that is GLUED behind another also what that one does. There is none in V yet. Answers what
+   isn't known with it of what the thread did before: UNRELEASED, all of it; or SINCE its last release fence; or nothing. */
+static u64 release_view(int t, int l, view *v, const view *glued, int order) {
+    u32 fence = releases(order) ? 0 : own_fence();
+    const view *mine = releases(order) ? &orders.current[t] : fence ? &orders.released[t] : 0;
+    int since = 0;
     for (int w = words_used(); w--;) {
         u64 word = glued ? glued->words[w] : 0;
         if (mine)
             word = join(word, mine->words[w]);
+        if (fence && !since) {
+            u64 all = orders.current[t].words[w];
+            if (join(word, all) != word)
+                since = has_more(all, word, w, l);
+        }
         if (word)
             v->words[w] = word;
     }
@@ -100,14 +126,8 @@ static void release_view(int t, int l, view *v, const view *glued, int order) {
     if (releases(order))
         add(&orders.sequences[t][l], &orders.current[t]);
     add(v, &orders.sequences[t][l]);
-#else
-    (void)l;
 #endif
-}
-
-/* Whether who reads a message doesn't know by it what the thread did before. */
-static u32 is_unreleased(int t, int order) {
-    return releases(order) || (fences() && !is_clear(&orders.released[t])) ? 0 : UNRELEASED;
+    return mine ? since ? SINCE_FENCE(SITE(fence)) : 0 : UNRELEASED;
 }
 
 /* A new message at position P; those from there on go up. Its value is put in by who calls, whose row in a trace has
@@ -124,9 +144,9 @@ static void write_message(int t, int l, int p, int count, int order, int glued) 
     }
     set_count(l, count, count + 1);
     message *made = message_at(l, p);
-    made->about = by_me() | is_unreleased(t, order) | (glued ? GLUED : 0);
     set_position(&orders.current[t], l, p);
-    release_view(t, l, &made->view, glued ? &message_at(l, p - 1)->view : 0, order);
+    u64 lacks = release_view(t, l, &made->view, glued ? &message_at(l, p - 1)->view : 0, order);
+    made->about = by_me() | lacks | (glued ? GLUED : 0);
     if (order == SEQ_CST && (!has_psc() || p > position(&orders.psc, l))) {
         use_psc();
         set_position(&orders.psc, l, p);
@@ -257,10 +277,10 @@ static int knows_what(int t, u32 thread) {
 
 /* What is read is news to the thread: whether with it nothing is known of what its writer did before. */
 static void look_at_news(int t, int l, int p, int order, u32 at, int log) {
-    u32 by = writer_of(l, p);
-    if (!ORDERS_NEWS || !by || (acquires(order) && !(by & UNRELEASED)) || knows_what(t, THREAD(by)))
+    u64 by = about_of(l, p);
+    if (!ORDERS_NEWS || !by || (acquires(order) && !(by & (UNRELEASED | SINCE))) || knows_what(t, THREAD(by)))
         return;
-    say_news(at, log, message_at(l, p)->value, by, acquires(order), fences());
+    say_news(at, log, message_at(l, p)->value, by, by & SINCE ? FENCE_OF(by) | FENCED : 0, acquires(order), fences());
 }
 
 static u64 begin_load(u32 at, int log, int order) {
@@ -281,7 +301,9 @@ static u64 begin_load(u32 at, int log, int order) {
 }
 
 /* What was read where a newer message is there: a row of `show` has it, and the next one the newest. */
+#pragma clang attribute pop
 static volatile u64 reads_old;
+#pragma clang attribute push(__attribute__((nodebug)), apply_to = any(hasType(functionType), variable(unless(is_parameter))))
 
 INLINE void show_old(u32 at, int log, u64 value, u64 found) {
     reads_old = value;
@@ -446,7 +468,7 @@ static void join_psc(int t) {
     }
 }
 
-void __wathread_fence(int order) {
+void __wathread_fence(int order, u32 site) {
     if (!is_parallel() || order == RELAXED)
         return;
     begin_operation(0, FENCES);
@@ -457,8 +479,10 @@ void __wathread_fence(int order) {
     }
     if (order == SEQ_CST)
         join_psc(t);
-    if (releases(order))
+    if (releases(order)) {
         copy(&orders.released[t], &orders.current[t]);
+        set_fence(site | FENCED);
+    }
     end_access(t);
 }
 
@@ -474,8 +498,8 @@ static u32 thread_of(int slot) {
 }
 
 static void say_view(int t, int l, int newest, int log) {
-    SAY(", and t");
-    say_number(thread_of(t), 10);
+    SAY(", and ");
+    say_thread(thread_of(t));
     SAY(" may still read ");
     for (int p = position(&orders.current[t], l); p < newest; p++) {
         if (p != position(&orders.current[t], l))
@@ -484,7 +508,7 @@ static void say_view(int t, int l, int newest, int log) {
     }
 }
 
-static void say_views(void) {
+static void say_all_views(void) {
     u64 readers = looking;
     for (int l = 0; l < places(); l++) {
         u64 place = orders.places[l];
@@ -505,10 +529,19 @@ static void say_views(void) {
 void __wathread_traps(void) {
     if (is_parallel()) {
         enter_behind_start(me(), 0, 0);
-        say_views();
+        say_all_views();
         fails_inside();
     } else
         tell_helper(OVER);
+}
+
+/* The same at a moment that the program chooses. */
+void __wathread_views(void) {
+    if (!is_parallel())
+        return;
+    begin_operation(0, OTHERS);
+    say_all_views();
+    leave(me());
 }
 
 /* ---- Threads ---- */
@@ -592,6 +625,7 @@ static void take_end(int t, int of) {
 static void end_all(int t) {
     forget_views(t);
     set_counted(0);
+    set_fence(0);
     if (has_psc())
         clear(&orders.psc);
     for (int l = places(); l--;) {
@@ -642,6 +676,7 @@ void orders_ends(int thread, unsigned result) {
     is_gone(t);
     forget_own(t);
     set_counted(0); /* what has ended makes no states */
+    set_fence(0);
     set_done(0);
     forget_what_was_told();
     if (by >= 0) {
@@ -713,7 +748,7 @@ static int is_late(int t, int of) {
     if (late) {
         joiner[of] = 0;
         set_joining(joining & ~BIT(t));
-        asleep[t] = 0;
+        waits_for[t] = 0;
         sleeping &= ~BIT(t);
     }
     leave(me());
@@ -735,7 +770,7 @@ static __attribute__((noinline)) int begin_join(int thread, long long nanosecond
     } else {
         joiner[of] = t + 1;
         set_joining(joining | BIT(t));
-        falls_asleep(t, thread + 1);
+        falls_asleep(t, mark_of(thread));
     }
     end_access(t);
     return waits;
@@ -743,11 +778,13 @@ static __attribute__((noinline)) int begin_join(int thread, long long nanosecond
 
 int orders_joins(int thread, unsigned *result, long long nanoseconds) {
     if (begin_join(thread, nanoseconds)) {
-        if (sleeps(me(), thread + 1, nanoseconds) == 2 && is_late(me(), slots[thread]))
+        if (sleeps(me(), mark_of(thread), nanoseconds) == 2 && is_late(me(), slots[thread]))
             return 2;
         set_parallel(simulates);
-        if (!simulates)
+        if (!simulates) {
             set_counted(0);
+            set_fence(0);
+        }
     }
     *result = results[thread];
     return 0;
@@ -782,7 +819,7 @@ static int ends_by_time(int t) {
         i++;
     if (i < THREADS) {
         unqueue(i);
-        asleep[t] = 0;
+        waits_for[t] = 0;
         sleeping &= ~BIT(t);
     }
     leave(me());
@@ -823,7 +860,7 @@ unsigned __wathread_notify(u32 word, unsigned most) {
     begin_operation(word, WAITS);
     unsigned many = 0;
     for (int i = 0; many < most && i < THREADS && queue[i];)
-        if (asleep[queue[i] - 1] == word) {
+        if (waits_for[queue[i] - 1] == word) {
             int t = queue[i] - 1;
             unqueue(i);
             sleeping &= ~BIT(t);
@@ -884,8 +921,10 @@ void orders_freed(void *block, unsigned size) {
         return;
     begin_operation(0, OTHERS);
     forget_places((u32)block, size, 1);
-    if (size) /* malloc(0) has a front alone */
+    if (size) { /* malloc(0) has a front alone */
         put_in_freed((u32)block, size);
+        ((u32 *)block)[-1] = by_me();
+    }
     leave(me());
 }
 
@@ -962,6 +1001,7 @@ void orders_writes(void *to, unsigned size) { note((u32)to, size, WRITE, own_sit
         AT_SITE(had = modify(at, log, kind, x & MASK(log), expected & MASK(log), order, failing))                      \
         return had;                                                                                                    \
     }
+#pragma clang attribute pop
 ATOMICS(8, 0, u32)
 ATOMICS(16, 1, u32)
 ATOMICS(32, 2, u32)

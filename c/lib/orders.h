@@ -27,9 +27,11 @@ void orders_detached(int thread);
 void orders_reads(const void *from, unsigned size);
 void orders_writes(void *to, unsigned size);
 
-/* A block of malloc's that is freed, and where it is given again. */
+/* A block of malloc's that is freed, and where it is given again. What stands in front of a freed one is its size, in place
+   of its mark, so that it's found in a row of such, and who freed it in the last word. */
 void orders_freed(void *block, unsigned size);
 void orders_taken(void *block, unsigned size);
+static inline int orders_front(int size) { return size; }
 
 #else
 static inline void orders_main(void) {}
@@ -38,4 +40,5 @@ static inline void orders_reads(const void *from, unsigned size) { (void)from, (
 static inline void orders_writes(void *to, unsigned size) { (void)to, (void)size; }
 static inline void orders_freed(void *block, unsigned size) { (void)block, (void)size; }
 static inline void orders_taken(void *block, unsigned size) { (void)block, (void)size; }
+static inline int orders_front(int size) { return (void)size, 0; }
 #endif

@@ -57,6 +57,7 @@ OWN(often, u32, i32)    /* what it may have done twice */
 OWN(failed, int, i32)   /* its last weak compare-exchange, until that is asked for */
 OWN(noted, int, i32)    /* how many plain accesses it has noted */
 OWN(counted, int, i32)  /* whether it has counted what it read */
+OWN(fence, u32, i32)    /* where its last release fence is, and FENCED (orders.c); 0 where it has made none */
 OWN(done, u64, i64)     /* what it may have done to a place before */
 OWN(site, u32, i32)     /* where in the source it is (sites.py), while it is in the runtime, or 0 */
 OWN(letters, u64, i64)  /* of a line that it says, what isn't in its text yet (orders_says.h) */
@@ -126,7 +127,7 @@ INLINE u64 same_bit(int t) { return has_turns(t) ? SAME(t) : 0; }
 static u32 head_inside(void); /* orders_tables.h */
 
 /* A function of its own, so that nothing of a try in vain is left in the frame: it would make more states. */
-static __attribute__((noinline)) int tries(int t, u64 mine) {
+static __attribute__((noinline)) int waits_for_its_turn(int t, u64 mine) {
     u64 was = atomic_fetch_or(&gate, mine);
     if (!(was & HELD) || (has_turns(t) && (was & TURN_MASK) == TURN(t))) {
         set_inside((was | mine) & ~HELD);
@@ -138,7 +139,7 @@ static __attribute__((noinline)) int tries(int t, u64 mine) {
 }
 
 static void enter(int t, int again) {
-    while (!tries(t, again ? HELD | OPEN : HELD))
+    while (!waits_for_its_turn(t, again ? HELD | OPEN : HELD))
         ;
     set_head(head_inside());
 }
@@ -203,7 +204,7 @@ __attribute__((import_module("wasi"), import_name("thread-spawn"))) int __wathre
 int __wathread_most(void);
 
 /* As with the gate, nothing of it is left in the frame. */
-static __attribute__((noinline)) int helps(int thread) {
+static __attribute__((noinline)) int makes_choices(int thread) {
     u32 was = ASKED;
     atomic_compare_exchange_strong(&dice[thread], &was, YES);
     if (was == RESTS)
@@ -213,7 +214,7 @@ static __attribute__((noinline)) int helps(int thread) {
 
 int orders_begins(int thread, int place) {
     if (!place) {
-        while (helps(thread))
+        while (makes_choices(thread))
             ;
         place = (int)dice[thread] - BECOMES;
     }
@@ -252,10 +253,16 @@ static int choose(int many) {
 
 /* ---- Sleep: the helper rests where all sleep, so that a deadlock is one ---- */
 
-static u32 asleep[THREADS]; /* by slots: what is waited for, an address or a thread's number plus 1 */
+/* By slots: what is waited for, the address of a word, or a thread's number, or NUMBERS for main. It has a name, since it's
+   told where a thread stands. */
+#pragma clang attribute pop
+static u32 waits_for[THREADS];
+#pragma clang attribute push(__attribute__((nodebug)), apply_to = any(hasType(functionType), variable(unless(is_parameter))))
+
+INLINE u32 mark_of(int thread) { return thread ? thread : NUMBERS; }
 
 static void falls_asleep(int t, u32 what) {
-    asleep[t] = what;
+    waits_for[t] = what;
     sleeping |= BIT(t);
     if (sleeping == running)
         tell_helper(RESTS);
@@ -263,12 +270,12 @@ static void falls_asleep(int t, u32 what) {
 
 /* Behind leave(). Who wakes it is inside, so a notify never comes late. */
 static int sleeps(int t, u32 what, long long nanoseconds) {
-    return __builtin_wasm_memory_atomic_wait32((int *)&asleep[t], what, nanoseconds);
+    return __builtin_wasm_memory_atomic_wait32((int *)&waits_for[t], what, nanoseconds);
 }
 
 static void wakes(int t) {
-    __atomic_store_n(&asleep[t], 0, __ATOMIC_SEQ_CST);
-    __builtin_wasm_memory_atomic_notify((int *)&asleep[t], 1);
+    __atomic_store_n(&waits_for[t], 0, __ATOMIC_SEQ_CST);
+    __builtin_wasm_memory_atomic_notify((int *)&waits_for[t], 1);
 }
 
 /* ---- How a run ends ---- */

@@ -44,14 +44,12 @@ static void end_line(void) {
     set_lettered(0);
 }
 
-static __attribute__((noinline)) void say_number(u64 value, u32 base) {
+static __attribute__((noinline)) void say_number(u64 value) {
     u64 scale = 1;
-    while (value / scale >= base)
-        scale *= base;
-    for (; scale; scale /= base) {
-        u32 digit = value / scale % base;
-        put_letters(digit < 10 ? '0' + digit : 'a' + digit - 10, 1);
-    }
+    while (value / scale >= 10)
+        scale *= 10;
+    for (; scale; scale /= 10)
+        put_letters('0' + value / scale % 10, 1);
 }
 
 static void say_value(u64 value, int log) {
@@ -59,12 +57,12 @@ static void say_value(u64 value, int log) {
     int64_t number = (int64_t)(value << unused) >> unused;
     if (number < 0)
         put_letters('-', 1);
-    say_number(number < 0 ? -(u64)number : (u64)number, 10);
+    say_number(number < 0 ? -(u64)number : (u64)number);
 }
 
 static void say_thread(u32 thread) {
     put_letters('t', 1);
-    say_number(thread, 10);
+    say_number(thread);
 }
 
 /* ---- Sites: two texts, each up to the first word whose last byte is zero (sites.py) ---- */
@@ -91,8 +89,8 @@ static __attribute__((noinline)) void say_name(u32 site, u32 at) {
     if (site && *(const u64 *)site)
         say_piece(site);
     else {
-        SAY("0x");
-        say_number(at, 16);
+        SAY("address ");
+        say_number(at);
     }
 }
 
@@ -111,6 +109,7 @@ enum { SITE_BITS = 24 };
 #define THREAD(by) (((by) >> SITE_BITS & 127) - 1)
 #define UNRELEASED (1u << 31) /* what the thread had done before isn't known to who reads it */
 #define WHO_READ (1u << 31)   /* of a race: a thread that read it, or -1 */
+#define FENCED (1u << 31)     /* beside the site of a fence, which may be 0 */
 INLINE u32 by_me(void) { return own_site() | (u32)(thread_self() + 1) << SITE_BITS; }
 
 static void say_where(u32 by) {
@@ -154,8 +153,9 @@ static __attribute__((noinline)) void say_old(u32 at, int log, u64 value, u64 ne
     end_line();
 }
 
-/* A message that is news, where what its writer did before isn't known with it. */
-static __attribute__((noinline)) void say_news(u32 at, int log, u64 value, u32 by, int acquired, int fenced) {
+/* A message that is news, where what its writer did before isn't known with it, or where that has made a release fence, what
+   it did since. */
+static __attribute__((noinline)) void say_news(u32 at, int log, u64 value, u32 by, u32 fence, int acquired, int fenced) {
     say_reads(at, log, value);
     if (!acquired)
         SAY(" without acquire");
@@ -163,14 +163,26 @@ static __attribute__((noinline)) void say_news(u32 at, int log, u64 value, u32 b
     say_thread(THREAD(by));
     SAY(" wrote");
     say_where(by);
-    if (by & UNRELEASED)
+    if (by & UNRELEASED || fence)
         SAY(" without release");
-    SAY(": what ");
-    say_thread(THREAD(by));
-    if (fenced && !acquired && !(by & UNRELEASED))
-        SAY(" did before is known only behind an acquire fence");
-    else
-        SAY(" did before isn't known with it");
+    SAY(": ");
+    if (!fence || !acquired) {
+        SAY("what ");
+        say_thread(THREAD(by));
+        if (fenced && !acquired && !(by & UNRELEASED))
+            SAY(" did before is known only behind an acquire fence");
+        else
+            SAY(" did before isn't known with it");
+        if (fence)
+            SAY(", and ");
+    }
+    if (fence) {
+        SAY("nothing orders what ");
+        say_thread(THREAD(by));
+        SAY(" did since its release fence");
+        say_where(fence);
+        SAY(" before that store");
+    }
     end_line();
 }
 
@@ -194,13 +206,16 @@ static __attribute__((noinline)) void say_race(u32 at, enum does does, u32 by) {
     end_line();
 }
 
-static __attribute__((noinline)) void say_freed(u32 at) {
+static __attribute__((noinline)) void say_freed(u32 at, u32 by) {
     begin_line();
     SAY("use after free: ");
     say_here();
     SAY("touches ");
     say_name(own_site(), at);
-    SAY(", in a block that was freed");
+    SAY(", in a block that ");
+    say_thread(THREAD(by));
+    SAY(" freed");
+    say_where(by);
     end_line();
 }
 
@@ -220,7 +235,7 @@ static __attribute__((noinline)) void say_mixed(u32 at) {
 #define FAILS { fails_inside(); __builtin_trap(); }
 /* The load is a row that has the name of the data. */
 TRAPS data_race(u32 at, enum does does, u32 by) { (void)*(volatile u8 *)at; say_race(at, does, by); FAILS }
-TRAPS use_after_free(u32 at) { say_freed(at); FAILS }
+TRAPS use_after_free(u32 at, u32 by) { say_freed(at, by); FAILS }
 TRAPS atomics_of_mixed_sizes(u32 at) { say_mixed(at); FAILS }
 TRAPS orders_full_of_places__use_a_greater_pool(void) FAILS
 TRAPS orders_full_of_messages__use_a_greater_pool(void) FAILS

@@ -17,9 +17,13 @@ enum { CELL_BITS = 16, PER_WORD = 4, WORDS = PLACES / PER_WORD, LANE = 127, READ
 typedef union { cell at[PLACES]; u64 words[WORDS]; } view;
 
 /* Below: who wrote it (orders_says.h), but of the oldest one, which nobody reads as news. GLUED: a read-modify-write put it
-   there, and nothing comes between it and what that read. */
+   there, and nothing comes between it and what that read. SINCE: it was put there behind a release fence, whose site stands
+   above, and who did it had done in between what isn't known with it. */
 typedef struct { u64 value, about; view view; } message;
 #define GLUED (1ull << 32)
+#define SINCE (1ull << 33)
+#define SINCE_FENCE(site) (SINCE | (u64)(site) << 34)
+#define FENCE_OF(about) ((u32)((about) >> 34))
 
 /* A place is a word: its address, the logarithm of its bytes, MORE where the next cell is its own too, which is then BEHIND;
    a bit for each thread that read it plainly since the last plain write; and how many messages it has, none where there was
@@ -181,7 +185,8 @@ static __attribute__((noinline)) message *far_message(int l, int m) {
 
 INLINE message *message_at(int l, int m) { return m < NEAR ? &orders.near[l][m] : far_message(l, m); }
 
-INLINE u32 writer_of(int l, int m) { return (u32)message_at(l, m)->about; }
+INLINE u64 about_of(int l, int m) { return message_at(l, m)->about; }
+INLINE u32 writer_of(int l, int m) { return (u32)about_of(l, m); }
 
 static void clear_message(message *m) {
     put(&m->value, 0);
@@ -491,13 +496,21 @@ static void remove_known(void) {
     }
 }
 
+/* Who freed the block that has this address, in a row of such that begins at the first one. */
+static u32 who_freed(u32 first, u32 at) {
+    u32 size;
+    while (size = ((u32 *)first)[-FRONT / 4], first + size <= at && size)
+        first += size;
+    return ((u32 *)first)[-1];
+}
+
 /* A place that nobody touched since threads run: what is there is known to all, or to who writes it now. */
 static int new_place(u32 at, int log, int writer) {
     if (places() == PLACES)
         remove_known();
     for (int i = 0; i < FREED && orders.freed[i].size; i++)
         if (at - orders.freed[i].at < orders.freed[i].size)
-            use_after_free(at);
+            use_after_free(at, who_freed(orders.freed[i].at, at));
     int l = find(at);
     put_in(l, a_place(at, log));
     if (writer >= 0) {

@@ -36,7 +36,7 @@ WEAKER = re.compile(r'  (?:%[^ ]+ = )?(?:(?:load|store) atomic|cmpxchg|atomicrmw
                     r' (?:monotonic|acquire|release|acq_rel)\b')
 RUNTIME = {'load': 'i{0} (i32, i32, i32)', 'store': 'void (i32, i{0}, i32, i32)', 'change': 'i{0} (i32, i32, i{0}, i32, i32)',
            'compare': 'i{0} (i32, i{0}, i{0}, i32, i32, i32, i32)'}
-OTHERS = {'failed': 'i32 ()', 'fence': 'void (i32)', 'reads': 'void (i32, i32, i32)', 'writes': 'void (i32, i32, i32)',
+OTHERS = {'failed': 'i32 ()', 'fence': 'void (i32, i32)', 'reads': 'void (i32, i32, i32)', 'writes': 'void (i32, i32, i32)',
           'at': 'void (i32)', 'traps': 'void ()', 'wait32': 'i32 (i32, i32, i64)', 'wait64': 'i32 (i32, i64, i64)',
           'notify': 'i32 (i32, i32)'}
 # A section of objects and modules that are made so: wathread-link tells them from others.
@@ -212,7 +212,8 @@ class Simulation:
         return [first, *lines, *self.answer(result, kind, f'change{BITS[kind_of(kind)]}', arguments, debug)]
 
     def fence(self, line, debug, signal, order):
-        return [line] if signal else [f'  call void @__wathread_fence(i32 {ORDERS[order]}){debug}']
+        site = self.sites.at(None, debug)
+        return [line] if signal else [f'  call void @__wathread_fence(i32 {ORDERS[order]}, {site}){debug}']
 
     def bytes(self, line, debug, what, arguments):
         """Bytes that are copied or set at once."""

@@ -178,6 +178,7 @@ number_\name:
 #orders	number_of_thread failed, i32
 #orders	number_of_thread noted, i32
 #orders	number_of_thread counted, i32
+#orders	number_of_thread fence, i32
 #orders	number_of_thread marks, i32
 #orders	number_of_thread head, i32
 #orders	number_of_thread site, i32

@@ -91,12 +91,12 @@ planted_loop() { # what, file, edit, algorithm
 # be there too.
 said() {
     "$WATHREAD" show "$work/m.wasm" "$work/r" --text |
-        sed -E '/: seen == 42$/d; s/^[0-9]+ +//; s/0x[0-9a-f]+/x/; s/, and t0 may still read 0//; / is [0-9]*$/d'
+        sed -E '/: seen == 42$/d; s/^[0-9]+ +//; s/address [0-9]+/x/; s/, and t0 may still read 0//; / is [0-9]*$/d'
 }
 
 # What t2 has to say of a program of tests/orders/accesses, NAME being how its file is called there.
 wanted() { # program, name
-    local unknown="isn't known with it" late='and nothing orders that before this'
+    local unknown="isn't known with it" late='and nothing orders that before this' since='nothing orders what t1 did since'
     case $1 in
     mp_stale) cat <<END ;;
 $2:12 reads ready = 1, which t1 wrote at $2:8 without release: what t1 did before $unknown
@@ -113,7 +113,24 @@ $2:13 reads done = -1, which t1 wrote at $2:8 without release: what t1 did befor
  it is
 data race: $2:14 writes box.in.data[1], which t1 reads or read, $late
 END
-    freed) echo "use after free: $2:13 touches x, in a block that was freed" ;;
+    fenced) cat <<END ;;
+$2:13 reads ready = 1, which t1 wrote at $2:9 without release: $since its release fence at $2:7 before that store
+data race: $2:14 reads since, which t1 wrote at $2:8, $late
+END
+    fenced_old) cat <<END ;;
+$2:13 reads ready = 1 without acquire, which t1 wrote at $2:9 without release: what t1 did before is known only behind an \
+acquire fence, and $since its release fence at $2:7 before that store
+$2:15 reads data = 0, which is old: t1 wrote 42 at $2:8, $late
+data is 42, and t2 may still read 0
+END
+    views) cat <<END ;;
+$2:13 reads ready = 1, which t1 wrote at $2:9 without release: what t1 did before $unknown
+data is 42, and t2 may still read 0
+$2:15 reads data = 0, which is old: t1 wrote 42 at $2:8, $late
+data is 42, and t2 may still read 0
+END
+    freed) echo "use after free: $2:13 touches x, in a block that t1 freed at $2:7" ;;
+    freed_row) echo "use after free: $2:18 touches x, in a block that t3 freed at $2:12" ;;
     mixed) echo "mixed sizes: $2:9 touches both.half by an atomic access of another size than before, or not aligned:" \
         "C has none" ;;
     esac | sed 's/^/t2 says: /'
@@ -139,6 +156,33 @@ told() { # the same as a row of the table
     say "$1" "${3:-}" "what is said" "$got"
 }
 
+# Whether in no run of a program, of which all are right, it's said that what is known with a value isn't all.
+quiet() { # the compiler's folder, a program
+    local run
+    build "$1" -O1 "$here/tests/orders/accesses/$2.c"
+    for run in {1..20}; do
+        "$WATHREAD" search "$work/m.wasm" --invoke main --from $run --runs 1 --find 'thread 0: ok' --limit 60000 \
+            --record "$work/r" >"$work/out"
+        grep -q '^found in run' "$work/out" || return
+        ! "$WATHREAD" show "$work/m.wasm" "$work/r" --text |
+            grep -E "isn't known with it|acquire fence|release fence" || return
+    done
+}
+
+quietly() { # the same as a row of the table
+    local got="as wanted"
+    quiet "$here" "$1" >/dev/null || { wrong=1 && got=WRONG; }
+    say "$1" "" "nothing is said of news" "$got"
+}
+
+# It has to make something be said in one of these runs.
+planted_quiet() { # what, file, edit, program
+    plant "$@" || return
+    local out="words of $4"
+    ! quiet "$work/c" "$4" >/dev/null || { wrong=1 && out='NOT FOUND'; }
+    say "planted" "" "$1" "$out"
+}
+
 # It has to change what is said of a program.
 planted_said() { # what, file, edit, program
     plant "$@" || return
@@ -149,14 +193,20 @@ planted_said() { # what, file, edit, program
 
 all_told() {
     local name
-    for name in mp_stale unacquired unreleased freed mixed futex; do
+    for name in mp_stale unacquired unreleased fenced fenced_old views freed freed_row mixed futex; do
         told $name $name.c
     done
+    quietly fenced_ok
     told mp_stale mp_stale.c -g0
     told unacquired 'an "odd" n\äme.c'
     planted_said "another thread is told" orders_says.h 's/\(thread_self\(\) \+ 1\)/(thread_self() + 2)/' unacquired
     planted_said "another place is told" orders_plain.h 's/^        set_site\(access >> 40\);/        ;/' unreleased
     planted_said "it's said where nothing lacks" orders.c 's/^    if \(!ORDERS_NEWS .*/    if (!by)/' futex
+    planted_said "all is known behind a fence" orders.c 's/since = has_more\(.*\);/since = 0;/' fenced
+    planted_quiet "nothing is known behind a fence" orders.c 's/^( +)if \(join\(word, all\) != word\)$/\1if (all)/;
+        s/since = has_more\(.*\);/since = 1;/' fenced_ok
+    planted_quiet "a place's own message counts" orders.c 's/\|\| \(i >= l && i < l \+ cells_of\(l\)\)/|| 0/' fenced_ok
+    planted_quiet "what nobody wrote counts" orders.c 's/\(lacks \&\& orders.wrote\[i\]\)/lacks/' fenced_ok
     planted_said "a line isn't ended" orders_says.h 's/^static void begin_line.*/static void begin_line(void) {}/' unreleased
 }
 
