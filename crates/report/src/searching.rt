@@ -229,21 +229,19 @@ fn orders_met<'a, R: Threads + Sync, F: Hears>(
     call: SearchedCall<'a>,
     orders: &Orders<R>,
     follower: &mut F,
-) -> Result<OrdersMet<'a>, Trouble>
+) -> Result<(WholeSearch, Raced<'a, 'a>), Trouble>
     ensures whole { IfOk result
-        (λ met. IsWhole call.entry.request.now call.entry.search.now call.entry.allowed met.whole) }
+        (λ met. IsWhole call.entry.request.now call.entry.search.now call.entry.allowed met.0) }
     ensures raced { IfOk result
-        (λ met. IsRacedOf call.entry.request.now call.entry.search.now call.entry.allowed met.whole.racing met.raced) }
-    ensures most { IfOk result (λ met. met.most ≡ orders.now.most) }
+        (λ met. IsRacedOf call.entry.request.now call.entry.search.now call.entry.allowed met.0.racing met.1) }
 {
     let Orders { hands, most } = orders;
-    let most = *most;
-    let look = first_look(alloc, call, hands, most, follower)?;
+    let look = first_look(alloc, call, hands, *most, follower)?;
     follower.end();
     let raced = raced_of(alloc, call, &look)?;
-    let whole = whole_of(alloc, call, most, look, follower)?;
+    let whole = whole_of(alloc, call, *most, look, follower)?;
     follower.end();
-    Ok(OrdersMet { whole, raced, most })
+    Ok((whole, raced))
 }
 
 /// Whether a search with this verdict settled all.
@@ -271,19 +269,27 @@ fn settled_orders<T: Teller, R: Threads + Sync, W: Write, E, S: Write, F: Hears>
     requires every_order { call.search.now.all ≡ Some orders.now.most }
     ensures settled { IfOk result (λ o. IfSome o (λ done. IsSettledOn W.contents S.contents orders.now.most
         call.entry.request.now.parts call.entry.search.now call.entry.allowed streams.old streams.new done.status)) }
-    ensures unsettled { IfOk result (λ o. o ≡ None → streams.new ≡ streams.old) }
+    ensures unsettled { IfOk result (λ o. o ≡ None
+        → (W.contents streams.new.out ≡ W.contents streams.old.out) × (S.contents streams.new.save ≡ S.contents streams.old.save)) }
     ensures others { LeavesOthers call.entry.search.now streams.old streams.new }
     ensures trouble { IfErr result IsOfSystem }
 {
-    let Ok(met) = orders_met(alloc, call, orders, follower) else {
-        return Ok(None);
+    let found = match orders_met(alloc, call, orders, follower) {
+        Ok(found) => found,
+        Err(_) => return Ok(None),
     };
-    if !settles(met.whole.all.verdict) {
-        return Ok(None);
+    let (whole, raced) = found;
+    if settles(whole.all.verdict) {
+        let met = OrdersMet {
+            whole,
+            raced,
+            most: orders.most,
+        };
+        tell_race(alloc, teller, call, &met.raced, streams)?;
+        let done = tell_orders(alloc, teller, call, &met, streams, follower)?;
+        return Ok(Some(done));
     }
-    tell_race(alloc, teller, call, &met.raced, streams)?;
-    let done = tell_orders(alloc, teller, call, &met, streams, follower)?;
-    Ok(Some(done))
+    Ok(None)
 }
 
 /// Whether the search was told to end.
@@ -490,14 +496,16 @@ fn search_first<T: Teller, R: Threads + Sync, W: Write, E, S: Write, F: Hears>(
     ensures others { LeavesOthers call.entry.search.now streams.old streams.new }
     ensures trouble { IfErr result IsOfSystem }
 {
-    if let Some(done) = settled_orders(alloc, teller, call, orders, streams, follower)? {
-        return Ok(done);
+    match settled_orders(alloc, teller, call, orders, streams, follower)? {
+        Some(done) => Ok(done),
+        None => {
+            let done = search_drawn(alloc, teller, call, &orders.hands, streams, follower)?;
+            Ok(Done {
+                is_unsettled: true,
+                ..done
+            })
+        }
     }
-    let done = search_drawn(alloc, teller, call, &orders.hands, streams, follower)?;
-    Ok(Done {
-        is_unsettled: true,
-        ..done
-    })
 }
 
 /// Searches through runs of a call that can be made: through every order of entries, or through drawn runs, or through
