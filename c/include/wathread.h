@@ -40,6 +40,14 @@ int thread_self(void);
 #define say_views() __wathread_views()
 void __wathread_views(void);
 
+/* Any number from LOW to HIGH, both included: what the environment may do. A search with --all goes through all of them, and a
+   drawn run takes any. It may be called by any thread. */
+int nondet(int low, int high);
+
+/* Where the condition is false, the run doesn't count: `main` is done, with 0 for its answer, and nothing of atexit is called.
+   That is for `main` as long as no other thread is there: elsewhere it's a trap, in assume_beside_other_threads. */
+void assume(int condition);
+
 /* In front of a function: it can be called by this name, as `--invoke NAME`, beside `main` or in its place. */
 #define EXPORT(name) __attribute__((export_name(name)))
 WATHREAD_END

@@ -22,7 +22,7 @@ EXCHANGE = re.compile(rf'(  %{NAME} = cmpxchg (?:weak )?(?:volatile )?)(.*)')
 MASKS = {'i8': 255, 'i16': 65535}
 WEAK = re.compile(rf'  (%{NAME}) = cmpxchg weak (.*)')
 NORETURN = re.compile(r'(attributes #\d+ = \{.*?) noreturn\b')
-LEAVERS = {'exit', '_exit', '_Exit', 'quick_exit', 'pthread_exit', 'thrd_exit'}
+LEAVERS = {'exit', '_exit', '_Exit', 'quick_exit', 'pthread_exit', 'thrd_exit', 'assume'}
 CALL_BACK = {'pthread_once', 'qsort', 'bsearch'}        # of the library, which call what they are given
 
 

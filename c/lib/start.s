@@ -146,6 +146,30 @@ __wathread_result:
 	global.get	thread_result
 	end_function
 
+# Where the program asks for one of these, wathread-cc finds `__wathread_asks` in what it linked, and links once more, with
+# choices.c. The first time lines that begin so are code.
+#first	.section	.text.__wathread_asks,"",@
+#first	.type	__wathread_asks,@function
+#first__wathread_asks:
+#first	.functype	__wathread_asks () -> ()
+#first	unreachable
+#first	end_function
+#first	.section	.text.nondet,"",@
+#first	.weak	nondet
+#first	.type	nondet,@function
+#firstnondet:
+#first	.functype	nondet (i32, i32) -> (i32)
+#first	call	__wathread_asks
+#first	unreachable
+#first	end_function
+#first	.section	.text.assume,"",@
+#first	.weak	assume
+#first	.type	assume,@function
+#firstassume:
+#first	.functype	assume (i32) -> ()
+#first	call	__wathread_asks
+#first	end_function
+
 # What -finstrument-function-entry-bare calls in each function once that has its frame: a trap where the stack is too
 # small. It makes no event, and costs six units. In traces it is called `stack_overflow`. With --orders c11 the line that
 # begins so is code.

@@ -67,10 +67,10 @@ static void call_at_end(void) {
         at_its_end();
     __wathread_result();
     test_null();
+    asks_no_more();
 }
 
 /* ---- main ---- */
-
 #ifdef SPURIOUS
 static void change_luck(int unused);
 #endif
@@ -93,7 +93,7 @@ static void forget_threads(void) {
 EXPORT("main") int __wathread_main(void) {
     static char *none;
     forget_threads();
-    orders_main();
+    main_begins();
     __wasm_call_ctors();
 #ifdef SPURIOUS
     orders_detached(thread_spawn(change_luck, 0));
@@ -165,7 +165,7 @@ static int start(enum type type, void *function, void *arg) {
     if (place > __wathread_most())
         return start_anew(word);
     starts[place] = word;
-    return __wathread_spawn(place);
+    return spawn(place);
 }
 #endif
 
@@ -209,7 +209,7 @@ static __attribute__((noinline)) void __wathread_call_often(int thread, uint64_t
 }
 
 /* Where a thread begins (start.s). */
-void __wathread_begin(int thread, int place) {
+void BEGIN_AT(int thread, int place) {
     if (stays(thread))
         __wathread_call_often(thread, starts[place]);
     else

@@ -25,6 +25,7 @@
 /* With --orders c11 locks are simulated as the program is (simulate.py), and what is marked so stays as it is: nobody else
    sees what it touches, or it tells the runtime itself. */
 #include "orders.h"
+#include "choices.h"
 #ifdef ORDERS
 #pragma clang attribute push(__attribute__((disable_sanitizer_instrumentation)), apply_to = function)
 #endif
@@ -43,6 +44,7 @@
 #include "bytes.c"
 #include "numbers.c"
 #include "text.c"
+#include "choices.c"
 #ifdef ORDERS
 #pragma clang attribute pop
 #endif
