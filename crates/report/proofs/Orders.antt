@@ -72,6 +72,7 @@ module _ (q : Requested) (s : Search) (may : Allowed) (asked : IsAskedBy s.call 
     }
 
     gone : Settling (change before after) (change a c)
+    unfolding tells
     gone = (
       record { finds = finds; well = well_by q s may asked w whole status rest.status_is; tells = tells },
       ap (λ (x : WholeSearch). settles x.all.verdict) rest.whole_is,

@@ -7,14 +7,14 @@ use Rattle.report.proofs.searching.settled_orders.Goals as goal
 
 pub tell_race-requires : goal.tell_race-requires
 tell_race-requires g c =
-    (search rules, can_tell c.args.call.request.now c.args.call.search.now c.args.call.allowed _ c.in-Ok.found.1 c.in-Ok.ensures.raced)
+    can_tell c.args.call.request.now c.args.call.search.now c.args.call.allowed _ c.in-Ok.found.1 c.in-Ok.ensures.raced
 
 pub tell_orders-requires : goal.tell_orders-requires
 tell_orders-requires g c =
     (search rules, can_tell c.args.call.request.now c.args.call.search.now c.args.call.allowed _ c.in-Ok.found.1 c.in-Ok.ensures.raced)
 
-pub returns-clause-settled : goal.returns-clause-settled
-returns-clause-settled g c =
+pub returns-then-settles-clause-settled : goal.returns-then-settles-clause-settled
+returns-then-settles-clause-settled g c =
     let q = c.args.call.request.now in
     let s = c.args.call.search.now in
     let may = c.args.call.allowed in
@@ -33,15 +33,15 @@ returns-clause-settled g c =
     is_raced c.in_ok-tell_race.ensures.kept (c.in_ok-tell_race.ensures.tells (raced_in q s may _ c.in-Ok.found.1 is_raced)) in
     (pair.0, pair.1 ∙ (sym c.settles.ensures ∙ c.if-settles.true))
 
-pub returns-clause-others : goal.returns-clause-others
-returns-clause-others g c = (
+pub returns-then-settles-clause-others : goal.returns-then-settles-clause-others
+returns-then-settles-clause-others g c = (
   (λ none. c.tell_orders.ensures.others.0 none ∙ c.tell_race.ensures.others.0 none),
   c.tell_orders.ensures.others.1 ∙ c.tell_race.ensures.others.1,
   c.tell_orders.ensures.others.2 ∙ c.tell_race.ensures.others.2,
 )
 
-pub returns-in_err-tell_orders-clause-others : goal.returns-in_err-tell_orders-clause-others
-returns-in_err-tell_orders-clause-others g c = (
+pub returns-in_err-done-clause-others : goal.returns-in_err-done-clause-others
+returns-in_err-done-clause-others g c = (
   (λ none. c.tell_orders.ensures.others.0 none ∙ c.tell_race.ensures.others.0 none),
   c.tell_orders.ensures.others.1 ∙ c.tell_race.ensures.others.1,
   c.tell_orders.ensures.others.2 ∙ c.tell_race.ensures.others.2,
