@@ -31,6 +31,7 @@
 mod accesses;
 mod ahead;
 mod alone;
+mod known;
 mod laws;
 mod met;
 mod next;

@@ -59,6 +59,9 @@ module _ {G H : Type 0} (still : G → H → ℕ → Type 0) (alone : G → H �
     so = turn-stays t u grows is.shared_is is.thread_is known.n known.turn is.so;
   }
 
+  pub known-none : (t : StateParts G H) (ks : List (Option Known)) → ks ≡ [] → AreKnownBy still alone t ks
+  known-none t ks none slot known at = absurd (none-some (Some known) (ap (λ l. slice_get l slot) (sym none) ∙ at))
+
   -- what is known stays so
   pub known-stays : (t u : StateParts G H) → Grows t u → (ks : List (Option Known)) → AreKnownBy still alone t ks → AreKnownBy still alone u ks
   known-stays t u grows ks so slot known at = right-stays t u grows known (so slot known at)
