@@ -58,7 +58,7 @@ held-self eq_shared laws x =
 module _ {X T E V A G H M : Type 0} (k : ThreadSystem X T E V A G H M) where
   pub turn-known : (t : StateParts (Held G) H) (of : TurnOf) (to : LeadsTo) → HasTurn k t of
       → ((g : Held G) (h : H) → slice_get t.shared.keys of.held ≡ Some g → slice_get t.threads.keys of.thread ≡ Some h
-          → IsTurnBy Stills (GoesOnAlone k) t g h of.n (Alone to.held to.thread))
+      → IsTurnBy Stills (GoesOnAlone k) t g h of.n (Alone to.held to.thread))
       → IsTurnOf k t t of to
   turn-known t of to has so =
       let is = so has.held_is has.thread_is has.held_at has.thread_at in
