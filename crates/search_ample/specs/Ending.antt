@@ -6,6 +6,10 @@ use Rattle.search_ample.specs.Systems.{System, IsOver, Runs}
 use Rattle.search_ample.specs.Explored.{Explored, Meaning}
 use Rattle.search_ample.specs.Found.{IsRun}
 
+-- Explored moves lead to a marked state from all that they lead to.
+abbrev pub CanAllEnd : Explored → List Bool → ℕ → Type 0
+CanAllEnd e ended i = (j : ℕ) → Reaches (Steps e.moves) i j → CanEnd e.moves ended j
+
 module _ {S A : Type 0} (k : System S A) (m : Meaning S A) (e : Explored) where
   -- Some run leads from there to where nobody can go on.
   pub record ComesToEnd (z : S) : Type 0 where
@@ -27,4 +31,4 @@ module _ {S A : Type 0} (k : System S A) (m : Meaning S A) (e : Explored) where
 
   abbrev pub AllComeToEnds : Type 0
   AllComeToEnds = (ended : List Bool) → MarkEnds ended → (i : ℕ) (s : S) (ns : List ℕ) (z : S) → IsRun k m e i s ns z
-      → ((j : ℕ) → Reaches (Steps e.moves) i j → CanEnd e.moves ended j) → ComesToEnd z
+      → CanAllEnd e ended i → ComesToEnd z

@@ -82,8 +82,8 @@ module _ {S A : Type 0} (k : System S A) (m : Meaning S A) (e : Explored) where
       → (n : ℕ) (a : A) → k.wants z n a → CanGo k z n
 
 -- It is so of whatever was explored of a system whose steps are independent; and where the check of the guess passes.
-abbrev pub WhereExplored : {S A : Type 0} → System S A → Meaning S A → (Explored → Type 0) → Type 0
-WhereExplored k m P = (e : Explored) → AreIndependent k → IsExploredOf k m e → P e
+abbrev pub WhereExplored : {S A : Type 0} → (System S A → Meaning S A → Explored → Type 0) → System S A → Meaning S A → Type 0
+WhereExplored P k m = (e : Explored) → AreIndependent k → IsExploredOf k m e → P k m e
 
-abbrev pub WhereAmple : {S A : Type 0} → System S A → Meaning S A → (Explored → Type 0) → Type 0
-WhereAmple k m P = WhereExplored k m (λ e. IsAmple e → P e)
+abbrev pub WhereAmple : {S A : Type 0} → (System S A → Meaning S A → Explored → Type 0) → System S A → Meaning S A → Type 0
+WhereAmple P = WhereExplored (λ k m e. IsAmple e → P k m e)

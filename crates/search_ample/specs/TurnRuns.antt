@@ -1,12 +1,10 @@
 -- What is found of all runs of turns, where only steps were explored, and only of some threads.
 use Rattle.std.specs.Prelude.{◌≡◌, ◌≢◌, ℕ, Bool, true, Some, None, List, [], ◌∷◌}
-use Rattle.search_graph.specs.Paths.{Reaches}
-use Rattle.search_graph.specs.Graph.{Steps, CanEnd}
 use Rattle.search_ample.specs.Systems.{CanGo}
 use Rattle.search_ample.specs.Explored.{Explored, Meaning, IsExploredOf}
 use Rattle.search_ample.specs.Ample.{IsAmple}
 use Rattle.search_ample.specs.Found.{IsFound, WantIsFound, BothAreFound}
-use Rattle.search_ample.specs.Ending.{MarkEnds}
+use Rattle.search_ample.specs.Ending.{MarkEnds, CanAllEnd}
 use Rattle.search_ample.specs.Turns.{TurnSystem, ComesToWant, steps_of, AreTurns}
 
 module _ {S A : Type 0} (t : TurnSystem S A) where
@@ -73,10 +71,10 @@ module _ {S A : Type 0} (t : TurnSystem S A) where
 
     abbrev pub AllComeToStop : Type 0
     AllComeToStop = AllStepThere → (ended : List Bool) → MarkEnds (steps_of t) m e ended
-        → (i : ℕ) (s : S) (ns : List ℕ) (z : S) → IsTurnRun i s ns z → ((j : ℕ) → Reaches (Steps e.moves) i j → CanEnd e.moves ended j) → ComesToStop z
+        → (i : ℕ) (s : S) (ns : List ℕ) (z : S) → IsTurnRun i s ns z → CanAllEnd e ended i → ComesToStop z
 
 -- It is so of whatever was explored of the steps of threads whose turns keep the laws, where the check of the guess
 -- passes and none race.
-abbrev pub WhereNoneRace : {S A : Type 0} → TurnSystem S A → Meaning S A → (Explored → Type 0) → Type 0
-WhereNoneRace t m P = (e : Explored) → AreTurns t → IsExploredOf (steps_of t) m e → IsAmple e → NoneRaceThere t m e
-    → P e
+abbrev pub WhereNoneRace : {S A : Type 0} → (TurnSystem S A → Meaning S A → Explored → Type 0) → TurnSystem S A → Meaning S A → Type 0
+WhereNoneRace P t m = (e : Explored) → AreTurns t → IsExploredOf (steps_of t) m e → IsAmple e → NoneRaceThere t m e
+    → P t m e

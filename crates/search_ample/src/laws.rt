@@ -25,7 +25,7 @@ ghost use Rattle.search_ample.specs.TurnRuns.{
 };
 
 /// Threads that make steps, and what stands for their states.
-pub trait Threads {
+pub trait SteppingThreads {
     ghost World: { Type 0 };
 
     /// What a step does.
@@ -41,36 +41,26 @@ pub trait Threads {
 /// in their footprints, in all runs; each end is found, and all that a thread wants, and each two wants that
 /// conflict, both at once; each run can go on to what is found; and a thread that wants something can go on, in all
 /// runs, if it can wherever was explored.
-pub fn it_is_enough_that_some_go_on<T: Threads>(threads: &T)
-    ensures footprints { WhereAmple (T.system threads.now) (T.meaning threads.now)
-        (FootprintsHold (T.system threads.now) (T.meaning threads.now)) }
-    ensures ends { WhereAmple (T.system threads.now) (T.meaning threads.now)
-        (EndsAreFound (T.system threads.now) (T.meaning threads.now)) }
-    ensures wants { WhereAmple (T.system threads.now) (T.meaning threads.now)
-        (WantsAreFound (T.system threads.now) (T.meaning threads.now)) }
-    ensures conflicts { WhereAmple (T.system threads.now) (T.meaning threads.now)
-        (ConflictsAreFound (T.system threads.now) (T.meaning threads.now)) }
-    ensures back { WhereAmple (T.system threads.now) (T.meaning threads.now)
-        (AllComeBack (T.system threads.now) (T.meaning threads.now)) }
-    ensures can { WhereAmple (T.system threads.now) (T.meaning threads.now)
-        (AllCanGoOn (T.system threads.now) (T.meaning threads.now)) }
+pub fn it_is_enough_that_some_go_on<T: SteppingThreads>(threads: &T)
+    ensures footprints { WhereAmple FootprintsHold (T.system threads.now) (T.meaning threads.now) }
+    ensures ends { WhereAmple EndsAreFound (T.system threads.now) (T.meaning threads.now) }
+    ensures wants { WhereAmple WantsAreFound (T.system threads.now) (T.meaning threads.now) }
+    ensures conflicts { WhereAmple ConflictsAreFound (T.system threads.now) (T.meaning threads.now) }
+    ensures back { WhereAmple AllComeBack (T.system threads.now) (T.meaning threads.now) }
+    ensures can { WhereAmple AllCanGoOn (T.system threads.now) (T.meaning threads.now) }
 {}
 
 /// There, what was explored tells whether threads can come to an end.
-pub fn ends_are_told<T: Threads>(threads: &T)
-    ensures exact { WhereAmple (T.system threads.now) (T.meaning threads.now)
-        (EndsAreExact (T.system threads.now) (T.meaning threads.now)) }
-    ensures all { WhereAmple (T.system threads.now) (T.meaning threads.now)
-        (AllComeToEnds (T.system threads.now) (T.meaning threads.now)) }
+pub fn ends_are_told<T: SteppingThreads>(threads: &T)
+    ensures exact { WhereAmple EndsAreExact (T.system threads.now) (T.meaning threads.now) }
+    ensures all { WhereAmple AllComeToEnds (T.system threads.now) (T.meaning threads.now) }
 {}
 
 /// There, no fair run goes on for ever where each fair run of what was explored ends. And one of what was explored,
 /// fair to all threads that can go on, is one of the threads.
-pub fn fair_runs_are_told<T: Threads>(threads: &T)
-    ensures none { WhereAmple (T.system threads.now) (T.meaning threads.now)
-        (NoFairRunGoesOn (T.system threads.now) (T.meaning threads.now)) }
-    ensures made { WhereExplored (T.system threads.now) (T.meaning threads.now)
-        (FairRunsAreMade (T.system threads.now) (T.meaning threads.now)) }
+pub fn fair_runs_are_told<T: SteppingThreads>(threads: &T)
+    ensures none { WhereAmple NoFairRunGoesOn (T.system threads.now) (T.meaning threads.now) }
+    ensures made { WhereExplored FairRunsAreMade (T.system threads.now) (T.meaning threads.now) }
 {}
 
 /// Threads that make turns, one access at a time, of which some are plain; and what stands for their states.
@@ -96,16 +86,10 @@ pub fn steps_are_independent<T: TurningThreads>(threads: &T)
 /// can make a turn comes to an event, if it does wherever was explored; and then each run can still end, where that is
 /// so of all that was explored.
 pub fn runs_of_turns_are_told<T: TurningThreads>(threads: &T)
-    ensures ends { WhereNoneRace (T.system threads.now) (T.meaning threads.now)
-        (TurnEndsAreFound (T.system threads.now) (T.meaning threads.now)) }
-    ensures wants { WhereNoneRace (T.system threads.now) (T.meaning threads.now)
-        (TurnWantsAreFound (T.system threads.now) (T.meaning threads.now)) }
-    ensures conflicts { WhereNoneRace (T.system threads.now) (T.meaning threads.now)
-        (TurnConflictsAreFound (T.system threads.now) (T.meaning threads.now)) }
-    ensures races { WhereNoneRace (T.system threads.now) (T.meaning threads.now)
-        (NoTurnsRace (T.system threads.now) (T.meaning threads.now)) }
-    ensures steps { WhereNoneRace (T.system threads.now) (T.meaning threads.now)
-        (AllStep (T.system threads.now) (T.meaning threads.now)) }
-    ensures stop { WhereNoneRace (T.system threads.now) (T.meaning threads.now)
-        (AllComeToStop (T.system threads.now) (T.meaning threads.now)) }
+    ensures ends { WhereNoneRace TurnEndsAreFound (T.system threads.now) (T.meaning threads.now) }
+    ensures wants { WhereNoneRace TurnWantsAreFound (T.system threads.now) (T.meaning threads.now) }
+    ensures conflicts { WhereNoneRace TurnConflictsAreFound (T.system threads.now) (T.meaning threads.now) }
+    ensures races { WhereNoneRace NoTurnsRace (T.system threads.now) (T.meaning threads.now) }
+    ensures steps { WhereNoneRace AllStep (T.system threads.now) (T.meaning threads.now) }
+    ensures stop { WhereNoneRace AllComeToStop (T.system threads.now) (T.meaning threads.now) }
 {}

@@ -1,5 +1,6 @@
-//! At a state it is enough if only some of the threads go on, where a check of them passes: nothing that is said of
-//! all runs is lost.
+//! At a state it is enough if only some of the threads go on (ample sets), where a check of them passes: nothing that
+//! is said of all runs is lost; no search uses it yet, and of no system is it shown yet that it keeps the laws that are
+//! asked of it.
 //!
 //! What a thread may still want from some state on is its *footprint*. Threads of a set go on alone at a state if
 //! nothing that they want conflicts with what is in another one's footprint: what the others do before one of them
@@ -38,6 +39,6 @@ mod rows;
 
 pub use certificate::{Certificate, Parts, Standing};
 pub use laws::{
-    Threads, TurningThreads, ends_are_told, fair_runs_are_told, it_is_enough_that_some_go_on,
-    runs_of_turns_are_told, steps_are_independent,
+    SteppingThreads, TurningThreads, ends_are_told, fair_runs_are_told,
+    it_is_enough_that_some_go_on, runs_of_turns_are_told, steps_are_independent,
 };

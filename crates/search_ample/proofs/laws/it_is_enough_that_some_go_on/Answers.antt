@@ -3,8 +3,8 @@ use Rattle.search_ample.proofs.laws.it_is_enough_that_some_go_on.Goals as goal
 
 pub returns : goal.returns
 returns g c =
-    let k = g.T.Threads.system c.args.threads.now in
-    let mean = g.T.Threads.meaning c.args.threads.now in
+    let k = g.T.SteppingThreads.system c.args.threads.now in
+    let mean = g.T.SteppingThreads.meaning c.args.threads.now in
     record {
       footprints = λ e laws x ok. footprints-hold k laws mean e x ok;
       ends = λ e laws x ok. ends-are-found k laws mean e x ok;
