@@ -1,5 +1,5 @@
 -- Files of source, by lines.
-use Rattle.std.specs.Prelude.{ℕ, ◌≡◌, ◌-◌, nat_le, if◌then◌else◌, Bool, List, [], map, find, Option, Some, None, option_and_then, string_bytes}
+use Rattle.std.specs.Prelude.{ℕ, ◌≡◌, ◌-◌, nat_le, if◌then◌else◌, Bool, List, map, find, Option, Some, None, option_and_then, string_bytes}
 use Rattle.std.specs.Borrow.{Bor}
 use Rattle.std.specs.List.{slice_get}
 use Rattle.std.specs.Str.{trim}

@@ -1,5 +1,8 @@
 //! The header of a unit (DWARF 5, section 6.2.4; DWARF 4, section 6.2.4).
 
+ghost use Rattle.std.specs.Prelude.{◌≤◌, All, length, IfOk};
+ghost use Rattle.dwarf_lines.specs.Names.{HasShortName};
+
 use crate::program::LineMachine;
 use crate::table::DebugSections;
 use dwarf_reader::{AttributeForm, AttributeValue, Cursor, DebugFault, string_at};
@@ -44,6 +47,12 @@ const DIRECTORY_INDEX: u64 = 2;
 
 /// The most bytes of a name that stands in another section.
 const MOST_NAME: usize = 1024;
+
+/// How many bytes a file's name has at most that is shown.
+pub const MOST_FILE_NAME: usize = 256;
+
+/// What a file is called whose name is longer.
+const LONG_NAME: &str = "(a name of over 256 bytes)";
 
 fn text_of(bytes: &[u8]) -> Result<&str, DebugFault> {
     std::str::from_utf8(bytes).map_err(|_| DebugFault::Unreadable)
@@ -150,12 +159,25 @@ fn add_table<'a>(
     Ok(())
 }
 
+/// What a file is called.
+fn shown_name(name: &str) -> &str
+    ensures { length result.now ≤ MOST_FILE_NAME }
+{
+    if name.len() <= MOST_FILE_NAME {
+        name
+    } else {
+        LONG_NAME
+    }
+}
+
 /// The files with the names of their directories.
 fn sources<'a>(
     alloc: Global,
     directories: &[FileEntry<'a>],
     files: &[FileEntry<'a>],
-) -> Result<Vec<Source<'a>>, DebugFault> {
+) -> Result<Vec<Source<'a>>, DebugFault>
+    ensures { IfOk result (λ sources. All HasShortName sources.items) }
+{
     let mut sources = Vec::new(alloc);
     for file in files {
         let number = usize::try_from(file.directory).unwrap_or(usize::MAX);
@@ -165,7 +187,7 @@ fn sources<'a>(
         };
         sources.push(Source {
             directory,
-            name: file.name,
+            name: shown_name(file.name),
         })?;
     }
     Ok(sources)
@@ -200,7 +222,9 @@ fn read_machine<'a>(cursor: &mut Cursor<'a>) -> Result<(LineMachine, &'a [u8]), 
 }
 
 /// The files of version 4. The directory 0 is that of the compilation, which stands elsewhere.
-fn read_files<'a>(alloc: Global, cursor: &mut Cursor<'a>) -> Result<Vec<Source<'a>>, DebugFault> {
+fn read_files<'a>(alloc: Global, cursor: &mut Cursor<'a>) -> Result<Vec<Source<'a>>, DebugFault>
+    ensures { IfOk result (λ sources. All HasShortName sources.items) }
+{
     let (mut directories, mut files) = (Vec::new(alloc), Vec::new(alloc));
     directories.push(FileEntry::default())?;
     add_table(&mut directories, cursor, false)?;
@@ -213,7 +237,9 @@ pub fn read_header<'a>(
     alloc: Global,
     unit: &mut Cursor<'a>,
     sections: DebugSections<'a>,
-) -> Result<LineHeader<'a>, DebugFault> {
+) -> Result<LineHeader<'a>, DebugFault>
+    ensures { IfOk result (λ header. All HasShortName header.files.items) }
+{
     let is_version_5 = match unit.read_number(2)? {
         4 => false,
         5 => true,

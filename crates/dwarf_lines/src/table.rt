@@ -2,6 +2,7 @@
 
 ghost use Rattle.std.specs.Prelude.{◌≡◌, ◌≤◌, ◌⊎◌, [], All, Contains, find, codes, vec_len, IfOk, OnOk};
 ghost use Rattle.dwarf_lines.specs.Lines.{holds, source_of, IsSourceIn};
+ghost use Rattle.dwarf_lines.specs.Names.{ComesOfShort};
 ghost use Rattle.dwarf_reader.specs.Sections.{IsCustomOrEmpty};
 
 use crate::header::Source;
@@ -116,7 +117,8 @@ pub fn read_lines<'a>(
     alloc: Global,
     sections: DebugSections<'a>,
 ) -> Result<LineTable<'a>, AllocError>
-    ensures { sections.entry.lines.now ≡ [] → IfOk result (λ table. table.ranges.items ≡ []) }
+    ensures none { sections.entry.lines.now ≡ [] → IfOk result (λ table. table.ranges.items ≡ []) }
+    ensures names { IfOk result (λ table. All ComesOfShort table.ranges.items) }
 {
     let mut ranges = Vec::new(alloc);
     if sections.lines.is_empty() {

@@ -1,5 +1,8 @@
 //! A unit: its header, and its program run to the end.
 
+ghost use Rattle.std.specs.Prelude.{All, IfSome, IfOk};
+ghost use Rattle.dwarf_lines.specs.Names.{ComesOfShort, HasShortName, StayShort};
+
 use crate::header::{LineHeader, read_header};
 use crate::program::{Emitted, LineRegisters};
 use crate::table::{DebugSections, Range};
@@ -7,8 +10,11 @@ use dwarf_reader::{Cursor, DebugFault};
 use std::alloc::Global;
 
 impl<'a> LineHeader<'a> {
-    /// The code from a row up to an address, where the row has a line.
-    fn range(&self, row: LineRegisters, end: u64) -> Option<Range<'a>> {
+    /// The code from a row up to an address, where there is a row and it has a line.
+    fn range(&self, row: Option<LineRegisters>, end: u64) -> Option<Range<'a>>
+        ensures { All HasShortName self.now.files.items → IfSome result ComesOfShort }
+    {
+        let row = row?;
         let number = usize::try_from(row.file.checked_sub(self.first_file)?).ok()?;
         let source = self.files.get(number)?;
         if row.line == 0 || row.address >= end {
@@ -24,7 +30,9 @@ impl<'a> LineHeader<'a> {
     }
 
     /// Runs the program. What it made before a fault stays.
-    fn run(&self, program: &'a [u8], ranges: &mut Vec<Range<'a>>) -> Result<(), DebugFault> {
+    fn run(&self, program: &'a [u8], ranges: &mut Vec<Range<'a>>) -> Result<(), DebugFault>
+        ensures { All HasShortName self.now.files.items → StayShort ranges.old.items ranges.new.items }
+    {
         let mut instructions = Cursor::new(program);
         let mut place = LineRegisters::START;
         let mut row: Option<LineRegisters> = None;
@@ -39,7 +47,7 @@ impl<'a> LineHeader<'a> {
             if made == Emitted::Nothing {
                 continue;
             }
-            if let Some(range) = row.and_then(|row| self.range(row, place.address)) {
+            if let Some(range) = self.range(row, place.address) {
                 ranges.push(range)?;
             }
             if made == Emitted::Row {
@@ -59,7 +67,9 @@ pub fn read_unit<'a>(
     cursor: &mut Cursor<'a>,
     sections: DebugSections<'a>,
     ranges: &mut Vec<Range<'a>>,
-) -> Result<(), DebugFault> {
+) -> Result<(), DebugFault>
+    ensures { StayShort ranges.old.items ranges.new.items }
+{
     let size = cursor.read_number(4)?;
     let mut unit = Cursor::new(cursor.read_bytes(size)?);
     match read_program(alloc, &mut unit, sections, ranges) {
@@ -73,7 +83,9 @@ fn read_program<'a>(
     unit: &mut Cursor<'a>,
     sections: DebugSections<'a>,
     ranges: &mut Vec<Range<'a>>,
-) -> Result<(), DebugFault> {
+) -> Result<(), DebugFault>
+    ensures { StayShort ranges.old.items ranges.new.items }
+{
     let header = read_header(alloc, unit, sections)?;
     let program = unit.read_bytes(unit.len() as u64)?;
     header.run(program, ranges)

@@ -1,5 +1,5 @@
 -- What is told of a search, put together of what was told before its end and there.
-use Rattle.std.proofs.Common.{ℕ, ◌≡◌, ◌∙◌, Bool, true, false, List, Option, Some, None, refl, sym, subst, true≢false}
+use Rattle.std.proofs.Common.{ℕ, ◌≡◌, ◌∙◌, ◌⊎◌, Bool, true, false, List, Option, Some, None, refl, sym, subst, true≢false}
 use Rattle.std.specs.Prelude.{IfOk, Result, Ok, Err}
 use Rattle.std.specs.Io.KnownBytes.{Appends}
 use Rattle.allowed_races.specs.declared.allowed.Allowed.{Allowed}
@@ -24,8 +24,8 @@ use Rattle.report.specs.declared.raced.KeptRace.{KeptRace}
 use Rattle.report.specs.Drawn.{coverage_of}
 use Rattle.report.specs.SearchObjects.{WritesAll, WritesKept, WritesRacy, WritesTable, none_of}
 use Rattle.report.specs.Telling.{EndsAll, EndsKept, EndsNone, EndsRacy, InLines, head_lines, was_told}
-use Rattle.report.specs.Searched.{IsSearched}
-use Rattle.report.specs.Searches.{Finds, IsWellAt}
+use Rattle.report.specs.Searched.{IsDrawn, IsGoneThrough, IsSearched, IsSearchedBy, IsSettled}
+use Rattle.report.specs.Searches.{Finds}
 use Rattle.report.specs.Rest.{RestIn}
 use Rattle.report.specs.Told.{AllIn, LastIn, NoneIn, RacyIn, TellsAll, TellsDrawn, TellsDrawnRaces}
 use Rattle.report.specs.declared.telling.ToldSearch.{ToldSearch}
@@ -43,33 +43,31 @@ all_made_by halts.Told unfound untold = absurd (true≢false untold)
 
 -- what comes of a search, of every order or of drawn runs
 module _ (m : Parts) (s : Search) (may : Allowed) (out save : WriterChange) (status : ℕ) where
-  pub orders_searched : (most : ℕ) → s.all ≡ Some most → Finds m s may save status → TellsAll m s may most out save status → IsWellAt m s may status
+  pub endings_drawn : s.races ≡ false → Finds m s may save status → TellsDrawn m s out save status → IsDrawn m s may out save status
+  endings_drawn raceless finds tells = record {
+    finds = finds;
+    races = λ is. absurd (true≢false (sym is ∙ raceless));
+    endings = λ _. tells;
+  }
+
+  pub races_drawn : s.races ≡ true → Finds m s may save status → TellsDrawnRaces m s may out save status → IsDrawn m s may out save status
+  races_drawn races finds tells = record {
+    finds = finds;
+    races = λ _. tells;
+    endings = λ is. absurd (true≢false (sym races ∙ is));
+  }
+
+  pub by_orders : (most : ℕ) → s.all ≡ Some most → s.first ≡ false → IsGoneThrough most m s may out save status → IsSearched m s may out save status
+  by_orders most all first gone = subst (λ (o : Option ℕ). IsSearchedBy o s.first m s may out save status) (sym all)
+      (subst (λ (is : Bool). IsSearchedBy (Some most) is m s may out save status) (sym first) gone)
+
+  pub by_first : (most : ℕ) → s.all ≡ Some most → s.first ≡ true → IsSettled most m s may out save status ⊎ IsDrawn m s may out save status
       → IsSearched m s may out save status
-  orders_searched most all finds tells well = record {
-    finds = finds;
-    well = well;
-    drawn = λ none. absurd cc;
-    drawn_races = λ none. absurd cc;
-    prints = λ n is. subst (λ (k : ℕ). TellsAll m s may k out save status) (cc (sym all ∙ is)) tells;
-  }
+  by_first most all first is = subst (λ (o : Option ℕ). IsSearchedBy o s.first m s may out save status) (sym all)
+      (subst (λ (is : Bool). IsSearchedBy (Some most) is m s may out save status) (sym first) is)
 
-  pub endings_searched : s.all ≡ None → s.races ≡ false → Finds m s may save status → TellsDrawn m s out save status → IsSearched m s may out save status
-  endings_searched none races finds tells = record {
-    finds = finds;
-    well = λ all. absurd cc;
-    drawn = λ _ _. tells;
-    drawn_races = λ _ is. absurd (true≢false (sym is ∙ races));
-    prints = λ n is. absurd (cc (sym none ∙ is));
-  }
-
-  pub races_searched : s.all ≡ None → s.races ≡ true → Finds m s may save status → TellsDrawnRaces m s may out save status → IsSearched m s may out save status
-  races_searched none races finds tells = record {
-    finds = finds;
-    well = λ all. absurd cc;
-    drawn = λ _ is. absurd (true≢false (sym races ∙ is));
-    drawn_races = λ _ _. tells;
-    prints = λ n is. absurd (cc (sym none ∙ is));
-  }
+  pub by_draws : s.all ≡ None → IsDrawn m s may out save status → IsSearched m s may out save status
+  by_draws none drawn = subst (λ (o : Option ℕ). IsSearchedBy o s.first m s may out save status) (sym none) drawn
 
 pub all_told : (form : Form) (m : Parts) (t : ToldSearch) (found : Option FoundRun) (a b c : Option (List ℕ))
     → InLines form (change a b) (SaysRaced m t.raced.now) → RestIn form m t found (change b c) → AllIn form m t found (change a c)

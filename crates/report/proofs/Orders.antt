@@ -6,10 +6,10 @@ use Rattle.spawn_host.specs.Requests.{Requested}
 use Rattle.report_command.specs.declared.form.Form.{Form}
 use Rattle.report_command.specs.declared.search.Search.{Search}
 use Rattle.report_jobs.specs.Asked.{IsAskedBy}
-use Rattle.report_jobs.specs.Prints.{change}
+use Rattle.report_jobs.specs.Prints.{WriterChange, change}
 use Rattle.report.specs.Racing.{IsRacedOf, IsWhole, KeepsRaced, SaysRaced, keeps_race}
 use Rattle.report.specs.Rest.{TellsRest}
-use Rattle.report.specs.Searched.{IsSearched}
+use Rattle.report.specs.Searched.{IsGoneThrough, settles}
 use Rattle.report.specs.Searches.{Finds}
 use Rattle.report.specs.Telling.{InLines}
 use Rattle.report.specs.Told.{AllIn, TellsAll}
@@ -18,7 +18,7 @@ use Rattle.report.specs.declared.searching.OrdersMet.{OrdersMet}
 use Rattle.report.specs.declared.telling.ToldSearch.{ToldSearch}
 use Rattle.report.specs.declared.whole.Racing.{Racing}
 use Rattle.report.specs.declared.whole.WholeSearch.{WholeSearch}
-use Rattle.report.proofs.AllTold.{all_told, orders_searched}
+use Rattle.report.proofs.AllTold.{all_told}
 use Rattle.report.proofs.Keeping.{found_kept, quiet_by}
 use Rattle.report.proofs.Pairs.{raced_in, raced_kept}
 use Rattle.report.proofs.Wholly.{finds_all, well_by}
@@ -34,6 +34,11 @@ module _ (q : Requested) (s : Search) (may : Allowed) (asked : IsAskedBy s.call 
 
   abbrev raced : Raced
   raced = t.raced.now
+
+  -- what comes of it, and whether that settles all
+  abbrev Settling : WriterChange → WriterChange → Type 0
+  Settling out save = (gone : IsGoneThrough met.most q.parts s may out save status)
+      × (settles gone.tells.told.whole.now.all.verdict ≡ settles met.whole.all.verdict)
 
   module _ (whole : IsWhole q s may w) (is_raced : IsRacedOf q s may w.racing raced) (keeps : KeepsRaced s raced (change a b))
       (told : InLines form (change before between) (SaysRaced q.parts raced)) where
@@ -66,17 +71,20 @@ module _ (q : Requested) (s : Search) (may : Allowed) (asked : IsAskedBy s.call 
       status_is = rest.status_is;
     }
 
-    searched_so : IsSearched q.parts s may (change before after) (change a c) status
-    searched_so = orders_searched q.parts s may (change before after) (change a c) status met.most every_order finds tells
-        (well_by q s may asked w whole status rest.status_is)
+    gone : Settling (change before after) (change a c)
+    unfolding tells
+    gone = (
+      record { finds = finds; well = well_by q s may asked w whole status rest.status_is; tells = tells },
+      ap (λ (x : WholeSearch). settles x.all.verdict) rest.whole_is,
+    )
 
-  pub searched_by : IsWhole q s may met.whole → (racing : Racing) → met.whole.racing ≡ racing → IsRacedOf q s may racing met.raced
+  pub gone_by : IsWhole q s may met.whole → (racing : Racing) → met.whole.racing ≡ racing → IsRacedOf q s may racing met.raced
       → KeepsRaced s met.raced (change a b) → InLines form (change before between) (SaysRaced q.parts met.raced)
-      → IsSearched q.parts s may (change before after) (change a c) status
-  searched_by whole racing racing_is is_raced keeps told =
+      → Settling (change before after) (change a c)
+  gone_by whole racing racing_is is_raced keeps told =
       let same : met.raced ≡ raced = sym rest.raced_is in
       let racing_same : racing ≡ w.racing = sym racing_is ∙ ap (λ (x : WholeSearch). x.racing) (sym rest.whole_is) in
-      searched_so (subst (IsWhole q s may) (sym rest.whole_is) whole)
+      gone (subst (IsWhole q s may) (sym rest.whole_is) whole)
       (subst (λ (r : Raced). IsRacedOf q s may w.racing r) same (subst (λ (x : Racing). IsRacedOf q s may x met.raced) racing_same is_raced))
       (subst (λ (r : Raced). KeepsRaced s r (change a b)) same keeps)
       (subst (λ (r : Raced). InLines form (change before between) (SaysRaced q.parts r)) same told)

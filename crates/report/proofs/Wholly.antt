@@ -12,7 +12,7 @@ use Rattle.report_jobs.specs.Asked.{IsAskedBy}
 use Rattle.report_jobs.specs.Prints.{change}
 use Rattle.report.specs.Prints.{IsStatusOf, stops_behind}
 use Rattle.report.specs.Racing.{IsAsked, IsKnownOf, IsWhole, allows, keeps_race}
-use Rattle.report.specs.Searches.{Finds, IsRaceKept, IsSureToEnd, IsWellAt, KeepsNoneOrRace}
+use Rattle.report.specs.Searches.{EndWell, Finds, IsRaceKept, IsSureToEnd, KeepsNoneOrRace}
 use Rattle.report.specs.declared.whole.Racing.{Racing}
 use Rattle.report.specs.declared.whole.Racing.TheVariants.{Unasked, Never, OnlyBehindTimeouts, Found, Unknown}
 use Rattle.report.specs.declared.whole.WholeSearch.{WholeSearch}
@@ -35,8 +35,8 @@ never_by q s may false Unknown known asked allowed never every = absurd (true≢
 
 -- what status 0 says
 pub well_by : (q : Requested) (s : Search) (may : Allowed) → IsAskedBy s.call q → (w : WholeSearch) → IsWhole q s may w → (status : ℕ)
-    → IsStatusOf s w status → IsWellAt q.parts s may status
-well_by q s may asked w whole status is all zero =
+    → IsStatusOf s w status → status ≡ 0 → EndWell q.parts s may
+well_by q s may asked w whole status is zero =
     let dump = s.sought.dump in
     let both = is.well.0 zero in
     let well = both.0 in

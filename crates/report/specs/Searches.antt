@@ -127,10 +127,6 @@ pub record EndWell (m : Parts) (s : Search) (a : Allowed) : Type 0 where
   pub sure : IsSureToEnd m s.call.invoke.now args s.sought.dump
   pub free : s.allow_races ≡ false → s.every_order ≡ false → NeverRaces m s.call.invoke.now args a
 
--- What status 0 says of a search through every order of entries.
-abbrev pub IsWellAt : Parts → Search → Allowed → ℕ → Type 0
-IsWellAt m s a status = is_some s.all ≡ true → status ≡ 0 → EndWell m s a
-
 -- Something was written behind what stood there.
 abbrev pub Grows : WriterChange → Type 0
 Grows out = (text : List ℕ) × Appends out.old out.new text

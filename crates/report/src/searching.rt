@@ -1,5 +1,5 @@
 //! Searches by the program: what comes of one is decided here, and told by `telling` in the form that is asked for.
-ghost use Rattle.std.specs.Prelude.{◌≡◌, ◌≤◌, IfOk, IfErr, None, Some, true, false, is_some};
+ghost use Rattle.std.specs.Prelude.{◌≡◌, ◌≤◌, IfOk, IfErr, IfSome, None, Some, true, false, is_some};
 ghost use Rattle.types.specs.declared.parts.Parts.{Parts};
 ghost use Rattle.report_command.specs.Searches.{IsSearchInRange};
 ghost use Rattle.report_jobs.specs.Asked.{IsAskedBy};
@@ -8,9 +8,9 @@ ghost use Rattle.report_jobs.specs.Silence.{Stays};
 ghost use Rattle.report_jobs.specs.Troubles.{IsTroubleOf};
 ghost use Rattle.report.specs.Drawn.{cut_in};
 ghost use Rattle.report.specs.Found.{KeepsFound};
-ghost use Rattle.report.specs.Racing.{CanTell, IsRacedIn, IsRacedOf, KeepsRaced, SaysRaced, keeps_race, racing_in};
+ghost use Rattle.report.specs.Racing.{CanTell, IsRacedIn, IsRacedOf, IsWhole, KeepsRaced, SaysRaced, keeps_race, racing_in};
 ghost use Rattle.report.specs.Rest.{TellsRestOn};
-ghost use Rattle.report.specs.Searched.{IsSearchedOn};
+ghost use Rattle.report.specs.Searched.{IsDrawnOn, IsGoneThroughOn, IsSearchedOn, IsSettledOn, settles};
 ghost use Rattle.report.specs.Searches.{IsOfSystem};
 ghost use Rattle.report.specs.Silent.{IfRefusedCall, LeavesOthers};
 ghost use Rattle.report.specs.Telling as specified;
@@ -34,6 +34,7 @@ use search_endings::Ending;
 use search_finds::{Crew, EndingTable, Halt, Hears, SearchResult, first_found, first_judged};
 use search_modules::Hands;
 use search_races::RaceJudge;
+use search_reach::Verdict;
 use std::alloc::Global;
 use std::io::Write;
 use std::thread::{self, Threads};
@@ -71,6 +72,30 @@ fn advised_of_table(table: &EndingTable) -> Advised {
     advised
 }
 
+/// Tells the race that a first look at all runs found, if it found one, and keeps the record of it, where one is wanted.
+fn tell_race<T: Teller, W: Write, E, S: Write>(
+    alloc: Global,
+    teller: &T,
+    call: SearchedCall,
+    raced: &Raced,
+    streams: &mut Streams<W, E, S>,
+) -> Result<(), Trouble>
+    requires { CanTell raced.now }
+    ensures tells { IsRacedIn call.entry.request.now.parts raced.now
+        → IfOk result (λ _. InLines T.form (changed W.contents streams.old.out streams.new.out)
+        (SaysRaced call.entry.request.now.parts raced.now)) }
+    ensures kept { IfOk result
+        (λ _. KeepsRaced call.entry.search.now raced.now (changed S.contents streams.old.save streams.new.save)) }
+    ensures unkept { keeps_race call.entry.search.now ≡ false → Stays streams.old.save streams.new.save }
+    ensures others { LeavesOthers call.entry.search.now streams.old streams.new }
+    ensures trouble { IfErr result IsOfSystem }
+{
+    let Streams { out, save, .. } = streams;
+    teller.tell(alloc, News::Race(raced), out)?;
+    keep_raced(call.search, raced, save)?;
+    Ok(())
+}
+
 /// The race that a first look at all runs found, if it found one, once it is told, and the record of it kept, where one is
 /// wanted.
 fn race_told<'a, T: Teller, W: Write, E, S: Write>(
@@ -90,10 +115,8 @@ fn race_told<'a, T: Teller, W: Write, E, S: Write>(
     ensures others { LeavesOthers call.entry.search.now streams.old streams.new }
     ensures trouble { IfErr result IsOfSystem }
 {
-    let Streams { out, save, .. } = streams;
     let raced = raced_of(alloc, call, look)?;
-    teller.tell(alloc, News::Race(&raced), out)?;
-    keep_raced(call.search, &raced, save)?;
+    tell_race(alloc, teller, call, &raced, streams)?;
     Ok(raced)
 }
 
@@ -166,6 +189,7 @@ fn tell_orders<T: Teller, W: Write, E, S: Write, F: Hears>(
         advised: advised_of(whole),
         is_bare: false,
         left_out: LeftOut::Nothing,
+        is_unsettled: false,
     })
 }
 
@@ -183,8 +207,8 @@ fn search_orders<T: Teller, R: Threads + Sync, W: Write, E, S: Write, F: Hears>(
     requires form { T.form ≡ call.search.now.form }
     requires asked { IsAskedBy call.search.now.call call.request.now }
     requires every_order { call.search.now.all ≡ Some orders.now.most }
-    ensures searched { IfOk result (λ done. IsSearchedOn W.contents S.contents call.entry.request.now.parts
-        call.entry.search.now call.entry.allowed streams.old streams.new done.status) }
+    ensures searched { IfOk result (λ done. IsGoneThroughOn W.contents S.contents orders.now.most
+        call.entry.request.now.parts call.entry.search.now call.entry.allowed streams.old streams.new done.status) }
     ensures others { LeavesOthers call.entry.search.now streams.old streams.new }
     ensures trouble { IfErr result IsOfSystem }
 {
@@ -197,6 +221,75 @@ fn search_orders<T: Teller, R: Threads + Sync, W: Write, E, S: Write, F: Hears>(
     follower.end();
     let met = OrdersMet { whole, raced, most };
     tell_orders(alloc, teller, call, &met, streams, follower)
+}
+
+/// What all runs of a call come to, and what is to be told of a race, before anything is.
+fn orders_met<'a, R: Threads + Sync, F: Hears>(
+    alloc: Global,
+    call: SearchedCall<'a>,
+    orders: &Orders<R>,
+    follower: &mut F,
+) -> Result<(WholeSearch, Raced<'a, 'a>), Trouble>
+    ensures whole { IfOk result
+        (λ met. IsWhole call.entry.request.now call.entry.search.now call.entry.allowed met.0) }
+    ensures raced { IfOk result
+        (λ met. IsRacedOf call.entry.request.now call.entry.search.now call.entry.allowed met.0.racing met.1) }
+{
+    let Orders { hands, most } = orders;
+    let look = first_look(alloc, call, hands, *most, follower)?;
+    follower.end();
+    let raced = raced_of(alloc, call, &look)?;
+    let whole = whole_of(alloc, call, *most, look, follower)?;
+    follower.end();
+    Ok((whole, raced))
+}
+
+/// Whether a search with this verdict settled all.
+fn settles(verdict: Verdict) -> bool
+    ensures { result ≡ settles verdict }
+{
+    match verdict {
+        Verdict::All | Verdict::Sought => true,
+        Verdict::TooMany | Verdict::CannotTell | Verdict::Told => false,
+    }
+}
+
+/// Goes through all runs of a call as `search_orders` does, and tells what that comes to where it settles all. Answers
+/// the status; none where it doesn't, or where memory was refused before anything was told.
+fn settled_orders<T: Teller, R: Threads + Sync, W: Write, E, S: Write, F: Hears>(
+    alloc: Global,
+    teller: &T,
+    call: SearchedCall,
+    orders: &Orders<R>,
+    streams: &mut Streams<W, E, S>,
+    follower: &mut F,
+) -> Result<Option<Done>, Trouble>
+    requires form { T.form ≡ call.search.now.form }
+    requires asked { IsAskedBy call.search.now.call call.request.now }
+    requires every_order { call.search.now.all ≡ Some orders.now.most }
+    ensures settled { IfOk result (λ o. IfSome o (λ done. IsSettledOn W.contents S.contents orders.now.most
+        call.entry.request.now.parts call.entry.search.now call.entry.allowed streams.old streams.new done.status)) }
+    ensures unsettled { IfOk result (λ o. o ≡ None
+        → (W.contents streams.new.out ≡ W.contents streams.old.out) × (S.contents streams.new.save ≡ S.contents streams.old.save)) }
+    ensures others { LeavesOthers call.entry.search.now streams.old streams.new }
+    ensures trouble { IfErr result IsOfSystem }
+{
+    let found = match orders_met(alloc, call, orders, follower) {
+        Ok(found) => found,
+        Err(_) => return Ok(None),
+    };
+    let (whole, raced) = found;
+    if settles(whole.all.verdict) {
+        let met = OrdersMet {
+            whole,
+            raced,
+            most: orders.most,
+        };
+        tell_race(alloc, teller, call, &met.raced, streams)?;
+        let done = tell_orders(alloc, teller, call, &met, streams, follower)?;
+        return Ok(Some(done));
+    }
+    Ok(None)
 }
 
 /// Whether the search was told to end.
@@ -233,6 +326,7 @@ fn end_without<T: Teller, W: Write>(
         advised: advised_of_table(drawn.table),
         is_bare: false,
         left_out: LeftOut::Nothing,
+        is_unsettled: false,
     })
 }
 
@@ -250,9 +344,8 @@ fn search_for_endings<T: Teller, R: Threads + Sync, W: Write, E, S: Write, F: He
     requires form { T.form ≡ call.search.now.form }
     requires range { IsSearchInRange call.search.now }
     requires asked { IsAskedBy call.search.now.call call.request.now }
-    requires drawn { call.search.now.all ≡ None }
     requires raceless { call.search.now.races ≡ false }
-    ensures searched { IfOk result (λ done. IsSearchedOn W.contents S.contents call.entry.request.now.parts
+    ensures searched { IfOk result (λ done. IsDrawnOn W.contents S.contents call.entry.request.now.parts
         call.entry.search.now call.entry.allowed streams.old streams.new done.status) }
     ensures others { LeavesOthers call.entry.search.now streams.old streams.new }
     ensures trouble { IfErr result IsOfSystem }
@@ -292,6 +385,7 @@ fn search_for_endings<T: Teller, R: Threads + Sync, W: Write, E, S: Write, F: He
                 advised: advised_of_table(&table),
                 is_bare: false,
                 left_out: LeftOut::Nothing,
+                is_unsettled: false,
             })
         }
         halt => end_without(alloc, teller, drawn, None, &halt, out),
@@ -310,9 +404,8 @@ fn search_for_races<T: Teller, R: Threads + Sync, W: Write, E, S: Write, F: Hear
     requires form { T.form ≡ call.search.now.form }
     requires range { IsSearchInRange call.search.now }
     requires asked { IsAskedBy call.search.now.call call.request.now }
-    requires drawn { call.search.now.all ≡ None }
     requires races { call.search.now.races ≡ true }
-    ensures searched { IfOk result (λ done. IsSearchedOn W.contents S.contents call.entry.request.now.parts
+    ensures searched { IfOk result (λ done. IsDrawnOn W.contents S.contents call.entry.request.now.parts
         call.entry.search.now call.entry.allowed streams.old streams.new done.status) }
     ensures others { LeavesOthers call.entry.search.now streams.old streams.new }
     ensures trouble { IfErr result IsOfSystem }
@@ -350,6 +443,7 @@ fn search_for_races<T: Teller, R: Threads + Sync, W: Write, E, S: Write, F: Hear
                 advised: advised_of_table(&table),
                 is_bare: false,
                 left_out: LeftOut::Nothing,
+                is_unsettled: false,
             })
         }
         halt => {
@@ -359,8 +453,63 @@ fn search_for_races<T: Teller, R: Threads + Sync, W: Write, E, S: Write, F: Hear
     }
 }
 
-/// Searches through runs of a call that can be made: through every order of entries, or through drawn runs for one with a
-/// race, where that is asked for, or for one that ends so.
+/// Draws runs of a call, for one with a race, where that is asked for, or for one that ends so.
+fn search_drawn<T: Teller, R: Threads + Sync, W: Write, E, S: Write, F: Hears>(
+    alloc: Global,
+    teller: &T,
+    call: SearchedCall,
+    hands: &Hands<R>,
+    streams: &mut Streams<W, E, S>,
+    follower: &mut F,
+) -> Result<Done, Trouble>
+    requires form { T.form ≡ call.search.now.form }
+    requires range { IsSearchInRange call.search.now }
+    requires asked { IsAskedBy call.search.now.call call.request.now }
+    ensures searched { IfOk result (λ done. IsDrawnOn W.contents S.contents call.entry.request.now.parts
+        call.entry.search.now call.entry.allowed streams.old streams.new done.status) }
+    ensures others { LeavesOthers call.entry.search.now streams.old streams.new }
+    ensures trouble { IfErr result IsOfSystem }
+{
+    if call.search.races {
+        search_for_races(alloc, teller, call, hands, streams, follower)
+    } else {
+        search_for_endings(alloc, teller, call, hands, streams, follower)
+    }
+}
+
+/// Goes through every order of entries of a call first, and draws runs where that settles not all.
+fn search_first<T: Teller, R: Threads + Sync, W: Write, E, S: Write, F: Hears>(
+    alloc: Global,
+    teller: &T,
+    call: SearchedCall,
+    orders: &Orders<R>,
+    streams: &mut Streams<W, E, S>,
+    follower: &mut F,
+) -> Result<Done, Trouble>
+    requires form { T.form ≡ call.search.now.form }
+    requires range { IsSearchInRange call.search.now }
+    requires asked { IsAskedBy call.search.now.call call.request.now }
+    requires every_order { call.search.now.all ≡ Some orders.now.most }
+    requires first { call.search.now.first ≡ true }
+    ensures searched { IfOk result (λ done. IsSearchedOn W.contents S.contents call.entry.request.now.parts
+        call.entry.search.now call.entry.allowed streams.old streams.new done.status) }
+    ensures others { LeavesOthers call.entry.search.now streams.old streams.new }
+    ensures trouble { IfErr result IsOfSystem }
+{
+    match settled_orders(alloc, teller, call, orders, streams, follower)? {
+        Some(done) => Ok(done),
+        None => {
+            let done = search_drawn(alloc, teller, call, &orders.hands, streams, follower)?;
+            Ok(Done {
+                is_unsettled: true,
+                ..done
+            })
+        }
+    }
+}
+
+/// Searches through runs of a call that can be made: through every order of entries, or through drawn runs, or through
+/// these behind those.
 fn search_call<T: Teller, R: Threads + Sync, W: Write, E, S: Write, F: Hears>(
     rt: &R,
     alloc: Global,
@@ -389,15 +538,13 @@ fn search_call<T: Teller, R: Threads + Sync, W: Write, E, S: Write, F: Hears>(
                 hands: Hands { rt, jobs },
                 most,
             };
-            search_orders(alloc, teller, call, &orders, streams, follower)
-        }
-        None => {
-            let hands = Hands { rt, jobs };
-            if search.races {
-                return search_for_races(alloc, teller, call, &hands, streams, follower);
+            if search.first {
+                search_first(alloc, teller, call, &orders, streams, follower)
+            } else {
+                search_orders(alloc, teller, call, &orders, streams, follower)
             }
-            search_for_endings(alloc, teller, call, &hands, streams, follower)
         }
+        None => search_drawn(alloc, teller, call, &Hands { rt, jobs }, streams, follower),
     }
 }
 

@@ -1,11 +1,13 @@
 -- What the parser found of an argument: the texts under its name, as `clap` has them.
 use Rattle.std.specs.Prelude.{ℕ, ◌≡◌, ◌≤◌, ◌↔◌, Bool, true, false, List, [], map, codes}
-use Rattle.std.specs.Prelude.{Option, Some, None, is_some, option_map, unwrap_or}
+use Rattle.std.specs.Prelude.{Option, Some, None, is_some, option_and_then, option_map, unwrap_or}
 use Rattle.std.specs.Borrow.{Bor}
 use Rattle.std.specs.List.{AllZip}
 use Rattle.std.specs.Str.Parse.{digits_value, without_leading_plus}
 use Rattle.clap.specs.Words.{first_value, one_text, matched_of, raw_values}
 use Rattle.clap.specs.declared.parser.matches.Found.{Found}
+use Rattle.clap.specs.declared.parser.matches.ValueSource.{ValueSource}
+use Rattle.clap.specs.declared.parser.matches.ValueSource.TheVariants.{CommandLine, DefaultValue}
 use Rattle.report_command.specs.declared.kinds.ArgumentKind.{ArgumentKind}
 use Rattle.report_command.specs.declared.kinds.ArgumentKind.TheVariants.{Number, Long}
 
@@ -16,6 +18,15 @@ HasNo f name = first_value f name ≡ None
 -- It is.
 abbrev pub is_given : Found → List ℕ → Bool
 is_given f name = is_some (first_value f name)
+
+-- The words say it: a default doesn't count.
+abbrev pub is_of_words : Option ValueSource → Bool
+is_of_words (Some CommandLine) = true
+is_of_words (Some DefaultValue) = false
+is_of_words None = false
+
+abbrev pub is_said : Found → List ℕ → Bool
+is_said f name = is_of_words (option_and_then (λ a. a.source) (matched_of f name))
 
 -- It is this text.
 abbrev pub HasText : Found → List ℕ → Bor (List ℕ) → Type 0

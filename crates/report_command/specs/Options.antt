@@ -1,6 +1,6 @@
 -- Which field of a job is which argument of the command line: a line for each.
-use Rattle.std.specs.Prelude.{ℕ, ◌≡◌, ◌≢◌, ◌⊎◌, ◌||◌, Bool, true, false, List, map, ◌++◌, codes}
-use Rattle.std.specs.Prelude.{Option, Some, is_some, option_map, IfSome, MatchOption}
+use Rattle.std.specs.Prelude.{ℕ, ◌≡◌, ◌≢◌, ◌⊎◌, ◌||◌, ◌&&◌, Bool, true, false, List, map, ◌++◌, codes}
+use Rattle.std.specs.Prelude.{Option, Some, None, option_map, MatchOption}
 use Rattle.std.specs.Borrow.{Bor}
 use Rattle.std.specs.Str.Iter.{HasSubslice}
 use Rattle.clap.specs.Words.{first_value, rows_of, subcommand_name_of, subcommand_rows_of}
@@ -17,7 +17,7 @@ use Rattle.selection.specs.declared.sought.Find.{Find}
 use Rattle.selection.specs.declared.sought.Find.TheVariants.{Nothing, Failure, Words, NoEnd, ForEver}
 use Rattle.selection.specs.declared.sought.SearchTarget.{SearchTarget}
 use Rattle.selection.specs.declared.sought.Sought.{Sought}
-use Rattle.report_command.specs.declared.limits.TheConstants.{DEFAULT_STATES, DEFAULT_SHRINK_SECONDS}
+use Rattle.report_command.specs.declared.limits.TheConstants.{DEFAULT_STATES, DEFAULT_SHRINK_SECONDS, FIRST_STATES}
 use Rattle.report_command.specs.declared.call.CallWords.{CallWords}
 use Rattle.report_command.specs.declared.command_line.RunJob.{RunJob}
 use Rattle.report_command.specs.declared.memory.MemoryFile.{MemoryFile}
@@ -40,7 +40,7 @@ use Rattle.report_command.specs.declared.places.When.{When}
 use Rattle.report_command.specs.declared.places.When.TheVariants.{End}
 use Rattle.report_command.specs.Addresses.{IsAddress, IsBytes, IsData, IsMoment, IsSpan, IsStretch, IsThread}
 use Rattle.report_command.specs.declared.search.Search.{Search}
-use Rattle.report_command.specs.Found.{HasNo, is_given, HasText, HasTextIfAny, HasTexts, decimal_of, HasFlag, IsWord}
+use Rattle.report_command.specs.Found.{HasNo, is_given, is_said, HasText, HasTextIfAny, HasTexts, decimal_of, HasFlag, IsWord}
 use Rattle.report_command.specs.Found.{HasNumber, HasNumberIfAny, HasNumberOr, IsReadIfAny, AreRead}
 use Rattle.report_command.specs.Results.{IsSpelledBy}
 
@@ -241,9 +241,26 @@ pub record AsksSought (f : Found) (s : Sought) : Type 0 where
   pub dump : HasNumber f (codes "dump") s.dump
   pub target : AsksTarget f s.target
 
--- How many states are met at most, where every order is gone through.
-abbrev pub AsksAll : Found → Option ℕ → Type 0
-AsksAll f all = HasFlag f (codes "all") (is_some all) × IfSome all (HasNumberOr f (codes "states") DEFAULT_STATES)
+-- The words say which runs are drawn.
+abbrev pub names_runs : Found → Bool
+names_runs f = is_said f (codes "runs") || is_said f (codes "from") || is_said f (codes "seed") || is_said f (codes "strategy")
+
+-- How many states are met at most, where every order is gone through, and whether that is so before runs are drawn: unless
+-- they are drawn at once.
+abbrev pub AsksStates : Found → Bool → Bool → Option ℕ → Bool → Type 0
+AsksStates f true at_once all first =
+    (n : ℕ) × HasNumberOr f (codes "states") DEFAULT_STATES n × (all ≡ Some n) × (first ≡ false)
+AsksStates f false true all first = (all ≡ None) × (first ≡ false)
+AsksStates f false false all first = (all ≡ Some FIRST_STATES) × (first ≡ true)
+
+-- They are drawn at once where they are named, where a small run with a race is looked for, or one by words of lines of
+-- threads whose units or whose record's room ran out.
+pub record AsksAll (f : Found) (shrink races : Bool) (all : Option ℕ) (first : Bool) : Type 0 where
+  pub is_all : Bool
+  pub flag : HasFlag f (codes "all") is_all
+  pub spent : Bool
+  pub finds : spent ≡ true → is_given f (codes "find") ≡ true
+  pub states : AsksStates f is_all (names_runs f || (shrink && races) || spent) all first
 
 -- For how long and by how many threads.
 pub record AsksEffort (f : Found) (shrink_time : ℕ) (time jobs : Option ℕ) : Type 0 where
@@ -259,7 +276,7 @@ pub record AsksSearch (f : Found) (s : Search) : Type 0 where
   pub stops : s.sought.stops ≡ stops_by f s.shrink s.races
   pub shrink : HasFlag f (codes "shrink") s.shrink
   pub effort : AsksEffort f s.shrink_time s.time s.jobs
-  pub all : AsksAll f s.all
+  pub all : AsksAll f s.shrink s.races s.all s.first
   pub every_order : IsWord f (codes "orders") (codes "all") s.every_order
   pub deep : HasFlag f (codes "deep") s.deep
   pub races : HasFlag f (codes "races") s.races

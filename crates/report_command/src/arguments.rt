@@ -2,12 +2,13 @@
 ghost use Rattle.std.specs.Prelude.{◌≡◌, IfOk, IfSome};
 ghost use Rattle.clap.specs.Words.{found_of};
 ghost use Rattle.report_command.specs.Found.{AreRead, HasFlag, HasNumber, HasNumberIfAny, HasNumberOr, HasText};
-ghost use Rattle.report_command.specs.Found.{HasTextIfAny, HasTexts, IsReadIfAny, IsWithin, IsWord, is_given};
+ghost use Rattle.report_command.specs.Found.{HasTextIfAny, HasTexts, IsReadIfAny, IsWithin, IsWord, is_given, is_said};
 
 use crate::kinds::ArgumentKind;
 use crate::places::{ValueReader, values_in};
 use crate::refusal::{CommandRefusal, WrongValue};
 use clap::ArgMatches;
+use clap::parser::ValueSource;
 use std::alloc::{AllocError, Global};
 
 /// An argument of commands.
@@ -40,6 +41,16 @@ impl<'r> NamedArgument<'r> {
         ensures { result ≡ is_given (found_of matches.now) self.now.name.now }
     {
         matches.get_str(self.name).is_some()
+    }
+
+    /// Whether the words give it a value.
+    pub(crate) fn is_said(&self, matches: &ArgMatches) -> bool
+        ensures { result ≡ is_said (found_of matches.now) self.now.name.now }
+    {
+        matches!(
+            matches.value_source(self.name),
+            Some(ValueSource::CommandLine)
+        )
     }
 
     /// Its text, if it has one.

@@ -34,3 +34,6 @@ pub const WIDEST: u32 = 1000;
 
 /// How many states a search through every order of entries meets at most, where nobody says so.
 pub(crate) const DEFAULT_STATES: u32 = 1_000_000;
+
+/// How many one meets at most that is made before runs are drawn.
+pub(crate) const FIRST_STATES: u32 = 50_000;

@@ -1,18 +1,18 @@
 //! The job of `search`.
-ghost use Rattle.std.specs.Prelude.{◌≡◌, ◌≤◌, IfOk, IfSome, codes};
+ghost use Rattle.std.specs.Prelude.{◌≡◌, ◌≤◌, Bool, IfOk, IfSome, codes, true};
 ghost use Rattle.clap.specs.Words.{found_of};
 ghost use Rattle.report_command.specs.declared.limits.TheConstants.{MOST_STATES};
-ghost use Rattle.report_command.specs.Found.{decimal_of};
+ghost use Rattle.report_command.specs.Found.{HasFlag, decimal_of, is_given};
 ghost use Rattle.report_command.specs.Jobs.{IsInRange};
 ghost use Rattle.report_command.specs.Searches.{IsSoughtInRange};
-ghost use Rattle.report_command.specs.Options.{AsksAll, AsksEffort, AsksFind, AsksNamed, AsksResult, AsksSought};
-ghost use Rattle.report_command.specs.Options.{AsksTarget, AsksWay, IsFindOf, IsWay, stops_by};
+ghost use Rattle.report_command.specs.Options.{AsksAll, AsksEffort, AsksFind, AsksNamed, AsksResult, AsksSought, AsksStates};
+ghost use Rattle.report_command.specs.Options.{AsksTarget, AsksWay, IsFindOf, IsWay, names_runs, stops_by};
 
 use crate::allowance::{Allowance, allowance_of};
 use crate::call::{CallWords, call_of};
 use crate::command_line::{Job, Misuse};
 use crate::form::{Form, form_of};
-use crate::limits::{DEFAULT_SHRINK_SECONDS, DEFAULT_STATES};
+use crate::limits::{DEFAULT_SHRINK_SECONDS, DEFAULT_STATES, FIRST_STATES};
 use crate::lines::{Standing, endless_of, result_of, standing_of};
 use crate::options::{
     ALL, ALLOW_RACES, DEEP, DUMP, EXPECT, FILE, FIND, FROM, JOBS, LIMIT, ORDERS, RACES, RUNS,
@@ -45,7 +45,9 @@ pub struct Search<'a> {
     /// Where every order of entries is gone through in place of drawn runs: how many states are met at most, 1 to
     /// 1,000,000,000.
     pub all: Option<u32>,
-    /// Whether that is so at once: races aren't looked for.
+    /// Whether that is so before runs are drawn: they are, where it settles not all.
+    pub first: bool,
+    /// Whether every order is gone through at once: races aren't looked for.
     pub every_order: bool,
     /// Whether they are gone through depth first.
     pub deep: bool,
@@ -222,16 +224,73 @@ fn sought_of<'a>(
     })
 }
 
-/// How many states are met at most, where every order is gone through.
-fn all_of(matches: &ArgMatches) -> Result<Option<u32>, CommandRefusal<'static>>
-    ensures range { IfOk result (λ all. IfSome all (λ states. (1 ≤ states) × (states ≤ MOST_STATES))) }
-    ensures asks { IfOk result (AsksAll (found_of matches.now)) }
+/// Whether the words say which runs are drawn.
+fn names_runs(matches: &ArgMatches) -> bool
+    ensures { result ≡ names_runs (found_of matches.now) }
 {
-    if !ALL.is_set(matches) {
-        return Ok(None);
+    RUNS.is_said(matches)
+        || FROM.is_said(matches)
+        || SEED.is_said(matches)
+        || STRATEGY.is_said(matches)
+}
+
+/// Whether a run is looked for by words that only lines have of threads whose units or whose record's room ran out.
+fn finds_spent(alloc: Global, matches: &ArgMatches) -> Result<bool, CommandRefusal<'static>>
+    ensures { IfOk result (λ is. is ≡ true → is_given (found_of matches.now) (codes "find") ≡ true) }
+{
+    let Some(words) = FIND.text_if_any(matches) else {
+        return Ok(false);
+    };
+    match standing_of(alloc, words)? {
+        Standing::WhereSpent => Ok(true),
+        Standing::Nowhere | Standing::Somewhere => Ok(false),
     }
-    let states = STATES.number_or(matches, DEFAULT_STATES)?;
-    Ok(Some(states))
+}
+
+/// How many states are met at most, where every order is gone through, and whether that is so before runs are drawn.
+#[derive(Clone, Copy)]
+struct Through {
+    all: Option<u32>,
+    first: bool,
+}
+
+/// That of the words, where runs are drawn at once or aren't.
+fn through_of(matches: &ArgMatches, at_once: bool) -> Result<Through, CommandRefusal<'static>>
+    ensures range { IfOk result (λ t. IfSome t.all (λ states. (1 ≤ states) × (states ≤ MOST_STATES))) }
+    ensures asks { IfOk result (λ t. (is : Bool) × HasFlag (found_of matches.now) (codes "all") is
+        × AsksStates (found_of matches.now) is at_once t.all t.first) }
+{
+    if ALL.is_set(matches) {
+        let states = STATES.number_or(matches, DEFAULT_STATES)?;
+        return Ok(Through {
+            all: Some(states),
+            first: false,
+        });
+    }
+    if at_once {
+        return Ok(Through {
+            all: None,
+            first: false,
+        });
+    }
+    Ok(Through {
+        all: Some(FIRST_STATES),
+        first: true,
+    })
+}
+
+/// Whether every order is gone through, and with how many states.
+fn all_of(
+    alloc: Global,
+    matches: &ArgMatches,
+    shrink: bool,
+    races: bool,
+) -> Result<Through, CommandRefusal<'static>>
+    ensures range { IfOk result (λ t. IfSome t.all (λ states. (1 ≤ states) × (states ≤ MOST_STATES))) }
+    ensures asks { IfOk result (λ t. AsksAll (found_of matches.now) shrink races t.all t.first) }
+{
+    let spent = finds_spent(alloc, matches)?;
+    through_of(matches, names_runs(matches) || (shrink && races) || spent)
 }
 
 /// How long a search takes, and that of smaller runs, and by how many threads.
@@ -271,7 +330,7 @@ pub(crate) fn search_job<'a>(
     let sought = sought_of(alloc, matches, shrink, races)?;
     let file = FILE.text(matches)?;
     let effort = effort_of(matches)?;
-    let all = all_of(matches)?;
+    let Through { all, first } = all_of(alloc, matches, shrink, races)?;
     let allow = allowance_of(alloc, matches)?;
     let call = call_of(alloc, matches)?;
     Ok(Job::Search(Search {
@@ -283,6 +342,7 @@ pub(crate) fn search_job<'a>(
         time: effort.time,
         jobs: effort.jobs,
         all,
+        first,
         every_order: ORDERS.is_word(matches, "all"),
         deep: DEEP.is_set(matches),
         races,

@@ -97,7 +97,8 @@ pub(crate) static OF_A_RUN: [OptionRow; 7] = [
 /// Which runs a search makes.
 pub(crate) static OF_RUNS: [OptionRow; 13] = [
     row!(RUNS, for [Search],
-    "How many runs are made at most", defaults: &["10000"]),
+    "Draw so many runs at most. Without this, --from, --seed and --strategy it goes through every order first, as \
+    --all does, by up to 50000 states, and draws runs where that settles not all", defaults: &["10000"]),
     row!(FROM, for [Search],
     "The number of the first run", defaults: &["1"]),
     row!(SEED, for [Search],
@@ -118,7 +119,7 @@ pub(crate) static OF_RUNS: [OptionRow; 13] = [
     row!(ORDERS, for [Search],
     "With --all: needed looks for races first, and where there is none goes through the orders that matter then; \
     all goes through every order at once, and looks for no race",
-    conflicts: &["races", "allow-races", "allow-race", "allow-mixed"], needs: &["all"]),
+    conflicts: &["races", "allow-race", "allow-mixed"], needs: &["all"]),
     row!(DEEP, for [Search],
     "With --all: go on each time from the state that was met last, so that what is looked for is met early where \
     there are too many states", needs: &["all"]),
@@ -126,8 +127,8 @@ pub(crate) static OF_RUNS: [OptionRow; 13] = [
     "Stop at the first run in which two accesses race, and tell them; with --all keep the run with a race, and \
     no other one", conflicts: &["find", "expect"]),
     row!(ALLOW_RACES, for [Search],
-    "With --all: races don't count, so the status is 0 where all runs end well, also where some have a race",
-    needs: &["all"]),
+    "Races don't count where every order is gone through, so the status is 0 where all runs end well, also where \
+    some have a race"),
     row!(ALLOW_RACE, for [Races, Search],
     "No race at these addresses, or at the data of these names: an access all of whose bytes are there counts as \
     atomic, and two of these don't race; may be given several times"),

@@ -200,6 +200,7 @@ pub(crate) fn print_end<W: Write, E: Write>(
                 advised: Advised::of_reports(&end.threads),
                 is_bare: false,
                 left_out: LeftOut::Nothing,
+                is_unsettled: false,
             })
         }
         Err(unwritten) => Err(unwritten),

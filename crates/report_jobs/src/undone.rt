@@ -196,6 +196,8 @@ pub struct Done {
     /// Whether a search compared only how threads ended: the function returns nothing, and no bytes belong to an ending.
     pub is_bare: bool,
     pub left_out: LeftOut,
+    /// Whether runs were drawn since going through every order first settled not all.
+    pub is_unsettled: bool,
 }
 
 impl Done {
@@ -208,6 +210,7 @@ impl Done {
             advised: Advised::none(),
             is_bare: false,
             left_out: LeftOut::Nothing,
+            is_unsettled: false,
         }
     }
 }

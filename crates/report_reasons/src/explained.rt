@@ -73,6 +73,11 @@ fn write_lines(
     }
 }
 
+/// What is said where runs were drawn.
+const UNSETTLED: &str =
+    "note: runs were drawn, since going through every order first met more than 50000 states, or \
+    can't tell; --all goes through up to 1000000\n";
+
 /// Adds what there is to say of a job that is done.
 fn add_done(
     alloc: Global,
@@ -89,6 +94,9 @@ fn add_done(
             "note: {name} returns nothing, and without --dump no bytes belong to an ending: only how the threads \
              ended is compared\n"
         )?;
+    }
+    if done.is_unsettled {
+        out.push_str(UNSETTLED)?;
     }
     add_left_out(out, done.left_out)?;
     add_advice(alloc, out, done.advised)?;

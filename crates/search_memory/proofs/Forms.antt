@@ -1,11 +1,12 @@
 -- What differs has one form.
-use Rattle.std.proofs.Common.{◌≡◌, ◌≢◌, ℕ, zero, suc, ◌+◌, ◌<◌, ◌≤◌, ◌++◌, List, [], ◌∷◌, length, fold, get_or, filter}
+use Rattle.std.specs.Prelude.{◌==◌, if◌then◌else◌, Bool, true, false}
+use Rattle.std.proofs.Common.{◌≡◌, ◌≢◌, ℕ, suc, ◌+◌, ◌<◌, ◌≤◌, ◌++◌, List, [], ◌∷◌, length, fold, get_or, filter}
 use Rattle.std.proofs.Common.{refl, sym, ◌∙◌, ap, subst, arith, inl, inr}
-use Rattle.std.proofs.lemmas.Bool.{cases_lt, cond-true, cond-false, lt-ltb, le-ltb}
-use Rattle.std.proofs.lemmas.List.{length-set, get_or-set_same, get_or-set_other}
+use Rattle.std.proofs.lemmas.Bool.{cases_lt, cond-true, cond-false, lt-ltb, le-ltb, le-leb, lt-leb, eqb-false}
+use Rattle.std.proofs.lemmas.List.{append-nil, length-set, get_or-set_same, get_or-set_other}
 use Rattle.search_memory.specs.declared.beside.ChangedByte.{ChangedByte}
 use Rattle.search_memory.specs.declared.beside.Changes.{Changes}
-use Rattle.search_memory.specs.Memories.{memory_of, padded, with_change, is_below, is_above, IsDifference, AreDifferences, HasDifferences}
+use Rattle.search_memory.specs.Memories.{memory_of, padded, with_change, change_to, is_below, is_since, IsDifference, AreDifferences, HasDifferences}
 use Rattle.search_memory.proofs.Putting.{length_memory, length_padded, opened_at}
 
 -- one change within other bounds
@@ -32,29 +33,26 @@ lower opening from end at (c ∷ cs) ds = elim (cases_lt c.at at) [
       (earlier opening from (suc c.at) at (filter (is_below at) cs) (omega (arith, (ds.0).since)) (lower opening (suc c.at) end at cs ds.1))
 ]
 
--- and those above it
-pub higher : (opening : List ℕ) (from end at : ℕ) (cs : List ChangedByte) → AreDifferences opening from end cs
-    → AreDifferences opening (suc at) end (filter (is_above at) cs)
-higher opening from end at [] ds = tt
-higher opening from end at (c ∷ cs) ds = elim (cases_lt at c.at) [
-  | inl lt ↦ subst (AreDifferences opening (suc at) end)
-      (sym (cond-true (is_above at c) (c ∷ filter (is_above at) cs) (filter (is_above at) cs) (lt-ltb at c.at lt)))
-      (moved opening from end (suc at) end c (omega (arith, lt)) (ds.0).before ds.0, later c.at lt)
-  | inr le ↦ subst (AreDifferences opening (suc at) end)
-      (sym (cond-false (is_above at c) (c ∷ filter (is_above at) cs) (filter (is_above at) cs) (le-ltb at c.at le)))
-      (higher opening (suc c.at) end at cs ds.1)
+-- and the others
+pub since : (opening : List ℕ) (from end at : ℕ) (cs : List ChangedByte) → AreDifferences opening from end cs
+    → AreDifferences opening at end (filter (is_since at) cs)
+since opening from end at [] ds = tt
+since opening from end at (c ∷ cs) ds = elim (cases_lt c.at at) [
+  | inl lt ↦ subst (AreDifferences opening at end)
+      (sym (cond-false (is_since at c) (c ∷ filter (is_since at) cs) (filter (is_since at) cs) (lt-leb at c.at lt)))
+      (since opening (suc c.at) end at cs ds.1)
+  | inr le ↦ subst (AreDifferences opening at end)
+      (sym (cond-true (is_since at c) (c ∷ filter (is_since at) cs) (filter (is_since at) cs) (le-leb at c.at le)))
+      (moved opening from end at end c le (ds.0).before ds.0, all_since (suc c.at) cs (omega (arith, le)) ds.1)
 ]
   where
-    -- all that comes behind is above
-    all_above : (from : ℕ) (ds : List ChangedByte) → at < from → AreDifferences opening from end ds → AreDifferences opening from end (filter (is_above at) ds)
-    all_above from [] lt h = tt
-    all_above from (d ∷ ds) lt h =
-        subst (AreDifferences opening from end) (sym (cond-true (is_above at d) (d ∷ filter (is_above at) ds) (filter (is_above at) ds)
-        (lt-ltb at d.at (omega (arith, lt, (h.0).since)))))
-        (h.0, all_above (suc d.at) ds (omega (arith, lt, (h.0).since)) h.1)
-
-    later : (k : ℕ) → at < c.at → AreDifferences opening (suc c.at) end (filter (is_above at) cs)
-    later k lt = all_above (suc c.at) cs (omega (arith, lt)) ds.1
+    -- all that comes behind is one of them
+    all_since : (from : ℕ) (ds : List ChangedByte) → at ≤ from → AreDifferences opening from end ds → AreDifferences opening from end (filter (is_since at) ds)
+    all_since from [] le h = tt
+    all_since from (d ∷ ds) le h =
+        subst (AreDifferences opening from end) (sym (cond-true (is_since at d) (d ∷ filter (is_since at) ds) (filter (is_since at) ds)
+        (le-leb at d.at (omega (arith, le, (h.0).since)))))
+        (h.0, all_since (suc d.at) ds (omega (arith, le, (h.0).since)) h.1)
 
 -- some, and others behind them
 pub behind : (opening : List ℕ) (from at end : ℕ) (xs ys : List ChangedByte) → from ≤ at → at ≤ end → AreDifferences opening from at xs
@@ -82,26 +80,15 @@ pushed opening at byte cs ds other =
     wider opening 0 (suc at) (at + 1) (cs ++ record { at = at; byte = byte } ∷ []) (omega arith)
     (behind opening 0 at (suc at) cs (record { at = at; byte = byte } ∷ []) (omega arith) (omega arith) ds (only opening at byte other))
 
--- with a change at its place among the others, or none there
-module _ (opening : List ℕ) (len at byte : ℕ) (cs : List ChangedByte) (within : at < len) (ds : AreDifferences opening 0 len cs) where
-  high : AreDifferences opening (suc at) len (filter (is_above at) cs)
-  high = higher opening 0 len at cs ds
-
-  low : AreDifferences opening 0 at (filter (is_below at) cs)
-  low = lower opening 0 len at cs ds
-
-  pub with_one : byte ≢ get_or opening at 0
-      → AreDifferences opening 0 len ((filter (is_below at) cs ++ record { at = at; byte = byte } ∷ []) ++ filter (is_above at) cs)
-  with_one other =
-      behind opening 0 (suc at) len (filter (is_below at) cs ++ record { at = at; byte = byte } ∷ []) (filter (is_above at) cs) (omega arith)
-      (omega (arith, within))
-      (behind opening 0 at (suc at) (filter (is_below at) cs) (record { at = at; byte = byte } ∷ []) (omega arith) (omega arith) low
-      (only opening at byte other)) high
-
-  pub with_none : AreDifferences opening 0 len (filter (is_below at) cs ++ filter (is_above at) cs)
-  with_none =
-      behind opening 0 at len (filter (is_below at) cs) (filter (is_above at) cs) (omega arith) (omega (arith, within)) low
-      (earlier opening at (suc at) len (filter (is_above at) cs) (omega arith) high)
+-- and what changes the byte to another
+pub pushed_byte : (opening : List ℕ) (at byte : ℕ) (cs : List ChangedByte) → AreDifferences opening 0 at cs
+    → AreDifferences opening 0 (at + 1) (cs ++ change_to opening at byte)
+pushed_byte opening at byte cs ds = by (byte == get_or opening at 0) refl
+  where
+    by : (t : Bool) → (byte == get_or opening at 0) ≡ t
+        → AreDifferences opening 0 (at + 1) (cs ++ (if t then [] else record { at = at; byte = byte } ∷ []))
+    by true is = subst (AreDifferences opening 0 (at + 1)) (sym (append-nil cs)) (wider opening 0 at (at + 1) cs (omega arith) ds)
+    by false is = pushed opening at byte cs ds (eqb-false byte (get_or opening at 0) is)
 
 -- beside bytes that are the same below the end
 pub beside_alike : (opening first : List ℕ) (from end : ℕ) (cs : List ChangedByte) → ((k : ℕ) → k < end → get_or opening k 0 ≡ get_or first k 0)

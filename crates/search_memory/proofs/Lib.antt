@@ -1,3 +1,4 @@
+mod Windows
 pub mod Differing
 pub mod Forms
 pub mod Putting

@@ -1,5 +1,5 @@
 -- A memory beside the one that was opened.
-use Rattle.std.specs.Prelude.{ℕ, suc, ◌≡◌, ◌≢◌, ◌<◌, ◌≤◌, ◌-◌, ◌++◌, Bool, nat_lt, List, [], ◌∷◌, length, take, replicate, fold, slice_set, get_or}
+use Rattle.std.specs.Prelude.{ℕ, suc, ◌≡◌, ◌≢◌, ◌<◌, ◌≤◌, ◌+◌, ◌-◌, ◌++◌, Bool, nat_lt, nat_le, ◌==◌, if◌then◌else◌, List, [], ◌∷◌, length, take, replicate, fold, slice_set, get_or}
 use Rattle.types.specs.declared.event.Event.{Event}
 use Rattle.shared_memory.specs.Memory.{Memory, state_after, written}
 use Rattle.search_memory.specs.declared.beside.ChangedByte.{ChangedByte}
@@ -25,12 +25,20 @@ memory_of opening c = record { bytes = changed_bytes opening c.len c.changes.ite
 abbrev pub AreAfter : List ℕ → Changes → Event → Changes → Type 0
 AreAfter opening before event after = memory_of opening after ≡ state_after (memory_of opening before) event
 
--- The changes at lower addresses, and those at higher ones.
+-- The changes at lower addresses, and the others.
 abbrev pub is_below : ℕ → ChangedByte → Bool
 is_below at change = nat_lt change.at at
 
-abbrev pub is_above : ℕ → ChangedByte → Bool
-is_above at change = nat_lt at change.at
+abbrev pub is_since : ℕ → ChangedByte → Bool
+is_since at change = nat_le at change.at
+
+-- What changes an opened byte to this one: nothing, where it is the same.
+abbrev pub change_to : List ℕ → ℕ → ℕ → List ChangedByte
+change_to opening at byte = if byte == get_or opening at 0 then [] else record { at = at; byte = byte } ∷ []
+
+-- So many bytes are those of a list from a place on.
+abbrev pub AreFrom : List ℕ → ℕ → List ℕ → ℕ → Type 0
+AreFrom bytes width all from = (i : ℕ) → i < width → get_or bytes i 0 ≡ get_or all (from + i) 0
 
 -- The memory that is looked at.
 abbrev pub memory_at : ChangedMemory → Memory
@@ -39,11 +47,6 @@ memory_at b = memory_of b.opening.now b.changed.now
 -- The changes are those once a number is written to so many bytes at an address.
 abbrev pub AreWritten : ChangedMemory → ℕ → ℕ → ℕ → Changes → Type 0
 AreWritten b addr width value after = memory_of b.opening.now after ≡ written (memory_at b) addr width value
-
--- One byte more is changed.
-abbrev pub WithByte : List ℕ → ℕ → List ChangedByte → ℕ → ℕ → List ChangedByte → Type 0
-WithByte opening len before at byte after =
-    changed_bytes opening len after ≡ slice_set (changed_bytes opening len before) at byte
 
 -- A change at an address from one on and before another, of which the byte isn't the one that was opened there.
 pub record IsDifference (opening : List ℕ) (from end : ℕ) (change : ChangedByte) : Type 0 where

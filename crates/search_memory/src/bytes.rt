@@ -1,10 +1,10 @@
-//! A byte of a memory that is given by its changes, and one more change.
+//! Bytes of a memory that is given by its changes, and changes at their places among others.
 
-ghost use Rattle.std.specs.Prelude.{◌≡◌, ◌++◌, ◌<◌, filter, get_or, IfOk};
-ghost use Rattle.search_memory.specs.Memories.{padded, changed_bytes, is_below, is_above, AreDifferences, WithByte};
+ghost use Rattle.std.specs.Prelude.{◌≡◌, ◌+◌, ◌^◌, ◌++◌, ◌<◌, ◌≤◌, filter, get_or, IfOk};
+ghost use Rattle.search_memory.specs.Memories.{changed_bytes, change_to, is_below, is_since, AreFrom};
 
 use crate::beside::ChangedByte;
-use std::alloc::{AllocError, Global};
+use std::alloc::AllocError;
 
 /// The byte that was opened at an address.
 fn opened(opening: &[u8], at: usize) -> u8
@@ -13,68 +13,83 @@ fn opened(opening: &[u8], at: usize) -> u8
     if at < opening.len() { opening[at] } else { 0 }
 }
 
-/// The byte at an address.
-pub(crate) fn byte_at(opening: &[u8], len: usize, changes: &[ChangedByte], at: usize) -> u8
-    requires { at < len }
-    ensures { result ≡ get_or (changed_bytes opening.now len changes.now) at 0 }
+/// The bytes that were opened at so many addresses from one on.
+fn all_opened(opening: &[u8], from: usize, width: usize) -> [u8; 8]
+    requires narrow { width ≤ 8 }
+    requires few { from + width < 2 ^ 64 }
+    ensures { AreFrom result width opening.now from }
 {
-    let mut byte = opened(opening, at);
-    for one in changes {
-        if one.at == at {
-            byte = one.byte;
-        }
+    let mut bytes = [0; 8];
+    for i in 0..width {
+        bytes[i] = opened(opening, from + i);
     }
-    byte
+    bytes
 }
 
-/// The changes at lower addresses.
-fn lower(alloc: Global, changes: &[ChangedByte], at: usize) -> Result<Vec<ChangedByte>, AllocError>
-    ensures { IfOk result (λ v. v.items ≡ filter (is_below at) changes.now) }
+/// The bytes at so many addresses from one on.
+pub(crate) fn bytes_at(
+    opening: &[u8],
+    len: usize,
+    changes: &[ChangedByte],
+    from: usize,
+    width: usize,
+) -> [u8; 8]
+    requires narrow { width ≤ 8 }
+    requires inside { from + width ≤ len }
+    ensures { AreFrom result width (changed_bytes opening.now len changes.now) from }
 {
-    let mut all = Vec::new(alloc);
+    let mut bytes = all_opened(opening, from, width);
     for one in changes {
-        if one.at < at {
-            all.push(*one)?;
+        if from <= one.at && one.at - from < width {
+            bytes[one.at - from] = one.byte;
         }
     }
-    Ok(all)
+    bytes
 }
 
-/// Puts the changes at higher addresses behind.
-fn put_higher(
+/// Puts the changes at lower addresses behind.
+pub(crate) fn put_lower(
     all: &mut Vec<ChangedByte>,
     changes: &[ChangedByte],
     at: usize,
 ) -> Result<(), AllocError>
-    ensures { IfOk result (λ u. all.new.items ≡ all.old.items ++ filter (is_above at) changes.now) }
+    ensures { IfOk result (λ u. all.new.items ≡ all.old.items ++ filter (is_below at) changes.now) }
 {
     for one in changes {
-        if one.at > at {
+        if one.at < at {
             all.push(*one)?;
         }
     }
     Ok(())
 }
 
-/// The changes with this byte at an address: where it isn't the one that was opened, a change at its place among the
-/// others.
-pub(crate) fn with_byte(
-    alloc: Global,
+/// Puts a byte at an address behind, where it isn't the one that was opened there.
+pub(crate) fn put_byte(
+    all: &mut Vec<ChangedByte>,
     opening: &[u8],
-    len: usize,
-    changes: &[ChangedByte],
     at: usize,
     byte: u8,
-) -> Result<Vec<ChangedByte>, AllocError>
-    requires { at < len }
-    ensures same { IfOk result (λ v. WithByte opening.now len changes.now at byte v.items) }
-    ensures differences { AreDifferences opening.now 0 len changes.now
-        → IfOk result (λ v. AreDifferences opening.now 0 len v.items) }
+) -> Result<(), AllocError>
+    ensures { IfOk result (λ u. all.new.items ≡ all.old.items ++ change_to opening.now at byte) }
 {
-    let mut all = lower(alloc, changes, at)?;
     if byte != opened(opening, at) {
         all.push(ChangedByte { at, byte })?;
     }
-    put_higher(&mut all, changes, at)?;
-    Ok(all)
+    Ok(())
+}
+
+/// Puts the changes from an address on behind.
+pub(crate) fn put_others(
+    all: &mut Vec<ChangedByte>,
+    changes: &[ChangedByte],
+    from: usize,
+) -> Result<(), AllocError>
+    ensures { IfOk result (λ u. all.new.items ≡ all.old.items ++ filter (is_since from) changes.now) }
+{
+    for one in changes {
+        if one.at >= from {
+            all.push(*one)?;
+        }
+    }
+    Ok(())
 }

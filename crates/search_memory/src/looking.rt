@@ -7,7 +7,7 @@ ghost use Rattle.shared_memory_sequential.specs.Opening.{IsSized};
 ghost use Rattle.search_memory.specs.Memories.{memory_at, memory_of, AreWritten, StayDifferences};
 
 use crate::beside::Changes;
-use crate::bytes::{byte_at, with_byte};
+use crate::bytes::{bytes_at, put_byte, put_lower, put_others};
 use std::alloc::{AllocError, Global};
 use types::{Event, PAGE_SIZE, Question, Reply};
 
@@ -65,10 +65,16 @@ impl ChangedMemory<'_> {
     {
         let len = self.len();
         let changes = self.changed.changes.as_slice();
+        let bytes = bytes_at(
+            self.opening,
+            len,
+            changes,
+            addr as usize,
+            usize::from(width),
+        );
         let mut number = 0;
         for i in (0..usize::from(width)).rev() {
-            let byte = byte_at(self.opening, len, changes, addr as usize + i);
-            number = number * 256 + u64::from(byte);
+            number = number * 256 + u64::from(bytes[i]);
         }
         number
     }
@@ -123,19 +129,20 @@ impl ChangedMemory<'_> {
         ensures sized { IsSized (memory_at self.now) → IfOk result (λ c. IsSized (memory_of self.now.opening.now c)) }
         ensures differences { IfOk result (StayDifferences self.now.opening.now self.now.changed.now) }
     {
-        let changed = self.changed;
         let len = self.len();
-        let mut changes = Vec::from_slice(alloc, changed.changes.as_slice())?;
+        let before = self.changed.changes.as_slice();
+        let first = addr as usize;
+        let mut changes = Vec::with_capacity(alloc, before.len() + usize::from(width))?;
+        put_lower(&mut changes, before, first)?;
         let mut rest = value;
         for i in 0..usize::from(width) {
-            let at = addr as usize + i;
-            let byte = (rest % 256) as u8;
-            changes = with_byte(alloc, self.opening, len, changes.as_slice(), at, byte)?;
+            put_byte(&mut changes, self.opening, first + i, (rest % 256) as u8)?;
             rest /= 256;
         }
+        put_others(&mut changes, before, first + usize::from(width))?;
         Ok(Changes {
             len,
-            max: changed.max,
+            max: self.changed.max,
             changes,
         })
     }

@@ -32,14 +32,12 @@ module _ (s : Searched) where
       (subst (λ l. IfOk r (IsEventIn s.valid.now l shared read.standing n)) same h))
 
   -- of what a thread does with the memory
-  pub access_told : {E : Type 0} (opening : List ℕ) → opening ≡ s.opening.items → (shared : Common) (read thread : HashedThread) → read ≡ thread
-      → (n : ℕ) (r : Result (Option NextAccess) E) → IfOk r (IsAccessIn s.valid.now s.allowed opening shared read.standing n)
-      → IfOk r (IsAccessOf (threads s) shared thread n)
-  access_told opening same shared read thread is n r h =
-      if_ok_so r (IsAccessIn s.valid.now s.allowed s.opening.items shared thread.standing n) (IsAccessOf (threads s) shared thread n)
-      (λ o by z of. by (called s) z (record { of = refl; reached = of.0; shares = of.1; rested = of.2 }))
-      (subst (λ (t : HashedThread). IfOk r (IsAccessIn s.valid.now s.allowed s.opening.items shared t.standing n)) is
-      (subst (λ l. IfOk r (IsAccessIn s.valid.now s.allowed l shared read.standing n)) same h))
+  pub access_told : (opening : List ℕ) → opening ≡ s.opening.items → (shared : Common) (read thread : HashedThread) → read ≡ thread
+      → (n : ℕ) (o : Option NextAccess) → IsAccessIn s.valid.now s.allowed opening shared read.standing n o → IsAccessOf (threads s) shared thread n o
+  access_told opening same shared read thread is n o h z of =
+      subst (λ (t : HashedThread). IsAccessIn s.valid.now s.allowed s.opening.items shared t.standing n o) is
+      (subst (λ l. IsAccessIn s.valid.now s.allowed l shared read.standing n o) same h)
+      (called s) z (record { of = refl; reached = of.0; shares = of.1; rested = of.2 })
 
   -- of an ending
   abbrev EndTold : RestingState Common HashedThread → Option Ending → Type 0

@@ -19,19 +19,18 @@ impl Accesses for Searched<'_> {
 
     fn access(
         &self,
-        alloc: Global,
+        _alloc: Global,
         shared: &Common,
         thread: &SharedWalker,
         n: usize,
     ) -> Result<Option<NextAccess>, AllocError> {
-        next_access(
-            alloc,
+        Ok(next_access(
             self.valid,
             &self.allowed,
             self.opening.as_slice(),
             shared,
             thread.walker(),
             n,
-        )
+        ))
     }
 }

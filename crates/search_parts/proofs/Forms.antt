@@ -1,11 +1,13 @@
 -- What is the same is equal.
-use Rattle.std.specs.Prelude.{ℕ, ◌≡◌, ◌+◌, ◌&&◌, true, List, [], ◌∷◌, map, length, reverse, nat_eq, None}
+use Rattle.std.specs.Prelude.{ℕ, ◌≡◌, ◌+◌, ◌&&◌, true, List, [], ◌∷◌, map, length, reverse, nat_eq, Option, Some, None}
 use Rattle.std.proofs.Common.{refl, sym, ◌∙◌, ap, subst}
 use Rattle.std.proofs.lemmas.List.{reverse-reverse, length-replicate}
 use Rattle.std.specs.Cmp.Lexicographic.{pointwise}
 use Rattle.types.specs.declared.value.ValType.{ValType}
 use Rattle.types.specs.declared.value.Value.{Value}
 use Rattle.types.specs.contracts.value.ValuePartialEq.TheImpl as value_eq
+use Rattle.types.specs.declared.event.Event.{Event}
+use Rattle.types.specs.contracts.event.EventEq.TheImpl.Laws.{laws-law as event_laws}
 use Rattle.types.specs.declared.outcome.Outcome.{Outcome}
 use Rattle.types.specs.contracts.outcome.OutcomePartialEq.TheImpl as outcome_eq
 use Rattle.types.specs.contracts.outcome.OutcomeEq.TheImpl.Laws.{laws-law as outcome_laws}
@@ -16,6 +18,7 @@ use Rattle.waiters.specs.contracts.kept.KeptQueueEq.TheImpl.Laws.{laws-law as qu
 use Rattle.waiters.specs.Kept.{queue_of}
 use Rattle.validate_typing.specs.Tabled.{WithTables}
 use Rattle.interp_machine.specs.Config.{Config, Frame}
+use Rattle.interp_machine.specs.Program.{program_of}
 use Rattle.interp_machine.specs.State.{At, Over}
 use Rattle.interp_state.specs.declared.state.Caller.{Caller}
 use Rattle.interp_state.specs.declared.state.Progress.{Progress}
@@ -38,10 +41,11 @@ use Rattle.search_memory.specs.Memories.{memory_of, HasDifferences}
 use Rattle.search_memory.proofs.Forms.{one_form}
 use Rattle.search_threads.specs.Unlimited.{Unlimited.Missing as NoThread, Unlimited.Going as Goes}
 use Rattle.search_threads.specs.Unlimited.{Unlimited.Leaving as Leaves, Unlimited.Away as Left}
-use Rattle.search_runs.specs.Called.{Walker}
+use Rattle.search_runs.specs.Called.{Called, Walker}
 use Rattle.search_parts.specs.declared.walker.RestingThread.{RestingThread}
 use Rattle.search_parts.specs.declared.walker.RestingThread.TheVariants.{Missing, Going, Ended, Leaving, Away}
 use Rattle.search_parts.specs.contracts.walker.RestingThreadPartialEq.TheImpl as standing_eq
+use Rattle.search_parts.specs.Walkers.{Wants}
 use Rattle.search_parts.specs.Same.{AreAtOnePlace, AreWhereTheyAre, StandsForJust}
 
 -- ---- memories and queues
@@ -172,12 +176,23 @@ module _ (w : WithTables) (x y : Kept) (c : Config) (kx : IsKept w x c) (ky : Is
       && (pointwise caller_eq.eq-value.it x.callers.items (callers i) && progress_eq.eq-value.it x.progress (progress i)))))))))
       ∙ kept_laws.refl x
 
-one_going : (w : WithTables) (x y : Kept) (v : Walker) → AreAtOnePlace x y → StandsForJust w (Going x) v → StandsForJust w (Going y) v
-    → kept_eq.eq-value.it x y ≡ true
-one_going w x y v at g h =
+one_wanted : (w : WithTables) (c : Config) (v : Walker) (o p : Option Event) → Wants w v o → Wants w v p → o ≡ p
+one_wanted w c v o p g h = g.wanted some refl ∙ sym (h.wanted some refl)
+  where
+    some : Called
+    some = record { program = program_of w.parts; main = c; worker = λ args. c; opening = record { bytes = []; max = 0 } }
+
+with_wanted : (x y : Kept) (o : Option Event) → kept_eq.eq-value.it x y ≡ true → standing_eq.eq-value.it (Going x o) (Going y o) ≡ true
+with_wanted x y None kept = λ i. kept i && true
+with_wanted x y (Some e) kept = λ i. kept i && event_laws.refl e i
+
+one_going : (w : WithTables) (x y : Kept) (o p : Option Event) (v : Walker) → AreAtOnePlace x y → StandsForJust w (Going x o) v
+    → StandsForJust w (Going y p) v → standing_eq.eq-value.it (Going x o) (Going y p) ≡ true
+one_going w x y o p v at g h =
     let both : Goes (At g.0) ≡ Goes (At h.0) = sym g.1 ∙ h.1 in
     let one : g.0 ≡ h.0 = cc in
-    one_kept w x y g.0 g.2 (subst (IsKept w y) (sym one) h.2) at
+    subst (λ q. standing_eq.eq-value.it (Going x o) (Going y q) ≡ true) (one_wanted w g.0 v o p g.3 h.3)
+    (with_wanted x y o (one_kept w x y g.0 g.2 (subst (IsKept w y) (sym one) h.2) at))
 
 one_outcome : (a b : Outcome) → a ≡ b → outcome_eq.eq-value.it a b ≡ true
 one_outcome a b e = subst (λ o. outcome_eq.eq-value.it a o ≡ true) e (outcome_laws.refl a)
@@ -188,27 +203,27 @@ apart u v w ne p q = absurd (ne (sym p ∙ q))
 pub the_same_standing : (w : WithTables) (x y : RestingThread) (v : Walker) → AreWhereTheyAre x y → StandsForJust w x v → StandsForJust w y v
     → standing_eq.eq-value.it x y ≡ true
 the_same_standing w Missing Missing v at g h = refl
-the_same_standing w Missing (Going b) v at g h = apart NoThread v (Goes (At h.0)) (λ e. cc) g h.1
+the_same_standing w Missing (Going b p) v at g h = apart NoThread v (Goes (At h.0)) (λ e. cc) g h.1
 the_same_standing w Missing (Ended b) v at g h = apart NoThread v (Goes (Over b)) (λ e. cc) g h
 the_same_standing w Missing (Leaving b) v at g h = apart NoThread v (Leaves b) (λ e. cc) g h
 the_same_standing w Missing (Away b) v at g h = apart NoThread v (Left b) (λ e. cc) g h
-the_same_standing w (Going a) Missing v at g h = apart (Goes (At g.0)) v NoThread (λ e. cc) g.1 h
-the_same_standing w (Going a) (Going b) v at g h = one_going w a b v at g h
-the_same_standing w (Going a) (Ended b) v at g h = apart (Goes (At g.0)) v (Goes (Over b)) (λ e. cc) g.1 h
-the_same_standing w (Going a) (Leaving b) v at g h = apart (Goes (At g.0)) v (Leaves b) (λ e. cc) g.1 h
-the_same_standing w (Going a) (Away b) v at g h = apart (Goes (At g.0)) v (Left b) (λ e. cc) g.1 h
+the_same_standing w (Going a o) Missing v at g h = apart (Goes (At g.0)) v NoThread (λ e. cc) g.1 h
+the_same_standing w (Going a o) (Going b p) v at g h = one_going w a b o p v at g h
+the_same_standing w (Going a o) (Ended b) v at g h = apart (Goes (At g.0)) v (Goes (Over b)) (λ e. cc) g.1 h
+the_same_standing w (Going a o) (Leaving b) v at g h = apart (Goes (At g.0)) v (Leaves b) (λ e. cc) g.1 h
+the_same_standing w (Going a o) (Away b) v at g h = apart (Goes (At g.0)) v (Left b) (λ e. cc) g.1 h
 the_same_standing w (Ended a) Missing v at g h = apart (Goes (Over a)) v NoThread (λ e. cc) g h
-the_same_standing w (Ended a) (Going b) v at g h = apart (Goes (Over a)) v (Goes (At h.0)) (λ e. cc) g h.1
+the_same_standing w (Ended a) (Going b p) v at g h = apart (Goes (Over a)) v (Goes (At h.0)) (λ e. cc) g h.1
 the_same_standing w (Ended a) (Ended b) v at g h = one_outcome a b (let both : Goes (Over a) ≡ Goes (Over b) = sym g ∙ h in cc)
 the_same_standing w (Ended a) (Leaving b) v at g h = apart (Goes (Over a)) v (Leaves b) (λ e. cc) g h
 the_same_standing w (Ended a) (Away b) v at g h = apart (Goes (Over a)) v (Left b) (λ e. cc) g h
 the_same_standing w (Leaving a) Missing v at g h = apart (Leaves a) v NoThread (λ e. cc) g h
-the_same_standing w (Leaving a) (Going b) v at g h = apart (Leaves a) v (Goes (At h.0)) (λ e. cc) g h.1
+the_same_standing w (Leaving a) (Going b p) v at g h = apart (Leaves a) v (Goes (At h.0)) (λ e. cc) g h.1
 the_same_standing w (Leaving a) (Ended b) v at g h = apart (Leaves a) v (Goes (Over b)) (λ e. cc) g h
 the_same_standing w (Leaving a) (Leaving b) v at g h = one_outcome a b (let both : Leaves a ≡ Leaves b = sym g ∙ h in cc)
 the_same_standing w (Leaving a) (Away b) v at g h = apart (Leaves a) v (Left b) (λ e. cc) g h
 the_same_standing w (Away a) Missing v at g h = apart (Left a) v NoThread (λ e. cc) g h
-the_same_standing w (Away a) (Going b) v at g h = apart (Left a) v (Goes (At h.0)) (λ e. cc) g h.1
+the_same_standing w (Away a) (Going b p) v at g h = apart (Left a) v (Goes (At h.0)) (λ e. cc) g h.1
 the_same_standing w (Away a) (Ended b) v at g h = apart (Left a) v (Goes (Over b)) (λ e. cc) g h
 the_same_standing w (Away a) (Leaving b) v at g h = apart (Left a) v (Leaves b) (λ e. cc) g h
 the_same_standing w (Away a) (Away b) v at g h = one_outcome a b (let both : Left a ≡ Left b = sym g ∙ h in cc)

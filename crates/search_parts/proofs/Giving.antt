@@ -1,5 +1,5 @@
 -- What a thread makes of a reply or of an answer, the one without a budget makes too.
-use Rattle.std.proofs.Common.{◌≡◌, ◌⊎◌, inl, inr, ℕ, suc, ◌-◌, None, refl, sym, ◌∙◌, ap, subst, arith}
+use Rattle.std.proofs.Common.{◌≡◌, ◌⊎◌, inl, inr, ℕ, suc, ◌-◌, Option, None, refl, sym, ◌∙◌, ap, subst, arith}
 use Rattle.types.specs.declared.event.Event.{Event}
 use Rattle.types.specs.declared.event.Reply.{Reply}
 use Rattle.types.specs.declared.event.Reply.TheVariants as replies
@@ -114,17 +114,17 @@ gave b p same c r g some may turn Stands turned =
 
 -- who is missing, leaves or is away wants no event, and who has ended, is missing or away awaits no answer
 pub no_taker : (w : WithTables) (b : Called) (s : RestingThread) (v : Walker) (e : Event) → StandsForThread w s v → (system_of b).wants v ≡ Calls e
-    → ((k : Kept) → s ≡ standings.Going k → ⊥) → ((o : Outcome) → s ≡ standings.Ended o → ⊥) → ⊥
+    → ((k : Kept) (p : Option Event) → s ≡ standings.Going k p → ⊥) → ((o : Outcome) → s ≡ standings.Ended o → ⊥) → ⊥
 no_taker w b standings.Missing v e stands wants going ended = let none = ap (λ u. (system_of b).wants u) stands in cc (none, wants)
-no_taker w b (standings.Going k) v e stands wants going ended = going k refl
+no_taker w b (standings.Going k p) v e stands wants going ended = going k p refl
 no_taker w b (standings.Ended o) v e stands wants going ended = ended o refl
 no_taker w b (standings.Leaving o) v e stands wants going ended = let waits = ap (λ u. (system_of b).wants u) stands in cc (waits, wants)
 no_taker w b (standings.Away o) v e stands wants going ended = let none = ap (λ u. (system_of b).wants u) stands in cc (none, wants)
 
 pub no_hearer : (w : WithTables) (b : Called) (s : RestingThread) (v : Walker) → StandsForThread w s v → (system_of b).wants v ≡ Awaits
-    → ((k : Kept) → s ≡ standings.Going k → ⊥) → ((o : Outcome) → s ≡ standings.Leaving o → ⊥) → ⊥
+    → ((k : Kept) (p : Option Event) → s ≡ standings.Going k p → ⊥) → ((o : Outcome) → s ≡ standings.Leaving o → ⊥) → ⊥
 no_hearer w b standings.Missing v stands wants going leaving = let none = ap (λ u. (system_of b).wants u) stands in cc (none, wants)
-no_hearer w b (standings.Going k) v stands wants going leaving = going k refl
+no_hearer w b (standings.Going k p) v stands wants going leaving = going k p refl
 no_hearer w b (standings.Ended o) v stands wants going leaving = let calls = ap (λ u. (system_of b).wants u) stands in cc (calls, wants)
 no_hearer w b (standings.Leaving o) v stands wants going leaving = leaving o refl
 no_hearer w b (standings.Away o) v stands wants going leaving = let none = ap (λ u. (system_of b).wants u) stands in cc (none, wants)

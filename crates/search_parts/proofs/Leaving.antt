@@ -49,14 +49,14 @@ some_same x y h = cc h
 
 away : (w : WithTables) (s : RestingThread) (v : Thread) → StandsForThread w s v → (o : Outcome) → outcome_away s ≡ Some o → v ≡ Left o
 away w Missing v st o h = absurd (cc h)
-away w (Going k) v st o h = absurd (cc h)
+away w (Going k p) v st o h = absurd (cc h)
 away w (Ended x) v st o h = absurd (cc h)
 away w (Leaving x) v st o h = absurd (cc h)
 away w (Away x) v st o h = let same : x ≡ o = cc h in st ∙ ap (λ y. Left y) same
 
 here : (w : WithTables) (s : RestingThread) (v : Thread) → StandsForThread w s v → outcome_away s ≡ None → (o : Outcome) → v ≡ Left o → ⊥
 here w Missing v st h o left = absurd (cc (sym st ∙ left))
-here w (Going k) v st h o left = let is = st.1 in absurd (cc (sym is ∙ left))
+here w (Going k p) v st h o left = let is = st.1 in absurd (cc (sym is ∙ left))
 here w (Ended x) v st h o left = absurd (cc (sym st ∙ left))
 here w (Leaving x) v st h o left = absurd (cc (sym st ∙ left))
 here w (Away x) v st h o left = absurd (cc h)

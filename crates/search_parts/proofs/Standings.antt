@@ -1,10 +1,12 @@
 -- Threads at rest that are equal stand for the same.
-use Rattle.std.specs.Prelude.{◌≡◌, ◌&&◌, Bool, true, nat_eq}
-use Rattle.std.proofs.Common.{sym, ◌∙◌, subst}
+use Rattle.std.specs.Prelude.{◌≡◌, ◌&&◌, Bool, true, false, nat_eq, Option, Some, None}
+use Rattle.std.proofs.Common.{refl, sym, ap, ◌∙◌, subst, rules}
 use Rattle.std.proofs.lemmas.Bool.{eqb-true}
 use Rattle.std.specs.Cmp.{first_so, second_so}
 use Rattle.std.specs.Cmp.Lexicographic.{pointwise}
 use Rattle.types.specs.contracts.value.ValuePartialEq.TheImpl as value_eq
+use Rattle.types.specs.declared.event.Event.{Event}
+use Rattle.types.specs.contracts.event.EventPartialEq.TheImpl as event_eq
 use Rattle.validate_typing.specs.Tabled.{WithTables}
 use Rattle.interp_state.specs.declared.state.State.{State}
 use Rattle.interp_state.specs.contracts.state.CallerPartialEq.TheImpl as caller_eq
@@ -13,7 +15,7 @@ use Rattle.interp.specs.Kept.{IsOf}
 use Rattle.interp.specs.declared.kept.Kept.{Kept}
 use Rattle.interp.specs.contracts.kept.KeptPartialEq.TheImpl as kept_eq
 use Rattle.search_runs.specs.Called.{Walker}
-use Rattle.search_parts.specs.Walkers.{StandsForThread}
+use Rattle.search_parts.specs.Walkers.{StandsForThread, Wants}
 use Rattle.search_parts.specs.declared.walker.RestingThread.{RestingThread}
 use Rattle.search_parts.specs.declared.walker.RestingThread.TheVariants.{Missing, Going, Ended, Leaving, Away}
 use Rattle.search_parts.specs.contracts.walker.RestingThreadPartialEq.TheImpl as standing_eq
@@ -68,31 +70,48 @@ module _ (x y : Kept) where
         progress = sym (same_progress x.progress y.progress (second_so callers_so progress_so callers)) ∙ is.progress;
       }
 
+same_event : (x y : Event) → event_eq.eq-value.it x y ≡ true → x ≡ y
+same_event x y e = Prim.search rules
+
+same_going : (a b : Kept) (o p : Option Event) → standing_eq.eq-value.it (Going a o) (Going b p) ≡ true
+    → (kept_eq.eq-value.it a b ≡ true) × (o ≡ p)
+same_going a b None None e = (first_so (kept_eq.eq-value.it a b) true e, refl)
+same_going a b None (Some y) e = untrue (second_so (kept_eq.eq-value.it a b) false e)
+same_going a b (Some x) None e = untrue (second_so (kept_eq.eq-value.it a b) false e)
+same_going a b (Some x) (Some y) e =
+    let events_so = event_eq.eq-value.it x y in
+    (first_so (kept_eq.eq-value.it a b) events_so e, ap Some (same_event x y (second_so (kept_eq.eq-value.it a b) events_so e)))
+
 pub same_standing : (w : WithTables) (x y : RestingThread) (v : Walker) → standing_eq.eq-value.it x y ≡ true → StandsForThread w x v → StandsForThread w y v
 same_standing w Missing Missing v e st = st
-same_standing w Missing (Going b) v e st = untrue e
+same_standing w Missing (Going b p) v e st = untrue e
 same_standing w Missing (Ended b) v e st = untrue e
 same_standing w Missing (Leaving b) v e st = untrue e
 same_standing w Missing (Away b) v e st = untrue e
-same_standing w (Going a) Missing v e st = untrue e
-same_standing w (Going a) (Going b) v e st =
+same_standing w (Going a o) Missing v e st = untrue e
+same_standing w (Going a o) (Going b p) v e st =
     let kept = st.2.1 in
-    (st.0, st.1, (st.2.0, record { state = kept.state; stands = kept.stands; is_of = same_kept a b e kept.state kept.is_of }, st.2.2))
-same_standing w (Going a) (Ended b) v e st = untrue e
-same_standing w (Going a) (Leaving b) v e st = untrue e
-same_standing w (Going a) (Away b) v e st = untrue e
+    let same = same_going a b o p e in (
+      st.0,
+      st.1,
+      (st.2.0, record { state = kept.state; stands = kept.stands; is_of = same_kept a b same.0 kept.state kept.is_of }, st.2.2),
+      subst (λ q. Wants w v q) same.1 st.3,
+    )
+same_standing w (Going a o) (Ended b) v e st = untrue e
+same_standing w (Going a o) (Leaving b) v e st = untrue e
+same_standing w (Going a o) (Away b) v e st = untrue e
 same_standing w (Ended a) Missing v e st = untrue e
-same_standing w (Ended a) (Going b) v e st = untrue e
+same_standing w (Ended a) (Going b p) v e st = untrue e
 same_standing w (Ended a) (Ended b) v e st = subst (λ o. StandsForThread w (Ended o) v) (same_outcome a b e) st
 same_standing w (Ended a) (Leaving b) v e st = untrue e
 same_standing w (Ended a) (Away b) v e st = untrue e
 same_standing w (Leaving a) Missing v e st = untrue e
-same_standing w (Leaving a) (Going b) v e st = untrue e
+same_standing w (Leaving a) (Going b p) v e st = untrue e
 same_standing w (Leaving a) (Ended b) v e st = untrue e
 same_standing w (Leaving a) (Leaving b) v e st = subst (λ o. StandsForThread w (Leaving o) v) (same_outcome a b e) st
 same_standing w (Leaving a) (Away b) v e st = untrue e
 same_standing w (Away a) Missing v e st = untrue e
-same_standing w (Away a) (Going b) v e st = untrue e
+same_standing w (Away a) (Going b p) v e st = untrue e
 same_standing w (Away a) (Ended b) v e st = untrue e
 same_standing w (Away a) (Leaving b) v e st = untrue e
 same_standing w (Away a) (Away b) v e st = subst (λ o. StandsForThread w (Away o) v) (same_outcome a b e) st

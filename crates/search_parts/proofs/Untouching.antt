@@ -1,7 +1,7 @@
 -- Who makes no event, hears no answer and doesn't begin is left as it was.
 use Rattle.std.specs.Prelude.{ℕ, ◌≡◌, ◌≢◌, false, Option, Some, None}
 use Rattle.std.specs.Option.{is_some}
-use Rattle.std.proofs.Common.{refl, sym, ◌∙◌, ap, subst}
+use Rattle.std.proofs.Common.{refl, sym, ◌∙◌, subst}
 use Rattle.types.specs.declared.event.Event.{Event}
 use Rattle.validate_typing.specs.Tabled.{WithTables}
 use Rattle.shared_memory.specs.WaitQueue.{answer_due}
@@ -14,6 +14,7 @@ use Rattle.search_runs.specs.Called.{Called, Walker, system_of, reply_by, answer
 use Rattle.search_parts.specs.Walkers.{RestsAt}
 use Rattle.search_parts.specs.declared.walker.RestingThread.{RestingThread}
 use Rattle.search_parts.specs.Parts.{IsAfter}
+use Rattle.search_parts.specs.Sharing.{answer_in}
 use Rattle.search_parts.specs.declared.event.Begun.{Begun}
 use Rattle.search_parts.specs.declared.event.Effect.{Effect}
 use Rattle.search_parts.proofs.AtRest.{at_rest}
@@ -24,7 +25,7 @@ pub not_some : {A : Type 0} (o : Option A) → is_some o ≡ false → o ≡ Non
 not_some None h = refl
 not_some (Some x) h = absurd (cc h)
 
-pub untouched : (made : Effect) (n m : ℕ) → n ≢ m → answer_due made.queue m ≡ None → ((g : Begun) → made.begun ≡ Some g → g.id ≢ m)
+pub untouched : (made : Effect) (n m : ℕ) → n ≢ m → answer_in made m ≡ None → ((g : Begun) → made.begun ≡ Some g → g.id ≢ m)
     → (w : WithTables) (worker : Option ℕ) (s : RestingThread) (b : Called) (z : State Shared Walker) (e : Event) → IsAfter w worker made n s m b z e
     → RestsAt w b ((after_event (system_of b) z n e).threads m) s
 untouched made n m apart due others w worker s b z e after =
@@ -33,6 +34,6 @@ untouched made n m apart due others w worker s b z e after =
     let same : v ≡ z.threads m = put-other z.threads n taken m (λ same. apart (sym same)) in
     let at : RestsAt w b v s = subst (λ (u : Walker). RestsAt w b u s) (sym same) (at_rest w b s (z.threads m) after.rested) in
     let none : begun_at b z.shared e m ≡ None = no_other b z.shared e m (λ g is. others g (after.makes.begun ∙ is)) in
-    let quiet : answer_due (queue_by z.shared n e) m ≡ None = ap (λ q. answer_due q m) (sym after.makes.queue) ∙ due in
+    let quiet : answer_due (queue_by z.shared n e) m ≡ None = sym (after.makes.answers m) ∙ due in
     subst (λ o. RestsAt w b (or_started (started_without o) (hears_any (system_of b) v (answer_by z.shared n e m))) s) (sym none)
     (subst (λ o. RestsAt w b (hears_any (system_of b) v o) s) (sym quiet) at)

@@ -1,8 +1,11 @@
 -- Turns of a thread with units left are turns of the thread without a budget.
-use Rattle.std.proofs.Common.{◌≡◌, ◌⊎◌, inl, inr, ℕ, zero, suc, ◌<◌, ◌-◌, Some, None, Option, refl, sym, ◌∙◌, ap, subst, arith}
+use Rattle.std.specs.Prelude.{IfSome}
+use Rattle.std.proofs.Common.{◌≡◌, ◌⊎◌, inl, inr, ℕ, zero, suc, ◌<◌, ◌-◌, Some, None, refl, sym, ◌∙◌, ap, subst, arith}
 use Rattle.types.specs.declared.event.Event.{Event}
 use Rattle.types.specs.declared.outcome.Outcome.{Outcome}
-use Rattle.schedule.specs.System.{Want, Want.Turns, Want.Calls, Want.Awaits, Want.Gone}
+use Rattle.shared_memory.specs.Events.{IsEvent}
+use Rattle.validate_typing.specs.Tabled.{WithTables}
+use Rattle.schedule.specs.System.{Want.Turns}
 use Rattle.schedule.specs.Machine.{Wish, Wish.Goes, Wish.Asks, Wish.Waits, Wish.Ends, wanted, thread_goes}
 use Rattle.schedule.specs.Machine.{Thread.Absent, Thread.Runs, Thread.Over, Thread.Leaves, Thread.Left}
 use Rattle.schedule_threads.specs.Threads.{machine_of, wishes}
@@ -12,13 +15,14 @@ use Rattle.interp_machine.specs.State as states
 use Rattle.interp_machine.specs.State.{State, At}
 use Rattle.interp_trait.specs.declared.turn.Turn.{Turn}
 use Rattle.interp_trait.specs.declared.turn.Turn.TheVariants as turns
-use Rattle.interp_trait.specs.declared.turn.Given.TheVariants as given
-use Rattle.interp_trait.specs.Turns.{Running, wants_of, left_of, outcome_in, outcome_of, after_own, SaysWhy, IsPaused}
-use Rattle.interp_trait.specs.Turns.{answer_by, answer_of, own_turn_if, wanted_before}
+use Rattle.interp_trait.specs.Turns.{Running, wants_of, left_of, outcome_in, after_own, SaysWhy, IsPaused}
+use Rattle.interp_trait.specs.Turns.{IsWanted}
 use Rattle.schedule_machine.specs.Threads.{called}
-use Rattle.search_threads.specs.Unlimited.{Unlimited.Going, want_by}
+use Rattle.search_threads.specs.Unlimited.{Unlimited.Going, want_by, unlimited_wants}
 use Rattle.search_settled.specs.Settled.{ComesTo, Settles, MakesTurns}
 use Rattle.search_runs.specs.Called.{Called, Walker, system_of}
+use Rattle.search_parts.specs.Walkers.{IsOf}
+use Rattle.search_parts.specs.Rests.{event_in}
 
 wish_same : (p : Program) (r : ℕ) (w : Wish Event Outcome) → wanted (machine_of p) (suc r) w ≡ want_by (machine_of p) w
 wish_same p r Waits = refl
@@ -153,35 +157,20 @@ says_none p y r (turns.Wants e) says other = says.0
 says_none p y r turns.Awaits says other = says.0
 says_none p y r (turns.Ended o) says other = absurd (other o refl)
 
--- the event of a turn that was given nothing
-abbrev pub event_in : Turn → Option Event
-event_in turns.Moved = None
-event_in (turns.Wants e) = Some e
-event_in turns.Awaits = None
-event_in (turns.Ended o) = None
+-- who says why wants the event of which it speaks, or none
+pub why_wanted : (b : Called) (x : State) (r : ℕ) (turn : Turn) → ((o : Outcome) → turn ≡ turns.Ended o → ⊥) → SaysWhy b.program (Runs x (suc r)) turn
+    → event_in turn ≡ called ((system_of b).wants (Going x))
+why_wanted b x r turns.Moved other says = absurd says
+why_wanted b x r (turns.Wants e) other says = ap called (sym says.1 ∙ same_wants b x r)
+why_wanted b x r turns.Awaits other says = ap called (sym says.1 ∙ same_wants b x r)
+why_wanted b x r (turns.Ended o) other says = absurd (other o refl)
 
-no_event : (o : Option Outcome) (w : Want Event) → event_in (answer_by o w turns.Moved) ≡ None
-no_event (Some o) w = refl
-no_event None Turns = refl
-no_event None (Calls e) = refl
-no_event None Awaits = refl
-no_event None Gone = refl
+pub event_wanted : (turn : Turn) → IsWanted turn → IfSome (event_in turn) IsEvent
+event_wanted turns.Moved is = tt
+event_wanted (turns.Wants e) is = is
+event_wanted turns.Awaits is = tt
+event_wanted (turns.Ended o) is = tt
 
-event_by : (p : Program) (t : Running) (w : Want Event) → wants_of p t ≡ w → outcome_of t ≡ None
-    → event_in (answer_by (outcome_of (own_turn_if p t w)) (wants_of p (own_turn_if p t w)) (wanted_before given.Nothing w)) ≡ called w
-event_by p t Turns is none = no_event (outcome_of (own_turn_if p t Turns)) (wants_of p (own_turn_if p t Turns))
-event_by p t (Calls e) is none = rw (none, is) refl
-event_by p t Awaits is none = no_event (outcome_of t) (wants_of p t)
-event_by p t Gone is none = no_event (outcome_of t) (wants_of p t)
-
-pub event_said : (b : Called) (c : Config) (r : ℕ) (turn : Turn) → turn ≡ answer_of b.program (Runs (At c) (suc r)) given.Nothing
-    → event_in turn ≡ called ((system_of b).wants (Going (At c)))
-event_said b c r turn is =
-    ap event_in is
-    ∙ (event_by b.program (Runs (At c) (suc r)) (wants_of b.program (Runs (At c) (suc r))) refl refl ∙ ap called (same_wants b (At c) r))
-
-pub no_event_in : (turn : Turn) → ((e : Event) → turn ≡ turns.Wants e → ⊥) → event_in turn ≡ None
-no_event_in turns.Moved other = refl
-no_event_in (turns.Wants e) other = absurd (other e refl)
-no_event_in turns.Awaits other = refl
-no_event_in (turns.Ended o) other = refl
+-- a thread wants the same whatever is called of its module
+pub wants_by : (w : WithTables) (b d : Called) → IsOf b w → IsOf d w → (v : Walker) → (system_of b).wants v ≡ (system_of d).wants v
+wants_by w b d of is v = ap (λ p. unlimited_wants (machine_of p) v) (of ∙ sym is)

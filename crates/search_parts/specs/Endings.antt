@@ -8,7 +8,7 @@ use Rattle.search_parts.specs.declared.shared.HashedThread.{HashedThread}
 -- The outcome of a thread that has left.
 abbrev pub outcome_away : RestingThread → Option Outcome
 outcome_away Missing = None
-outcome_away (Going k) = None
+outcome_away (Going k o) = None
 outcome_away (Ended o) = None
 outcome_away (Leaving o) = None
 outcome_away (Away o) = Some o

@@ -1,5 +1,5 @@
 -- Where threads of a module come to rest, whatever is called of it.
-use Rattle.std.specs.Prelude.{ℕ, ◌≡◌, Bool, List, map, Option}
+use Rattle.std.specs.Prelude.{ℕ, ◌≡◌, Bool, List, map, Option, Some, None}
 use Rattle.types.specs.declared.event.Answer.{Answer}
 use Rattle.types.specs.declared.event.Event.{Event}
 use Rattle.types.specs.declared.event.Reply.{Reply}
@@ -13,12 +13,14 @@ use Rattle.schedule.specs.System.{Want.Calls, Want.Awaits}
 use Rattle.schedule_machine.specs.Threads.{called}
 use Rattle.interp.specs.declared.kept.Kept.{Kept}
 use Rattle.interp.specs.declared.thread.Thread.{Thread}
-use Rattle.interp.specs.Kept.{IsKept, RunsBy}
+use Rattle.interp.specs.Kept.{RunsBy}
 use Rattle.interp.specs.Starts.{IsFunction, start_of}
 use Rattle.interp.specs.Threads as threads
 use Rattle.interp_machine.specs.Config.{Config}
 use Rattle.interp_machine.specs.State.{State, At}
 use Rattle.interp_trait.specs.declared.turn.Given.{Given}
+use Rattle.interp_trait.specs.declared.turn.Turn.{Turn}
+use Rattle.interp_trait.specs.declared.turn.Turn.TheVariants as turns
 use Rattle.live_locals.specs.Live.{AreSound}
 use Rattle.search_threads.specs.Unlimited.{Unlimited.Going}
 use Rattle.search_settled.specs.Settled.{MakesTurns}
@@ -43,7 +45,7 @@ ComesToRestAt live t s = OfRunning t (λ w b x left. AreSound w live → RestsAt
 
 -- What is kept of it has the locals cleared that are dead by these tables.
 abbrev pub IsCleared : List (List (List Bool)) → RestingThread → Type 0
-IsCleared live (standings.Going k) = (old : Kept) × IsClearedOf live old k
+IsCleared live (standings.Going k o) = (old : Kept) × IsClearedOf live old k
 IsCleared live standings.Missing = Unit {0}
 IsCleared live (standings.Ended o) = Unit {0}
 IsCleared live (standings.Leaving o) = Unit {0}
@@ -52,12 +54,15 @@ IsCleared live (standings.Away o) = Unit {0}
 abbrev pub SpendsAll : Thread → Type 0
 SpendsAll t = OfRunning t (λ w b x left. MakesTurns (system_of b) left (Going x))
 
--- What a thread wants.
-abbrev pub IsWantedAt : WithTables → Kept → Option Event → Type 0
-IsWantedAt w k o = (b : Called) (c : Config) → IsOf b w → IsKept w k c → o ≡ called ((system_of b).wants (Going (At c)))
-
+-- What a thread wants, and the event that is wanted by who makes no further turn of its own, by what it says of why.
 abbrev pub IsWantedOf : WithTables → RestingThread → Option Event → Type 0
 IsWantedOf w s o = (b : Called) (v : Walker) → IsOf b w → StandsForThread w s v → o ≡ called ((system_of b).wants v)
+
+abbrev pub event_in : Turn → Option Event
+event_in turns.Moved = None
+event_in (turns.Wants e) = Some e
+event_in turns.Awaits = None
+event_in (turns.Ended o) = None
 
 -- Whatever the one stands for, the other stands for.
 abbrev pub StandsForAll : RestingThread → RestingThread → Type 0

@@ -13,7 +13,7 @@ use Rattle.search_memory.specs.declared.beside.Changes.{Changes}
 use Rattle.search_memory.specs.contracts.beside.ChangesPartialEq.TheImpl as memories
 use Rattle.search_threads.specs.Unlimited.{Unlimited.Going as Goes}
 use Rattle.search_runs.specs.Called.{Walker}
-use Rattle.search_parts.specs.Walkers.{StandsForThread}
+use Rattle.search_parts.specs.Walkers.{StandsForThread, Wants}
 use Rattle.search_parts.specs.declared.walker.RestingThread.{RestingThread}
 use Rattle.search_parts.specs.declared.walker.RestingThread.TheVariants.{Missing, Going, Ended, Leaving, Away}
 use Rattle.search_parts.specs.contracts.walker.RestingThreadPartialEq.TheImpl as standings
@@ -47,16 +47,16 @@ pub record AreAtOnePlace (x y : Kept) : Type 0 where
 
 -- A configuration doesn't name the functions that it is in: two of the same code are told apart by their places alone.
 abbrev pub AreWhereTheyAre : RestingThread → RestingThread → Type 0
-AreWhereTheyAre (Going x) (Going y) = AreAtOnePlace x y
+AreWhereTheyAre (Going x o) (Going y p) = AreAtOnePlace x y
 AreWhereTheyAre Missing y = Unit {0}
 AreWhereTheyAre (Ended o) y = Unit {0}
 AreWhereTheyAre (Leaving o) y = Unit {0}
 AreWhereTheyAre (Away o) y = Unit {0}
-AreWhereTheyAre (Going x) y = Unit {0}
+AreWhereTheyAre (Going x o) y = Unit {0}
 
 -- It stands for the thread with all its locals, those that are dead too.
 abbrev pub StandsForJust : WithTables → RestingThread → Walker → Type 0
-StandsForJust w (Going k) v = (c : Config) × (v ≡ Goes (At c)) × IsKept w k c
+StandsForJust w (Going k o) v = (c : Config) × (v ≡ Goes (At c)) × IsKept w k c × Wants w v o
 StandsForJust w Missing v = StandsForThread w Missing v
 StandsForJust w (Ended o) v = StandsForThread w (Ended o) v
 StandsForJust w (Leaving o) v = StandsForThread w (Leaving o) v

@@ -1,11 +1,12 @@
 -- What stands for the shared state, and what an event of a thread makes.
-use Rattle.std.specs.Prelude.{ℕ, ◌≡◌, List, length, cond, nat_lt, Option, Some, None}
+use Rattle.std.specs.Prelude.{ℕ, ◌≡◌, List, length, cond, nat_lt, option_and_then, Option, Some, None}
 use Rattle.types.specs.declared.limits.TheConstants.{MOST_THREADS}
+use Rattle.types.specs.declared.event.Answer.{Answer}
 use Rattle.types.specs.declared.event.Event.{Event}
 use Rattle.types.specs.declared.event.Event.TheVariants as events
 use Rattle.types.specs.declared.event.Question.TheVariants as questions
 use Rattle.shared_memory.specs.Memory.{reply_of}
-use Rattle.shared_memory.specs.WaitQueue.{WaitQueue, first_queue, next_id}
+use Rattle.shared_memory.specs.WaitQueue.{WaitQueue, answer_due, first_queue, next_id}
 use Rattle.shared_memory_sequential.specs.Opening.{IsSized}
 use Rattle.schedule_threads.specs.Shared.{Shared, queue_by}
 use Rattle.waiters.specs.Kept.{queue_of}
@@ -35,8 +36,15 @@ begun_in q (events.Ask (questions.Spawn arg)) =
     cond (nat_lt (next_id q) (length q.due)) (Some (record { id = next_id q; arg = arg })) None
 begun_in q _ = None
 
--- What an event makes: its reply, the queue with the answers that are due then, and the thread that it starts.
+-- The answer that is due to a thread after an event, and that these are the answers that are due in a queue.
+abbrev pub answer_in : Effect → ℕ → Option Answer
+answer_in made m = option_and_then (λ q. answer_due q.value m) made.queue
+
+abbrev pub HasAnswers : Effect → WaitQueue → Type 0
+HasAnswers made q = (m : ℕ) → answer_in made m ≡ answer_due q m
+
+-- What an event makes: its reply, the answers that are due then, and the thread that it starts.
 pub record Makes (made : Effect) (x : Shared) (n : ℕ) (e : Event) : Type 0 where
   pub reply : made.reply ≡ reply_of x.memory e
-  pub queue : made.queue ≡ queue_by x n e
+  pub answers : HasAnswers made (queue_by x n e)
   pub begun : made.begun ≡ begun_in x.queue e

@@ -2,7 +2,6 @@
 use Rattle.std.specs.Prelude.{ℕ, ◌≡◌, ◌≢◌, ◌⊎◌, Option, Some, None}
 use Rattle.types.specs.declared.event.Event.{Event}
 use Rattle.validate_typing.specs.Tabled.{WithTables}
-use Rattle.shared_memory.specs.WaitQueue.{answer_due}
 use Rattle.schedule.specs.System.{State}
 use Rattle.schedule.specs.Scheduled.{after_event}
 use Rattle.schedule_threads.specs.Shared.{Shared}
@@ -10,6 +9,7 @@ use Rattle.search_runs.specs.Called.{Called, Walker as Thread, system_of}
 use Rattle.search_parts.specs.Walkers.{RestsAt}
 use Rattle.search_parts.specs.declared.walker.RestingThread.{RestingThread}
 use Rattle.search_parts.specs.Parts.{IsAfter}
+use Rattle.search_parts.specs.Sharing.{answer_in}
 use Rattle.search_parts.specs.declared.event.Begun.{Begun}
 use Rattle.search_parts.specs.declared.event.Effect.{Effect}
 
@@ -21,4 +21,4 @@ StandsAsBefore made n m =
 
 -- Thread m made the event of thread n, or an answer is due to it then, or the event starts it.
 abbrev pub IsTouched : Effect → ℕ → ℕ → Type 0
-IsTouched made n m = (n ≡ m) ⊎ ((answer_due made.queue m ≢ None) ⊎ ((g : Begun) × (made.begun ≡ Some g) × (g.id ≡ m)))
+IsTouched made n m = (n ≡ m) ⊎ ((answer_in made m ≢ None) ⊎ ((g : Begun) × (made.begun ≡ Some g) × (g.id ≡ m)))

@@ -1,5 +1,7 @@
 -- Which thread without a budget a walker stands for, and where it comes to rest.
-use Rattle.std.specs.Prelude.{ℕ, ◌≡◌}
+use Rattle.std.specs.Prelude.{ℕ, ◌≡◌, Option, IfSome}
+use Rattle.types.specs.declared.event.Event.{Event}
+use Rattle.shared_memory.specs.Events.{IsEvent}
 use Rattle.validate_typing.specs.Tabled.{WithTables}
 use Rattle.schedule.specs.Machine.{Thread.Runs}
 use Rattle.interp_machine.specs.Config.{Config}
@@ -8,7 +10,7 @@ use Rattle.interp_machine.specs.State.{At, Over}
 use Rattle.interp_trait.specs.declared.turn.Given.{Given}
 use Rattle.interp_trait.specs.declared.turn.Given.TheVariants as given
 use Rattle.interp_trait.specs.Turns.{IsGiven}
-use Rattle.schedule_machine.specs.Threads.{IsMadeReply}
+use Rattle.schedule_machine.specs.Threads.{IsMadeReply, called}
 use Rattle.interp.specs.declared.kept.Kept.{Kept}
 use Rattle.interp.specs.Kept.{IsKept}
 use Rattle.live_kept.specs.Clearing.{IsKeptUpToDead}
@@ -23,17 +25,23 @@ use Rattle.search_parts.specs.declared.walker.RestingThread.TheVariants.{Missing
 unfoldable pub patience : ℕ
 patience = 1000000
 
--- It stands for a thread of a module with its tables, up to locals that are dead where the thread stands.
-abbrev pub StandsForThread : WithTables → RestingThread → Thread → Type 0
-StandsForThread w Missing v = v ≡ NoThread
-StandsForThread w (Going k) v = (c : Config) × (v ≡ Goes (At c)) × IsKeptUpToDead w k c
-StandsForThread w (Ended o) v = v ≡ Goes (Over o)
-StandsForThread w (Leaving o) v = v ≡ Leaves o
-StandsForThread w (Away o) v = v ≡ Left o
-
 -- What is called is of this module.
 abbrev pub IsOf : Called → WithTables → Type 0
 IsOf b w = b.program ≡ program_of w.parts
+
+-- It is the event that a thread of the module wants, one that a memory takes; or nothing where the thread wants none.
+pub record Wants (w : WithTables) (v : Thread) (o : Option Event) : Type 0 where
+  pub wanted : (b : Called) → IsOf b w → o ≡ called ((system_of b).wants v)
+  pub event : IfSome o IsEvent
+
+-- It stands for a thread of a module with its tables, up to locals that are dead where the thread stands, and has the
+-- event that this thread wants.
+abbrev pub StandsForThread : WithTables → RestingThread → Thread → Type 0
+StandsForThread w Missing v = v ≡ NoThread
+StandsForThread w (Going k o) v = (c : Config) × (v ≡ Goes (At c)) × IsKeptUpToDead w k c × Wants w v o
+StandsForThread w (Ended o) v = v ≡ Goes (Over o)
+StandsForThread w (Leaving o) v = v ≡ Leaves o
+StandsForThread w (Away o) v = v ≡ Left o
 
 -- A thread comes to rest, by turns of its own, where this stands.
 pub record RestsAt (w : WithTables) (b : Called) (v : Thread) (s : RestingThread) : Type 0 where

@@ -1,6 +1,6 @@
 //! What a thread does with the memory next.
 
-ghost use Rattle.std.specs.Prelude.{◌≡◌, ◌≤◌, ◌+◌, ◌==◌, length, nat_le, Bool, true, false, not, IfOk};
+ghost use Rattle.std.specs.Prelude.{◌≡◌, ◌≤◌, ◌+◌, ◌==◌, length, nat_le, Bool, true, false, not};
 ghost use Rattle.types.specs.declared.event.Event.TheVariants.{Ask, Grow};
 ghost use Rattle.shared_memory.specs.Events.{IsEvent};
 ghost use Rattle.shared_memory.specs.Memory.{Memory, can_grow, loaded};
@@ -15,7 +15,6 @@ use crate::wants::wanted;
 use allowed_races::Allowed;
 use search_memory::{Changes, can_grow, holds};
 use search_settled::NextAccess;
-use std::alloc::{AllocError, Global};
 use types::{Event, Question};
 use validate_module::ValidModule;
 
@@ -227,25 +226,19 @@ fn judged(allowed: &Allowed, access: NextAccess) -> NextAccess
 }
 
 /// What thread n does with the memory next, if it can go on, where so much may race.
-///
-/// # Errors
-/// Where memory is refused.
 pub fn next_access(
-    alloc: Global,
     valid: &ValidModule,
     allowed: &Allowed,
     opening: &[u8],
     shared: &Common,
     thread: &HashedThread,
     n: usize,
-) -> Result<Option<NextAccess>, AllocError>
+) -> Option<NextAccess>
     requires { IsInCall valid.now opening.now shared.now thread.now.standing n }
-    ensures { IfOk result (IsAccessIn valid.now allowed.now opening.now shared.now thread.now.standing n) }
+    ensures { IsAccessIn valid.now allowed.now opening.now shared.now thread.now.standing n result }
 {
-    let Some(event) = wanted(alloc, valid, &thread.standing)? else {
-        return Ok(None);
-    };
+    let event = wanted(&thread.standing)?;
     let plain = is_plain(valid, &thread.standing);
     let access = access_by(opening, &shared.memory, plain, &event);
-    Ok(Some(judged(allowed, access)))
+    Some(judged(allowed, access))
 }

@@ -56,7 +56,7 @@ pub(crate) fn of_standing(standing: &RestingThread) -> u64 {
     let mut state = FoldHasher::default();
     match standing {
         RestingThread::Missing => state.write_u8(1),
-        RestingThread::Going(kept) => hash_kept(kept, &mut state),
+        RestingThread::Going(kept, _) => hash_kept(kept, &mut state),
         RestingThread::Ended(outcome) => {
             state.write_u8(2);
             hash_outcome(*outcome, &mut state);

@@ -1,7 +1,7 @@
 //! The parts of a state of a search: what a module's threads share, and each of them at rest, in few bytes; what an event
 //! makes of them, and how they have ended. What is equal in a search is the same, and what is the same is equal.
 //!
-//! Proved: a thread at rest stands for its thread up to dead locals, wants its event, and comes to rest where it does;
+//! Proved: a thread at rest stands for its thread up to dead locals, has its event, and comes to rest where it does;
 //! `make_event` and `rest_after` give what an event makes of memory, queue and threads, and `next_access` what it does with
 //! the memory. It is given up only where a thread makes a million turns of its own. What is equal is the same, of threads up
 //! to dead locals, and what is the same is equal, of threads with all their locals and at the same places (`same.rt`).

@@ -40,7 +40,7 @@ pub(crate) fn is_plain(valid: &ValidModule, standing: &RestingThread) -> bool
     ensures { (v : Walker) → StandsForThread valid.now standing.now v → result ≡ is_plain v }
 {
     match standing {
-        RestingThread::Going(kept) => is_at_plain(valid, kept),
+        RestingThread::Going(kept, _) => is_at_plain(valid, kept),
         _ => false,
     }
 }

@@ -4,7 +4,7 @@ ghost use Rattle.std.specs.Prelude.{◌≡◌, ◌<◌, ℕ, None, IfOk, IfSome}
 ghost use Rattle.schedule.specs.Machine.{Thread.Runs};
 ghost use Rattle.interp_machine.specs.State.{State};
 ghost use Rattle.interp.specs.Threads.{StandsFor, meaning_in};
-ghost use Rattle.search_parts.specs.Rests.{ComesToRestAt, IsCleared, SpendsAll};
+ghost use Rattle.search_parts.specs.Rests.{ComesToRestAt, IsCleared, SpendsAll, event_in};
 
 use crate::walker::RestingThread;
 use interp::Thread;
@@ -12,10 +12,21 @@ use interp_trait::{OpenGate, TakesTurns, Turn};
 use live_kept::clear_dead;
 use live_locals::LiveTables;
 use std::alloc::{AllocError, Global};
+use types::Event;
 
 /// How many units a thread has from one event to the next: a million for turns of its own, `patience` of
 /// `specs/Walkers.antt`, and one for the reply before them.
 pub(crate) const FUEL: u64 = 1_000_001;
+
+/// The event that a thread wants which makes no further turn of its own, by what it says of why.
+fn event_in(turn: Turn) -> Option<Event>
+    ensures { result ≡ event_in turn }
+{
+    match turn {
+        Turn::Wants(event) => Some(event),
+        _ => None,
+    }
+}
 
 /// Where a thread comes to rest by turns of its own, its dead locals cleared by the tables; or nothing where it has spent
 /// all its units: then it makes as many turns of its own as it had units left.
@@ -40,5 +51,5 @@ pub(crate) fn rest(
     }
     let mut kept = thread.keep(alloc)?;
     clear_dead(live, &mut kept);
-    Ok(Some(RestingThread::Going(kept)))
+    Ok(Some(RestingThread::Going(kept, event_in(turn))))
 }

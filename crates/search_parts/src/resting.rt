@@ -138,7 +138,7 @@ pub fn rest_after(
     let Some(own) = replied(alloc, valid, live, worker, event, standing, m)? else {
         return Ok(None);
     };
-    let Some(after) = told(alloc, valid, live, own, made.queue.due(m as u32))? else {
+    let Some(after) = told(alloc, valid, live, own, made.due(m as u32))? else {
         return Ok(None);
     };
     Ok(Some(after))

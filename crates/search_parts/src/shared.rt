@@ -3,6 +3,8 @@
 ghost use Rattle.std.specs.Hash as fed;
 ghost use Rattle.std.specs.Cmp.Rules.{hashing};
 ghost use Rattle.std.proofs.Common.{rules};
+ghost use Rattle.std.specs.Prelude.{◌≡◌, IfOk};
+ghost use Rattle.waiters.specs.Kept.{queue_of};
 
 use crate::digest::{of_shared, of_standing};
 use crate::walker::RestingThread;
@@ -10,6 +12,21 @@ use search_memory::Changes;
 use std::alloc::{AllocError, Global};
 use std::hash::{Hash, Hasher};
 use waiters::KeptQueue;
+
+/// A copy of a queue.
+///
+/// # Errors
+/// Where memory is refused.
+pub(crate) fn copied(alloc: Global, queue: &KeptQueue) -> Result<KeptQueue, AllocError>
+    ensures { IfOk result (λ q. queue_of q ≡ queue_of queue.now) }
+{
+    Ok(KeptQueue {
+        alive: Vec::from_slice(alloc, queue.alive.as_slice())?,
+        sleepers: Vec::from_slice(alloc, queue.sleepers.as_slice())?,
+        args: Vec::from_slice(alloc, queue.args.as_slice())?,
+        threads: queue.threads,
+    })
+}
 
 /// What threads share: the memory by its changes, and the queue. The digest alone is hashed; all is compared.
 #[derive(PartialEq, Eq, Drop)]
@@ -44,16 +61,10 @@ impl Common {
         ensures memory { IfOk result (λ c. (opening : List ℕ) → memory_of opening c.memory ≡ memory_of opening self.now.memory) }
         ensures queue { IfOk result (λ c. queue_of c.queue ≡ queue_of self.now.queue) }
     {
-        let queue = KeptQueue {
-            alive: Vec::from_slice(alloc, self.queue.alive.as_slice())?,
-            sleepers: Vec::from_slice(alloc, self.queue.sleepers.as_slice())?,
-            args: Vec::from_slice(alloc, self.queue.args.as_slice())?,
-            threads: self.queue.threads,
-        };
         Ok(Common {
             digest: self.digest,
             memory: self.memory.copy(alloc)?,
-            queue,
+            queue: copied(alloc, &self.queue)?,
         })
     }
 

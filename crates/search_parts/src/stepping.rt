@@ -3,13 +3,12 @@
 ghost use Rattle.std.specs.Prelude.{IfOk};
 ghost use Rattle.search_parts.specs.Threads.{IsInCall, IsEventIn};
 
-use crate::event::{Effect, enter, thread_begun};
+use crate::event::{Effect, entered};
 use crate::shared::{Common, HashedThread};
 use crate::wants::wanted;
 use search_memory::step;
 use std::alloc::{AllocError, Global};
 use validate_module::ValidModule;
-use waiters::Queue;
 
 /// The event that thread n wants to make, if it wants one: what is shared after it, and what it makes.
 ///
@@ -26,20 +25,10 @@ pub fn make_event(
     requires { IsInCall valid.now opening.now shared.now thread.now.standing n }
     ensures { IfOk result (IsEventIn valid.now opening.now shared.now thread.now.standing n) }
 {
-    let Some(event) = wanted(alloc, valid, &thread.standing)? else {
+    let Some(event) = wanted(&thread.standing) else {
         return Ok(None);
     };
     let (memory, reply) = step(alloc, opening, &shared.memory, &event)?;
-    let mut queue = Queue::resume(&shared.queue);
-    enter(&mut queue, n as u32, &event, reply);
-    let begun = thread_begun(&shared.queue, &event);
-    let after = Common::new(memory, queue.keep(alloc)?);
-    Ok(Some((
-        after,
-        Effect {
-            reply,
-            queue,
-            begun,
-        },
-    )))
+    let (queue, made) = entered(alloc, &shared.queue, n as u32, &event, reply)?;
+    Ok(Some((Common::new(memory, queue), made)))
 }

@@ -68,7 +68,7 @@ pub(crate) fn take(
     ensures gives_up { IfOk result (λ o. o ≡ None → TakesAndRunsOn valid.now standing.now reply) }
 {
     match standing {
-        RestingThread::Going(kept) => {
+        RestingThread::Going(kept, _) => {
             let Some(after) = after_given(alloc, valid, live, kept, Given::Reply(reply))? else {
                 return Ok(None);
             };
@@ -97,7 +97,7 @@ pub(crate) fn hear(
     ensures gives_up { IfOk result (λ o. o ≡ None → HearsAndRunsOn valid.now standing.now answer) }
 {
     match standing {
-        RestingThread::Going(kept) => {
+        RestingThread::Going(kept, _) => {
             let Some(after) = after_given(alloc, valid, live, kept, Given::Told(answer))? else {
                 return Ok(None);
             };

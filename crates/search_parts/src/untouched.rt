@@ -15,7 +15,7 @@ pub fn is_untouched(made: &Effect, n: usize, m: usize) -> bool
     if n == m {
         return false;
     }
-    if made.queue.due(m as u32).is_some() {
+    if made.due(m as u32).is_some() {
         return false;
     }
     let Some(begun) = made.begun else {

@@ -2,15 +2,15 @@
 
 use interp::Kept;
 use std::alloc::{AllocError, Global};
-use types::Outcome;
+use types::{Event, Outcome};
 
 /// How far a thread is that makes no turn of its own.
 #[derive(PartialEq, Eq, Drop)]
 pub enum RestingThread {
     /// It wasn't started.
     Missing,
-    /// It wants an event, or awaits an answer.
-    Going(Kept),
+    /// It wants this event, or awaits an answer, and then it wants none.
+    Going(Kept, Option<Event>),
     /// It has ended, and hasn't asked to leave.
     Ended(Outcome),
     /// It has asked to leave.
@@ -32,7 +32,9 @@ impl RestingThread {
     {
         match self {
             RestingThread::Missing => Ok(RestingThread::Missing),
-            RestingThread::Going(kept) => Ok(RestingThread::Going(kept.copy(alloc)?)),
+            RestingThread::Going(kept, event) => {
+                Ok(RestingThread::Going(kept.copy(alloc)?, *event))
+            }
             RestingThread::Ended(outcome) => Ok(RestingThread::Ended(*outcome)),
             RestingThread::Leaving(outcome) => Ok(RestingThread::Leaving(*outcome)),
             RestingThread::Away(outcome) => Ok(RestingThread::Away(*outcome)),

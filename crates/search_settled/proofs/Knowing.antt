@@ -188,3 +188,11 @@ pub none-there : (n : ℕ) (before : List (Option Known)) (s : ℕ) (k : Known) 
 none-there zero before s k at = absurd (none-some (Some k) at)
 none-there (suc n) before zero k at = absurd (cc at)
 none-there (suc n) before (suc s) k at = none-there n before s k at
+
+-- turns that were there before, and one more of them
+pub others-more : (before more after : List (Option Known)) (at : ℕ) (new : Known) → slice_get before at ≡ Some (Some new)
+    → HasNoOther before more → AreFrom more new after → HasNoOther before after
+others-more before more after at new there so from slot k is = elim (from slot k is) [
+  | inl same ↦ (at, there ∙ ap (λ v. Some (Some v)) (sym same))
+  | inr was ↦ so was.0 k was.1
+]

@@ -1,5 +1,5 @@
 //! The states that were met, in a table, and the turns that are known there.
-ghost use Rattle.std.specs.Prelude.{◌<◌, IfSome, OnOk};
+ghost use Rattle.std.specs.Prelude.{◌<◌, IfOk, IfSome, OnOk};
 ghost use Rattle.search_settled.specs.Known.{IsNotedIn, AreFrom, HasNoOther};
 
 use search_table::{StateParts, States};
@@ -45,10 +45,11 @@ pub(crate) struct Tables<S: Eq + Hash, T: Eq + Hash> {
     pub(crate) states: States,
 }
 
-/// How many slots there are at first, and at most.
+/// How many slots there are at first, and at most: so few that many small searches cost nothing, and so many that few turns
+/// of a large one push others out.
 const FEWEST_SLOTS: usize = 1024;
 
-const MOST_SLOTS: usize = 1 << 18;
+const MOST_SLOTS: usize = 1 << 20;
 
 /// The slot of a turn, of so many.
 fn slot_of(shared: u32, thread: u32, n: u32, slots: usize) -> usize
@@ -83,26 +84,11 @@ fn slots_for(states: usize, slots: usize) -> usize
 {
     if slots < FEWEST_SLOTS {
         FEWEST_SLOTS
-    } else if slots < MOST_SLOTS && slots < states / 4 {
+    } else if slots < MOST_SLOTS && slots / 2 < states {
         slots * 2
     } else {
         slots
     }
-}
-
-/// Makes room for turns, among so many states. Where more slots are wanted, all turns are forgotten.
-pub(crate) fn make_room(
-    alloc: Global,
-    known: &mut Vec<Option<Known>>,
-    states: usize,
-) -> Result<(), AllocError>
-    ensures { OnOk result (HasNoOther known.old.items known.new.items) }
-{
-    let slots = slots_for(states, known.len());
-    if known.len() < slots {
-        *known = vec![in alloc; None; slots]?;
-    }
-    Ok(())
 }
 
 /// Notes a turn in its slot, if there are any.
@@ -114,4 +100,36 @@ pub(crate) fn note(known: &mut Vec<Option<Known>>, new: Known)
     }
     let slot = slot_of(new.shared, new.thread, new.n, known.len());
     known[slot] = Some(new);
+}
+
+/// The same turns in so many slots: of those to whom the same one falls the last.
+fn in_slots(
+    alloc: Global,
+    known: &[Option<Known>],
+    slots: usize,
+) -> Result<Vec<Option<Known>>, AllocError>
+    ensures { IfOk result (λ more. HasNoOther known.now more.items) }
+{
+    let mut more = vec![in alloc; None; slots]?;
+    for at in 0..known.len() {
+        if let Some(one) = known[at] {
+            note(&mut more, one);
+        }
+    }
+    Ok(more)
+}
+
+/// Makes room for turns, among so many states.
+pub(crate) fn make_room(
+    alloc: Global,
+    known: &mut Vec<Option<Known>>,
+    states: usize,
+) -> Result<(), AllocError>
+    ensures { OnOk result (HasNoOther known.old.items known.new.items) }
+{
+    let slots = slots_for(states, known.len());
+    if known.len() < slots {
+        *known = in_slots(alloc, known.as_slice(), slots)?;
+    }
+    Ok(())
 }

@@ -4,12 +4,12 @@ use Rattle.report_jobs.specs.Prints.{change, changed}
 use Rattle.report_jobs.specs.declared.undone.Done.{Done}
 use Rattle.report.specs.Drawn.{behind_text}
 use Rattle.report.specs.Telling.{EndsNone, was_told}
-use Rattle.report.specs.Searched.{IsSearched}
+use Rattle.report.specs.Searched.{IsDrawn}
 use Rattle.report.specs.Searches.{Finds}
 use Rattle.report.specs.Told.{IsStatusOfTable, LastIn, NoneIn, TellsDrawn}
 use Rattle.report.proofs.Counted.{cut_within}
 use Rattle.report.proofs.Keeping.{run_is_kept}
-use Rattle.report.proofs.AllTold.{all_made_by, endings_searched, if_both, last_told, none_told}
+use Rattle.report.proofs.AllTold.{all_made_by, endings_drawn, if_both, last_told, none_told}
 use Rattle.report.proofs.searching.search_for_endings.Goals as goal
 
 pub tell-requires : goal.tell-requires
@@ -64,7 +64,7 @@ returns-in-Found-clause-searched g c =
         },
       );
     } in
-    endings_searched q.parts s c.args.call.allowed out save 1 c.requires.drawn c.requires.raceless finds tells
+    endings_drawn q.parts s c.args.call.allowed out save 1 c.requires.raceless finds tells
 
 pub returns-clause-searched : goal.returns-clause-searched
 returns-clause-searched g c =
@@ -81,8 +81,8 @@ returns-clause-searched g c =
     let after = contents c.end_without.new.out in
     let save = changed g.S.Write.contents c.args.streams.now.save c.args.streams.now.save in
     if_both c.end_without.result (λ (done : Done). EndsNone form s.sought table is_told None text done.status (change headed after))
-    (λ (done : Done). IsStatusOfTable s.sought table done.status) (λ (done : Done). IsSearched q.parts s c.args.call.allowed (change before after) save done.status)
-    (λ done rest is. endings_searched q.parts s c.args.call.allowed (change before after) save done.status c.requires.drawn c.requires.raceless (inl (is.statuses, refl)) (record {
+    (λ (done : Done). IsStatusOfTable s.sought table done.status) (λ (done : Done). IsDrawn q.parts s c.args.call.allowed (change before after) save done.status)
+    (λ done rest is. endings_drawn q.parts s c.args.call.allowed (change before after) save done.status c.requires.raceless (inl (is.statuses, refl)) (record {
       request = q;
       parts_are = refl;
       asked = c.requires.asked;

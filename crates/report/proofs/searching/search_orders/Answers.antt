@@ -2,8 +2,8 @@ use Rattle.std.proofs.Common.{rules, ap, ◌∙◌}
 use Rattle.std.proofs.lemmas.Result.{IfOk-weaker}
 use Rattle.report_jobs.specs.Prints.{change}
 use Rattle.report.specs.Rest.{TellsRest}
-use Rattle.report.specs.Searched.{IsSearched}
-use Rattle.report.proofs.Orders.{searched_by}
+use Rattle.report.specs.Searched.{IsGoneThrough}
+use Rattle.report.proofs.Orders.{gone_by}
 use Rattle.report.specs.declared.searching.OrdersMet.{OrdersMet}
 use Rattle.report.proofs.Pairs.{can_tell}
 use Rattle.report.proofs.searching.search_orders.Goals as goal
@@ -27,10 +27,10 @@ returns-clause-searched g c =
     let met : OrdersMet = record { whole = c.in_ok-whole.whole; raced = c.in_ok-raced.raced; most = c.args.orders.now.most } in
     IfOk-weaker c.tell_orders.result
     (λ done. TellsRest g.T.Teller.form q s met (change between after) (change b last) done.status)
-    (λ done. IsSearched q.parts s c.args.call.allowed (change before after) (change a last) done.status)
-    (λ done rest. searched_by q s c.args.call.allowed c.requires.asked g.T.Teller.form c.requires.form met c.requires.every_order before between after a b last
+    (λ done. IsGoneThrough c.args.orders.now.most q.parts s c.args.call.allowed (change before after) (change a last) done.status)
+    (λ done rest. (gone_by q s c.args.call.allowed c.requires.asked g.T.Teller.form c.requires.form met c.requires.every_order before between after a b last
     (λ no. ap saved (c.race_told.ensures.unkept no)) done.status rest c.in_ok-whole.ensures.whole _ c.in_ok-whole.ensures.racing
-    c.in_ok-raced.ensures.raced c.in_ok-raced.ensures.kept c.in_ok-raced.ensures.tells) c.tell_orders.ensures.tells
+    c.in_ok-raced.ensures.raced c.in_ok-raced.ensures.kept c.in_ok-raced.ensures.tells).0) c.tell_orders.ensures.tells
 
 pub returns-clause-others : goal.returns-clause-others
 returns-clause-others g c = (

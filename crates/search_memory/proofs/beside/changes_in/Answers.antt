@@ -1,4 +1,4 @@
-use Rattle.std.proofs.Common.{◌≡◌, ◌∙◌, ℕ, List, length, sym, ap, subst, get_or}
+use Rattle.std.proofs.Common.{◌≡◌, ◌∙◌, ℕ, List, length, subst}
 use Rattle.search_memory.specs.Memories.{padded, AreDifferences}
 use Rattle.search_memory.proofs.Putting.{opened_at}
 use Rattle.search_memory.proofs.Forms.{beside_alike}

@@ -1,4 +1,7 @@
 use Rattle.std.proofs.Common.{◌≡◌, ◌-◌, suc, sym, ◌∙◌, ap, subst, arith}
+use Rattle.std.specs.Prelude.{IfSome}
+use Rattle.shared_memory.specs.Events.{IsEvent}
+use Rattle.schedule_machine.specs.Threads.{called}
 use Rattle.schedule.specs.Machine.{Thread.Runs}
 use Rattle.interp_machine.specs.Program.{program_of}
 use Rattle.interp_machine.specs.State.{At}
@@ -7,7 +10,7 @@ use Rattle.interp.specs.Kept.{RunsBy}
 use Rattle.interp.specs.Threads.{StandsFor}
 use Rattle.live_locals.proofs.Both.{itself}
 use Rattle.search_threads.specs.Unlimited.{Unlimited.Going}
-use Rattle.search_parts.proofs.Walking.{only_stands, came, spent_all, is_at, says_end, says_none}
+use Rattle.search_parts.proofs.Walking.{only_stands, came, spent_all, is_at, says_end, says_none, why_wanted, event_wanted, wants_by}
 use Rattle.search_parts.proofs.rest.rest.Goals as goal
 
 pub own_turns-turn-requires : goal.own_turns-turn-requires
@@ -60,7 +63,17 @@ returns-clause-rests c = λ w b x left of by s sound.
     record {
       rested = Going k.state;
       settles = k.settles;
-      stands = (at.0, ap Going at.1, c.clear_dead.ensures.alike w at.0 sound (at.0, kept, itself at.0));
+      stands = (
+        at.0,
+        ap Going at.1,
+        c.clear_dead.ensures.alike w at.0 sound (at.0, kept, itself at.0),
+        record {
+          wanted = λ d is. c.event_in.ensures
+              ∙ why_wanted b k.state k.left _ c.in_default.not-Ended k.says ∙ ap called (wants_by w b d of is (Going k.state));
+          event = subst (λ o. IfSome o IsEvent) (sym c.event_in.ensures)
+              (event_wanted _ (c.own_turns-turn.ensures.turned (Runs x left) s tt).wanted);
+        },
+      );
     }
 
 pub returns-clause-cleared : goal.returns-clause-cleared

@@ -34,7 +34,7 @@ told-requires-clause-told c =
       after.of,
       rested_so c.args.valid.now b c.in-Some-3.own v at,
       λ a is.
-          let due : answer_due (queue_by z.shared n e) m ≡ Some a = ap (λ q. answer_due q m) (sym after.makes.queue) ∙ (sym c.due.ensures ∙ is) in
+          let due : answer_due (queue_by z.shared n e) m ≡ Some a = sym (after.makes.answers m) ∙ (sym c.due.ensures ∙ is) in
           let wants = awaits b z after.reached n e after.calls m a due in
           subst (λ (u : Walker). (system_of b).wants u ≡ Awaits) (stays b v at.rested at.settles wants) wants,
     )
@@ -61,7 +61,7 @@ returns-clause-rests c = λ b z e after.
     let v : Walker = put z.threads n ((system_of b).takes (z.threads n) (reply_by z.shared n e)) m in
     let own = rw c.in-Some-3.is at c.in_ok-own.ensures.rests in
     let at : RestsAt w b v c.in-Some-3.own = own b z e after in
-    let due_same : c.due.result ≡ answer_due (queue_by z.shared n e) m = c.due.ensures ∙ ap (λ q. answer_due q m) after.makes.queue in
+    let due_same : c.due.result ≡ answer_due (queue_by z.shared n e) m = c.due.ensures ∙ after.makes.answers m in
     let wants : (a : Answer) → c.due.result ≡ Some a → (system_of b).wants v ≡ Awaits =
     λ a is. awaits b z after.reached n e after.calls m a (sym due_same ∙ is) in
     let told = rw c.in-Some-4.is at c.in_ok-after.ensures.rests in
@@ -124,7 +124,7 @@ returns-in_default-4-clause-gives_up c _ = λ b z e after.
     let v : Walker = put z.threads n ((system_of b).takes (z.threads n) (reply_by z.shared n e)) m in
     let own = rw c.in-Some-3.is at c.in_ok-own.ensures.rests in
     let at : RestsAt w b v c.in-Some-3.own = own b z e after in
-    let due_same : c.due.result ≡ answer_due (queue_by z.shared n e) m = c.due.ensures ∙ ap (λ q. answer_due q m) after.makes.queue in
+    let due_same : c.due.result ≡ answer_due (queue_by z.shared n e) m = c.due.ensures ∙ after.makes.answers m in
     let wants : (a : Answer) → c.due.result ≡ Some a → (system_of b).wants v ≡ Awaits =
     λ a is. awaits b z after.reached n e after.calls m a (sym due_same ∙ is) in
     let turns = c.in_ok-after.ensures.gives_up c.in_default-4.is b at.rested after.of (rested_so w b c.in-Some-3.own v at)

@@ -18,7 +18,7 @@ after_given-requires-clause-given c =
     let w = c.args.valid.now in
     let r = c.requires.awaits in
     let is = subst (λ s. StandsForThread w s r.1) c.in-Going.is r.3 in
-    let both = walkers r.0 (Going (At is.2.0)) r.1 (kept_alike w c.in-Going.kept r.1 is) in
+    let both = walkers r.0 (Going (At is.2.0)) r.1 (kept_alike w c.in-Going.kept _ r.1 is) in
     let wanted = same_wants r.0 (At is.2.0) 1000000 ∙ (both.wants ∙ r.4) in (
       is.2.0,
       record {
@@ -32,7 +32,7 @@ pub returns-in-Some-clause-rests : goal.returns-in-Some-clause-rests
 returns-in-Some-clause-rests c = λ b v of stands wants.
     let w = c.args.valid.now in
     let is = subst (λ s. StandsForThread w s v) c.in-Going.is stands in
-    let both = walkers b (Going (At is.2.0)) v (kept_alike w c.in-Going.kept v is) in
+    let both = walkers b (Going (At is.2.0)) v (kept_alike w c.in-Going.kept _ v is) in
     let wanted = same_wants b (At is.2.0) 1000000 ∙ (both.wants ∙ wants) in
     let may : MayBeGiven w c.in-Going.kept 1000001 (given.Told c.args.answer) is.2.0 = record {
       kept = is.2.1;
@@ -47,7 +47,7 @@ pub returns-in_default-2-clause-gives_up : goal.returns-in_default-2-clause-give
 returns-in_default-2-clause-gives_up c _ = λ b v of stands wants.
     let w = c.args.valid.now in
     let is = subst (λ s. StandsForThread w s v) c.in-Going.is stands in
-    let both = walkers b (Going (At is.2.0)) v (kept_alike w c.in-Going.kept v is) in
+    let both = walkers b (Going (At is.2.0)) v (kept_alike w c.in-Going.kept _ v is) in
     let wanted = same_wants b (At is.2.0) 1000000 ∙ (both.wants ∙ wants) in
     let may : MayBeGiven w c.in-Going.kept 1000001 (given.Told c.args.answer) is.2.0 = record {
       kept = is.2.1;

@@ -4,11 +4,8 @@ use Rattle.search_memory.specs.Memories.{memory_at}
 use Rattle.search_memory.proofs.Putting.{length_memory}
 use Rattle.search_memory.proofs.looking.ChangedMemory.number_at.Goals as goal
 
-pub overflow_add-addr : goal.overflow_add-addr
-overflow_add-addr c = omega (arith, c.len-len.type_inv, c.len-len.ensures, c.requires.inside, c.loop-i.auto.i)
-
-pub byte_at-byte-requires : goal.byte_at-byte-requires
-byte_at-byte-requires c = omega (arith, c.len-len.ensures, c.requires.inside, c.loop-i.auto.i, c.loop-i-test.true)
+pub bytes_at-bytes-requires-clause-inside : goal.bytes_at-bytes-requires-clause-inside
+bytes_at-bytes-requires-clause-inside c = omega (arith, c.from.ensures, c.len-len.ensures, c.requires.inside)
 
 pub overflow_mul-number : goal.overflow_mul-number
 overflow_mul-number c =
@@ -16,17 +13,24 @@ overflow_mul-number c =
 
 pub overflow_add-number : goal.overflow_add-number
 overflow_add-number c =
-    let byte : c.from.result < 256 = omega (arith, c.from.ensures, c.byte_at-byte.type_inv) in
+    let byte : c.from-in-loop-i.result < 256 = omega (arith, c.from-in-loop-i.ensures, c.loop-i-test.element_fits.fits) in
     omega (arith, fits_word _ _ (omega arith) (byte_below _ _ _ c.loop-i.invariant.small byte))
 
 pub loop-i-preserved : goal.loop-i-preserved
 loop-i-preserved c =
     let bytes = (memory_at c.args.self.now).bytes in
-    let byte : c.from.result < 256 = omega (arith, c.from.ensures, c.byte_at-byte.type_inv) in
+    let byte : c.from-in-loop-i.result < 256 = omega (arith, c.from-in-loop-i.ensures, c.loop-i-test.element_fits.fits) in
     let next : c.args.width - (c.loop-i.i - 1) ≡ c.args.width - c.loop-i.i + 1 = omega arith in
     let long : c.len-len.result ≡ c.args.self.now.changed.now.len = c.len-len.ensures ∙ length_memory c.args.self.now.opening.now c.args.self.now.changed.now in
     let more = le_number-more bytes c.args.addr c.loop-i.i (c.loop-i.i - 1) c.args.width 0 (omega arith) (omega arith) c.requires.inside in
     record {
-      value = cc (more, c.loop-i.invariant.value, c.from.ensures, c.byte_at-byte.ensures, c.as_slice-changes.ensures.value, long);
+      value = cc (
+        more,
+        c.loop-i.invariant.value,
+        c.from-in-loop-i.ensures,
+        c.bytes_at-bytes.ensures (c.loop-i.i - 1) (omega (arith, c.loop-i-test.true, c.loop-i.auto.i)),
+        c.as_slice-changes.ensures.value,
+        long,
+      );
       small = rw next (byte_below _ _ _ c.loop-i.invariant.small byte);
     }

@@ -13,4 +13,5 @@ returns-in_ok-copy-in-Going c = λ w v stands.
         record { state = kept.state; stands = kept.stands; is_of = c.in_ok-copy-in-Going.ensures.same kept.state kept.is_of },
         is.2.2,
       ),
+      is.3,
     )

@@ -1,6 +1,0 @@
-use Rattle.std.proofs.Common.{◌≡◌, take, filter}
-use Rattle.search_memory.specs.Memories.{is_below}
-use Rattle.search_memory.proofs.bytes.lower.Given as goal
-
-abbrev pub invariant-loop-one : goal.invariant-loop-one
-invariant-loop-one l = l.all.items ≡ filter (is_below l.at) (take l.one-index l.changes)
