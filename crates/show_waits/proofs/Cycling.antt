@@ -7,6 +7,7 @@ use Rattle.std.specs.Global.{Vec}
 use Rattle.std.specs.List.{AllZip, range_with_len}
 use Rattle.types.specs.declared.event.Entry.{Entry}
 use Rattle.types.specs.declared.outcome.ThreadReport.{ThreadReport}
+use Rattle.selection.specs.declared.spans.Spans.{Spans}
 use Rattle.show_rows.proofs.Zipped.{zip_next}
 use Rattle.show_waits.specs.Cycles.{AreToldCycles, AreWaits, IsToldCycle}
 
@@ -33,10 +34,10 @@ one_more waits ns n z x cycle cycles more lt is (all, each, are) told adds = (
       ∙ sym (filter_map-append (λ (c : Option (Vec ℕ)). c) all (cycle ∷ [])))),
 )
 
-pub all_of : (log : List Entry) (ends : List ThreadReport) (waits : List (Option ℕ)) (n : ℕ) (cycles : List (Vec ℕ))
-    → AreWaits log ends waits → length (range_with_len 0 (length ends)) ≤ n
-    → SoFar waits (range_with_len 0 (length ends)) n cycles → AreToldCycles log ends cycles
-all_of log ends waits n cycles are le (all, each, is) = (
+pub all_of : (log : List Entry) (ends : List ThreadReport) (out : Option Spans) (waits : List (Option ℕ)) (n : ℕ) (cycles : List (Vec ℕ))
+    → AreWaits log ends out waits → length (range_with_len 0 (length ends)) ≤ n
+    → SoFar waits (range_with_len 0 (length ends)) n cycles → AreToldCycles log ends out cycles
+all_of log ends out waits n cycles are le (all, each, is) = (
   waits,
   are,
   all,

@@ -8,13 +8,14 @@ use Rattle.std.proofs.lemmas.Option.{get_or_from_slice_get}
 use Rattle.std.specs.List.{AllZip}
 use Rattle.types.specs.declared.event.Entry.{Entry}
 use Rattle.types.specs.declared.outcome.ThreadReport.{ThreadReport}
-use Rattle.selection.specs.Choices.{touched}
 use Rattle.selection.specs.declared.choice.NumberSpan.{NumberSpan}
+use Rattle.selection.specs.declared.spans.Spans.{Spans}
 use Rattle.show_rows.proofs.Zipped.{zip_next}
 use Rattle.show_named.specs.declared.lasts.Act.{Act}
 use Rattle.show_named.specs.declared.lasts.Act.TheVariants as acts
 use Rattle.show_waits.specs.declared.stands.Stand.{Stand}
 use Rattle.show_named.specs.Lasts.{HasNone, IsLast}
+use Rattle.show_waits.specs.Beside.{touched_beside}
 use Rattle.show_waits.specs.Stands.{IsStand}
 use Rattle.show_waits.specs.Cycles.{IsChain, IsCycle, WaitsFor, wait_in}
 
@@ -30,15 +31,15 @@ pub same_last : (act : Act) (log : List Entry) (before j k : ℕ) → IsLast act
 same_last act log before j k a b = same_place j k (λ lt. a.later k b.entry lt b.earlier b.at b.does) (λ lt. b.later j a.entry lt a.earlier a.at a.does)
 
 -- and one place where a thread stands
-pub same_stand : (n : ℕ) (log : List Entry) (s t : Stand) → IsStand n log s → IsStand n log t → s.addrs ≡ t.addrs
-same_stand n log s t a b =
+pub same_stand : (n : ℕ) (log : List Entry) (out : Option Spans) (s t : Stand) → IsStand n log out s → IsStand n log out t → s.addrs ≡ t.addrs
+same_stand n log out s t a b =
     let place = same_place s.last t.last (λ lt. a.stands.none t.last t.addrs lt b.stands.last)
     (λ lt. b.stands.none s.last s.addrs lt a.stands.last) in
     let e : Some a.stands.last.entry ≡ Some b.stands.last.entry =
     sym a.stands.last.at ∙ (ap (slice_get log) place ∙ b.stands.last.at) in
     let same : a.stands.last.entry ≡ b.stands.last.entry = cc e in
     let both : Some s.addrs ≡ Some t.addrs =
-    sym a.stands.last.touches ∙ (ap (λ (x : Entry). touched x.event) same ∙ b.stands.last.touches) in
+    sym a.stands.last.touches ∙ (ap (λ (x : Entry). touched_beside out x.event) same ∙ b.stands.last.touches) in
     cc both
 
 -- the entry of the last one, as it is read off the log
@@ -47,9 +48,10 @@ pub entry_of : (act : Act) (log : List Entry) (before k : ℕ) (last : IsLast ac
 entry_of act log before k last d = ap (λ (e : Entry). e.thread) (get_or_from_slice_get log k last.entry d last.at)
 
 -- for whom a thread waits, by where it stands
-module _ (log : List Entry) (ends : List ThreadReport) (n m : ℕ) (w : WaitsFor log ends n m) (s : Stand) (is : IsStand n log s) where
+module _ (log : List Entry) (ends : List ThreadReport) (out : Option Spans) (n m : ℕ) (w : WaitsFor log ends out n m) (s : Stand)
+    (is : IsStand n log out s) where
   last_there : IsLast (acts.OtherWrite s.addrs n) log (length log) w.place
-  last_there = subst (λ (a : NumberSpan). IsLast (acts.OtherWrite a n) log (length log) w.place) (same_stand n log w.stand s w.is is) w.last
+  last_there = subst (λ (a : NumberSpan). IsLast (acts.OtherWrite a n) log (length log) w.place) (same_stand n log out w.stand s w.is is) w.last
 
   pub no_other : HasNone (acts.OtherWrite s.addrs n) log (length log) → ⊥
   no_other none = none w.place last_there.entry last_there.earlier last_there.at last_there.does

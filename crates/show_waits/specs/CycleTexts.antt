@@ -3,6 +3,7 @@ use Rattle.std.specs.Prelude.{ℕ, ◌≡◌, ◌⊎◌, ◌++◌, [], ◌∷◌
 use Rattle.std.specs.Fmt.{decimal}
 use Rattle.std.specs.List.{AllZip, concat, range_with_len}
 use Rattle.std.specs.Io.KnownBytes.{Appends}
+use Rattle.selection.specs.declared.spans.Spans.{Spans}
 use Rattle.show_rows.specs.declared.listing.Shown.{Shown}
 use Rattle.show_waits.specs.Cycles.{AreWaits, IsCycle}
 
@@ -23,9 +24,9 @@ SaysCycle waits n text = ((others : List ℕ) × IsCycle waits n others × (text
     ⊎ (((others : List ℕ) → IsCycle waits n others → ⊥) × (text ≡ []))
 
 -- These are told of the threads in order, by whom each waits for.
-abbrev pub AreCycles : Shown → List (List ℕ) → Type 0
-AreCycles shown texts = (waits : List (Option ℕ)) × AreWaits shown.record.now.log shown.record.now.ends waits
+abbrev pub AreCycles : Shown → Option Spans → List (List ℕ) → Type 0
+AreCycles shown out texts = (waits : List (Option ℕ)) × AreWaits shown.record.now.log shown.record.now.ends out waits
     × AllZip (SaysCycle waits) (range_with_len 0 (length shown.record.now.ends)) texts
 
-abbrev pub WritesCycles : Shown → Option (List ℕ) → Option (List ℕ) → Type 0
-WritesCycles shown old new = (texts : List (List ℕ)) × AreCycles shown texts × Appends old new (concat texts)
+abbrev pub WritesCycles : Shown → Option Spans → Option (List ℕ) → Option (List ℕ) → Type 0
+WritesCycles shown out old new = (texts : List (List ℕ)) × AreCycles shown out texts × Appends old new (concat texts)

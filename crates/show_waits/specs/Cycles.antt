@@ -7,6 +7,7 @@ use Rattle.types.specs.declared.outcome.Outcome.TheVariants as outcomes
 use Rattle.types.specs.declared.outcome.Stop.{Stop}
 use Rattle.types.specs.declared.outcome.ThreadReport.{ThreadReport}
 use Rattle.selection.specs.declared.choice.NumberSpan.{NumberSpan}
+use Rattle.selection.specs.declared.spans.Spans.{Spans}
 use Rattle.show_named.specs.declared.lasts.Act.TheVariants as acts
 use Rattle.show_waits.specs.declared.stands.Stand.{Stand}
 use Rattle.show_named.specs.Lasts.{IsLast}
@@ -19,32 +20,32 @@ pub record IsStopped (ends : List ThreadReport) (n : ℕ) : Type 0 where
   pub stop : Stop
   pub is : report.outcome ≡ outcomes.Stop stop
 
--- The thread stands at other bytes than these.
-pub record StandsElsewhere (m : ℕ) (log : List Entry) (addrs : NumberSpan) : Type 0 where
+-- The thread stands at other bytes than these, where so much memory is left out.
+pub record StandsElsewhere (m : ℕ) (log : List Entry) (out : Option Spans) (addrs : NumberSpan) : Type 0 where
   pub stand : Stand
-  pub is : IsStand m log stand
+  pub is : IsStand m log out stand
   pub apart : stand.addrs ≢ addrs
 
 -- Thread n waits for thread m: both were stopped, to the bytes at which n stands m was the last one of the other threads
 -- to write, and m stands at others: it doesn't wait there itself.
-pub record WaitsFor (log : List Entry) (ends : List ThreadReport) (n m : ℕ) : Type 0 where
+pub record WaitsFor (log : List Entry) (ends : List ThreadReport) (out : Option Spans) (n m : ℕ) : Type 0 where
   pub stopped : IsStopped ends n
   pub stand : Stand
-  pub is : IsStand n log stand
+  pub is : IsStand n log out stand
   pub place : ℕ
   pub last : IsLast (acts.OtherWrite stand.addrs n) log (length log) place
   pub writer : last.entry.thread ≡ m
   pub other : IsStopped ends m
-  pub elsewhere : StandsElsewhere m log stand.addrs
+  pub elsewhere : StandsElsewhere m log out stand.addrs
 
 -- For whom a thread waits, or none.
-abbrev pub IsWait : List Entry → List ThreadReport → ℕ → Option ℕ → Type 0
-IsWait log ends n (Some m) = WaitsFor log ends n m
-IsWait log ends n None = (m : ℕ) → WaitsFor log ends n m → ⊥
+abbrev pub IsWait : List Entry → List ThreadReport → Option Spans → ℕ → Option ℕ → Type 0
+IsWait log ends out n (Some m) = WaitsFor log ends out n m
+IsWait log ends out n None = (m : ℕ) → WaitsFor log ends out n m → ⊥
 
 -- That of each thread, in order.
-abbrev pub AreWaits : List Entry → List ThreadReport → List (Option ℕ) → Type 0
-AreWaits log ends waits = AllZip (IsWait log ends) (range_with_len 0 (length ends)) waits
+abbrev pub AreWaits : List Entry → List ThreadReport → Option Spans → List (Option ℕ) → Type 0
+AreWaits log ends out waits = AllZip (IsWait log ends out) (range_with_len 0 (length ends)) waits
 
 abbrev pub wait_in : List (Option ℕ) → ℕ → Option ℕ
 wait_in waits n = option_and_then (λ wait. wait) (slice_get waits n)
@@ -66,7 +67,7 @@ IsToldCycle waits n (Some cycle) = (others : List ℕ) × IsCycle waits n others
 IsToldCycle waits n None = (others : List ℕ) → IsCycle waits n others → ⊥
 
 -- Those of all threads, in order.
-abbrev pub AreToldCycles : List Entry → List ThreadReport → List (Vec ℕ) → Type 0
-AreToldCycles log ends told = (waits : List (Option ℕ)) × AreWaits log ends waits
+abbrev pub AreToldCycles : List Entry → List ThreadReport → Option Spans → List (Vec ℕ) → Type 0
+AreToldCycles log ends out told = (waits : List (Option ℕ)) × AreWaits log ends out waits
     × (all : List (Option (Vec ℕ))) × AllZip (IsToldCycle waits) (range_with_len 0 (length ends)) all
     × (told ≡ filter_map (λ cycle. cycle) all)

@@ -1,3 +1,4 @@
+pub mod Beside
 pub mod CycleTexts
 pub mod Cycles
 pub mod Stands

@@ -3,6 +3,7 @@ ghost use Rattle.std.specs.Prelude.{◌≡◌, IfOk, OnOk, string_bytes};
 ghost use Rattle.show_waits.specs.CycleTexts.{SaysCycle, WritesCycles, cycle_text};
 
 use crate::cycles::{cycle_from, waits_of};
+use selection::Spans;
 use show_rows::Shown;
 use show_text::Unwritten;
 use std::alloc::{AllocError, Global};
@@ -34,16 +35,17 @@ fn cycle_of(alloc: Global, waits: &[Option<usize>], n: usize) -> Result<String, 
     }
 }
 
-/// Writes each cycle in which threads wait for one another.
+/// Writes each cycle in which threads wait for one another, where this memory is left out.
 pub(crate) fn write_cycles<W: Write>(
     alloc: Global,
     shown: Shown,
+    left_out: &Option<Spans>,
     out: &mut W,
 ) -> Result<(), Unwritten>
-    ensures { OnOk result (WritesCycles shown.entry (W.contents out.old) (W.contents out.new)) }
+    ensures { OnOk result (WritesCycles shown.entry left_out.now (W.contents out.old) (W.contents out.new)) }
 {
     let ends = shown.record.ends.as_slice();
-    let waits = waits_of(alloc, shown.record.log.as_slice(), ends)?;
+    let waits = waits_of(alloc, shown.record.log.as_slice(), ends, left_out)?;
     for n in 0..ends.len() {
         let text = cycle_of(alloc, waits.as_slice(), n)?;
         write!(out, "{text}")?;

@@ -4,7 +4,7 @@ ghost use Rattle.show_waits.specs.Cycles.{AreToldCycles, AreWaits, IsCycle, IsSt
 ghost use Rattle.show_waits.specs.Cycles.{StandsElsewhere, wait_in};
 
 use crate::stands::{is_same, stand_of};
-use selection::NumberSpan;
+use selection::{NumberSpan, Spans};
 use show_named::{Act, last_of};
 use std::alloc::{AllocError, Global};
 use types::{Entry, Outcome, ThreadReport};
@@ -20,10 +20,10 @@ fn is_stopped(ends: &[ThreadReport], n: usize) -> bool
 }
 
 /// Whether a thread stands at other bytes than these.
-fn stands_elsewhere(log: &[Entry], m: usize, addrs: NumberSpan) -> bool
-    ensures { (result ≡ true) ↔ StandsElsewhere m log.now addrs }
+fn stands_elsewhere(log: &[Entry], m: usize, out: &Option<Spans>, addrs: NumberSpan) -> bool
+    ensures { (result ≡ true) ↔ StandsElsewhere m log.now out.now addrs }
 {
-    match stand_of(log, m) {
+    match stand_of(log, m, out) {
         Some(stand) => !is_same(stand.addrs, addrs),
         None => false,
     }
@@ -31,19 +31,19 @@ fn stands_elsewhere(log: &[Entry], m: usize, addrs: NumberSpan) -> bool
 
 /// The thread for which this one waits: where it stands, this was the last one of the others to write, both were
 /// stopped, and that one stands elsewhere.
-fn wait_of(log: &[Entry], ends: &[ThreadReport], n: usize) -> Option<usize>
-    ensures { IsWait log.now ends.now n result }
+fn wait_of(log: &[Entry], ends: &[ThreadReport], out: &Option<Spans>, n: usize) -> Option<usize>
+    ensures { IsWait log.now ends.now out.now n result }
 {
     if !is_stopped(ends, n) {
         return None;
     }
-    let stand = stand_of(log, n)?;
+    let stand = stand_of(log, n, out)?;
     let at = last_of(log, log.len(), Act::OtherWrite(stand.addrs, n))?;
     let writer = log[at].thread as usize;
     if !is_stopped(ends, writer) {
         return None;
     }
-    if stands_elsewhere(log, writer, stand.addrs) {
+    if stands_elsewhere(log, writer, out, stand.addrs) {
         Some(writer)
     } else {
         None
@@ -55,12 +55,13 @@ pub(crate) fn waits_of(
     alloc: Global,
     log: &[Entry],
     ends: &[ThreadReport],
+    out: &Option<Spans>,
 ) -> Result<Vec<Option<usize>>, AllocError>
-    ensures { IfOk result (λ waits. AreWaits log.now ends.now waits.items) }
+    ensures { IfOk result (λ waits. AreWaits log.now ends.now out.now waits.items) }
 {
     let mut waits = Vec::new(alloc);
     for n in 0..ends.len() {
-        waits.push(wait_of(log, ends, n))?;
+        waits.push(wait_of(log, ends, out, n))?;
     }
     Ok(waits)
 }
@@ -130,7 +131,8 @@ fn put_if_any(cycles: &mut Vec<Vec<usize>>, cycle: Option<Vec<usize>>) -> Result
     Ok(())
 }
 
-/// The cycles in which threads wait for one another at the end of a log, each from its thread of the lowest number on.
+/// The cycles in which threads wait for one another at the end of a log, each from its thread of the lowest number on, where
+/// this memory is left out.
 ///
 /// # Errors
 /// Where memory is refused.
@@ -138,10 +140,11 @@ pub fn cycles_told(
     alloc: Global,
     log: &[Entry],
     ends: &[ThreadReport],
+    out: &Option<Spans>,
 ) -> Result<Vec<Vec<usize>>, AllocError>
-    ensures { IfOk result (λ cycles. AreToldCycles log.now ends.now cycles.items) }
+    ensures { IfOk result (λ cycles. AreToldCycles log.now ends.now out.now cycles.items) }
 {
-    let waits = waits_of(alloc, log, ends)?;
+    let waits = waits_of(alloc, log, ends, out)?;
     let mut cycles = Vec::new(alloc);
     for n in 0..ends.len() {
         let cycle = cycle_at(alloc, waits.as_slice(), n)?;

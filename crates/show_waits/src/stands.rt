@@ -1,12 +1,13 @@
 //! At which bytes a thread stands.
 ghost use Rattle.std.specs.Prelude.{◌≡◌, ◌↔◌, true, None, IfSome};
-ghost use Rattle.selection.specs.Choices.{touched};
 ghost use Rattle.show_waits.specs.Stands.{IsStand, TouchesNothing};
 
-use selection::{NumberSpan, touched};
+use crate::beside::touched_beside;
+use selection::{NumberSpan, Spans};
 use types::Entry;
 
-/// Where a thread stands: the bytes that it touched last, or waited for, and since when it touched no others.
+/// Where a thread stands: the bytes that it touched last, or waited for, beside those that are left out, and since when it
+/// touched no others.
 #[derive(Clone, Copy, PartialEq, Eq, Debug)]
 pub struct Stand {
     /// The addresses of these bytes.
@@ -26,10 +27,11 @@ pub(crate) fn is_same(a: NumberSpan, b: NumberSpan) -> bool
     a.first == b.first && a.last == b.last
 }
 
-/// Where thread n stands at the end of a log, or nothing where no entry of it touches any bytes.
-pub(crate) fn stand_of(log: &[Entry], n: usize) -> Option<Stand>
-    ensures stands { IfSome result (IsStand n log.now) }
-    ensures none { result ≡ None → TouchesNothing n log.now }
+/// Where thread n stands at the end of a log, or nothing where no entry of it touches any bytes beside those that are left
+/// out.
+pub(crate) fn stand_of(log: &[Entry], n: usize, out: &Option<Spans>) -> Option<Stand>
+    ensures stands { IfSome result (IsStand n log.now out.now) }
+    ensures none { result ≡ None → TouchesNothing n log.now out.now }
 {
     let mut found: Option<Stand> = None;
     for place in (0..log.len()).rev() {
@@ -37,7 +39,7 @@ pub(crate) fn stand_of(log: &[Entry], n: usize) -> Option<Stand>
         if entry.thread as usize != n {
             continue;
         }
-        let Some(addrs) = touched(entry.event) else {
+        let Some(addrs) = touched_beside(out, entry.event) else {
             continue;
         };
         found = match found {

@@ -2,11 +2,13 @@
 ghost use Rattle.std.specs.Prelude.{◌≡◌, ◌<◌, ◌⊎◌, ◌↔◌, None, true, length, IfOk, IfSome, OnOk, string_bytes};
 ghost use Rattle.show_named.specs.Lasts.{IsLastIfAny};
 ghost use Rattle.show_waits.specs.Stands.{TouchesNothing};
-ghost use Rattle.show_waits.specs.Waits.{IsOwn, IsToldWait, SaysNowhere, SaysOther, SaysStand, SaysWait, WritesWaits};
+ghost use Rattle.show_waits.specs.Waits as specified;
+ghost use Rattle.show_waits.specs.Waits.{AreToldLasts, IsOwn, IsToldWait, SaysNowhere, SaysOther, SaysStand, SaysStandAt};
+ghost use Rattle.show_waits.specs.Waits.{SaysWait, WritesWaits};
 
 use crate::cycle_texts::write_cycles;
 use crate::stands::{Stand, stand_of};
-use selection::NumberSpan;
+use selection::{NumberSpan, Spans};
 use show_named::{Act, DataMap, last_of, named_text, told_text};
 use show_rows::{Shown, Story};
 use show_text::Unwritten;
@@ -66,12 +68,13 @@ fn last_in(log: &[Entry], act: Act) -> Option<usize>
     last_of(log, log.len(), act)
 }
 
-/// What a thread waits for at the end of a log, or nothing where no entry of it touches any bytes.
-pub fn wait_told(log: &[Entry], n: usize) -> Option<ToldWait>
-    ensures waits { IfSome result (IsToldWait n log.now) }
-    ensures none { result ≡ None → TouchesNothing n log.now }
+/// What a thread waits for at the end of a log, or nothing where no entry of it touches any bytes beside those that are left
+/// out.
+pub fn wait_told(log: &[Entry], n: usize, out: &Option<Spans>) -> Option<ToldWait>
+    ensures waits { IfSome result (IsToldWait n log.now out.now) }
+    ensures none { result ≡ None → TouchesNothing n log.now out.now }
 {
-    let Some(stand) = stand_of(log, n) else {
+    let Some(stand) = stand_of(log, n, out) else {
         return None;
     };
     let addrs = stand.addrs;
@@ -93,7 +96,7 @@ fn other_text(
     n: usize,
     wait: ToldWait,
 ) -> Result<String, AllocError>
-    requires { IsToldWait n shown.record.now.log wait }
+    requires { AreToldLasts n shown.record.now.log wait }
     ensures { IfOk result (λ text. SaysOther shown.entry map.now story.now n wait.stand.addrs (string_bytes text)) }
 {
     if !wait.is_own {
@@ -113,8 +116,9 @@ fn stand_text(
     n: usize,
     wait: ToldWait,
 ) -> Result<String, AllocError>
-    requires { IsToldWait n shown.record.now.log wait }
-    ensures { IfOk result (λ text. SaysStand shown.entry map.now story.now n (string_bytes text)) }
+    requires within { wait.stand.last < length shown.record.now.log }
+    requires lasts { AreToldLasts n shown.record.now.log wait }
+    ensures { IfOk result (λ text. SaysStandAt shown.entry map.now story.now n wait.stand (string_bytes text)) }
 {
     let last = named_text(alloc, shown, map, story, wait.stand.last)?;
     let written = told_text(alloc, shown, map, story, wait.written, "nobody")?;
@@ -127,20 +131,31 @@ fn stand_text(
     Ok(text)
 }
 
-/// The same of a thread that may have touched no bytes.
+/// What is told of a thread that touched no bytes beside those that are left out.
+fn nowhere_text(alloc: Global, out: &Option<Spans>) -> Result<String, AllocError>
+    ensures { IfOk result (λ text. string_bytes text ≡ specified.nowhere_text out.now) }
+{
+    match out {
+        Some(_) => "it touched nothing but what is left out\n".to_string(alloc),
+        None => "it touched nothing\n".to_string(alloc),
+    }
+}
+
+/// Where a thread stands, or that it stands nowhere.
 fn place_text(
     alloc: Global,
     shown: Shown,
     map: &DataMap,
     story: &Story,
+    out: &Option<Spans>,
     n: usize,
 ) -> Result<String, AllocError>
-    ensures { IfOk result (λ text. SaysStand shown.entry map.now story.now n (string_bytes text)
-        ⊎ SaysNowhere shown.entry n (string_bytes text)) }
+    ensures { IfOk result (λ text. SaysStand shown.entry map.now story.now out.now n (string_bytes text)
+        ⊎ SaysNowhere shown.entry out.now n (string_bytes text)) }
 {
-    match wait_told(shown.record.log.as_slice(), n) {
+    match wait_told(shown.record.log.as_slice(), n, out) {
         Some(wait) => stand_text(alloc, shown, map, story, n, wait),
-        None => "it touched nothing\n".to_string(alloc),
+        None => nowhere_text(alloc, out),
     }
 }
 
@@ -150,23 +165,24 @@ fn wait_text(
     shown: Shown,
     map: &DataMap,
     story: &Story,
+    out: &Option<Spans>,
     n: usize,
 ) -> Result<String, AllocError>
     requires { n < length shown.record.now.ends }
-    ensures { IfOk result (λ text. SaysWait shown.entry map.now story.now n (string_bytes text)) }
+    ensures { IfOk result (λ text. SaysWait shown.entry map.now story.now out.now n (string_bytes text)) }
 {
     let outcome = shown.record.ends.as_slice()[n].outcome;
     let Outcome::Stop(_) = outcome else {
         return Ok(String::new(alloc));
     };
-    let place = place_text(alloc, shown, map, story, n)?;
+    let place = place_text(alloc, shown, map, story, out, n)?;
     let text = format!(in alloc; "t{n}: {outcome}: {place}")?;
     Ok(text)
 }
 
-/// Writes of each thread that was stopped where it stood: its last entry that touches bytes, since which line it touched
-/// no others and how often, and who wrote them and notified them last. Behind them stand the cycles in which threads
-/// wait for one another.
+/// Writes of each thread that was stopped where it stood, beside the memory that is left out: its last entry that touches
+/// bytes, since which line it touched no others and how often, and who wrote them and notified them last. Behind them
+/// stand the cycles in which threads wait for one another.
 ///
 /// # Errors
 /// Where memory is refused, or the stream fails.
@@ -175,15 +191,16 @@ pub fn write_waits<W: Write>(
     shown: Shown,
     map: &DataMap,
     story: &Story,
+    left_out: &Option<Spans>,
     out: &mut W,
 ) -> Result<(), Unwritten>
-    ensures { OnOk result (WritesWaits shown.entry map.now story.now (W.contents out.old) (W.contents out.new)) }
+    ensures { OnOk result (WritesWaits shown.entry map.now story.now left_out.now (W.contents out.old) (W.contents out.new)) }
 {
     for n in 0..shown.record.ends.len() {
-        let text = wait_text(alloc, shown, map, story, n)?;
+        let text = wait_text(alloc, shown, map, story, left_out, n)?;
         write!(out, "{text}")?;
     }
-    write_cycles(alloc, shown, out)?;
+    write_cycles(alloc, shown, left_out, out)?;
     out.flush()?;
     Ok(())
 }

@@ -28,7 +28,7 @@ returns g c =
     let waits = c.in_ok-waits.waits.items in
     let past : length (range_with_len 0 count) ≤ c.loop-n.n =
     omega (arith, c.loop-n-test.false, ap length c.as_slice-ends.ensures, length-range_with_len 0 count) in
-    let are = subst (λ (ends : List ThreadReport). AreWaits c.args.shown.record.now.log ends waits) c.as_slice-ends.ensures
-    (subst (λ (log : List Entry). AreWaits log c.as_slice-ends.result.now waits) c.as_slice.ensures c.in_ok-waits.ensures) in
+    let are = subst (λ (ends : List ThreadReport). AreWaits c.args.shown.record.now.log ends c.args.left_out.now waits) c.as_slice-ends.ensures
+    (subst (λ (log : List Entry). AreWaits log c.as_slice-ends.result.now c.args.left_out.now waits) c.as_slice.ensures c.in_ok-waits.ensures) in
     let all = all_told (SaysCycle waits) (range_with_len 0 count) c.loop-n.n _ _ past c.loop-n.invariant in
     (all.0, (waits, are, all.1), all.2)

@@ -22,4 +22,4 @@ returns c =
     let count = length c.args.ends.now in
     let past : length (range_with_len 0 count) ≤ c.loop-n.n =
     omega (arith, c.loop-n-test.false, length-range_with_len 0 count) in
-    all_of c.args.log.now c.args.ends.now _ c.loop-n.n _ c.in_ok-waits.ensures past c.loop-n.invariant
+    all_of c.args.log.now c.args.ends.now c.args.out.now _ c.loop-n.n _ c.in_ok-waits.ensures past c.loop-n.invariant

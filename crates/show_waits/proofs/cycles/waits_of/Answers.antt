@@ -13,7 +13,7 @@ loop-n-preserved c =
     let within : n < length (range_with_len 0 count) = omega (arith, c.loop-n-test.true, length-range_with_len 0 count) in
     let at = get_or-range_with_len 0 count n 0 (omega (arith, c.loop-n-test.true)) in
     let is : n ≡ get_or (range_with_len 0 count) n 0 = omega (arith, at) in
-    zip_pushed (IsWait c.args.log.now c.args.ends.now) (range_with_len 0 count) c.loop-n.waits.items n 0 n _ within is
+    zip_pushed (IsWait c.args.log.now c.args.ends.now c.args.out.now) (range_with_len 0 count) c.loop-n.waits.items n 0 n _ within is
     c.loop-n.invariant c.wait_of.ensures _ (search rules)
 
 pub returns : goal.returns
@@ -21,5 +21,5 @@ returns c =
     let count = length c.args.ends.now in
     let past : length (range_with_len 0 count) ≤ c.loop-n.n =
     omega (arith, c.loop-n-test.false, length-range_with_len 0 count) in
-    subst (λ (xs : List ℕ). AllZip (IsWait c.args.log.now c.args.ends.now) xs c.loop-n.waits.items)
+    subst (λ (xs : List ℕ). AllZip (IsWait c.args.log.now c.args.ends.now c.args.out.now) xs c.loop-n.waits.items)
     (take_all c.loop-n.n (range_with_len 0 count) past) c.loop-n.invariant

@@ -14,7 +14,7 @@ loop-n-preserved g c =
     let within : n < length (range_with_len 0 count) = subst (λ k. n < k) (sym (length-range_with_len 0 count)) low in
     let at = get_or-range_with_len 0 count n 0 low in
     let is : n ≡ get_or (range_with_len 0 count) n 0 = omega (arith, at) in
-    text_next (SaysWait c.args.shown c.args.map.now c.args.story.now) (range_with_len 0 count) n 0 n _ _ _ _ within
+    text_next (SaysWait c.args.shown c.args.map.now c.args.story.now c.args.left_out.now) (range_with_len 0 count) n 0 n _ _ _ _ within
     is c.loop-n.invariant c.in_ok-text.ensures c.in_ok-write.ensures.bytes
 
 pub returns : goal.returns
@@ -22,5 +22,5 @@ returns g c =
     let count = length c.args.shown.record.now.ends in
     let past : length (range_with_len 0 count) ≤ c.loop-n.n =
     omega (arith, c.loop-n-test.false, c.len-n-end.ensures, length-range_with_len 0 count) in
-    all_and_cycles c.args.shown (SaysWait c.args.shown c.args.map.now c.args.story.now) (range_with_len 0 count) c.loop-n.n _ _ _ _
+    all_and_cycles c.args.shown c.args.left_out.now (SaysWait c.args.shown c.args.map.now c.args.story.now c.args.left_out.now) (range_with_len 0 count) c.loop-n.n _ _ _ _
     past c.loop-n.invariant c.in_ok-write_cycles.ensures c.in_ok-flush.ensures.bytes

@@ -5,5 +5,5 @@ use Rattle.show_waits.specs.Waits.{SaysWait}
 use Rattle.show_waits.proofs.waits.write_waits.Given as goal
 
 abbrev pub invariant-loop-n : goal.invariant-loop-n
-invariant-loop-n g l = AreWritten (SaysWait l.shown l.map l.story) (range_with_len 0 (length l.shown.record.now.ends)) l.n
+invariant-loop-n g l = AreWritten (SaysWait l.shown l.map l.story l.left_out) (range_with_len 0 (length l.shown.record.now.ends)) l.n
     (g.W.Write.contents l.initial.out) (g.W.Write.contents l.out)
