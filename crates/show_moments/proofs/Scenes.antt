@@ -14,12 +14,10 @@ use Rattle.show_told.specs.declared.values.TypedWord.{TypedWord}
 use Rattle.show_moments.specs.declared.standing.ThreadSnapshot.{ThreadSnapshot}
 use Rattle.show_moments.specs.declared.standing.OpenFunction.{OpenFunction}
 use Rattle.show_moments.specs.declared.told.ToldThread.{ToldThread}
-use Rattle.types.specs.declared.event.Entry.{Entry}
-use Rattle.show_moments.specs.declared.told.ToldNext.{ToldNext}
 use Rattle.show_moments.specs.Scenes.{Seen, AreFunctions, AreThreads, AreValues, IsFunctionOf, IsThread, IsValue}
-use Rattle.show_moments.specs.Scenes.{IsNext, IsNextIfAny, IsNextOf, IsNumber, IsThreadBy, IsToldOf, IsValueBy}
+use Rattle.show_moments.specs.Scenes.{IsNextIfAny, IsNumber, IsThreadBy, IsToldOf, IsValueBy}
 use Rattle.dwarf_frames.specs.declared.frames.CallFrame.{CallFrame}
-use Rattle.show_moments.specs.Scenes.{is_spawned, listed, log_of, typed_word, typed_words}
+use Rattle.show_moments.specs.Scenes.{is_spawned, listed, typed_word, typed_words}
 use Rattle.show_moments.specs.Values.{has_parts, number_of}
 
 -- Threads, from 0 on.
@@ -119,16 +117,6 @@ not_spawned s thread b is not = subst (λ (x : Bool). IsThreadBy s thread x None
 pub spawned : (s : Seen) (thread : ℕ) (b : Bool) (told : ToldThread) → b ≡ is_spawned s.moment.queue thread → b ≡ true
     → told.thread ≡ thread → IsNextIfAny s thread told.next → IsThread s thread (Some told)
 spawned s thread b told is there same next = subst (λ (x : Bool). IsThreadBy s thread x (Some told)) (sym there ∙ is) (same, next)
-
--- What a thread comes to, and that it is gone.
-pub comes : (s : Seen) (thread at : ℕ) (log : List Entry) (next : ToldNext) → log ≡ log_of s
-    → IsNextOf log s.moment.at thread (Some at) → IsNext s at next → IsNextIfAny s thread (Some next)
-comes s thread at log next same is told =
-    (Some at, subst (λ (l : List Entry). IsNextOf l s.moment.at thread (Some at)) same is, told)
-
-pub is_gone : (s : Seen) (thread : ℕ) (log : List Entry) → log ≡ log_of s → IsNextOf log s.moment.at thread None
-    → IsNextIfAny s thread None
-is_gone s thread log same is = (None, subst (λ (l : List Entry). IsNextOf l s.moment.at thread None) same is, tt)
 
 -- A value that is a number there, one that isn't, and one with parts.
 pub parts_told : (s : Seen) (o : OpenFunction) (v : FrameValue) (b : Bool) (told : ToldValue) → b ≡ has_parts v.kind → b ≡ true

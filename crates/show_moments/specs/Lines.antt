@@ -29,14 +29,14 @@ SaysAsked s asked None text = text ≡ codes "sleeps; "
 SaysAsked s asked (Some made) text = (said : Words) × AreWordsOf s.shown s.story asked made said
     × (text ≡ words_text said ++ (codes ", since entry " ++ (decimal (line_at s.shown asked) ++ codes "; ")))
 
--- How a thread stands to its first entry.
+-- How a thread stands to its first entry that isn't left out.
 abbrev pub SaysStance : Seen → Stance → List ℕ → Type 0
 SaysStance s Wants text = text ≡ codes "wants, "
 SaysStance s Ends text = text ≡ codes "is at its end; "
 SaysStance s Owed text = text ≡ codes "is owed its answer; "
 SaysStance s (Asleep asked) text = SaysAsked s asked (slice_get (log_of s) asked) text
 
--- What a thread comes to next: how it stands to its first entry, the line of that, and its words.
+-- What a thread comes to next: how it stands to its first entry that isn't left out, the line of that, and its words.
 pub record SaysComes (s : Seen) (next : ToldNext) (made : Entry) (text : List ℕ) : Type 0 where
   pub front : List ℕ
   pub front_is : SaysStance s next.stance front

@@ -105,8 +105,8 @@ pub record SeesWanted (old : Moment) (n : ℕ) (thread : Thread) (new : Moment) 
   pub before : old.came < old.at → new ≡ old
   pub first : old.at ≤ old.came → new.is_short ≡ false → Sees thread n old.next.items new.next.items
 
--- Where a thread stands whose first entry from the moment on this is: where it is as long as an answer is to come, else
--- where it comes to it.
+-- Where a thread stands that comes to this entry from the moment on: where it is as long as that is an answer, which is to
+-- come, else where it comes to its very next one.
 abbrev pub seats_for : Moment → Event → List (Option ThreadSnapshot)
 seats_for m (Told answer) = m.here.items
 seats_for m event = m.next.items

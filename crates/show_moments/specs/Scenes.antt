@@ -1,5 +1,5 @@
 -- What is told of a moment.
-use Rattle.std.specs.Prelude.{ℕ, ◌≡◌, ◌≤◌, ◌<◌, ◌+◌, ◌-◌, ◌^◌, ◌==◌, ◌||◌, not, min, zero, suc, nat_le, Bool, true, false}
+use Rattle.std.specs.Prelude.{ℕ, ◌≡◌, ◌≤◌, ◌<◌, ◌+◌, ◌-◌, ◌^◌, ◌==◌, ◌||◌, not, min, zero, suc, nat_le, nat_lt, Bool, true, false}
 use Rattle.std.specs.Prelude.{if◌then◌else◌, cond, List, [], ◌∷◌, ◌++◌, map, filter_map, flat_map, find, length, option_to_list}
 use Rattle.std.specs.Prelude.{Option, Some, None, IsSome, String, option_and_then, option_map, string_bytes}
 use Rattle.std.specs.Borrow.{Bor}
@@ -15,7 +15,8 @@ use Rattle.types.specs.declared.value.ValType.{ValType}
 use Rattle.waiters.specs.declared.kept.KeptQueue.{KeptQueue}
 use Rattle.race_history.specs.declared.race.Race.{Race}
 use Rattle.selection.specs.declared.choice.NumberSpan.{NumberSpan}
-use Rattle.selection.specs.Choices.{touched}
+use Rattle.selection.specs.declared.spans.Spans.{Spans}
+use Rattle.selection.specs.Choices.{is_left_out, touched}
 use Rattle.validate.specs.Operands.{OwnOperandsAt}
 use Rattle.validate_module.specs.Own.{FindsLocals}
 use Rattle.show_text.specs.declared.context.Context.{Context}
@@ -53,13 +54,14 @@ use Rattle.show_moments.specs.Moments.{standing_at}
 use Rattle.show_moments.specs.Opened.{IsOpenFunction}
 use Rattle.show_moments.specs.Values.{has_parts, is_pointer, is_signed, number_of}
 
--- A moment of a run of a module, with what is shown of its record, what the log says, what a debug section says, and
--- whether all locals and operands are listed.
+-- A moment of a run of a module, with what is shown of its record, what the log says, what a debug section says, whether all
+-- locals and operands are listed, and which memory is left out.
 pub record Seen : Type 0 where
   pub m : Parts
   pub shown : Shown
   pub map : DataMap
   pub raw : Bool
+  pub left_out : Option Spans
   pub story : Story
   pub moment : Moment
 
@@ -69,6 +71,7 @@ seen_by v story moment = record {
   shown = v.shown;
   map = v.map.now;
   raw = v.is_raw;
+  left_out = v.left_out.now;
   story = story;
   moment = moment;
 }
@@ -91,18 +94,38 @@ is_asleep (Some queue) thread = list_any (λ s. s.thread == thread) queue.sleepe
 abbrev pub thread_at : List Entry → ℕ → Option ℕ
 thread_at log at = option_map (λ made. made.thread) (slice_get log at)
 
--- The thread's first entry from a place on, if it has one.
-abbrev pub IsNextOf : List Entry → ℕ → ℕ → Option ℕ → Type 0
-IsNextOf log from thread None = (at : ℕ) → from ≤ at → thread_at log at ≡ Some thread → ⊥
-IsNextOf log from thread (Some at) = (from ≤ at) × (thread_at log at ≡ Some thread)
-    × ((k : ℕ) → from ≤ k → k < at → thread_at log k ≡ Some thread → ⊥)
+-- Where the entry at a place was asked for: of an answer that is the place of its question, of another one its own.
+abbrev pub asked_at : Seen → ℕ → ℕ
+asked_at s at = made_at (context_at s.story at) at
+
+abbrev pub touches_left_out : Option Spans → Option Entry → Bool
+touches_left_out out None = false
+touches_left_out out (Some made) = is_left_out out made.event
+
+-- An entry from the moment on isn't left out where it touches no memory that is; an answer, where its question touches none,
+-- or was asked before the moment: then its thread sleeps or is owed the answer there, and that is told.
+abbrev pub is_beside : Seen → ℕ → Bool
+is_beside s at = nat_lt (asked_at s at) s.moment.at || not (touches_left_out s.left_out (slice_get (log_of s) (asked_at s at)))
+
+-- The entry of this place is one of the thread's that isn't left out.
+pub record IsBesideAt (s : Seen) (thread at : ℕ) : Type 0 where
+  pub own : thread_at (log_of s) at ≡ Some thread
+  pub beside : is_beside s at ≡ true
+
+-- The thread's first entry from the moment on that isn't left out, if it has one. One that isn't gone has: it leaves at last,
+-- and that touches no bytes.
+abbrev pub IsNextOf : Seen → ℕ → Option ℕ → Type 0
+IsNextOf s thread None = (at : ℕ) → s.moment.at ≤ at → IsBesideAt s thread at → ⊥
+IsNextOf s thread (Some at) = (s.moment.at ≤ at) × IsBesideAt s thread at
+    × ((k : ℕ) → s.moment.at ≤ k → k < at → IsBesideAt s thread k → ⊥)
 
 -- Of a thread whose answer comes next: on what it sleeps, by its context; else it is owed that.
 abbrev pub owed : Bool → Option Context → Stance
 owed true (Some (Asked question asked)) = stances.Asleep asked
 owed sleeps context = stances.Owed
 
--- How a thread stands to its first entry.
+-- How a thread stands to that entry. An answer is due, since its question was asked before the moment, else that would be told;
+-- and a thread that wants something, or is at its end, may first do more that is left out.
 abbrev pub stance_at : Seen → ℕ → ℕ → Event → Stance
 stance_at s at thread (Told answer) =
     owed (is_asleep s.moment.queue thread) (slice_get s.story.contexts.items at)
@@ -205,15 +228,15 @@ standing_of standing = option_map (λ s. s.now) standing
 
 -- Of an answer it is the question that comes to bytes.
 abbrev pub touched_at : Seen → ℕ → Option NumberSpan
-touched_at s at = option_and_then (λ made. touched made.event) (slice_get (log_of s) (made_at (context_at s.story at) at))
+touched_at s at = option_and_then (λ made. touched made.event) (slice_get (log_of s) (asked_at s at))
 
 -- The last entry before the moment that wrote one of these bytes, if there are some.
 abbrev pub IsLastThere : Seen → Option NumberSpan → Option ℕ → Type 0
 IsLastThere s None last = last ≡ None
 IsLastThere s (Some addrs) last = IsLastIfAny (acts.Write addrs) (log_of s) s.moment.at last
 
--- What a thread comes to: its first entry from the moment on, how it stands to that, who wrote last the bytes to which it
--- comes, and its open functions where it stands.
+-- What a thread comes to: its first entry from the moment on that isn't left out, how it stands to that, who wrote last the
+-- bytes to which it comes, and its open functions where it stands, which is where it comes to its very next entry.
 pub record IsNext (s : Seen) (at : ℕ) (next : ToldNext) : Type 0 where
   pub made : Entry
   pub stands : slice_get (log_of s) at ≡ Some made
@@ -230,7 +253,7 @@ IsNextBy s at next = ⊥
 
 -- That of a thread; nothing where it is gone.
 abbrev pub IsNextIfAny : Seen → ℕ → Option ToldNext → Type 0
-IsNextIfAny s thread next = (at : Option ℕ) × IsNextOf (log_of s) s.moment.at thread at × IsNextBy s at next
+IsNextIfAny s thread next = (at : Option ℕ) × IsNextOf s thread at × IsNextBy s at next
 
 -- Of a thread that wasn't spawned nothing is told.
 abbrev pub IsThreadBy : Seen → ℕ → Bool → Option ToldThread → Type 0

@@ -99,7 +99,7 @@ impl Scene<'_, '_, '_, '_, '_, '_, '_, '_, '_, '_, '_> {
         Ok(text)
     }
 
-    /// How a thread stands to its first entry.
+    /// How a thread stands to its first entry that isn't left out.
     fn stance_text(&self, stance: Stance) -> Result<String, AllocError>
         ensures { IfOk result (λ text. SaysStance (seen self.now) stance (string_bytes text)) }
     {

@@ -223,8 +223,8 @@ impl Moment<'_> {
         }
     }
 
-    /// Where the thread stands whose first entry from here on this is: where it comes to it, or, as long as an answer
-    /// is to come, where it is.
+    /// Where the thread stands that comes to this entry from here on: where it comes to its very next one, or, as long as
+    /// this is an answer, which is to come, where it is.
     pub fn standing(&self, first: &Entry) -> Option<&ThreadSnapshot>
         ensures { option_map (λ s. s.now) result ≡ standing_at self.now first.now }
     {

@@ -15,12 +15,13 @@ use crate::values::{has_parts, is_pointer, is_signed, number_of};
 use dwarf_frames::{CallFrame, FrameValue};
 use interp::CodePlace;
 use race_history::Race;
-use selection::{NumberSpan, touched};
+use selection::{NumberSpan, Spans, touched};
 use shared_memory::Sleeper;
 use show_named::{Act, DataMap, last_of};
 use show_rows::{Shown, Story};
 use show_text::Context;
 use show_told::{ToldFunction, ToldNumber, ToldValue, TypedWord};
+use show_waits::is_left_out;
 use std::alloc::{AllocError, Global};
 use types::{Entry, Event, MOST_THREADS, Question, ValType};
 use validate::operand_types;
@@ -34,6 +35,8 @@ pub struct MomentView<'v, 'd, 'r, 'w, 'c, 'm, 'n, 'b> {
     pub map: &'d DataMap<'b>,
     /// Whether locals and operands stand there as they are, also where functions are known by a debug section.
     pub is_raw: bool,
+    /// The memory whose entries are left out, if some is.
+    pub left_out: &'d Option<Spans>,
 }
 
 /// A moment, and what is known around it.
@@ -43,18 +46,6 @@ pub struct Scene<'v, 's, 'e, 'a, 'd, 'r, 'w, 'c, 'm, 'n, 'b> {
     pub view: MomentView<'v, 'd, 'r, 'w, 'c, 'm, 'n, 'b>,
     pub story: &'s Story,
     pub moment: &'e Moment<'a>,
-}
-
-/// The place of the thread's first entry from a place on.
-fn next_of(log: &[Entry], from: usize, thread: usize) -> Option<usize>
-    ensures { IsNextOf log.now from thread result }
-{
-    for at in from..log.len() {
-        if log[at].thread as usize == thread {
-            return Some(at);
-        }
-    }
-    None
 }
 
 /// Whether a thread is one of these sleepers.
@@ -195,14 +186,58 @@ impl<'c> Scene<'_, '_, '_, '_, '_, '_, '_, 'c, '_, '_, '_> {
     fn next(&self, thread: usize) -> Result<Option<ToldNext<'c>>, AllocError>
         ensures { IfOk result (IsNextIfAny (specified.seen self.now) thread) }
     {
-        let log = self.view.shown.record.log.as_slice();
-        match next_of(log, self.moment.at, thread) {
+        match self.next_of(thread) {
             Some(at) => Ok(Some(self.next_at(at)?)),
             None => Ok(None),
         }
     }
 
-    /// What a thread comes to whose first entry from the moment on stands at this place.
+    /// The place of the thread's first entry from the moment on that isn't left out.
+    fn next_of(&self, thread: usize) -> Option<usize>
+        ensures { IsNextOf (specified.seen self.now) thread result }
+    {
+        let log = self.view.shown.record.log.as_slice();
+        for place in self.moment.at..log.len() {
+            if log[place].thread as usize != thread {
+                continue;
+            }
+            if self.is_beside(place) {
+                return Some(place);
+            }
+        }
+        None
+    }
+
+    /// Whether the entry at a place isn't left out.
+    fn is_beside(&self, at: usize) -> bool
+        ensures { result ≡ specified.is_beside (specified.seen self.now) at }
+    {
+        let asked = self.asked_at(at);
+        asked < self.moment.at || !self.touches_left_out(asked)
+    }
+
+    /// Whether the entry at a place touches memory that is left out.
+    fn touches_left_out(&self, at: usize) -> bool
+        ensures { result ≡ specified.touches_left_out self.now.view.left_out.now
+            (slice_get self.now.view.shown.record.now.log at) }
+    {
+        match self.view.shown.record.log.as_slice().get(at) {
+            Some(made) => is_left_out(self.view.left_out, made.event),
+            None => false,
+        }
+    }
+
+    /// Where the entry at a place was asked for: of an answer that is the place of its question, of another one its own.
+    fn asked_at(&self, at: usize) -> usize
+        ensures { result ≡ specified.asked_at (specified.seen self.now) at }
+    {
+        match self.story.context_at(at) {
+            Context::Asked(_, asked) => asked,
+            _ => at,
+        }
+    }
+
+    /// What a thread comes to whose first entry from the moment on that isn't left out stands at this place.
     fn next_at(&self, at: usize) -> Result<ToldNext<'c>, AllocError>
         requires { at < length self.now.view.shown.record.now.log }
         ensures { IfOk result (IsNext (specified.seen self.now) at) }
@@ -219,7 +254,7 @@ impl<'c> Scene<'_, '_, '_, '_, '_, '_, '_, 'c, '_, '_, '_> {
         })
     }
 
-    /// How a thread stands to its first entry.
+    /// How a thread stands to its first entry that isn't left out.
     fn stance_at(&self, at: usize, entry: &Entry) -> Stance
         ensures { result ≡ specified.stance_at (specified.seen self.now) at entry.now.thread entry.now.event }
     {
@@ -245,11 +280,8 @@ impl<'c> Scene<'_, '_, '_, '_, '_, '_, '_, 'c, '_, '_, '_> {
     fn touched_at(&self, at: usize) -> Option<NumberSpan>
         ensures { result ≡ specified.touched_at (specified.seen self.now) at }
     {
-        let made = match self.story.context_at(at) {
-            Context::Asked(_, asked) => asked,
-            _ => at,
-        };
-        let entry = self.view.shown.record.log.as_slice().get(made)?;
+        let asked = self.asked_at(at);
+        let entry = self.view.shown.record.log.as_slice().get(asked)?;
         touched(entry.event)
     }
 

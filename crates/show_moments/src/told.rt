@@ -3,7 +3,7 @@
 use selection::NumberSpan;
 use show_told::ToldFunction;
 
-/// How a thread stands to its first entry from a moment on.
+/// How a thread stands to its first entry from a moment on that isn't left out.
 #[derive(Clone, Copy, PartialEq, Eq, Debug)]
 pub enum Stance {
     /// It wants what the entry is.
@@ -19,7 +19,7 @@ pub enum Stance {
 /// What a thread comes to.
 #[derive(Drop)]
 pub struct ToldNext<'a> {
-    /// The place in the log of its first entry from the moment on.
+    /// The place in the log of its first entry from the moment on that isn't left out.
     pub at: usize,
     pub stance: Stance,
     /// The bytes to which that entry comes, or to which its question came, if it comes to some.
