@@ -12,10 +12,13 @@ use Rattle.show_moments.specs.declared.moment.Moment.{Moment}
 use Rattle.show_moments.specs.Moments.{MomentSees}
 use Rattle.show_moments.proofs.Walked.{whole_asks, whole_sees}
 use Rattle.show_moments.specs.declared.scene.MomentView.{MomentView}
+use Rattle.selection.specs.declared.spans.Spans.{Spans}
 use Rattle.show_named.specs.declared.data_map.DataMap.{DataMap}
 use Rattle.show_rows.specs.declared.listing.Shown.{Shown}
 use Rattle.report_looks.specs.declared.wanted.Here.{Here}
 use Rattle.report_objects.specs.Ends.{WritesEnd}
+use Rattle.show_said.specs.declared.said.Said.{Said}
+use Rattle.report_looks.specs.Looked.{WritesMomentOf}
 use Rattle.report_looks.specs.RunMoments.{IsMomentIn, IsViewOf, WritesAt, WritesHere, WritesIn}
 
 pub seen_moment : (m : Parts) (r : RecordParts) (at : ℕ) (bytes : Bytes) (old new : Moment) (end : EndState) → old.at ≡ at
@@ -43,10 +46,10 @@ moment_in m n r s at bytes moment e f is = subst (λ (p : Parts). IsMomentIn p s
     (subst (λ (x : RecordParts). IsMomentIn m x at bytes moment) f is)
 
 -- what is written of a moment, at the end and elsewhere
-module _ (m : Parts) (shown : Shown) (map : DataMap) (here : Here) (moment : Moment) (old new : Option (List ℕ))
-    (view : MomentView) (is : IsViewOf m shown map here.is_raw view) where
+module _ (m : Parts) (shown : Shown) (map : DataMap) (out : Option Spans) (here : Here) (moment : Moment) (old new : Option (List ℕ))
+    (view : MomentView) (is : IsViewOf m shown map out here.is_raw view) where
   pub end_here : here.is_end ≡ true → WritesEnd here.form view moment old new → moment.is_short ≡ false
-      → WritesHere m shown map here moment old new
+      → WritesHere m shown map out here moment old new
   end_here end says whole = record {
     view = view;
     view_is = is;
@@ -55,13 +58,20 @@ module _ (m : Parts) (shown : Shown) (map : DataMap) (here : Here) (moment : Mom
   }
 
   pub scene_here : here.is_end ≡ false → WritesIn here.form view moment old new → moment.is_short ≡ false
-      → WritesHere m shown map here moment old new
+      → WritesHere m shown map out here moment old new
   scene_here inside says whole = record {
     view = view;
     view_is = is;
     whole = whole;
     writes = subst (λ (b : Bool). WritesAt view b here.form moment old new) (sym inside) says;
   }
+
+-- the same beside memory that is equal
+pub moment_beside : {T E : Type 0} (shown : Shown) (map : DataMap) (a b : Option Spans) (here : Here) (all : List Said)
+    (old new : Option (List ℕ)) (r : Result T E) → a ≡ b → OnOk r (WritesMomentOf shown map a here all old new)
+    → OnOk r (WritesMomentOf shown map b here all old new)
+moment_beside shown map a b here all old new r same =
+    subst (λ (out : Option Spans). OnOk r (WritesMomentOf shown map out here all old new)) same
 
 -- two things that hold where it goes well
 pub on_ok_both : {T E P Q R : Type 0} (r : Result T E) → (P → Q → R) → OnOk r P → OnOk r Q → OnOk r R

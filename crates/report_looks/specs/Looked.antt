@@ -1,5 +1,5 @@
 -- What is asked for of a record's run, and what is printed of it.
-use Rattle.std.specs.Prelude.{ℕ, ◌≡◌, ◌+◌, ◌-◌, ◌==◌, ◌&&◌, min, Bool, true, false, cond, List, [], length, position, codes}
+use Rattle.std.specs.Prelude.{ℕ, ◌≡◌, ◌+◌, ◌-◌, ◌==◌, min, not, Bool, true, false, cond, List, [], length, position, codes}
 use Rattle.std.specs.Prelude.{Option, Some, None, is_some}
 use Rattle.std.specs.Io.KnownBytes.{Appends}
 use Rattle.std.specs.List.{AllZip, list_any, slice_get}
@@ -107,16 +107,18 @@ IsWanted r map (views.Write write) w = (sought : SoughtWrite) × (w ≡ wanted.W
 IsWanted r map (views.Moment at) w = (here : Here) × (w ≡ wanted.Moment here) × IsHere r at here
 IsWanted r map view w = w ≡ wanted.Entries view
 
--- Rows, a page and a trace leave out what a library keeps for itself.
-abbrev pub leaves_out : RecordView → Bool
-leaves_out views.Rows = true
-leaves_out (views.Page path) = true
-leaves_out (views.Trace path) = true
-leaves_out view = false
+-- Rows, a page and a trace leave out what a library keeps for itself, where no bytes are asked for; a moment does, where it
+-- isn't asked for unfolded.
+abbrev pub leaves_out : RecordView → List Data → Bool
+leaves_out views.Rows bytes = length bytes == 0
+leaves_out (views.Page path) bytes = length bytes == 0
+leaves_out (views.Trace path) bytes = length bytes == 0
+leaves_out (views.Moment at) bytes = not at.is_unfolded
+leaves_out view bytes = false
 
--- The addresses that are left out: those that a library keeps for itself, where no bytes are asked for.
+-- The addresses that are left out: those that a library keeps for itself, if it leaves them out.
 abbrev pub left_out : ShowLook → List NumberSpan → List NumberSpan
-left_out how own = cond (leaves_out how.view && (length how.bytes.items == 0)) own []
+left_out how own = cond (leaves_out how.view how.bytes.items) own []
 
 -- The look that is asked for, at these addresses, where a library keeps those for itself: where no lines or addresses are
 -- given, all are chosen.
@@ -156,16 +158,17 @@ abbrev pub has_stopped : List ThreadReport → Bool
 has_stopped ends = list_any (λ report. is_stop report.outcome) ends
 
 -- Below the rows stands what each thread waits for that was stopped, where all entries are chosen and one was.
-abbrev pub WritesBelow : Bool → Shown → DataMap → Option (List ℕ) → Option (List ℕ) → Type 0
-WritesBelow true shown map old new = (story : Story) × IsStoryOf shown.record.now.log story × WritesWaits shown map story old new
-WritesBelow false shown map old new = new ≡ old
+abbrev pub WritesBelow : Bool → Shown → DataMap → Option Spans → Option (List ℕ) → Option (List ℕ) → Type 0
+WritesBelow true shown map out old new = (story : Story) × IsStoryOf shown.record.now.log story
+    × WritesWaits shown map story out old new
+WritesBelow false shown map out old new = new ≡ old
 
 abbrev pub has_waits : Shown → Look → Bool
 has_waits shown look = cond (chooses_all look.choice) (has_stopped shown.record.now.ends) false
 
 abbrev pub WritesRowsOf : Shown → DataMap → Look → Option (List ℕ) → Option (List ℕ) → Type 0
 WritesRowsOf shown map look old new = (between : Option (List ℕ)) × WritesRows shown map look old between
-    × WritesBelow (has_waits shown look) shown map between new
+    × WritesBelow (has_waits shown look) shown map look.choice.left_out between new
 
 -- Where addresses are left out, that is said.
 abbrev pub SaysLeftOut : Option Spans → Option (List ℕ) → Option (List ℕ) → Type 0
@@ -176,7 +179,7 @@ SaysLeftOut (Some addrs) old new = Appends old new left_out_line
 abbrev pub WritesFoldedOf : Shown → DataMap → Look → Option (List ℕ) → Option (List ℕ) → Type 0
 WritesFoldedOf shown map look old new = (rows : Option (List ℕ)) × WritesFolded shown map look old rows
     × (between : Option (List ℕ)) × SaysLeftOut look.choice.left_out rows between
-    × WritesBelow (has_waits shown look) shown map between new
+    × WritesBelow (has_waits shown look) shown map look.choice.left_out between new
 
 -- A page with its moments, and a trace, with the races that they mark.
 abbrev pub WritesPageOf : Shown → DataMap → Look → Option (List ℕ) → Option (List ℕ) → Type 0
@@ -195,18 +198,18 @@ WritesEntries views.Unfolded shown map look all old new = WritesRowsOf shown map
 WritesEntries views.Said shown map look all old new = WritesSaid (is_shown shown.record.now look.choice) all old new
 WritesEntries view shown map look all old new = WritesFoldedOf shown map look old new
 
--- A moment, and below it what threads said before, where that is wanted.
-abbrev pub WritesMomentOf : Shown → DataMap → Here → List Said → Option (List ℕ) → Option (List ℕ) → Type 0
-WritesMomentOf shown map here all old new = (moment : Moment)
+-- A moment, beside the memory that is left out, and below it what threads said before, where that is wanted.
+abbrev pub WritesMomentOf : Shown → DataMap → Option Spans → Here → List Said → Option (List ℕ) → Option (List ℕ) → Type 0
+WritesMomentOf shown map out here all old new = (moment : Moment)
     × IsMomentIn shown.code.now.parts.now shown.record.now here.place here.bytes moment
-    × (between : Option (List ℕ)) × WritesHere shown.code.now.parts.now shown map here moment old between
+    × (between : Option (List ℕ)) × WritesHere shown.code.now.parts.now shown map out here moment old between
     × WritesSaidIf here.text (is_before shown.record.now here) all between new
 
 -- What is wanted of a record is written.
 abbrev pub WritesWanted : Shown → DataMap → Look → List Said → Wanted → Option (List ℕ) → Option (List ℕ) → Type 0
 WritesWanted shown map look all (wanted.Write sought form) old new = WritesLastIn form shown map sought old new
 WritesWanted shown map look all (wanted.Entries view) old new = WritesEntries view shown map look all old new
-WritesWanted shown map look all (wanted.Moment here) old new = WritesMomentOf shown map here all old new
+WritesWanted shown map look all (wanted.Moment here) old new = WritesMomentOf shown map look.choice.left_out here all old new
 
 -- Whether what threads say is wanted.
 abbrev pub says : RecordView → Bool

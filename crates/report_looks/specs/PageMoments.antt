@@ -45,8 +45,8 @@ AreMomentsOf seen look races moments = AreLastMoments seen races
     (part_around (moment_count (length seen.shown.record.now.log)) (moment_count (length seen.shown.record.now.log) - 1)
     (failure seen.shown.record.now) (chosen seen.shown look)) moments
 
--- The moments of a page, with the variables that a debug section has.
+-- The moments of a page, with the variables that a debug section has, and beside what its rows leave out.
 pub record AreOfPage (shown : Shown) (map : DataMap) (look : Look) (races : List Race) (moments : List MomentText) : Type 0 where
   pub seen : MomentView
-  pub view : IsViewOf shown.code.now.parts.now shown map false seen
+  pub view : IsViewOf shown.code.now.parts.now shown map look.choice.left_out false seen
   pub each : AreMomentsOf seen look races moments

@@ -8,6 +8,7 @@ use Rattle.replay_walk.specs.declared.walk.Walk.{Walk}
 use Rattle.replay_walk.specs.Walked.{Run, WalkCame, start}
 use Rattle.replay.specs.Runs.{BeginsBy, start_of_record}
 use Rattle.race_history.specs.declared.race.Race.{Race}
+use Rattle.selection.specs.declared.spans.Spans.{Spans}
 use Rattle.show_moments.specs.declared.moment.Bytes.{Bytes}
 use Rattle.show_moments.specs.declared.moment.Moment.{Moment}
 use Rattle.show_moments.specs.declared.scene.MomentView.{MomentView}
@@ -37,12 +38,14 @@ pub record IsMomentOf (m : Parts) (r : RecordParts) (at : ℕ) (bytes : Bytes) (
 abbrev pub IsMomentIn : Parts → RecordParts → ℕ → Bytes → Moment → Type 0
 IsMomentIn m r at bytes moment = at ≤ length r.log → IsMomentOf m r at bytes moment
 
--- A moment is shown of this record and this module, by this debug section; and whether locals and operands are shown as the
--- module has them.
-pub record IsViewOf (m : Parts) (shown : Shown) (map : DataMap) (is_raw : Bool) (view : MomentView) : Type 0 where
+-- A moment is shown of this record and this module, by this debug section, with this memory left out; and whether locals and
+-- operands are shown as the module has them.
+pub record IsViewOf (m : Parts) (shown : Shown) (map : DataMap) (out : Option Spans) (is_raw : Bool) (view : MomentView)
+    : Type 0 where
   pub of_record : view.shown ≡ shown
   pub of_module : view.valid.now.parts ≡ m
   pub of_data : view.map.now ≡ map
+  pub left_out : view.left_out.now ≡ out
   pub raw : view.is_raw ≡ is_raw
 
 -- What threads and memory are like before an entry is written, in lines or as an object, with what that entry races.
@@ -55,9 +58,9 @@ abbrev pub WritesAt : MomentView → Bool → Form → Moment → Option (List �
 WritesAt view true form moment old new = WritesEnd form view moment old new
 WritesAt view false form moment old new = WritesIn form view moment old new
 
-pub record WritesHere (m : Parts) (shown : Shown) (map : DataMap) (here : Here) (moment : Moment)
+pub record WritesHere (m : Parts) (shown : Shown) (map : DataMap) (out : Option Spans) (here : Here) (moment : Moment)
     (old new : Option (List ℕ)) : Type 0 where
   pub view : MomentView
-  pub view_is : IsViewOf m shown map here.is_raw view
+  pub view_is : IsViewOf m shown map out here.is_raw view
   pub whole : moment.is_short ≡ false
   pub writes : WritesAt view here.is_end here.form moment old new

@@ -148,6 +148,7 @@ pub(crate) fn print_page<W: Write>(
 {
     let view = MomentView {
         is_raw: false,
+        left_out: &look.choice.left_out,
         ..seen
     };
     let races = races_in(alloc, view.shown, MOST_OF_PAGE)?;

@@ -15,7 +15,7 @@ use replay::replay_watched;
 use replay_text::Record;
 use report_command::{Form, RecordView};
 use report_objects::{write_end, write_entries, write_last_object, write_scene};
-use selection::{Choice, Look};
+use selection::{Choice, Look, Spans};
 use show_events::write_trace;
 use show_moments::{Moment, MomentView, write_moment};
 use show_named::{DataMap, SoughtWrite, write_folded, write_last, write_rows};
@@ -53,6 +53,7 @@ pub(crate) fn print_asked<W: Write>(
 ) -> Result<(), Unwritten>
     requires of_module { seen.shown.code.now.parts.now ≡ seen.valid.now.parts }
     requires of_record { «record».now ≡ seen.shown.record.now }
+    requires left_out { seen.left_out.now ≡ asked.now.look.choice.left_out }
     ensures { OnOk result (WritesWanted seen.entry.shown seen.entry.map.now asked.now.look said.now asked.now.wanted
         (W.contents out.old) (W.contents out.new)) }
 {
@@ -78,7 +79,7 @@ fn print_told_moment<W: Write>(
 ) -> Result<(), Unwritten>
     requires of_module { seen.shown.code.now.parts.now ≡ seen.valid.now.parts }
     requires of_record { «record».now ≡ seen.shown.record.now }
-    ensures { OnOk result (WritesMomentOf seen.entry.shown seen.entry.map.now here said.now
+    ensures { OnOk result (WritesMomentOf seen.entry.shown seen.entry.map.now seen.entry.left_out.now here said.now
         (W.contents out.old) (W.contents out.new)) }
 {
     let moment = moment_of(alloc, seen.valid, record, here)?;
@@ -171,16 +172,18 @@ fn print_waits<W: Write>(
     alloc: Global,
     shown: Shown,
     map: &DataMap,
+    left_out: &Option<Spans>,
     is_wanted: bool,
     out: &mut W,
 ) -> Result<(), Unwritten>
-    ensures { OnOk result (WritesBelow is_wanted shown.entry map.now (W.contents out.old) (W.contents out.new)) }
+    ensures { OnOk result
+        (WritesBelow is_wanted shown.entry map.now left_out.now (W.contents out.old) (W.contents out.new)) }
 {
     if !is_wanted {
         return Ok(());
     }
     let story = Story::new(alloc, shown.record.log.as_slice())?;
-    write_waits(alloc, shown, map, &story, out)
+    write_waits(alloc, shown, map, &story, left_out, out)
 }
 
 /// Says below rows that addresses are left out, where some are.
@@ -211,7 +214,8 @@ fn print_folded<W: Write>(
 {
     write_folded(alloc, shown, map, look, out)?;
     say_left_out(out, look)?;
-    print_waits(alloc, shown, map, has_waits(shown, look), out)
+    let is_wanted = has_waits(shown, look);
+    print_waits(alloc, shown, map, &look.choice.left_out, is_wanted, out)
 }
 
 /// Writes a row for each entry; and below them, where all are asked for, what each thread waits for that was stopped.
@@ -225,7 +229,8 @@ fn print_rows<W: Write>(
     ensures { OnOk result (WritesRowsOf shown.entry map.now look.now (W.contents out.old) (W.contents out.new)) }
 {
     write_rows(alloc, shown, map, look, out)?;
-    print_waits(alloc, shown, map, has_waits(shown, look), out)
+    let is_wanted = has_waits(shown, look);
+    print_waits(alloc, shown, map, &look.choice.left_out, is_wanted, out)
 }
 
 /// A moment of a record, seen by a second replay.
@@ -254,8 +259,8 @@ fn print_moment<W: Write>(
     here: Here,
     out: &mut W,
 ) -> Result<(), Unwritten>
-    ensures { OnOk result (WritesHere seen.entry.valid.now.parts seen.entry.shown seen.entry.map.now here moment.now
-        (W.contents out.old) (W.contents out.new)) }
+    ensures { OnOk result (WritesHere seen.entry.valid.now.parts seen.entry.shown seen.entry.map.now seen.entry.left_out.now here
+        moment.now (W.contents out.old) (W.contents out.new)) }
 {
     let view = MomentView {
         is_raw: here.is_raw,

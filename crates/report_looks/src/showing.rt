@@ -192,6 +192,7 @@ fn show_record<'a, W: Write>(
         },
         map: &map,
         is_raw: false,
+        left_out: &asked.look.choice.left_out,
     };
     match print_asked(alloc, view, &seen.record, &asked, &said, out) {
         Ok(()) => Ok(()),

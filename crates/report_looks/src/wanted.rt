@@ -242,14 +242,15 @@ pub(crate) fn spans_of<'a>(
     Ok(spans)
 }
 
-/// Whether such a view leaves out what a library keeps for itself.
-fn leaves_out(view: RecordView) -> bool
-    ensures { result ≡ looked.leaves_out view.entry }
+/// Whether such a view leaves out what a library keeps for itself, where these bytes are asked for.
+fn leaves_out(view: RecordView, bytes: &[Data]) -> bool
+    ensures { result ≡ looked.leaves_out view.entry bytes.now }
 {
-    matches!(
-        view,
-        RecordView::Rows | RecordView::Page(_) | RecordView::Trace(_)
-    )
+    match view {
+        RecordView::Rows | RecordView::Page(_) | RecordView::Trace(_) => bytes.is_empty(),
+        RecordView::Moment(at) => !at.is_unfolded,
+        RecordView::Unfolded | RecordView::Said | RecordView::Write(_) | RecordView::Object => false,
+    }
 }
 
 /// The addresses that are left out, where a library keeps these for itself.
@@ -260,7 +261,7 @@ fn left_out(
 ) -> Result<Vec<NumberSpan>, AllocError>
     ensures { IfOk result (λ spans. spans.items ≡ looked.left_out how.now own.now) }
 {
-    if leaves_out(how.view) && how.bytes.is_empty() {
+    if leaves_out(how.view, how.bytes.as_slice()) {
         return Vec::from_slice(alloc, own);
     }
     Ok(Vec::new(alloc))

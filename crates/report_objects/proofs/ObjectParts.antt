@@ -56,7 +56,7 @@ some_other s false other row is last = absurd (false≢true (sym is))
 
 -- What is written of an end, one behind the other.
 pub lines_of : (s : Seen) (ends : List ToldEnd) (text dump : List ℕ) (a b c d e : Option (List ℕ)) → text ≡ flat_map end_text ends
-    → Appends a b text → WritesWaits s.shown s.map s.story b c → dump ≡ dump_text s.moment.wanted.addr s.moment.bytes.items
+    → Appends a b text → WritesWaits s.shown s.map s.story s.left_out b c → dump ≡ dump_text s.moment.wanted.addr s.moment.bytes.items
     → Appends c d dump → Keeps d e → WritesEndLines s ends a e
 lines_of s ends text dump a b c d e is wrote waits dump_is dumped last = record {
   said = b;

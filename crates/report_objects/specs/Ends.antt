@@ -64,7 +64,7 @@ pub record WritesEndLines (s : Seen) (ends : List ToldEnd) (old new : Option (Li
   pub said : Option (List ℕ)
   pub says : WritesEnds ends old said
   pub waited : Option (List ℕ)
-  pub waits : WritesWaits s.shown s.map s.story said waited
+  pub waits : WritesWaits s.shown s.map s.story s.left_out said waited
   pub bytes : Appends waited new (dump_text s.moment.wanted.addr s.moment.bytes.items)
 
 -- Where the last write there is the thread's own, that of another thread.
@@ -85,11 +85,11 @@ pub record IsWaitObject (s : Seen) (wait : ToldWait) (w : WaitsFor) : Type 0 whe
   pub other_write : IsOtherRow s wait w.other_write
   pub last_notify : IsLastRow s.shown s.map s.story wait.notified w.last_notify
 
--- That of one that was stopped and touched bytes.
+-- That of one that was stopped and touched bytes, beside those that are left out.
 abbrev pub IsWaitsFor : Seen → ℕ → Outcome → Option WaitsFor → Type 0
 IsWaitsFor s thread (outcomes.Stop stop) (Some w) =
-    (wait : ToldWait) × IsToldWait thread s.shown.record.now.log wait × IsWaitObject s wait w
-IsWaitsFor s thread (outcomes.Stop stop) None = TouchesNothing thread s.shown.record.now.log
+    (wait : ToldWait) × IsToldWait thread s.shown.record.now.log s.left_out wait × IsWaitObject s wait w
+IsWaitsFor s thread (outcomes.Stop stop) None = TouchesNothing thread s.shown.record.now.log s.left_out
 IsWaitsFor s thread outcome w = w ≡ None
 
 -- A thread in the object.
@@ -115,7 +115,7 @@ pub record WritesEndOf (s : Seen) (threads : List EndedThread) (cycles : List (V
 pub record WritesEndObject (s : Seen) (ends : List ToldEnd) (old new : Option (List ℕ)) : Type 0 where
   pub end : EndShown
   pub threads : AreEndedThreads s ends end.threads.now
-  pub cycles : AreToldCycles s.shown.record.now.log s.shown.record.now.ends end.cycles.now
+  pub cycles : AreToldCycles s.shown.record.now.log s.shown.record.now.ends s.left_out end.cycles.now
   pub memory : IsMemoryOf s.moment end.memory
   pub object : Appends old new (json_line (end_json end))
 

@@ -142,7 +142,9 @@ fn write_lines<W: Write>(scene: &Scene, ends: &[ToldEnd], out: &mut W) -> Result
     let (view, moment) = (scene.view, scene.moment);
     let text = ends_text(scene.alloc, ends)?;
     write!(out, "{text}")?;
-    write_waits(scene.alloc, view.shown, view.map, scene.story, out)?;
+    write_waits(
+        scene.alloc, view.shown, view.map, scene.story, view.left_out, out,
+    )?;
     let dump = dump_text(scene.alloc, moment.wanted.addr, &moment.bytes)?;
     write!(out, "{dump}")?;
     out.flush()?;
@@ -177,7 +179,8 @@ fn write_object<W: Write>(scene: &Scene, ends: &[ToldEnd], out: &mut W) -> Resul
 {
     let record = scene.view.shown.record;
     let threads = ended_threads(scene, ends)?;
-    let cycles = cycles_told(scene.alloc, record.log.as_slice(), record.ends.as_slice())?;
+    let (log, ends_of) = (record.log.as_slice(), record.ends.as_slice());
+    let cycles = cycles_told(scene.alloc, log, ends_of, scene.view.left_out)?;
     write_ended(scene, threads.as_slice(), cycles.as_slice(), out)
 }
 
@@ -237,7 +240,8 @@ fn waits_of<'a>(
     let Outcome::Stop(_) = outcome else {
         return Ok(None);
     };
-    match wait_told(scene.view.shown.record.log.as_slice(), thread) {
+    let view = &scene.view;
+    match wait_told(view.shown.record.log.as_slice(), thread, view.left_out) {
         Some(wait) => Ok(Some(wait_of(scene, thread, wait)?)),
         None => Ok(None),
     }
@@ -245,7 +249,7 @@ fn waits_of<'a>(
 
 /// What a thread waits for, as the object has it.
 fn wait_of<'a>(scene: &'a Scene, thread: usize, wait: ToldWait) -> Result<WaitsFor<'a>, AllocError>
-    requires { IsToldWait thread scene.now.view.shown.record.now.log wait }
+    requires { IsToldWait thread scene.now.view.shown.record.now.log scene.now.view.left_out.now wait }
     ensures { IfOk result (IsWaitObject (seen scene.now) wait) }
 {
     let (alloc, story) = (scene.alloc, scene.story);

@@ -8,14 +8,20 @@ use Rattle.report_looks.proofs.moments.print_page.Goals as goal
 pub returns : goal.returns
 returns g c =
     let seen = c.args.seen in
-    let view : MomentView = record { valid = seen.valid; shown = seen.shown; map = seen.map; is_raw = false } in
+    let view : MomentView = record {
+      valid = seen.valid;
+      shown = seen.shown;
+      map = seen.map;
+      is_raw = false;
+      left_out = record { now = c.args.look.now.choice.left_out };
+    } in
     let raced = c.as_slice-raced.result.now in
     on_ok_weaker c.write_page.result (λ writes. (
       raced,
       c.as_slice.result.now,
       record {
         seen = view;
-        view = record { of_record = refl; of_module = sym c.requires.of_module; of_data = refl; raw = refl };
+        view = record { of_record = refl; of_module = sym c.requires.of_module; of_data = refl; left_out = refl; raw = refl };
         each = subst (λ (ms : List MomentText). AreMomentsOf view c.args.look.now raced ms) (sym c.as_slice.ensures.value)
             c.in_ok-moments.ensures;
       },

@@ -14,7 +14,7 @@ returns g c =
       moment_in seen.valid.now.parts seen.shown.code.now.parts.now _ _ _ _ _ (sym c.requires.of_module) c.requires.of_record
           (c.in_ok-moment.ensures writes.whole),
       g.W.Write.contents c.print_moment.new.out,
-      subst (λ (p : Parts). WritesHere p seen.shown seen.map.now c.args.here c.in_ok-moment.moment
+      subst (λ (p : Parts). WritesHere p seen.shown seen.map.now seen.left_out.now c.args.here c.in_ok-moment.moment
           (g.W.Write.contents c.args.out.now) (g.W.Write.contents c.print_moment.new.out)) (sym c.requires.of_module) writes,
       told,
     )) c.write_before.ensures

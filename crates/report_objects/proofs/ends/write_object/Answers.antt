@@ -20,9 +20,9 @@ returns g c =
       end = w.end;
       threads = subst (λ (ts : List EndedThread). AreEndedThreads s c.args.ends.now ts) (sym (w.threads_are ∙ c.as_slice-3.ensures.value))
           c.in_ok-threads.ensures;
-      cycles = subst (λ (cs : List (Vec ℕ)). AreToldCycles r.log r.ends cs) (sym (w.cycles_are ∙ c.as_slice-4.ensures.value))
-          (subst (λ (l : List Entry). AreToldCycles l r.ends cycles) c.as_slice.ensures
-          (subst (λ (es : List ThreadReport). AreToldCycles c.as_slice.result.now es cycles) c.as_slice-2.ensures
+      cycles = subst (λ (cs : List (Vec ℕ)). AreToldCycles r.log r.ends s.left_out cs) (sym (w.cycles_are ∙ c.as_slice-4.ensures.value))
+          (subst (λ (l : List Entry). AreToldCycles l r.ends s.left_out cycles) c.as_slice.ensures
+          (subst (λ (es : List ThreadReport). AreToldCycles c.as_slice.result.now es s.left_out cycles) c.as_slice-2.ensures
           c.in_ok-cycles.ensures));
       memory = w.memory;
       object = w.object;
