@@ -657,7 +657,7 @@ static void end_parallel(int t) {
 static void wake_main(void) {
     set_joining(joining & ~left);
     left = 0;
-    wakes(slots[0]);
+    wakes(&waits_for[slots[0]]);
 }
 
 void orders_ends(int thread, unsigned result) {
@@ -692,7 +692,7 @@ void orders_ends(int thread, unsigned result) {
         forget_views(t);
     }
     if (by >= 0)
-        wakes(by);
+        wakes(&thread_end[thread]);
     if (left && running == left)
         wake_main();
     end_operation();
@@ -711,14 +711,14 @@ void orders_main_left(unsigned result) {
         set_joining(joining & ~BIT(by));
         sleeping &= ~BIT(by);
         add(&orders.current[by], &orders.current[t]);
-        wakes(by);
+        wakes(&thread_end[0]);
     }
     if (running != BIT(t)) {
         left = BIT(t);
         set_joining(joining | left);
-        falls_asleep(t, NUMBERS + 1);
+        falls_asleep(t, &waits_for[t], ALL_ENDS);
         end_operation();
-        sleeps(t, NUMBERS + 1, -1);
+        sleeps(&waits_for[t], ALL_ENDS, -1);
         begin_operation(0, OTHERS);
     }
     for (int thread = NUMBERS; --thread;)
@@ -742,13 +742,13 @@ int orders_has_ended(int thread) {
 }
 
 /* Where the time was over: whether the thread ended meanwhile all the same. */
-static int is_late(int t, int of) {
+static int is_late(int t, int thread) {
     begin_operation(0, OTHERS);
-    int late = joiner[of] == t + 1;
+    int of = slots[thread], late = joiner[of] == t + 1;
     if (late) {
         joiner[of] = 0;
         set_joining(joining & ~BIT(t));
-        waits_for[t] = 0;
+        thread_end[thread] = 0;
         sleeping &= ~BIT(t);
     }
     leave(me());
@@ -770,7 +770,7 @@ static __attribute__((noinline)) int begin_join(int thread, long long nanosecond
     } else {
         joiner[of] = t + 1;
         set_joining(joining | BIT(t));
-        falls_asleep(t, mark_of(thread));
+        falls_asleep(t, &thread_end[thread], 1);
     }
     end_access(t);
     return waits;
@@ -778,7 +778,7 @@ static __attribute__((noinline)) int begin_join(int thread, long long nanosecond
 
 int orders_joins(int thread, unsigned *result, long long nanoseconds) {
     if (begin_join(thread, nanoseconds)) {
-        if (sleeps(me(), mark_of(thread), nanoseconds) == 2 && is_late(me(), slots[thread]))
+        if (sleeps(&thread_end[thread], 1, nanoseconds) == 2 && is_late(me(), thread))
             return 2;
         set_parallel(simulates);
         if (!simulates) {
@@ -837,9 +837,9 @@ static int waits(u32 at, int log, u64 value, long long nanoseconds) {
     while (queue[i])
         i++;
     queue[i] = t + 1;
-    falls_asleep(t, at);
+    falls_asleep(t, &waits_for[t], at);
     leave(me());
-    return sleeps(t, at, nanoseconds) == 2 ? ends_by_time(t) : 0;
+    return sleeps(&waits_for[t], at, nanoseconds) == 2 ? ends_by_time(t) : 0;
 }
 
 int __wathread_wait32(u32 word, int value, long long nanoseconds) {
@@ -864,7 +864,7 @@ unsigned __wathread_notify(u32 word, unsigned most) {
             int t = queue[i] - 1;
             unqueue(i);
             sleeping &= ~BIT(t);
-            wakes(t);
+            wakes(&waits_for[t]);
             many++;
         } else
             i++;
