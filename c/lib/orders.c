@@ -508,12 +508,13 @@ static void say_view(int t, int l, int newest, int log) {
     }
 }
 
-static void say_all_views(void) {
+/* Of each atomic place that has so many messages. */
+static void say_all_views(int least) {
     u64 readers = looking;
     for (int l = 0; l < places(); l++) {
         u64 place = orders.places[l];
         int newest = COUNT(place) - 1;
-        if (newest < 1 || place & BEHIND)
+        if (COUNT(place) < least || place & BEHIND)
             continue;
         begin_line();
         say_name(SITE(writer_of(l, newest)), AT(place));
@@ -529,7 +530,7 @@ static void say_all_views(void) {
 void __wathread_traps(void) {
     if (is_parallel()) {
         enter_behind_start(me(), 0, 0);
-        say_all_views();
+        say_all_views(2);
         fails_inside();
     } else
         tell_helper(OVER);
@@ -540,8 +541,16 @@ void __wathread_views(void) {
     if (!is_parallel())
         return;
     begin_operation(0, OTHERS);
-    say_all_views();
+    say_all_views(2);
     leave(me());
+}
+
+/* What wathread-views invokes in a run of its own, over the memory of a moment at which nobody is inside: of all atomic
+   places. Answers where the gate is, by which it finds such a moment. */
+EXPORT("wathread_views") u32 __wathread_all_views(void) {
+    set_head(head_inside());
+    say_all_views(1);
+    return (u32)&gate;
 }
 
 /* ---- Threads ---- */

@@ -253,9 +253,9 @@ static int choose(int many) {
 
 /* ---- Sleep: the helper rests where all sleep, so that a deadlock is one ---- */
 
-/* Where threads sleep: by slots, at the address of the word that is waited for, or at ALL_ENDS; or by the numbers of threads,
-   at 1 while somebody waits for the thread's end. Both have names, since they're told where a thread stands, and rows have
-   the second one (wathread-link). */
+/* Where threads sleep, by slots: the address of the word for which each waits, or ALL_ENDS. Where joins sleep, by the numbers
+   of threads: 1 while somebody waits for the thread's end. Both have names, since it's told where a thread stands, and rows
+   have the second one (wathread-link). */
 #pragma clang attribute pop
 static u32 waits_for[THREADS], thread_end[NUMBERS];
 #pragma clang attribute push(__attribute__((nodebug)), apply_to = any(hasType(functionType), variable(unless(is_parameter))))
