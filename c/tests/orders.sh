@@ -258,6 +258,13 @@ views_others() { # the compiler's folder
     [[ $said == *"has no views: wathread-cc --orders c11 makes a module that has"* ]]
 }
 
+# Where the words don't say how many entries a run has, the module asks for more than other ones.
+has_room() { # the compiler's folder
+    build "$1" -O1 "$here/tests/orders/accesses/mp_stale.c"
+    "$WATHREAD" search "$work/m.wasm" --invoke main --runs 1 --json | grep -q '"limit":160000' &&
+        "$WATHREAD" search "$work/m.wasm" --invoke main --runs 1 --limit 60000 --json | grep -q '"limit":60000'
+}
+
 check() { # what, how it's tested, and the words for that
     local got="as wanted"
     "${@:2}" || { wrong=1 && got=WRONG; }
@@ -277,6 +284,7 @@ viewed() {
     check "a join in a deadlock" joins "$here" deadlock 1
     check "views of mp_stale" views "$here"
     check "names, and what is refused" views_others "$here"
+    check "room for the entries of a run" has_room "$here"
     planted_viewed "a join of another thread" orders.c 's/\[thread\], 1/[thread ^ 3], 1/' joins deadlock 1
     planted_viewed "no view of what all know" orders.c 's/if \(COUNT\(place\) < least/if (COUNT(place) < 2/' views
     planted_viewed "views of a moment inside" orders.c 's/return \(u32\)&gate;/return (u32)\&over;/' views
