@@ -134,7 +134,8 @@ AsksShown f Unfolded = HasNo f (codes "last-write") × HasNo f (codes "at") × A
 AsksShown f Said = HasNo f (codes "last-write") × HasNo f (codes "at") × AsksEntries f Said
 AsksShown f Object = HasNo f (codes "last-write") × HasNo f (codes "at") × AsksEntries f Object
 AsksShown f (Moment at) = HasNo f (codes "last-write") × AsksMoment f at.when × AsksBytes f at.addr at.count
-    × HasFlag f (codes "raw") at.is_raw × HasFlag f (codes "text") at.text × AsksForm f at.form
+    × HasFlag f (codes "raw") at.is_raw × HasFlag f (codes "unfold") at.is_unfolded × HasFlag f (codes "text") at.text
+    × AsksForm f at.form
 AsksShown f (Write write) = AsksLastWrite f write
 AsksShown f (Page path) = ⊥
 AsksShown f (Trace path) = ⊥

@@ -33,6 +33,8 @@ pub struct At {
     pub count: u32,
     /// Whether the locals and operands of all functions are shown as they are.
     pub is_raw: bool,
+    /// Whether it has what a library does in memory that it keeps for itself.
+    pub is_unfolded: bool,
     /// Whether it has what the threads said before it.
     pub text: bool,
     pub form: Form,
@@ -146,6 +148,7 @@ fn shown_at(matches: &ArgMatches, when: When) -> Result<At, CommandRefusal<'stat
     ensures when { IfOk result (λ at. at.when ≡ when) }
     ensures bytes { IfOk result (λ at. AsksBytes (found_of matches.now) at.addr at.count) }
     ensures raw { IfOk result (λ at. HasFlag (found_of matches.now) (codes "raw") at.is_raw) }
+    ensures unfolded { IfOk result (λ at. HasFlag (found_of matches.now) (codes "unfold") at.is_unfolded) }
     ensures text { IfOk result (λ at. HasFlag (found_of matches.now) (codes "text") at.text) }
     ensures form { IfOk result (λ at. AsksForm (found_of matches.now) at.form) }
 {
@@ -158,6 +161,7 @@ fn shown_at(matches: &ArgMatches, when: When) -> Result<At, CommandRefusal<'stat
         addr,
         count,
         is_raw: RAW.is_set(matches),
+        is_unfolded: UNFOLD.is_set(matches),
         text: TEXT.is_set(matches),
         form: form_of(matches),
     })

@@ -186,8 +186,8 @@ pub(crate) static OF_A_RECORD: [OptionRow; 9] = [
     conflicts: &["last-write", "html", "trace", "json", "unfold"]),
     row!(UNFOLD, for [Show],
     "A row for each entry, also for rounds that a thread makes again and again, for answers, and in memory that a \
-    library keeps for itself",
-    conflicts: &["at", "last-write", "html", "trace", "json"]),
+    library keeps for itself; with --at, that memory isn't left out",
+    conflicts: &["last-write", "html", "trace"]),
     row!(MOST, for [Races],
     "Tell N races at most, 1 to 10000", defaults: &["10"]),
     row!(NAMES, for [Show, Races],

@@ -34,7 +34,7 @@ complete -c wathread -n '__fish_seen_subcommand_from show' -l lines -x -d 'Only 
 complete -c wathread -n '__fish_seen_subcommand_from show' -l thread -x -d 'Only the entries of these threads, 0 to 63, as 2 or t2; may be given several times'
 complete -c wathread -n '__fish_seen_subcommand_from show' -l addr -x -d 'Only the entries at these addresses, decimal or behind 0x, or at the data of these names, as queue.head; may be given several times'
 complete -c wathread -n '__fish_seen_subcommand_from show' -l text -d 'What the threads say, a line each behind the line of the record, in place of entries; with --at, what they said before'
-complete -c wathread -n '__fish_seen_subcommand_from show' -l unfold -d 'A row for each entry, also for rounds that a thread makes again and again, for answers, and in memory that a library keeps for itself'
+complete -c wathread -n '__fish_seen_subcommand_from show' -l unfold -d 'A row for each entry, also for rounds that a thread makes again and again, for answers, and in memory that a library keeps for itself; with --at, that memory isn'\''t left out'
 complete -c wathread -n '__fish_seen_subcommand_from show' -l names -r -d 'Names and lines of source from a build of the same code, as one with -g'
 complete -c wathread -n '__fish_seen_subcommand_from show' -l source -x -d 'Show what stands in each line of source, of the files below this folder'
 complete -c wathread -n '__fish_seen_subcommand_from show' -l width -x -d 'How many characters a row has room for, 40 to 1000 [default: 120]'
