@@ -508,12 +508,13 @@ static void say_view(int t, int l, int newest, int log) {
     }
 }
 
-static void say_all_views(void) {
+/* Of each atomic place that has so many messages. */
+static void say_all_views(int least) {
     u64 readers = looking;
     for (int l = 0; l < places(); l++) {
         u64 place = orders.places[l];
         int newest = COUNT(place) - 1;
-        if (newest < 1 || place & BEHIND)
+        if (COUNT(place) < least || place & BEHIND)
             continue;
         begin_line();
         say_name(SITE(writer_of(l, newest)), AT(place));
@@ -529,7 +530,7 @@ static void say_all_views(void) {
 void __wathread_traps(void) {
     if (is_parallel()) {
         enter_behind_start(me(), 0, 0);
-        say_all_views();
+        say_all_views(2);
         fails_inside();
     } else
         tell_helper(OVER);
@@ -540,8 +541,16 @@ void __wathread_views(void) {
     if (!is_parallel())
         return;
     begin_operation(0, OTHERS);
-    say_all_views();
+    say_all_views(2);
     leave(me());
+}
+
+/* What wathread-views invokes in a run of its own, over the memory of a moment at which nobody is inside: of all atomic
+   places. Answers where the gate is, by which it finds such a moment. */
+EXPORT("wathread_views") u32 __wathread_all_views(void) {
+    set_head(head_inside());
+    say_all_views(1);
+    return (u32)&gate;
 }
 
 /* ---- Threads ---- */
@@ -657,7 +666,7 @@ static void end_parallel(int t) {
 static void wake_main(void) {
     set_joining(joining & ~left);
     left = 0;
-    wakes(slots[0]);
+    wakes(&waits_for[slots[0]]);
 }
 
 void orders_ends(int thread, unsigned result) {
@@ -692,7 +701,7 @@ void orders_ends(int thread, unsigned result) {
         forget_views(t);
     }
     if (by >= 0)
-        wakes(by);
+        wakes(&thread_end[thread]);
     if (left && running == left)
         wake_main();
     end_operation();
@@ -711,14 +720,14 @@ void orders_main_left(unsigned result) {
         set_joining(joining & ~BIT(by));
         sleeping &= ~BIT(by);
         add(&orders.current[by], &orders.current[t]);
-        wakes(by);
+        wakes(&thread_end[0]);
     }
     if (running != BIT(t)) {
         left = BIT(t);
         set_joining(joining | left);
-        falls_asleep(t, NUMBERS + 1);
+        falls_asleep(t, &waits_for[t], ALL_ENDS);
         end_operation();
-        sleeps(t, NUMBERS + 1, -1);
+        sleeps(&waits_for[t], ALL_ENDS, -1);
         begin_operation(0, OTHERS);
     }
     for (int thread = NUMBERS; --thread;)
@@ -742,13 +751,13 @@ int orders_has_ended(int thread) {
 }
 
 /* Where the time was over: whether the thread ended meanwhile all the same. */
-static int is_late(int t, int of) {
+static int is_late(int t, int thread) {
     begin_operation(0, OTHERS);
-    int late = joiner[of] == t + 1;
+    int of = slots[thread], late = joiner[of] == t + 1;
     if (late) {
         joiner[of] = 0;
         set_joining(joining & ~BIT(t));
-        waits_for[t] = 0;
+        thread_end[thread] = 0;
         sleeping &= ~BIT(t);
     }
     leave(me());
@@ -770,7 +779,7 @@ static __attribute__((noinline)) int begin_join(int thread, long long nanosecond
     } else {
         joiner[of] = t + 1;
         set_joining(joining | BIT(t));
-        falls_asleep(t, mark_of(thread));
+        falls_asleep(t, &thread_end[thread], 1);
     }
     end_access(t);
     return waits;
@@ -778,7 +787,7 @@ static __attribute__((noinline)) int begin_join(int thread, long long nanosecond
 
 int orders_joins(int thread, unsigned *result, long long nanoseconds) {
     if (begin_join(thread, nanoseconds)) {
-        if (sleeps(me(), mark_of(thread), nanoseconds) == 2 && is_late(me(), slots[thread]))
+        if (sleeps(&thread_end[thread], 1, nanoseconds) == 2 && is_late(me(), thread))
             return 2;
         set_parallel(simulates);
         if (!simulates) {
@@ -837,9 +846,9 @@ static int waits(u32 at, int log, u64 value, long long nanoseconds) {
     while (queue[i])
         i++;
     queue[i] = t + 1;
-    falls_asleep(t, at);
+    falls_asleep(t, &waits_for[t], at);
     leave(me());
-    return sleeps(t, at, nanoseconds) == 2 ? ends_by_time(t) : 0;
+    return sleeps(&waits_for[t], at, nanoseconds) == 2 ? ends_by_time(t) : 0;
 }
 
 int __wathread_wait32(u32 word, int value, long long nanoseconds) {
@@ -864,7 +873,7 @@ unsigned __wathread_notify(u32 word, unsigned most) {
             int t = queue[i] - 1;
             unqueue(i);
             sleeping &= ~BIT(t);
-            wakes(t);
+            wakes(&waits_for[t]);
             many++;
         } else
             i++;

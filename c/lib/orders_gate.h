@@ -253,29 +253,29 @@ static int choose(int many) {
 
 /* ---- Sleep: the helper rests where all sleep, so that a deadlock is one ---- */
 
-/* By slots: what is waited for, the address of a word, or a thread's number, or NUMBERS for main. It has a name, since it's
-   told where a thread stands. */
+/* Where threads sleep, by slots: the address of the word for which each waits, or ALL_ENDS. Where joins sleep, by the numbers
+   of threads: 1 while somebody waits for the thread's end. Both have names, since it's told where a thread stands, and rows
+   have the second one (wathread-link). */
 #pragma clang attribute pop
-static u32 waits_for[THREADS];
+static u32 waits_for[THREADS], thread_end[NUMBERS];
 #pragma clang attribute push(__attribute__((nodebug)), apply_to = any(hasType(functionType), variable(unless(is_parameter))))
+enum { ALL_ENDS = 1 }; /* main has left, and waits for all others */
 
-INLINE u32 mark_of(int thread) { return thread ? thread : NUMBERS; }
-
-static void falls_asleep(int t, u32 what) {
-    waits_for[t] = what;
+static void falls_asleep(int t, u32 *where, u32 what) {
+    *where = what;
     sleeping |= BIT(t);
     if (sleeping == running)
         tell_helper(RESTS);
 }
 
 /* Behind leave(). Who wakes it is inside, so a notify never comes late. */
-static int sleeps(int t, u32 what, long long nanoseconds) {
-    return __builtin_wasm_memory_atomic_wait32((int *)&waits_for[t], what, nanoseconds);
+static int sleeps(u32 *where, u32 what, long long nanoseconds) {
+    return __builtin_wasm_memory_atomic_wait32((int *)where, what, nanoseconds);
 }
 
-static void wakes(int t) {
-    __atomic_store_n(&waits_for[t], 0, __ATOMIC_SEQ_CST);
-    __builtin_wasm_memory_atomic_notify((int *)&waits_for[t], 1);
+static void wakes(u32 *where) {
+    __atomic_store_n(where, 0, __ATOMIC_SEQ_CST);
+    __builtin_wasm_memory_atomic_notify((int *)where, 1);
 }
 
 /* ---- How a run ends ---- */

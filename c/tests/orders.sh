@@ -3,8 +3,9 @@
 # -O1 and -O0, each with what it is to end as on its first line (`EXPECT ok`, `trap`, `asleep`, or a name in a trace); those
 # that fill a table once more, with a greater pool; those of tests/orders/algorithms, which are right; and bugs planted in
 # the runtime, each found by a litmus test of bench/orders, by a loop that then waits for ever, or by what is said. Of some
-# programs each line that the runtime says in a run that fails. Prints a table. WATHREAD is the program, or ../wathread. CC
-# names the clang; RUNS is how many are drawn; ONLY=says leaves out all but what is said.
+# programs each line that the runtime says in a run that fails; whose end a deadlock waits for; and what wathread-views says.
+# Prints a table. WATHREAD is the program, or ../wathread. CC names the clang; RUNS is how many are drawn; ONLY=says leaves
+# out all but what is said, and ONLY=viewed all but the last two.
 set -u
 here=$(cd "$(dirname "$0")/.." && pwd)
 export WATHREAD=${1:-$here/../wathread}
@@ -62,7 +63,7 @@ algorithms() {
 # A bug in the runtime, an edit by sed; the status is 1 where it changes nothing.
 plant() { # what, file, edit
     rm -rf "$work/c" && mkdir -p "$work/c" "$work/bench"
-    cp -R "$here/wathread-cc" "$here/wathread-link" "$here/include" "$here/lib" "$work/c"
+    cp -R "$here/wathread-cc" "$here/wathread-link" "$here/wathread-views" "$here/include" "$here/lib" "$work/c"
     cp -R "$here/../bench/orders" "$work/bench"
     sed -E "$3" "$here/lib/$2" >"$work/c/lib/$2"
     ! cmp -s "$here/lib/$2" "$work/c/lib/$2" || { wrong=1 && say "$1" "" "no change" "$3" && return 1; }
@@ -210,14 +211,96 @@ all_told() {
     planted_said "a line isn't ended" orders_says.h 's/^static void begin_line.*/static void begin_line(void) {}/' unreleased
 }
 
-if [ "${ONLY:-}" = says ]; then
-    all_told
+# Whether of a program that fails it's told that main waits for a thread's end.
+joins() { # the compiler's folder, a program, the thread
+    build "$1" -O1 "$here/tests/orders/accesses/$2.c"
+    ending >"$work/ending"
+    "$WATHREAD" show "$work/m.wasm" "$work/r" --at end |
+        grep -qE "^t0: stop asleep for good: t0 sleeps on [0-9]+ while 1 at thread_end\[$3\], entry "
+}
+
+# What wathread-views says before the first row of a thread at a variable; the moment may be before that.
+views_before() { # the compiler's folder, thread, variable
+    local entry
+    entry=$("$WATHREAD" show "$work/m.wasm" "$work/r" --thread "$2" --addr "$3" | sed -nE '1s/^ *([0-9]+) .*/\1/p')
+    "$1/wathread-views" "$work/m.wasm" "$work/r" "$entry" |
+        sed -E 's/entry [0-9]+/entry x/g; s/, and t0 may still read 0//'
+}
+
+# Of the run of mp_stale that fails: before t1 writes data, before t2 reads ready, and before it reads data, which is old.
+views() { # the compiler's folder
+    local inside='entry x is in the middle of an operation, which begins at entry x; before that:'
+    build "$1" -O1 "$here/tests/orders/accesses/mp_stale.c"
+    ending >"$work/ending"
+    (views_before "$1" 1 data && views_before "$1" 2 ready && views_before "$1" 2 data) >"$work/views"
+    cmp -s "$work/views" - <<END
+$inside
+no atomic variable is shared there
+$inside
+data is 42, and t2 may still read 0
+ready is 1, and t2 may still read 0
+$inside
+data is 42, and t2 may still read 0
+ready is 1
+END
+}
+
+# Of a variable that nobody writes the name is that of `show`. What isn't made so, and an entry that isn't there, is refused.
+views_others() { # the compiler's folder
+    local said
+    build "$1" -O1 "$here/tests/orders/accesses/viewed.c"
+    "$WATHREAD" search "$work/m.wasm" --invoke main --runs 1 --find 'thread 0' --limit 60000 --record "$work/r" >/dev/null
+    views_before "$1" 1 table.end | grep -qx 'table.slots\[1\] is 7' || return
+    said=$("$1/wathread-views" "$work/m.wasm" "$work/r" 1000000 2>&1) && return 1
+    [[ $said == *"has entries 9 to "* ]] || return
+    "$1/wathread-cc" --orders sc "$here/tests/orders/accesses/viewed.c" -o "$work/m.wasm" || return
+    said=$("$1/wathread-views" "$work/m.wasm" "$work/r" 9 2>&1) && return 1
+    [[ $said == *"has no views: wathread-cc --orders c11 makes a module that has"* ]]
+}
+
+# Where the words don't say how many entries a run has, the module asks for more than other ones.
+has_room() { # the compiler's folder
+    build "$1" -O1 "$here/tests/orders/accesses/mp_stale.c"
+    "$WATHREAD" search "$work/m.wasm" --invoke main --runs 1 --json | grep -q '"limit":160000' &&
+        "$WATHREAD" search "$work/m.wasm" --invoke main --runs 1 --limit 60000 --json | grep -q '"limit":60000'
+}
+
+check() { # what, how it's tested, and the words for that
+    local got="as wanted"
+    "${@:2}" || { wrong=1 && got=WRONG; }
+    say viewed "" "$1" "$got"
+}
+
+# It has to make a test fail.
+planted_viewed() { # what, file, edit, the test, and its words
+    plant "$@" || return
+    local out="$4 ${*:5}"
+    ! "$4" "$work/c" "${@:5}" 2>/dev/null || { wrong=1 && out='NOT FOUND'; }
+    say "planted" "" "$1" "$out"
+}
+
+viewed() {
+    check "a join of who trapped" joins "$here" mp_stale 2
+    check "a join in a deadlock" joins "$here" deadlock 1
+    check "views of mp_stale" views "$here"
+    check "names, and what is refused" views_others "$here"
+    check "room for the entries of a run" has_room "$here"
+    planted_viewed "a join of another thread" orders.c 's/\[thread\], 1/[thread ^ 3], 1/' joins deadlock 1
+    planted_viewed "no view of what all know" orders.c 's/if \(COUNT\(place\) < least/if (COUNT(place) < 2/' views
+    planted_viewed "views of a moment inside" orders.c 's/return \(u32\)&gate;/return (u32)\&over;/' views
+}
+
+case ${ONLY:-} in
+says | viewed)
+    if [ "$ONLY" = says ]; then all_told; else viewed; fi
     exit $wrong
-fi
+    ;;
+esac
 accesses
 room
 algorithms
 all_told
+viewed
 planted "an acquire joins no view" orders.c 's/^    if \(acquires\(order\)\)$/    if (0)/' MP+rel+acq
 planted "a release leaves no view" orders.c 's/mine = releases\(order\) \?/mine = 0 ?/' MP+rel+acq
 planted "no old message is read" orders.c 's/^        p -= choose\(newest - least \+ 1\);/        p -= 0;/' SB+rlx+rlx

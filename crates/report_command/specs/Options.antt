@@ -86,6 +86,7 @@ pub record AsksRun (f : Found) (job : RunJob) : Type 0 where
   pub call : AsksCall f job.call
   pub memory : IsWord f (codes "memory") (codes "words") job.on_words
   pub limit : HasNumber f (codes "limit") job.limit
+  pub limit_said : job.is_limit_said ≡ is_said f (codes "limit")
   pub save : HasTextIfAny f (codes "record") job.save
   pub memory_in : AsksMemoryIn f job.memory_in
   pub memory_out : HasTextIfAny f (codes "memory-out") job.memory_out
@@ -275,6 +276,7 @@ pub record AsksSearch (f : Found) (s : Search) : Type 0 where
   pub call : AsksCall f s.call
   pub sought : AsksSought f s.sought
   pub stops : s.sought.stops ≡ stops_by f s.shrink s.races
+  pub limit_said : s.is_limit_said ≡ is_said f (codes "limit")
   pub shrink : HasFlag f (codes "shrink") s.shrink
   pub effort : AsksEffort f s.shrink_time s.time s.jobs
   pub all : AsksAll f s.shrink s.races s.all s.first

@@ -31,6 +31,8 @@ pub struct RunJob<'a> {
     pub on_words: bool,
     /// How many entries the log takes, 1 to 1,000,000.
     pub limit: u32,
+    /// Whether the words say so: else the module may ask for more.
+    pub is_limit_said: bool,
     /// The path of the record to be written, if one is wanted.
     pub save: Option<&'a str>,
     /// The file whose bytes are laid over its memory before the first turn, if one is.
@@ -287,6 +289,7 @@ fn run_job<'a>(alloc: Global, matches: &ArgMatches<'a>) -> Result<Job<'a>, Comma
         call,
         on_words: MEMORY.is_word(matches, "words"),
         limit,
+        is_limit_said: LIMIT.is_said(matches),
         save: RUN_RECORD.text_if_any(matches),
         memory_in,
         memory_out: MEMORY_OUT.text_if_any(matches),

@@ -34,6 +34,8 @@ pub struct Search<'a> {
     /// Which runs are made, and what is looked for: their limit is 1 to 1,000,000 entries, their number and that of the
     /// first 1 to 1,000,000,000,000; 0 to 4096 bytes of the memory are printed, and told apart.
     pub sought: Sought<'a>,
+    /// Whether the words say how many entries the log of a run takes: else the module may ask for more.
+    pub is_limit_said: bool,
     /// Whether of what is found a run with few switches of threads is looked for.
     pub shrink: bool,
     /// For how many seconds, 1 to 1,000,000.
@@ -337,6 +339,7 @@ pub(crate) fn search_job<'a>(
         file,
         call,
         sought,
+        is_limit_said: LIMIT.is_said(matches),
         shrink,
         shrink_time: effort.shrink_time,
         time: effort.time,

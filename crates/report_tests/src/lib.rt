@@ -1,8 +1,10 @@
 //! What cases can't say of the program's jobs, of files and streams. Writers that fail; files of which a front is read,
 //! records that take the place of a file once all of them is there, streams that nobody reads, and buffers of which not
-//! all gets out. `cases` has command lines and what they print.
+//! all gets out; logs whose module asks for more room. `cases` has command lines and what they print.
 #![tactic(auto)]
 
+#[cfg(test)]
+mod limits;
 #[cfg(test)]
 mod reading;
 #[cfg(test)]

@@ -58,6 +58,7 @@ fn running<'a>(alloc: Global, file: &'a str, save: &'a str) -> Job<'a> {
         },
         on_words: false,
         limit: 1000,
+        is_limit_said: true,
         save: Some(save),
         memory_in: None,
         memory_out: None,

@@ -32,6 +32,7 @@ fn adding(alloc: Global) -> RunJob<'static>
         },
         on_words: false,
         limit: 100_000,
+        is_limit_said: true,
         save: Some("a.record"),
         memory_in: None,
         memory_out: None,

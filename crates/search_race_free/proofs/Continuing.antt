@@ -17,6 +17,7 @@ use Rattle.search_race_free.specs.Owned.{Within}
 use Rattle.search_race_free.specs.Touches.{access_at, AreOfOthers, IsOver, ArePutOver, AreClear, StrikesNobody, Strikes, Meets, AreInTheWay}
 use Rattle.search_race_free.specs.Reduced.{wanted_in, next_in, Rest, IsResting, WasMade, IsKept, IsAfterTurn, ComesOf}
 use Rattle.search_race_free.specs.Search.{AreWanted, WantsSome, IsAfterEvent, GetsLost, IsOwned, ComesAlone, ComesOnward, IsCame}
+use Rattle.search_race_free.specs.Known.{WritesOverNone}
 use Rattle.search_race_free.specs.declared.alone.Arrival.{Arrival}
 use Rattle.search_race_free.specs.declared.alone.Arrival.TheVariants as came
 use Rattle.search_race_free.proofs.Moving.{times-append, along-both, goes-along}
@@ -70,6 +71,35 @@ module _ {X T E V A G H M : Type 0} (k : ThreadSystem X T E V A G H M)
           inr (missed-now k tame plain x.owned.items s.flat n x.flat a owned.somewhere come wants t over.other
           (λ z at. sym (are z at t.thread) ∙ over.wants) over.over)
 
+  -- The same where it writes over nothing.
+  pub onward-alone : (s x : Owning (RestingState G H)) (n : ℕ) (a : NextAccess) → IsOwned k s → WantsSome k s.flat n a → WritesOverNone k s n
+      → IsAfterEvent k s.flat n x.flat → AreOfOthers s.owned.items n x.owned.items → ComesOnward k n s x
+  onward-alone s x n a owned wants none come others = record {
+    owned = record {
+      somewhere = rests-there k tame plain x.owned.items s.flat n x.flat owned.somewhere come;
+      made = λ t among.
+          let old = (others t).0 among in
+          made-on k tame plain x.owned.items s.flat n x.flat a come wants t (λ e. absurd (old.1 (sym e))) (owned.made t old.0);
+      apart = λ t u in_t in_u. owned.apart t u ((others t).0 in_t).0 ((others u).0 in_u).0;
+    };
+    touches = record {
+      kept = λ t d c. (others t).1 (c, d);
+      over = λ z at b h t d g w. absurd (none z at b t.access t.thread d h g w);
+    };
+    each = λ z at.
+        let r = comes-to-rest k tame plain x.owned.items s.flat n x.flat come z at in
+        record {
+          access = a;
+          wants = wants z at;
+          order = r.order;
+          settled = r.settled;
+          makes = r.makes;
+          rests = (let rest = r.resting in rest.rests);
+          settled_is = (let rest = r.resting in rest.settled_is);
+          others = r.others;
+        };
+  }
+
   -- It rests there.
   pub after-rests : (n : ℕ) (x : Owning (RestingState G H)) (z : State X T) → IsReached k.system k.first z → (r : IsAfterTurn k n x z) →
       IsReached k.system k.first r.settled
@@ -95,10 +125,9 @@ module _ {X T E V A G H M : Type 0} (k : ThreadSystem X T E V A G H M)
       (k.accesses (next_in k z n).shared ((next_in k z n).threads u) e.0) r.order (next_in k z n) r.settled next r.makes (r.others u d a h) wants
 
   -- And then plain turns of a thread that may go on.
-  pub onward-more : (s x y : Owning (RestingState G H)) (n m : ℕ) (before : List (Option NextAccess)) → AreWanted k s.flat before →
-      (m ≢ n → access_at before m ≡ None)
+  pub onward-more : (s x y : Owning (RestingState G H)) (n m : ℕ) → (m ≢ n → (z : State X T) → IsResting k s.flat z → wanted_in k z m ≡ None)
       → ComesOnward k n s x → ComesAlone k m x y → ComesOnward k n s y
-  onward-more s x y n m before are free one two = record {
+  onward-more s x y n m free one two = record {
     owned = two.owned;
     touches = (let first = one.touches in record {
       kept = λ t d c. two.grows t (first.kept t d c);
@@ -123,7 +152,7 @@ module _ {X T E V A G H M : Type 0} (k : ThreadSystem X T E V A G H M)
           others = λ u d a h.
               let none = p.others u d a h in
               let b = still-wants n x s.flat z at p u d a h in
-              let more = q.others u (λ e. none-some a (sym (free (λ f. d (e ∙ f))) ∙ (ap (access_at before) (sym e) ∙ (are z at u ∙ h)))) b.0 b.1 in
+              let more = q.others u (λ e. none-some a (sym (free (λ f. d (e ∙ f)) z at) ∙ subst (λ v. wanted_in k z v ≡ Some a) e h)) b.0 b.1 in
               times-append u p.order q.order ∙ omega (arith, none, more);
         };
   }
@@ -203,6 +232,6 @@ module _ {X T E V A G H M : Type 0} (k : ThreadSystem X T E V A G H M)
       (m ≢ n → access_at before m ≡ None)
       → ComesOnward k n s x → (v : Arrival (Owning (RestingState G H))) → IsCame k stuck x.flat (ComesAlone k m x) v →
       IsCame k stuck s.flat (ComesOnward k n s) v
-  came-more stuck s x n m before are free one (came.To y) h = onward-more s x y n m before are free one h
+  came-more stuck s x n m before are free one (came.To y) h = onward-more s x y n m (λ d z at. sym (are z at m) ∙ free d) one h
   came-more stuck s x n m before are free one (came.Races r) h = h
   came-more stuck s x n m before are free one came.Unknown h = lost-onward stuck s x n one h

@@ -1,5 +1,6 @@
 -- The event of a thread that rests, and where all come to rest after it.
-use Rattle.std.proofs.Common.{◌≡◌, ◌≤◌, inl, inr, ℕ, sym, ◌∙◌, List, length, Some, None}
+use Rattle.std.proofs.Common.{◌≡◌, ◌≤◌, inl, inr, ℕ, refl, sym, ◌∙◌, List, length, Some, None}
+use Rattle.std.specs.Prelude.{slice_set}
 use Rattle.std.specs.List.{slice_get}
 use Rattle.std.proofs.lemmas.Option.{none-some}
 use Rattle.schedule.specs.System.{Want.Calls, State}
@@ -10,6 +11,7 @@ use Rattle.search_settled.specs.declared.flat.RestingState.{RestingState}
 use Rattle.search_settled.specs.Threads.{ThreadSystem}
 use Rattle.search_settled.specs.Flat.{AreBounded, IsEventAt, AllComeAfter, IsStuckByMove}
 use Rattle.search_settled.specs.Next.{IsAt}
+use Rattle.search_settled.specs.Known.{GoesAlone}
 use Rattle.search_settled.proofs.Reaching.{by_event}
 use Rattle.search_settled.proofs.Following.{come-from, next-by, stuck-by}
 use Rattle.search_race_free.specs.Reduced.{wanted_in, IsResting, RestsSomewhere}
@@ -38,6 +40,18 @@ module _ {X T E V A G H M : Type 0} (k : ThreadSystem X T E V A G H M) where
         a.0,
         a.1,
         next-by k tame bounded c z (at-of c z rests) n a.0 p.0 p.1 a.1 a.2 a.3 rested (come-from k c p.0 p.1 n rested come) x
+            same_shared same_threads,
+      )
+
+  -- where nobody else hears of it
+  pub alone-is : AreTame k.system k.first k.most → AreBounded k.system k.first k.count k.most
+      → (c : RestingState G H) (n : ℕ) (t : H) (after : G) (rested : H) → slice_get c.threads.items n ≡ Some t → GoesAlone k c.shared t n after rested
+      → (x : RestingState G H) → x.shared ≡ after → x.threads.items ≡ slice_set c.threads.items n rested → IsAfterEvent k c n x
+  alone-is tame bounded c n t after rested at alone x same_shared same_threads z rests =
+      let a = alone.event z (thread-at k c z rests n t at) in (
+        a.0,
+        a.1,
+        next-by k tame bounded c z (at-of c z rests) n a.0 after alone.made a.1 a.2 a.3 (slice_set c.threads.items n rested) (alone.come c refl at) x
             same_shared same_threads,
       )
 

@@ -286,6 +286,9 @@ module _ {X T E V A G H M : Type 0} (k : ThreadSystem X T E V A G H M) where
     others = f.others;
   }
 
+  pub copy-self : (s : Owning (RestingState G H)) → IsCopy k s s
+  copy-self s = record { shared = λ z. ((λ h. h), (λ h. h)); threads = refl; owned = refl }
+
   pub copy-stands : (s copy : Owning (RestingState G H)) → IsCopy k s copy → (w : State X T) (left : ℕ → ℕ) → StandsBefore k s w left →
       StandsBefore k copy w left
   copy-stands s copy is = stands-there k s copy (flat-copy s copy is) (flat-back s copy is) (sym is.owned)

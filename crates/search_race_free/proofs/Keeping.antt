@@ -24,9 +24,11 @@ use Rattle.search_race_free.specs.Same.{owning_eq}
 use Rattle.search_race_free.specs.Wanted.{ArePlain}
 use Rattle.search_race_free.specs.Reduced.{reduced_steps}
 use Rattle.search_race_free.specs.Search.{NoneBeyond, NobodyGoesOn, IsKnown}
+use Rattle.search_race_free.specs.Known.{HasRowsAt}
+use Rattle.search_race_free.proofs.Reducing.{next-are}
 use Rattle.search_race_free.specs.Met.{held, parted, held_eq, HasOwning, IsHeldRow, AreHeldRows, IsCopy, IsStateAt}
 use Rattle.search_race_free.proofs.Held.{next_parted, held-all, row-state, row-at, gains-held, notes-held, IsLike}
-use Rattle.search_race_free.proofs.Held.{StandsAlike, next-like, copy-stands, stands-copy, followed-copy, followed-equal}
+use Rattle.search_race_free.proofs.Held.{StandsAlike, next-like, copy-self, copy-stands, stands-copy, followed-copy, followed-equal}
 use Rattle.search_race_free.proofs.Beginning.{known-met, ending-is}
 
 module _ {X T E V A G H M O : Type 0} (k : ThreadSystem X T E V A G H M) (ends : State X T → O → Type 0) (stuck : State X T → Type 0) where
@@ -124,15 +126,12 @@ module _ {X T E V A G H M O : Type 0} (k : ThreadSystem X T E V A G H M) (ends :
     like-all xs ys h.1,
   )
 
-  pub next-put : (t new : StateTable G H) (at : ℕ) (o : Option (Owning (RestingState G H))) → IsStateAt k t at o → (copy : Owning (RestingState G H)) →
-      o ≡ Some copy
-      → (xs : List (NextState (Owning (RestingState G H)))) → AreNext (reduced_steps k ends stuck) copy xs
+  pub next-put-copy : (t new : StateTable G H) (at : ℕ) (ks : List (Owning (RestingState G H))) (s copy : Owning (RestingState G H)) → IsCopy k s copy
+      → HasOwning t ks → (xs : List (NextState (Owning (RestingState G H)))) → AreNext (reduced_steps k ends stuck) copy xs
       → Grows t.parts new.parts → AreStates new.states → (rs : List NextRow) → AreHeldRows eq_shared eq_thread new.parts xs rs
       → (before after : List Move) → PutsRows (held_eq eq_shared) eq_thread new.parts t.states new.states at rs before after
-      → OfStateAt (reduced_steps k ends stuck) (HasOwning t) at
-      (λ ks s. GoesOn (reduced_steps k ends stuck) (HasOwning new) (owning_eq eq_shared eq_thread) ks at s before after)
-  next-put t new at o so copy is xs next grows table rs rows before after puts ks s has there met =
-      let c = copy-at k ends stuck t at o so copy is ks s has there in
+      → GoesOn (reduced_steps k ends stuck) (HasOwning new) (owning_eq eq_shared eq_thread) ks at s before after
+  next-put-copy t new at ks s copy c has xs next grows table rs rows before after puts =
       let p = puts (map held ks) rows.next (states-grow t.parts new.parts grows t.states (map held ks) has.are) rows.are in
       record {
         next = map next_parted rows.next;
@@ -144,3 +143,24 @@ module _ {X T E V A G H M O : Type 0} (k : ThreadSystem X T E V A G H M) (ends :
         gains = gains-held eq_shared eq_thread ks rows.next p.0 p.2;
         noted = λ few. notes-held eq_shared eq_thread p.0 at rows.next before after (p.3 (subst (λ n. n < 2 ^ 32) (length-map p.0 parted) few));
       }
+
+  pub next-put : (t new : StateTable G H) (at : ℕ) (o : Option (Owning (RestingState G H))) → IsStateAt k t at o → (copy : Owning (RestingState G H)) →
+      o ≡ Some copy
+      → (xs : List (NextState (Owning (RestingState G H)))) → AreNext (reduced_steps k ends stuck) copy xs
+      → Grows t.parts new.parts → AreStates new.states → (rs : List NextRow) → AreHeldRows eq_shared eq_thread new.parts xs rs
+      → (before after : List Move) → PutsRows (held_eq eq_shared) eq_thread new.parts t.states new.states at rs before after
+      → OfStateAt (reduced_steps k ends stuck) (HasOwning t) at
+      (λ ks s. GoesOn (reduced_steps k ends stuck) (HasOwning new) (owning_eq eq_shared eq_thread) ks at s before after)
+  next-put t new at o so copy is xs next grows table rs rows before after puts ks s has there met =
+      next-put-copy t new at ks s copy (copy-at k ends stuck t at o so copy is ks s has there) has xs next grows table rs rows before after puts
+
+  -- the rows of its next states
+  pub next-known : (tame : AreTame k.system k.first k.most) (plain : ArePlain k.system k.accesses k.first)
+      (beyond : NoneBeyond k.system k.accesses k.first k.most) (t new : StateTable G H) (at : ℕ) (rs : List NextRow)
+      → HasRowsAt k eq_shared eq_thread t new.parts at rs → Grows t.parts new.parts → AreStates new.states
+      → (before after : List Move) → PutsRows (held_eq eq_shared) eq_thread new.parts t.states new.states at rs before after
+      → OfStateAt (reduced_steps k ends stuck) (HasOwning t) at
+      (λ ks s. GoesOn (reduced_steps k ends stuck) (HasOwning new) (owning_eq eq_shared eq_thread) ks at s before after)
+  next-known tame plain beyond t new at rs rows grows table before after puts ks s has there met =
+      let r = rows ks s has.are there in
+      next-put-copy t new at ks s s (copy-self k s) has r.next (next-are k ends stuck tame plain beyond s r.next r.has) grows table rs r.rows before after puts

@@ -20,3 +20,5 @@ pub mod Timing
 mod Keeping
 mod Pieces
 pub mod Crossing
+mod Knowing
+mod Rowing

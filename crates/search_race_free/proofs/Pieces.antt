@@ -4,12 +4,12 @@ use Rattle.std.proofs.Common.{inr, Some, refl, sym, ◌∙◌, ap, subst, arith}
 use Rattle.std.specs.Prelude.{IfOk, Result}
 use Rattle.std.specs.Global.{Vec}
 use Rattle.std.specs.List.{slice_get}
-use Rattle.std.proofs.lemmas.List.{length-append, length-map}
+use Rattle.std.proofs.lemmas.List.{length-append, length-map, append-nil}
 use Rattle.std.proofs.lemmas.Option.{none-some}
 use Rattle.schedule.specs.System.{State}
 use Rattle.search_graph.specs.declared.graph.Move.{Move}
 use Rattle.search_table.specs.declared.parts.StateParts.{StateParts}
-use Rattle.search_table.specs.Tables.{AreThreads, Grows, states_of}
+use Rattle.search_table.specs.Tables.{AreThreads, Grows, AreStates, states_of}
 use Rattle.search_table.proofs.Keeping.{keeps-longer, get-last}
 use Rattle.search_reach.specs.declared.explores.NextState.{NextState}
 use Rattle.search_reach.specs.Meeting.{HasMetAt, HasSound, HasFirst, OfStateAt, GoesOn}
@@ -18,7 +18,7 @@ use Rattle.search_reach.proofs.Searching.{here}
 use Rattle.search_settled.specs.Threads.{ThreadSystem}
 use Rattle.search_settled.specs.declared.flat.RestingState.{RestingState}
 use Rattle.search_settled.specs.Known.{IsOf, AreOf}
-use Rattle.search_settled.proofs.Rows.{zip-length}
+use Rattle.search_settled.proofs.Rows.{zip-length, states-grow as rows-grow}
 use Rattle.search_race_free.specs.declared.owning.Owning.{Owning}
 use Rattle.search_race_free.specs.declared.alone.Arrival.{Arrival}
 use Rattle.search_race_free.specs.declared.met.Held.{Held}
@@ -28,6 +28,7 @@ use Rattle.search_race_free.specs.declared.ahead.AheadTables.{AheadTables}
 use Rattle.search_race_free.specs.Reduced.{reduced_steps}
 use Rattle.search_race_free.specs.Same.{owning_eq}
 use Rattle.search_race_free.specs.Met.{held, HasOwning, IsCopy, IsStateAt}
+use Rattle.search_race_free.specs.Known.{AreKnownTurns}
 use Rattle.search_race_free.specs.Ahead.{ComesOfPlace, IsAhead, HasAhead, AreAhead, ArePut}
 use Rattle.search_race_free.proofs.Held.{row-at}
 
@@ -54,16 +55,16 @@ module _ {G H : Type 0} where
       cc (one, rest)
 
   -- two states of a row have the same parts
-  record HasSameParts (x y : Owning (RestingState G H)) : Type 0 where
+  pub record HasSameParts (x y : Owning (RestingState G H)) : Type 0 where
     pub shared : (held x).shared ≡ (held y).shared
     pub threads : x.flat.threads.items ≡ y.flat.threads.items
 
-  same-parts : (t : StateParts (Held G) H) (r : List ℕ) (x y : Owning (RestingState G H)) → IsOf t r (held x) → IsOf t r (held y) → HasSameParts x y
+  pub same-parts : (t : StateParts (Held G) H) (r : List ℕ) (x y : Owning (RestingState G H)) → IsOf t r (held x) → IsOf t r (held y) → HasSameParts x y
   same-parts t [] x y a b = absurd a
   same-parts t (n ∷ ns) x y a b = record { shared = cc (a.0, b.0); threads = same-threads t ns x.flat.threads.items y.flat.threads.items a.1 b.1 }
 
 module _ {X T E V A G H M : Type 0} (k : ThreadSystem X T E V A G H M) where
-  copy-same : (x y copy : Owning (RestingState G H)) → HasSameParts x y → IsCopy k x copy → IsCopy k y copy
+  pub copy-same : (x y copy : Owning (RestingState G H)) → HasSameParts x y → IsCopy k x copy → IsCopy k y copy
   copy-same x y copy same is = record {
     shared = λ z. subst (λ g. k.shares g z ↔ k.shares copy.flat.shared z) (ap (λ h. h.shared) same.shared) (is.shared z);
     threads = is.threads ∙ same.threads;
@@ -210,21 +211,22 @@ module _ {X T E V A G H M O : Type 0} (k : ThreadSystem X T E V A G H M) (ends :
       let none = zip-length (IsOf t.met.parts) (states_of t.met.states) [] (has.owning).are in
       omega (arith, within, none)
 
-  pub first-ahead : (t : AheadTables G H) → t.ahead.end ≤ 0 → HasFirst (reduced_steps k ends stuck) (HasOwning t.met)
+  pub first-ahead : (t : AheadTables G H) → t.ahead.end ≤ 0 → AreKnownTurns k t.met.parts t.known.items
+      → HasFirst (reduced_steps k ends stuck) (HasOwning t.met)
       → HasFirst (reduced_steps k ends stuck) (HasAhead k stuck t)
-  first-ahead t none f = record {
+  first-ahead t none known f = record {
     state = f.state;
     is = f.is;
-    held = record { owning = f.held; ahead = none-ahead k stuck t.met t.ahead none };
+    held = record { owning = f.held; ahead = none-ahead k stuck t.met t.ahead none; known = known };
   }
 
   pub goes-ahead : (eq_shared : G → G → Bool) (eq_thread : H → H → Bool) (t : AheadTables G H) (new : AheadTables G H) (at : ℕ) (before after : List Move)
-      → Grows t.met.parts new.met.parts → IsAhead k stuck t.met new.ahead
+      → Grows t.met.parts new.met.parts → IsAhead k stuck t.met new.ahead → AreKnownTurns k new.met.parts new.known.items
       → OfStateAt (reduced_steps k ends stuck) (HasOwning t.met) at
       (λ ks s. GoesOn (reduced_steps k ends stuck) (HasOwning new.met) (owning_eq eq_shared eq_thread) ks at s before after)
       → OfStateAt (reduced_steps k ends stuck) (HasAhead k stuck t) at
       (λ ks s. GoesOn (reduced_steps k ends stuck) (HasAhead k stuck new) (owning_eq eq_shared eq_thread) ks at s before after)
-  goes-ahead eq_shared eq_thread t new at before after grows ahead on ks s has there met =
+  goes-ahead eq_shared eq_thread t new at before after grows ahead known on ks s has there met =
       let so = on ks s has.owning there met in
       record {
         next = so.next;
@@ -233,7 +235,40 @@ module _ {X T E V A G H M O : Type 0} (k : ThreadSystem X T E V A G H M) (ends :
         held = record {
           owning = so.held;
           ahead = grown-ahead k stuck t.met new.met grows ks so.states (so.gains).more has.owning so.held (so.gains).is new.ahead ahead;
+          known = known;
         };
         gains = so.gains;
         noted = so.noted;
       }
+
+  -- where the parts alone have grown
+  pub parts-ahead : (t new : AheadTables G H) → Grows t.met.parts new.met.parts → new.met.states ≡ t.met.states → new.ahead ≡ t.ahead
+      → AreKnownTurns k new.met.parts new.known.items → (ks : List (Owning (RestingState G H))) → HasAhead k stuck t ks → HasAhead k stuck new ks
+  parts-ahead t new grows same-states same-ahead known ks has =
+      let owning : HasOwning new.met ks = record {
+        table = subst (λ v. AreStates v) (sym same-states) (has.owning).table;
+        are = subst (λ v. AreOf new.met.parts v (map held ks)) (sym same-states)
+            (rows-grow t.met.parts new.met.parts grows t.met.states (map held ks) (has.owning).are);
+      } in
+      record {
+        owning = owning;
+        ahead = subst (IsAhead k stuck new.met) (sym same-ahead)
+            (grown-ahead k stuck t.met new.met grows ks ks [] has.owning owning (sym (append-nil ks)) t.ahead has.ahead);
+        known = known;
+      }
+
+  pub met-grown : (t new : AheadTables G H) → Grows t.met.parts new.met.parts → new.met.states ≡ t.met.states → new.ahead ≡ t.ahead
+      → AreKnownTurns k new.met.parts new.known.items → (at : ℕ) → HasMetAt (reduced_steps k ends stuck) (HasAhead k stuck t) at
+      → HasMetAt (reduced_steps k ends stuck) (HasAhead k stuck new) at
+  met-grown t new grows states ahead known at met =
+      (met.0, met.1, parts-ahead t new grows states ahead known met.0 met.2, met.3, met.4)
+
+  pub sound-grown : (t new : AheadTables G H) → Grows t.met.parts new.met.parts → new.met.states ≡ t.met.states → new.ahead ≡ t.ahead
+      → AreKnownTurns k new.met.parts new.known.items → HasSound (reduced_steps k ends stuck) (HasAhead k stuck t)
+      → HasSound (reduced_steps k ends stuck) (HasAhead k stuck new)
+  sound-grown t new grows states ahead known r = (r.0, parts-ahead t new grows states ahead known r.0 r.1, r.2)
+
+  pub of-grown : (t new : AheadTables G H) → Grows t.met.parts new.met.parts → new.met.states ≡ t.met.states → new.ahead ≡ t.ahead
+      → AreKnownTurns k new.met.parts new.known.items → (at : ℕ) (so : List (Owning (RestingState G H)) → Owning (RestingState G H) → Type 0)
+      → OfStateAt (reduced_steps k ends stuck) (HasAhead k stuck new) at so → OfStateAt (reduced_steps k ends stuck) (HasAhead k stuck t) at so
+  of-grown t new grows states ahead known at so all ks s has there met = all ks s (parts-ahead t new grows states ahead known ks has) there met

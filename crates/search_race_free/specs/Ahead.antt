@@ -15,6 +15,7 @@ use Rattle.search_race_free.specs.declared.ahead.AheadTables.{AheadTables}
 use Rattle.search_race_free.specs.Reduced.{HasReduced}
 use Rattle.search_race_free.specs.Search.{IsCame}
 use Rattle.search_race_free.specs.Met.{HasOwning, IsStateAt}
+use Rattle.search_race_free.specs.Known.{AreKnownTurns}
 
 module _ {X T E V A G H M : Type 0} (k : ThreadSystem X T E V A G H M) (stuck : State X T → Type 0) where
   -- It comes of the state at this place: of a copy of it.
@@ -31,10 +32,11 @@ module _ {X T E V A G H M : Type 0} (k : ThreadSystem X T E V A G H M) (stuck : 
         → slice_get a.came.items i ≡ Some came → at + i + 1 ≡ a.end
         → ComesOfPlace t at came
 
-  -- The tables have these states, and what was made ahead comes of them.
+  -- The tables have these states, what was made ahead comes of them, and what is known of turns is so.
   pub record HasAhead (t : AheadTables G H) (ks : List (Owning (RestingState G H))) : Type 0 where
     pub owning : HasOwning t.met ks
     pub ahead : IsAhead t.met t.ahead
+    pub known : AreKnownTurns k t.met.parts t.known.items
 
   -- Each of these that there is.
   abbrev pub AreAhead : {F : Type 0} → StateTable G H → List (Result (Ahead G H) F) → Type 0

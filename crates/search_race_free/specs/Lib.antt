@@ -8,6 +8,7 @@ pub mod Reduced
 pub mod Search
 pub mod Turns
 pub mod Same
+pub mod Known
 pub mod Laws
 pub mod Met
 pub mod Ahead

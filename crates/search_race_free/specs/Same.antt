@@ -102,7 +102,7 @@ module _ {X T E V A G H M : Type 0} (k : ThreadSystem X T E V A G H M) (x y : Ow
         was = h.was;
       }
 
-  made-there : (t : Touch) → WasMade k x.flat t → WasMade k y.flat t
+  pub made-there : (t : Touch) → WasMade k x.flat t → WasMade k y.flat t
   made-there t (inl h) = inl (λ byte has. touched-there t byte (h byte has))
   made-there t (inr h) = inr (missed-there t h)
 

@@ -1,5 +1,5 @@
 //! What comes of states that were met, made ahead by several threads.
-ghost use Rattle.std.specs.Prelude.{◌≡◌, ◌+◌, ◌≤◌, ◌∷◌, [], ◌++◌, length, None, IfOk, IfSome, OnOk};
+ghost use Rattle.std.specs.Prelude.{◌≡◌, ◌+◌, ◌≤◌, ◌∷◌, [], ◌++◌, length, true, None, IfOk, IfSome, OnOk};
 ghost use Rattle.search_reach.specs.Meeting.{HasMetAt, HasSound};
 ghost use Rattle.search_table.specs.Tables.{states_of};
 ghost use Rattle.search_race_free.specs.Turns.{reduced};
@@ -11,7 +11,7 @@ use crate::met::{StateTable, state_at};
 use crate::next::next_states;
 use crate::{Accesses, Owning};
 use search_reach::NextState;
-use search_settled::RestingState;
+use search_settled::{Known, RestingState};
 use std::alloc::{AllocError, Global};
 use std::hash::Hash;
 use std::thread::{Threads, map_indices};
@@ -24,11 +24,12 @@ pub struct Ahead<S, T> {
     pub(crate) end: usize,
 }
 
-/// The states that were met, and what was made ahead of some of them.
+/// The states that were met, what was made ahead of some of them, and the turns that are known.
 #[derive(Drop)]
 pub(crate) struct AheadTables<S: Eq + Hash, T: Eq + Hash> {
     pub(crate) met: StateTable<S, T>,
     pub(crate) ahead: Ahead<S, T>,
+    pub(crate) known: Vec<Option<Known>>,
 }
 
 /// Who makes ahead what comes of states that wait.
@@ -94,6 +95,13 @@ impl<S: Drop, T: Drop> Ahead<S, T> {
         ensures { IfSome result (λ start. start + length self.now.came.items ≡ self.now.end) }
     {
         self.end.checked_sub(self.came.len())
+    }
+
+    /// Whether what comes of the state at this place is there.
+    pub(crate) fn is_at(&self, at: usize) -> bool
+        ensures { result ≡ true → at + length self.now.came.items ≡ self.now.end }
+    {
+        !self.came.is_empty() && self.start() == Some(at)
     }
 
     /// What comes of the state at this place, if that is the first one.

@@ -24,6 +24,8 @@
 //!   state has ended.
 //! - `specs/Met.antt`: the states of a table, by their parts. `proofs/Held.antt`: such a state stands for the same.
 //!   `proofs/Keeping.antt`: a table of them is what a search asks for.
+//! - `specs/Known.antt`: turns that are known, by what is held and one thread. `proofs/Knowing.antt`: they lead there
+//!   whatever the other threads are. `proofs/Rowing.antt`: the rows of next states by them.
 //! - `specs/Ahead.antt`: what a crew of threads makes ahead of states in a row. `proofs/Pieces.antt`: it stays right where
 //!   the table grows.
 #![tactic(auto)]
@@ -31,6 +33,7 @@
 mod accesses;
 mod ahead;
 mod alone;
+mod known;
 mod laws;
 mod met;
 mod next;

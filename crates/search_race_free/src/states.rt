@@ -10,10 +10,13 @@ ghost use Rattle.search_reach.specs.declared.search.Verdict.TheVariants as verdi
 ghost use Rattle.search_race_free.specs.Turns.{reduced, IsRaceOf, HasNoRace, HasNoTimeout, HasTimeout};
 ghost use Rattle.search_race_free.specs.Same.{owning_eq};
 ghost use Rattle.search_race_free.specs.Met.{HasOwning};
-ghost use Rattle.search_race_free.specs.Ahead.{ComesOfPlace, IsAhead};
+ghost use Rattle.search_table.specs.Tables.{Grows};
+ghost use Rattle.search_race_free.specs.Ahead.{ComesOfPlace, IsAhead, HasAhead};
+ghost use Rattle.search_race_free.specs.Known.{AreKnownTurns, HasRowsAt};
 
 use crate::ahead::{Ahead, AheadTables, MakesAhead, MetStates};
 use crate::alone::Arrival;
+use crate::known::known_rows;
 use crate::met::{StateTable, held_row, held_rows, state_at};
 use crate::next::{first_state, next_states};
 use crate::timeouts::waits_timed;
@@ -22,7 +25,7 @@ use search_graph::Move;
 use search_reach::{
     Ended, Follows, Meets, NextState, Reached, SearchPlan, Seeks, Verdict, conclude, reach,
 };
-use search_settled::{RestingState, put_rows, threads_of};
+use search_settled::{NextRow, RestingState, make_room, put_rows, threads_of};
 use search_table::{StateParts, States};
 use std::alloc::{AllocError, Global};
 use std::hash::Hash;
@@ -70,6 +73,7 @@ impl<M: Accesses, C: MakesAhead<M>> RaceFreeTurns<'_, M, C> {
         ensures came { IfOk result (ComesOfPlace (M.threads self.now.system.now) (M.stuck self.now.system.now)
             tables.old.met at) }
         ensures met { OnOk result (tables.new.met ≡ tables.old.met) }
+        ensures known { OnOk result (tables.new.known.items ≡ tables.old.known.items) }
         ensures ahead { OnOk result (IsAhead (M.threads self.now.system.now) (M.stuck self.now.system.now)
             tables.old.met tables.new.ahead) }
     {
@@ -87,6 +91,43 @@ impl<M: Accesses, C: MakesAhead<M>> RaceFreeTurns<'_, M, C> {
         };
         let came = met.coming(alloc, at)?;
         Ok(came)
+    }
+}
+
+impl<M: Accesses, C: MakesAhead<M>> RaceFreeTurns<'_, M, C> {
+    /// The rows of the next states of the one at this place by turns that are known, or found now; or nothing, where
+    /// what comes of it was made ahead, a turn isn't its thread's own affair, or a thread may be in another's way.
+    fn rows_by_known(
+        &self,
+        alloc: Global,
+        tables: &mut AheadTables<M::Shared, M::Thread>,
+        at: usize,
+    ) -> Result<Option<Vec<NextRow>>, AllocError>
+        requires at { HasMetAt (reduced M.Moves self.now.system.now)
+            (HasAhead (M.threads self.now.system.now) (M.stuck self.now.system.now) tables.old) at }
+        ensures grows { OnOk result (Grows tables.old.met.parts tables.new.met.parts) }
+        ensures states { OnOk result (tables.new.met.states ≡ tables.old.met.states) }
+        ensures ahead { OnOk result (tables.new.ahead ≡ tables.old.ahead) }
+        ensures known { OnOk result (AreKnownTurns (M.threads self.now.system.now)
+            tables.new.met.parts tables.new.known.items) }
+        ensures rows { IfOk result (λ o. IfSome o (λ v.
+            HasRowsAt (M.threads self.now.system.now) M.Shared.eq M.Thread.eq
+            tables.old.met tables.new.met.parts at v.items)) }
+    {
+        if tables.ahead.is_at(at) {
+            return Ok(None);
+        }
+        let Some(row) = tables.met.states.row(at) else {
+            return Ok(None);
+        };
+        known_rows(
+            alloc,
+            self.system,
+            &mut tables.met.parts,
+            &mut tables.known,
+            row,
+            self.most_plain,
+        )
     }
 }
 
@@ -125,6 +166,7 @@ impl<M: Accesses, C: MakesAhead<M>> Meets for RaceFreeTurns<'_, M, C> {
                 states: States::new(alloc),
             },
             ahead: Ahead::new(alloc),
+            known: Vec::new(alloc),
         }
     }
 
@@ -157,6 +199,12 @@ impl<M: Accesses, C: MakesAhead<M>> Meets for RaceFreeTurns<'_, M, C> {
         at: u32,
         moves: &mut Vec<Move>,
     ) -> Result<bool, AllocError> {
+        if let Some(rows) = self.rows_by_known(alloc, tables, at as usize)? {
+            put_rows(&tables.met.parts, &mut tables.met.states, moves, at, rows)?;
+            let count = tables.met.states.len();
+            make_room(alloc, &mut tables.known, count)?;
+            return Ok(true);
+        }
         match self.came(alloc, tables, at as usize)? {
             Arrival::To(next) => {
                 let rows = held_rows(alloc, &mut tables.met.parts, next)?;

@@ -54,7 +54,7 @@ set-behind first numbers row n at number is are =
     ap (λ (i : ℕ). slice_set row i number) next ∙ ap (λ l. slice_set l (suc n) number) are
 
 -- two lists beside each other, in each of which one is replaced
-zip-set : {A B : Type 0} (P : A → B → Type 0) (xs : List A) (ys : List B) → AllZip P xs ys → (n : ℕ) (x : A) (y : B) → P x y
+pub zip-set : {A B : Type 0} (P : A → B → Type 0) (xs : List A) (ys : List B) → AllZip P xs ys → (n : ℕ) (x : A) (y : B) → P x y
     → AllZip P (slice_set xs n x) (slice_set ys n y)
 zip-set P [] [] are n x y is = tt
 zip-set P [] (d ∷ ys) are n x y is = absurd are

@@ -19,6 +19,8 @@ use Rattle.search_settled.specs.declared.met.Tables.{Tables}
 use Rattle.search_settled.specs.declared.met.QuietTurn.{QuietTurn}
 use Rattle.search_settled.specs.declared.next.ThreadOf.{ThreadOf}
 use Rattle.search_settled.specs.declared.met.QuietTurn.TheVariants.{Still, Alone}
+use Rattle.search_settled.specs.declared.turns.ThreadTurn.{ThreadTurn}
+use Rattle.search_settled.specs.declared.turns.ThreadTurn.TheVariants as turn
 use Rattle.search_settled.specs.declared.turns.EventOutcome.{EventOutcome}
 use Rattle.search_settled.specs.declared.turns.EventOutcome.TheVariants.{Told, Heard, Unknown}
 use Rattle.search_settled.specs.Threads.{ThreadSystem}
@@ -40,6 +42,27 @@ AreFrom before new after =
 abbrev pub HasNoOther : List (Option Known) → List (Option Known) → Type 0
 HasNoOther before after =
     (slot : ℕ) (k : Known) → slice_get after slot ≡ Some (Some k) → (was : ℕ) × (slice_get before was ≡ Some (Some k))
+
+-- What is known, by what it is that thread n, which stands so where this is shared, stands still, and that by its turn that
+-- is shared and it comes to rest there.
+module _ {G H : Type 0} (still : G → H → ℕ → Type 0) (alone : G → H → ℕ → G → H → Type 0) (t : StateParts G H) where
+  -- The turn of thread n, by the numbers of the table.
+  abbrev pub IsTurnBy : G → H → ℕ → QuietTurn → Type 0
+  IsTurnBy shared thread n Still = still shared thread n
+  IsTurnBy shared thread n (Alone s u) =
+      (after : G) × (rested : H) × (slice_get t.shared.keys s ≡ Some after) × (slice_get t.threads.keys u ≡ Some rested)
+      × alone shared thread n after rested
+
+  -- What is known is so.
+  pub record IsRight (known : Known) : Type 0 where
+    pub shared_is : G
+    pub thread_is : H
+    pub shared_at : slice_get t.shared.keys known.shared ≡ Some shared_is
+    pub thread_at : slice_get t.threads.keys known.thread ≡ Some thread_is
+    pub so : IsTurnBy shared_is thread_is known.n known.turn
+
+  abbrev pub AreKnownBy : List (Option Known) → Type 0
+  AreKnownBy known = (slot : ℕ) (one : Known) → slice_get known slot ≡ Some (Some one) → IsRight one
 
 module _ {G H : Type 0} (t : StateParts G H) where
   -- The row is of that state.
@@ -87,21 +110,20 @@ module _ {X T E V A G H M : Type 0} (k : ThreadSystem X T E V A G H M) where
     pub come : (c : RestingState G H) → c.shared ≡ shared → slice_get c.threads.items n ≡ Some thread
         → AllComeFrom c after made n (slice_set c.threads.items n rested)
 
-  module _ (t : StateParts G H) where
-    -- The turn of thread n, by the numbers of the table.
-    abbrev pub IsTurn : G → H → ℕ → QuietTurn → Type 0
-    IsTurn shared thread n Still = IsEventAt k shared thread n None
-    IsTurn shared thread n (Alone s u) =
-        (after : G) × (rested : H) × (slice_get t.shared.keys s ≡ Some after) × (slice_get t.threads.keys u ≡ Some rested)
-        × GoesAlone shared thread n after rested
+  -- It wants no event.
+  abbrev pub StandsStill : G → H → ℕ → Type 0
+  StandsStill shared thread n = IsEventAt k shared thread n None
 
-    -- What is known is so.
-    pub record IsRight (known : Known) : Type 0 where
-      pub shared_is : G
-      pub thread_is : H
-      pub shared_at : slice_get t.shared.keys known.shared ≡ Some shared_is
-      pub thread_at : slice_get t.threads.keys known.thread ≡ Some thread_is
-      pub so : IsTurn shared_is thread_is known.n known.turn
+  -- What comes of the event of thread n, which stands so where this is shared.
+  abbrev pub IsTurnOf : G → H → ℕ → ThreadTurn G H M → Type 0
+  IsTurnOf shared thread n turn.Still = StandsStill shared thread n
+  IsTurnOf shared thread n (turn.Alone after rested) = GoesAlone shared thread n after rested
+  IsTurnOf shared thread n (turn.Heard after made) = IsEventAt k shared thread n (Some (after, made))
+  IsTurnOf shared thread n turn.Unknown = Unit {0}
+
+  module _ (t : StateParts G H) where
+    abbrev pub IsTurn : G → H → ℕ → QuietTurn → Type 0
+    IsTurn = IsTurnBy StandsStill GoesAlone t
 
     -- What comes of the event of thread n.
     abbrev pub IsMade : G → H → ℕ → EventOutcome G M → Type 0
@@ -179,7 +201,7 @@ module _ {X T E V A G H M : Type 0} (k : ThreadSystem X T E V A G H M) where
 
   -- What is known is so.
   abbrev pub AreKnown : MetParts G H → Type 0
-  AreKnown m = (slot : ℕ) (known : Known) → slice_get m.known.items slot ≡ Some (Some known) → IsRight m.parts known
+  AreKnown m = AreKnownBy StandsStill GoesAlone m.parts m.known.items
 
   -- The tables have these states.
   pub record HasStates (t : Tables G H) (cs : List (RestingState G H)) : Type 0 where

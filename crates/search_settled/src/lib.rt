@@ -32,7 +32,8 @@ mod turns;
 
 pub use access::NextAccess;
 pub use flat::RestingState;
-pub use met::NextRow;
+pub use met::{Known, NextRow, QuietTurn, make_room, note, recall};
 pub use moves::Moves;
-pub use next::{row_of, threads_after, threads_of};
+pub use next::{row_alone, row_of, threads_after, threads_of};
 pub use states::{put_rows, search_all};
+pub use turns::{ThreadTurn, turn_of};

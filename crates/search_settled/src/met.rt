@@ -8,7 +8,7 @@ use std::hash::Hash;
 
 /// What comes of the event that a thread wants, where nobody else hears of it.
 #[derive(Clone, Copy)]
-pub(crate) enum QuietTurn {
+pub enum QuietTurn {
     /// It wants none.
     Still,
     /// By their numbers: what is shared after it, and where the thread comes to rest. All others rest where they did.
@@ -17,11 +17,11 @@ pub(crate) enum QuietTurn {
 
 /// A turn that is known: that of this thread, as the n-th one, where this is shared.
 #[derive(Clone, Copy)]
-pub(crate) struct Known {
-    pub(crate) shared: u32,
-    pub(crate) thread: u32,
-    pub(crate) n: u32,
-    pub(crate) turn: QuietTurn,
+pub struct Known {
+    pub shared: u32,
+    pub thread: u32,
+    pub n: u32,
+    pub turn: QuietTurn,
 }
 
 /// The row of a next state of a state, and the thread whose event leads there.
@@ -64,7 +64,7 @@ fn slot_of(shared: u32, thread: u32, n: u32, slots: usize) -> usize
 }
 
 /// The turn of this thread, as the n-th one, where this is shared, if it is known.
-pub(crate) fn recall(known: &[Option<Known>], shared: u32, thread: u32, n: u32) -> Option<QuietTurn>
+pub fn recall(known: &[Option<Known>], shared: u32, thread: u32, n: u32) -> Option<QuietTurn>
     ensures { IfSome result (IsNotedIn known.now shared thread n) }
 {
     if known.is_empty() {
@@ -92,7 +92,7 @@ fn slots_for(states: usize, slots: usize) -> usize
 }
 
 /// Notes a turn in its slot, if there are any.
-pub(crate) fn note(known: &mut Vec<Option<Known>>, new: Known)
+pub fn note(known: &mut Vec<Option<Known>>, new: Known)
     ensures { AreFrom known.old.items new known.new.items }
 {
     if known.is_empty() {
@@ -120,7 +120,10 @@ fn in_slots(
 }
 
 /// Makes room for turns, among so many states.
-pub(crate) fn make_room(
+///
+/// # Errors
+/// Where memory is refused.
+pub fn make_room(
     alloc: Global,
     known: &mut Vec<Option<Known>>,
     states: usize,

@@ -180,7 +180,10 @@ fn row_after<M: Moves>(
 }
 
 /// The row with this shared, and this thread in the place of the n-th one.
-fn row_alone(
+///
+/// # Errors
+/// Where memory is refused.
+pub fn row_alone(
     alloc: Global,
     numbers: &[u32],
     n: usize,

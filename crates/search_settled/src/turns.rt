@@ -1,16 +1,31 @@
 //! The turn of a thread, by the numbers of a table.
 ghost use Rattle.std.specs.Prelude.{◌≡◌, ◌≢◌, ◌<◌, ◌≤◌, true, false, IfOk, OnOk};
+ghost use Rattle.schedule.specs.System.{State};
 ghost use Rattle.search_table.specs.Tables.{Grows};
 ghost use Rattle.search_settled.specs.declared.turns.EventOutcome.TheVariants.{Unknown};
-ghost use Rattle.search_settled.specs.Known.{AreKnown, AreOfThread, OfNumbers, IsMade, IsLostBy};
+ghost use Rattle.search_settled.specs.declared.turns.ThreadTurn.TheVariants as turn_variants;
+ghost use Rattle.search_settled.specs.Known.{AreKnown, AreOfThread, OfNumbers, IsTurnOf, IsMade, IsLostBy};
 ghost use Rattle.search_settled.specs.Alone.{IsUnheard};
-ghost use Rattle.search_settled.specs.Flat.{ComesAfter};
+ghost use Rattle.search_settled.specs.Flat.{IsThreadOf, ComesAfter};
 
 use crate::Moves;
 use crate::met::{Known, MetParts, QuietTurn, note, recall};
 use std::alloc::{AllocError, Global};
 
 /// What comes of the event that a thread wants.
+#[derive(Drop)]
+pub enum ThreadTurn<S, T, E> {
+    /// It wants none.
+    Still,
+    /// What is shared after it, and where the thread comes to rest. All others rest where they did.
+    Alone(S, T),
+    /// Others hear of it: what is shared after it, and what it makes.
+    Heard(S, E),
+    /// That can't be told.
+    Unknown,
+}
+
+/// The same, by numbers where nobody else hears of it.
 #[derive(Drop)]
 pub(crate) enum EventOutcome<S, E> {
     /// Its turn.
@@ -55,6 +70,36 @@ fn is_quiet<M: Moves>(
     true
 }
 
+/// What comes of the event that thread n wants, where this is shared: whatever the other threads are.
+///
+/// # Errors
+/// Where memory is refused.
+pub fn turn_of<M: Moves>(
+    alloc: Global,
+    system: &M,
+    shared: &M::Shared,
+    thread: &M::Thread,
+    n: usize,
+) -> Result<ThreadTurn<M::Shared, M::Thread, M::Effect>, AllocError>
+    requires of { (z : State M.X M.T) × IsThreadOf (M.threads system.now) shared.now thread.now n z }
+    requires few { n < (M.threads system.now).most }
+    ensures turn { IfOk result (IsTurnOf (M.threads system.now) shared.now thread.now n) }
+    ensures gives_up { IfOk result (λ r. r ≡ turn_variants.Unknown
+        → IsLostBy (M.threads system.now) (M.stuck system.now) n shared.now thread.now) }
+{
+    let count = system.started(shared);
+    let Some((new, made)) = system.event(alloc, shared, thread, n)? else {
+        return Ok(ThreadTurn::Still);
+    };
+    if !is_quiet(system, &new, &made, n, count) {
+        return Ok(ThreadTurn::Heard(new, made));
+    }
+    let Some(rested) = system.after(alloc, &made, n, thread, n)? else {
+        return Ok(ThreadTurn::Unknown);
+    };
+    Ok(ThreadTurn::Alone(new, rested))
+}
+
 /// What comes of the event that thread n wants, which was not known, before it is noted.
 fn made_anew<M: Moves>(
     alloc: Global,
@@ -80,19 +125,16 @@ fn made_anew<M: Moves>(
     let Some(own) = met.parts.threads.get_index(thread as usize) else {
         return Ok(EventOutcome::Unknown);
     };
-    let count = system.started(old);
-    let Some((new, made)) = system.event(alloc, old, own, n)? else {
-        return Ok(EventOutcome::Told(QuietTurn::Still));
-    };
-    if !is_quiet(system, &new, &made, n, count) {
-        return Ok(EventOutcome::Heard(new, made));
+    match turn_of(alloc, system, old, own, n)? {
+        ThreadTurn::Still => Ok(EventOutcome::Told(QuietTurn::Still)),
+        ThreadTurn::Alone(new, rested) => {
+            let shared = met.parts.put_shared(new)?;
+            let thread = met.parts.put_thread(rested)?;
+            Ok(EventOutcome::Told(QuietTurn::Alone { shared, thread }))
+        }
+        ThreadTurn::Heard(new, made) => Ok(EventOutcome::Heard(new, made)),
+        ThreadTurn::Unknown => Ok(EventOutcome::Unknown),
     }
-    let Some(rested) = system.after(alloc, &made, n, own, n)? else {
-        return Ok(EventOutcome::Unknown);
-    };
-    let shared = met.parts.put_shared(new)?;
-    let thread = met.parts.put_thread(rested)?;
-    Ok(EventOutcome::Told(QuietTurn::Alone { shared, thread }))
 }
 
 /// What comes of the event that thread n wants: its turn, if that is known; else what is found now, and is noted if nobody

@@ -1,5 +1,6 @@
 pub mod Sections
 pub mod Ports
+pub mod Factor
 pub mod Lines
 pub mod Said
 pub mod Hears

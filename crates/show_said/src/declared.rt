@@ -10,7 +10,7 @@ use std::alloc::{AllocError, Global};
 use types::Sequence;
 
 /// What stands behind the version, where it is the one that is known.
-fn behind_version(contents: &[u8]) -> Option<&[u8]>
+pub(crate) fn behind_version(contents: &[u8]) -> Option<&[u8]>
     ensures { option_map (λ s. s.now) result ≡ specified.behind_version contents.now }
 {
     match contents {

@@ -9,6 +9,7 @@ returns-clause-asks c = (
     call = c.in_ok-call.ensures.asks;
     memory = c.is_word.ensures;
     limit = c.in_ok-limit.ensures.found;
+    limit_said = c.is_said.ensures;
     save = c.text_if_any.ensures;
     memory_in = c.in_ok-memory_in.ensures;
     memory_out = c.text_if_any-2.ensures;

@@ -9,6 +9,7 @@ returns-clause-asks c = (
     call = c.in_ok-call.ensures.asks;
     sought = c.in_ok-sought.ensures.asks;
     stops = c.in_ok-sought.ensures.stops;
+    limit_said = c.is_said.ensures;
     shrink = c.is_set-shrink.ensures;
     effort = c.in_ok-effort.ensures;
     all = c.in_ok-all.ensures.asks;

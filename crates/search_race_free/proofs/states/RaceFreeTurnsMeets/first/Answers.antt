@@ -3,6 +3,8 @@ use Rattle.search_table.specs.Tables.{states_of, with_row}
 use Rattle.search_race_free.specs.declared.met.StateTable.{StateTable}
 use Rattle.search_race_free.specs.Same.{owning_alike}
 use Rattle.search_race_free.specs.Search.{IsCameFirst}
+use Rattle.search_settled.proofs.Knowing.{known-stays}
+use Rattle.search_race_free.specs.Known.{Stills, GoesOnAlone}
 use Rattle.search_race_free.proofs.Beginning.{begun-first, race-first, stuck-first}
 use Rattle.search_race_free.proofs.Keeping.{first-put}
 use Rattle.search_race_free.proofs.Pieces.{none-yet, first-ahead}
@@ -19,8 +21,9 @@ returns-in_ok-put-in-To-clause-first g c _ =
     let put = c.in_ok-put-in-To.ensures in
     let t = c.args.tables.now in
     let met : StateTable g.row.M-Shared.Denot g.row.M-Thread.Denot = record { parts = c.held_row.new.parts; states = c.put.new.self } in
-    first-ahead k (g.M.Moves.ends m) (g.M.Moves.stuck m) (record { met = met; ahead = t.ahead })
+    first-ahead k (g.M.Moves.ends m) (g.M.Moves.stuck m) (record { met = met; ahead = t.ahead; known = t.known })
     (none-yet k (g.M.Moves.ends m) (g.M.Moves.stuck m) t c.requires)
+    (known-stays Stills (GoesOnAlone k) t.met.parts met.parts row.grows t.known.items c.requires.known)
     (first-put k (g.M.Moves.ends m) (g.M.Moves.stuck m) g.M.Shared.PartialEq.eq g.M.Thread.PartialEq.eq
     (owning_alike g.M.Shared.PartialEq.eq g.M.Thread.PartialEq.eq g.met.M.Shared.Eq.laws g.met.M.Thread.Eq.laws k (g.met.M.Moves.same_shared m)
     (g.met.M.Moves.same_thread m))
