@@ -249,7 +249,8 @@ fn leaves_out(view: RecordView, bytes: &[Data]) -> bool
     match view {
         RecordView::Rows | RecordView::Page(_) | RecordView::Trace(_) => bytes.is_empty(),
         RecordView::Moment(at) => !at.is_unfolded,
-        RecordView::Unfolded | RecordView::Said | RecordView::Write(_) | RecordView::Object => false,
+        RecordView::Unfolded | RecordView::Said | RecordView::Write(_) | RecordView::Object =>
+            false,
     }
 }
 

@@ -143,7 +143,12 @@ fn write_lines<W: Write>(scene: &Scene, ends: &[ToldEnd], out: &mut W) -> Result
     let text = ends_text(scene.alloc, ends)?;
     write!(out, "{text}")?;
     write_waits(
-        scene.alloc, view.shown, view.map, scene.story, view.left_out, out,
+        scene.alloc,
+        view.shown,
+        view.map,
+        scene.story,
+        view.left_out,
+        out,
     )?;
     let dump = dump_text(scene.alloc, moment.wanted.addr, &moment.bytes)?;
     write!(out, "{dump}")?;

@@ -1,6 +1,6 @@
 //! The room of a job's log, as the module asks for it.
 
-ghost use Rattle.std.specs.Prelude.{◌≡◌, ◌≤◌, ◌×◌, ℕ};
+ghost use Rattle.std.specs.Prelude.{◌≡◌, ◌≤◌, ℕ};
 ghost use Rattle.types.specs.declared.limits.TheConstants.{MOST_LIMIT};
 ghost use Rattle.report_command.specs.Jobs.{IsInRange};
 ghost use Rattle.show_said.specs.Factor.{IsEntryFactor};
