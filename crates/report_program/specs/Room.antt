@@ -1,5 +1,5 @@
 -- How many entries the log of a job takes, as a module asks for it.
-use Rattle.std.specs.Prelude.{ℕ, ◌≡◌, ◌*◌, Bool, true, false, List, min}
+use Rattle.std.specs.Prelude.{ℕ, ◌*◌, Bool, true, false, min}
 use Rattle.types.specs.declared.limits.TheConstants.{MOST_LIMIT}
 use Rattle.report_command.specs.declared.command_line.Job.{Job}
 use Rattle.report_command.specs.declared.command_line.Job.TheVariants.{Check, Run, Replay, Show, Races, Search}
