@@ -16,13 +16,13 @@ returns g c =
     let contents = g.W.Write.contents in
     let cycles = c.in_ok-cycles.cycles.items in
     on_ok_weaker c.write_ended.result
-    (λ (w : WritesEndOf s c.as_slice-3.result.now c.as_slice-4.result.now (contents c.args.out.now) (contents c.write_ended.new.out)). record {
+    (λ (w : WritesEndOf s c.as_slice.result.now c.as_slice-2.result.now (contents c.args.out.now) (contents c.write_ended.new.out)). record {
       end = w.end;
-      threads = subst (λ (ts : List EndedThread). AreEndedThreads s c.args.ends.now ts) (sym (w.threads_are ∙ c.as_slice-3.ensures.value))
+      threads = subst (λ (ts : List EndedThread). AreEndedThreads s c.args.ends.now ts) (sym (w.threads_are ∙ c.as_slice.ensures.value))
           c.in_ok-threads.ensures;
-      cycles = subst (λ (cs : List (Vec ℕ)). AreToldCycles r.log r.ends s.left_out cs) (sym (w.cycles_are ∙ c.as_slice-4.ensures.value))
-          (subst (λ (l : List Entry). AreToldCycles l r.ends s.left_out cycles) c.as_slice.ensures
-          (subst (λ (es : List ThreadReport). AreToldCycles c.as_slice.result.now es s.left_out cycles) c.as_slice-2.ensures
+      cycles = subst (λ (cs : List (Vec ℕ)). AreToldCycles r.log r.ends s.left_out cs) (sym (w.cycles_are ∙ c.as_slice-2.ensures.value))
+          (subst (λ (l : List Entry). AreToldCycles l r.ends s.left_out cycles) c.as_slice-log.ensures
+          (subst (λ (es : List ThreadReport). AreToldCycles c.as_slice-log.result.now es s.left_out cycles) c.as_slice-ends_of.ensures
           c.in_ok-cycles.ensures));
       memory = w.memory;
       object = w.object;
