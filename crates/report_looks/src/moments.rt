@@ -144,11 +144,11 @@ pub(crate) fn print_page<W: Write>(
 ) -> Result<(), Unwritten>
     requires of_module { seen.shown.code.now.parts.now ≡ seen.valid.now.parts }
     requires of_record { «record».now ≡ seen.shown.record.now }
+    requires left_out { seen.left_out.now ≡ look.now.choice.left_out }
     ensures { OnOk result (WritesPageOf seen.entry.shown seen.entry.map.now look.now (W.contents out.old) (W.contents out.new)) }
 {
     let view = MomentView {
         is_raw: false,
-        left_out: &look.choice.left_out,
         ..seen
     };
     let races = races_in(alloc, view.shown, MOST_OF_PAGE)?;

@@ -117,6 +117,7 @@ fn print_entries<W: Write>(
 ) -> Result<(), Unwritten>
     requires of_module { seen.shown.code.now.parts.now ≡ seen.valid.now.parts }
     requires of_record { «record».now ≡ seen.shown.record.now }
+    requires left_out { seen.left_out.now ≡ look.now.choice.left_out }
     ensures { OnOk result (WritesEntries view.entry seen.entry.shown seen.entry.map.now look.now said.now
         (W.contents out.old) (W.contents out.new)) }
 {

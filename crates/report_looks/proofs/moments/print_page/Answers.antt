@@ -13,7 +13,7 @@ returns g c =
       shown = seen.shown;
       map = seen.map;
       is_raw = false;
-      left_out = record { now = c.args.look.now.choice.left_out };
+      left_out = seen.left_out;
     } in
     let raced = c.as_slice-raced.result.now in
     on_ok_weaker c.write_page.result (λ writes. (
@@ -21,7 +21,13 @@ returns g c =
       c.as_slice.result.now,
       record {
         seen = view;
-        view = record { of_record = refl; of_module = sym c.requires.of_module; of_data = refl; left_out = refl; raw = refl };
+        view = record {
+          of_record = refl;
+          of_module = sym c.requires.of_module;
+          of_data = refl;
+          left_out = c.requires.left_out;
+          raw = refl;
+        };
         each = subst (λ (ms : List MomentText). AreMomentsOf view c.args.look.now raced ms) (sym c.as_slice.ensures.value)
             c.in_ok-moments.ensures;
       },
