@@ -23,11 +23,8 @@ use Rattle.schedule.proofs.Basics.{put-same, put-other, same_or_not}
 use Rattle.schedule_threads.specs.Shared.{Shared, without_dues}
 use Rattle.schedule_threads.specs.Threads.{machine_of, wish_of}
 use Rattle.interp_machine.specs.Program.{Program}
-use Rattle.interp_machine.specs.Config.{Config, Next, Stuck, Goes, Traps, Finishes, Asks, Hears}
-use Rattle.interp_machine.specs.Step.{next}
-use Rattle.interp_machine.specs.State.{At, Over}
+use Rattle.interp_machine.specs.State.{State}
 use Rattle.search_threads.specs.Unlimited.{Unlimited.Missing, Unlimited.Going, Unlimited.Leaving, Unlimited.Away, unlimited_wants, unlimited_goes, unlimited_takes, want_by, reply_by}
-use Rattle.search_settled.specs.declared.access.NextAccess.{NextAccess}
 use Rattle.search_runs.specs.Called.{Called, Walker}
 use Rattle.search_runs.specs.Accesses.{access_by, is_plain, judged, may_race}
 use Rattle.search_runs.specs.Theorems.{CanReach}
@@ -115,7 +112,7 @@ own-stays p (Going c) h g = want-stays p ((machine_of p).wishes ((machine_of p).
 own-stays p (Leaving o) h g = absurd (cc h)
 own-stays p (Away o) h g = absurd (cc h)
 
-reply-stays : (p : Program) (e : Event) (r : Reply) (c : _) (wish : Wish Event Outcome) → want_by (machine_of p) wish ≡ Calls e → (e ≡ events.Ask Leave → ⊥)
+reply-stays : (p : Program) (e : Event) (r : Reply) (c : State) (wish : Wish Event Outcome) → want_by (machine_of p) wish ≡ Calls e → (e ≡ events.Ask Leave → ⊥)
     → unlimited_wants (machine_of p) (reply_by (machine_of p) wish c r) ≡ Gone → ⊥
 reply-stays p e r c WishGoes h not_leave g = absurd (cc h)
 reply-stays p e r c (WishAsks f) h not_leave g = want-stays p ((machine_of p).wishes ((machine_of p).takes c r)) g
@@ -175,9 +172,6 @@ module _ (b : Called) (allowed : Allowed) (nobody : NobodyIsStuck b) where
   act-deed w n (Makes e) = record { list = λ x h. list-deed w.shared.queue w.shared.memory e x h; spawn = λ h. spawn-deed w.shared.queue w.shared.memory e h }
 
   -- ---- Alike states
-
-  event-act : Walker → Event → Memory → Act
-  event-act t e m = record { access = judged allowed (access_by (opening_of b) m (is_plain t) e); looks = looks_past (opening_of b) e; deed = deed_of m e }
 
   if-alike : (x y : Shared) (t : Walker) (want : Want Event) → x.memory ≡ y.memory → act_if allowed (opening_of b) x t want ≡ act_if allowed (opening_of b) y t want
   if-alike x y t Turns h = refl
@@ -748,13 +742,17 @@ module _ (b : Called) (allowed : Allowed) (nobody : NobodyIsStuck b) where
     not-woken : is_among n (woken_by called y.sleepers) ≡ false
     not-woken = false_from_ne_true (is_among n (woken_by called y.sleepers)) (woken-heeds f unheeded)
 
+    heeds-start : (e : Event) → ((a : Act) → Heeds s n a → acts_conflict a (act s u (Makes e)) ≡ true → ⊥) → (t : Walker)
+        → starts_in b s.shared (Makes e) n ≡ Some t → ⊥
+    heeds-start e heeds t is =
+        let begun = begun-as b s e n t is in
+        let number = begun.number in
+        heeds starts_it (inr (record { missing = missing b s reach n (omega (arith, number)); room = begun.room; act = refl }))
+        (deeds-then starts_it (act s u (Makes e)) (ap (λ z. deeds_conflict acts.Spawns (deed_of s.shared.memory z)) begun.event))
+
     unstarted : (c : Doing) → ((a : Act) → Heeds s n a → acts_conflict a (act s u c) ≡ true → ⊥) → starts_in b s.shared c n ≡ None
     unstarted Own heeds = refl
-    unstarted (Makes e) heeds = none-or (starts_in b s.shared (Makes e) n) (λ t is.
-    (let begun = begun-as b s e n t is in
-    let number = begun.number in
-    heeds starts_it (inr (record { missing = missing b s reach n (omega (arith, number)); room = begun.room; act = refl }))
-    (deeds-then starts_it (act s u (Makes e)) (ap (λ z. deeds_conflict acts.Spawns (deed_of s.shared.memory z)) begun.event))))
+    unstarted (Makes e) heeds = none-or (starts_in b s.shared (Makes e) n) (λ t is. heeds-start e heeds t is)
 
     unsettled-there : settled (applied u y called) ≡ applied u y called
     unsettled-there = unsettled other u y called away (free b s reach other k goes)
@@ -851,8 +849,8 @@ module _ (b : Called) (allowed : Allowed) (nobody : NobodyIsStuck b) where
     not-gone-by (Makes e) wants is gone =
         takes-stays b.program (s.threads u) e (reply_of s.shared.memory e) wants (no-leave s.shared.memory e is) gone
 
-    pub goes-behind : (a : Act) → (next_act b allowed (after b s u) u ≡ None → ⊥)
-    goes-behind a none = elim (rests-want (after b s u) u none) [
+    pub goes-behind : next_act b allowed (after b s u) u ≡ None → ⊥
+    goes-behind none = elim (rests-want (after b s u) u none) [
       | inl awaits ↦ both_ways (is_asleep s.shared.queue u) (free b s reach u f g).awake
           (sym (ap (λ q. is_asleep q u) plain-queue) ∙ awaits-asleep b nobody (after b s u) (reach-next b s u reach) u awaits)
       | inr gone ↦ not-gone-by f g plain (sym (ap (unlimited_wants (machine_of b.program)) plain-self) ∙ gone)
@@ -874,7 +872,7 @@ module _ (b : Called) (allowed : Allowed) (nobody : NobodyIsStuck b) where
   goes_on s n a reach wants_n plain =
       let does = doing-of b allowed s n a wants_n in
       let is = plain-doing s n does.0 (sym (ap (is_plain_act (opening_of b)) does.2) ∙ plain) in
-      some-act (next_act b allowed (after b s n) n) (goes-behind s reach n does.0 does.1 is a)
+      some-act (next_act b allowed (after b s n) n) (goes-behind s reach n does.0 does.1 is)
 
   awake : (s : World) (n : ℕ) (a c : Act) → CanReach b s → next_act b allowed s n ≡ Some a → Heeds s n c → ⊥
   awake s n a c reach wants_n (inl k) =

@@ -118,10 +118,11 @@ module _ (m : Parts) (v : IsValid m) (whole : length m.functions ≡ length m.bo
 
   step-typed : (w : World) → CanReach b w → AreTyped w → (n : ℕ) → AreTyped (after b w n)
   step-typed w reach all n = by-want b AreTyped w n all (λ d h k.
+      (let here = put w.threads n (self_in b w n d) k in
+      let told = answer_due (settled (applied n w.shared.queue (call_in w.shared.queue w.shared.memory d))) k in
       subst (IsTypedWalker m) (sym (threads-after b w reach n d h k))
-      (or-typed (starts_in b w.shared d k) _ (begun-typed w reach n d h k)
-      (walker-hears (put w.threads n (self_in b w n d) k) (answer_due (settled (applied n w.shared.queue
-      (call_in w.shared.queue w.shared.memory d))) k) (put-typed w n (self_in b w n d) all (self-typed w n d (all n)) k))))
+      (or-typed (starts_in b w.shared d k) (hears b here told) (begun-typed w reach n d h k)
+      (walker-hears here told (put-typed w n (self_in b w n d) all (self-typed w n d (all n)) k)))))
 
   first-typed : AreTyped (first_state b)
   first-typed = at_each 0 (λ k. IsTypedWalker m ((first_state b).threads k))

@@ -1,5 +1,6 @@
 -- What a turn of a module's thread does, as data, and which two of these don't go together.
-use Rattle.std.specs.Prelude.{ℕ, ◌+◌, ◌==◌, ◌&&◌, ◌||◌, Bool, true, false, not, nat_lt, nat_le, if◌then◌else◌}
+use Rattle.std.specs.Prelude.{ℕ, ◌+◌, ◌==◌, ◌&&◌, ◌||◌, Bool, true, false, not, nat_lt, nat_le}
+use Rattle.std.specs.Prelude.{if◌then◌else◌}
 use Rattle.allowed_races.specs.declared.allowed.Allowed.{Allowed}
 use Rattle.types.specs.declared.event.Event.{Event}
 use Rattle.types.specs.declared.event.Event.TheVariants.{Size, Grow, Load, Store, Rmw, Cmpxchg, Ask, Told}
@@ -76,8 +77,8 @@ act_by allowed opening x t e = record {
   deed = deed_of x.memory e;
 }
 
--- It is plain as the searches have it. But the first part of an access that ends past the opening pages, whose own bytes
--- lie before their end, isn't: whether it traps hangs on growths, of which its bytes say nothing.
+-- It is plain as the searches have it. But the first part of an access that ends past the opening pages isn't, where
+-- its own bytes lie before their end: whether it traps hangs on growths, of which its bytes say nothing.
 abbrev pub is_plain_act : ℕ → Act → Bool
 is_plain_act opening a = a.access.plain && (not a.looks || nat_le opening a.access.addr)
 

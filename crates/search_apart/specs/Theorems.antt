@@ -28,8 +28,8 @@ use Rattle.search_apart.specs.Turning.{turns_of}
 abbrev pub spawn_values : ℕ → ℕ → List Value
 spawn_values n arg = values.I32 n ∷ values.I32 arg ∷ []
 
--- Threads begin at the start of a function. Spawned ones do where there is something to spawn with: an imported function.
--- Wherever threads come, what comes next of each that runs is defined.
+-- Threads begin before their first step (of spawned ones it is asked where there is a function to spawn with: an
+-- imported one). And wherever threads come, what comes next of each that runs is defined.
 pub record NobodyIsStuck (b : Called) : Type 0 where
   pub main : Config.progress b.main ≡ Fresh
   pub worker : 0 < b.program.imported → (n arg : ℕ) → Config.progress (b.worker (spawn_values n arg)) ≡ Fresh
@@ -73,4 +73,5 @@ pub record IsCallOf (m : Parts) (b : Called) : Type 0 where
 -- In no call of a valid module, with a body for each function, anybody is stuck.
 abbrev pub NobodyIsStuckInCalls : Type 0
 NobodyIsStuckInCalls =
-    (m : Parts) → IsValid m → length m.functions ≡ length m.bodies → (b : Called) → IsCallOf m b → NobodyIsStuck b
+    (m : Parts) → IsValid m → length m.functions ≡ length m.bodies
+    → (b : Called) → IsCallOf m b → NobodyIsStuck b
