@@ -1,5 +1,5 @@
 -- The turns of a module's threads keep the laws of turns, where nobody is stuck.
-use Rattle.std.proofs.Common.{◌≡◌, ◌≢◌, ◌⊎◌, inl, inr, ℕ, ◌+◌, ◌<◌, ◌≤◌, ◌==◌, Bool, true, false, true≢false, List, length, Option, Some, None, refl, sym, ap, ◌∙◌, subst, arith}
+use Rattle.std.proofs.Common.{◌≡◌, ◌≢◌, ◌⊎◌, inl, inr, ℕ, ◌+◌, ◌≤◌, ◌==◌, true, false, true≢false, length, Option, Some, None, refl, sym, ap, ◌∙◌, subst, arith}
 use Rattle.std.specs.Prelude.{◌&&◌, ◌||◌, ◌↔◌, not, nat_lt, nat_le}
 use Rattle.std.proofs.lemmas.Bool.{cases_Bool, both_ways, and_parts, or_left, or_right, eq-eqb, false_from_ne_true}
 use Rattle.std.proofs.lemmas.Option.{none-some}
@@ -7,7 +7,7 @@ use Rattle.std.proofs.lemmas.List.{length-replicate}
 use Rattle.allowed_races.specs.declared.allowed.Allowed.{Allowed}
 use Rattle.types.specs.declared.event.Event.{Event}
 use Rattle.types.specs.declared.event.Event.TheVariants as events
-use Rattle.types.specs.declared.event.Question.TheVariants.{Wait, Notify, Spawn, Leave}
+use Rattle.types.specs.declared.event.Question.TheVariants.{Leave}
 use Rattle.types.specs.declared.event.Answer.{Answer}
 use Rattle.types.specs.declared.event.Reply.{Reply}
 use Rattle.types.specs.declared.outcome.Outcome.{Outcome}
@@ -21,7 +21,7 @@ use Rattle.schedule.specs.Scheduled.{or_started}
 use Rattle.schedule.specs.Machine.{Wish, Wish.Goes as WishGoes, Wish.Asks as WishAsks, Wish.Waits as WishWaits, Wish.Ends as WishEnds}
 use Rattle.schedule.proofs.Basics.{put-same, put-other, same_or_not}
 use Rattle.schedule_threads.specs.Shared.{Shared, without_dues}
-use Rattle.schedule_threads.specs.Threads.{machine_of, wish_of}
+use Rattle.schedule_threads.specs.Threads.{machine_of}
 use Rattle.interp_machine.specs.Program.{Program}
 use Rattle.interp_machine.specs.State.{State}
 use Rattle.search_threads.specs.Unlimited.{Unlimited.Missing, Unlimited.Going, Unlimited.Leaving, Unlimited.Away, unlimited_wants, unlimited_goes, unlimited_takes, want_by, reply_by}
@@ -29,21 +29,21 @@ use Rattle.search_runs.specs.Called.{Called, Walker}
 use Rattle.search_runs.specs.Accesses.{access_by, is_plain, judged, may_race}
 use Rattle.search_runs.specs.Theorems.{CanReach}
 use Rattle.search_runs.proofs.Plain.{IsAccess, is-access, both-true}
-use Rattle.search_runs.proofs.Tame.{missing, starts_fit, answers_fit}
+use Rattle.search_runs.proofs.Tame.{missing, answers_fit}
 use Rattle.search_ample.specs.Turns.{AreTurnStates, AreTurns}
 use Rattle.search_apart.specs.Acts as acts
 use Rattle.search_apart.specs.Acts.{Act, own_act, wakes_at, starts_it, looks_past, deed_of, is_plain_act, grows, accesses_conflict, deeds_conflict, acts_conflict}
-use Rattle.search_apart.specs.Turning.{opening_of, act_if, next_act, sleepers_at, HeedsNotify, HeedsSpawn, Heeds, AreAlikeQueues, AreAlike, turns_of}
+use Rattle.search_apart.specs.Turning.{opening_of, act_if, next_act, sleepers_at, Heeds, AreAlikeQueues, AreAlike, turns_of}
 use Rattle.search_apart.specs.Theorems.{NobodyIsStuck, TurnsAreApart}
-use Rattle.search_apart.proofs.Changes.{Change, Stays, Writes, Longer, changed, change_of, IsIn, IsBy, change-by, judged-by, touches, judged-touches, IsSame, left-same}
+use Rattle.search_apart.proofs.Changes.{Change, Writes, changed, change_of, IsIn, IsBy, change-by, judged-by, touches, judged-touches, IsSame, left-same}
 use Rattle.search_apart.proofs.Changes.{HasSameBytes, same-bytes, long-written, AreClear, clear-of, swap-changes}
 use Rattle.search_apart.proofs.Conflicts.{acts-swap, spared-of, touches-none, conflict-then}
 use Rattle.search_apart.proofs.Calls.{Call, Rests, applied, begins, woken_by, call_of, applied-long, applied-sleepers, applied-sound, next-stays, among-stays, woken-asleep, other-due, unsettled, quiet-settled}
-use Rattle.search_apart.proofs.Calls.{AreAlikeBut, alike-queues, but-of, alike-applied, settled-alike, settled-same, due-alike, ToldAlike, behind_c, behind_d, first_c, first_d, both-alike, both-told, AreClearCalls}
-use Rattle.search_apart.proofs.Doing.{World, Doing, Own, Makes, wanting, gives_in, change_in, call_in, act_in, none-or, wants_at, after, self_in, starts_in, hears, doing-of, wanted-as, reach-next, least}
+use Rattle.search_apart.proofs.Calls.{AreAlikeBut, alike-queues, but-of, alike-applied, settled-alike, settled-same, due-alike, ToldAlike, both-alike, both-told, AreClearCalls}
+use Rattle.search_apart.proofs.Doing.{World, Doing, Own, Makes, wanting, change_in, call_in, act_in, none-or, wants_at, after, self_in, starts_in, hears, doing-of, wanted-as, reach-next, least}
 use Rattle.search_apart.proofs.Doing.{sound, heard, nothing, asleep-awaits, free, room, in-memory, ends, memory-after, queue-after, gives-are, threads-after, starts-none, unmoved, goes-unmoved}
-use Rattle.search_apart.proofs.Awaiting.{IsDone, IsBegun, begun-as, begun-done, never, awaits-asleep}
-use Rattle.search_apart.proofs.Deeds.{IsWokenBy, list-deed, spawn-deed, woken-deed, spawns-apart, HasDeed, clear-deeds, HasSameRoom, call-same, starts-same}
+use Rattle.search_apart.proofs.Awaiting.{IsDone, begun-as, begun-done, never, awaits-asleep}
+use Rattle.search_apart.proofs.Deeds.{list-deed, spawn-deed, woken-deed, spawns-apart, HasDeed, clear-deeds, HasSameRoom, call-same, starts-same}
 
 -- ---- Answers, in either order
 

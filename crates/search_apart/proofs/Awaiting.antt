@@ -1,12 +1,11 @@
 -- A thread that awaits an answer sleeps in the queue, where nobody is stuck.
-use Rattle.std.proofs.Common.{◌≡◌, ◌≢◌, ◌⊎◌, inl, inr, ℕ, ℤ, zero, suc, ◌+◌, ◌<◌, ◌==◌, ◌||◌, ◌&&◌, Bool, true, false, not, true≢false, List, [], ◌∷◌, length, cond}
+use Rattle.std.proofs.Common.{◌≡◌, ◌≢◌, ◌⊎◌, inl, inr, ℕ, ℤ, ◌+◌, ◌<◌, ◌==◌, ◌||◌, ◌&&◌, Bool, true, false, not, true≢false, [], ◌∷◌, length, cond}
 use Rattle.std.proofs.Common.{Option, Some, None, refl, sym, ap, ◌∙◌, subst, arith, get_or-set_same}
 use Rattle.std.specs.Prelude.{nat_lt, nat_le, is_some, if◌then◌else◌}
 use Rattle.std.proofs.lemmas.Bool.{cases_Bool, or_left, or_right, or_cases, and_parts, eq-eqb, eqb-true, both_ways}
 use Rattle.std.proofs.lemmas.List.Folds.{list_any-append}
 use Rattle.types.specs.declared.event.Event.{Event}
 use Rattle.types.specs.declared.event.Event.TheVariants as events
-use Rattle.types.specs.declared.event.Question.{Question}
 use Rattle.types.specs.declared.event.Question.TheVariants.{Wait, Notify, Spawn, Leave}
 use Rattle.types.specs.declared.event.Answer.{Answer}
 use Rattle.types.specs.declared.event.Answer.TheVariants as answers
@@ -21,19 +20,18 @@ use Rattle.shared_memory.specs.Legal.{IsAllowed}
 use Rattle.shared_memory.specs.Sound.{IsSound}
 use Rattle.shared_memory.proofs.Sleepers.{length-due_after}
 use Rattle.shared_memory.proofs.Others.{Keeps, Keeps-same, Keeps-step, Keeps-settled}
-use Rattle.schedule.specs.System.{Want, Want.Turns, Want.Calls, Want.Awaits, Want.Gone, put}
+use Rattle.schedule.specs.System.{Want.Turns, Want.Calls, Want.Awaits, put}
 use Rattle.schedule.specs.Scheduled.{or_started}
-use Rattle.schedule.specs.Machine.{Wish, Wish.Goes as WishGoes, Wish.Asks as WishAsks, Wish.Waits as WishWaits, Wish.Ends as WishEnds}
 use Rattle.schedule.proofs.Basics.{put-same, put-other, at_each, same_or_not}
-use Rattle.schedule_threads.specs.Shared.{without_dues, is_question}
-use Rattle.schedule_threads.specs.Threads.{machine_of, wish_of, wishes}
+use Rattle.schedule_threads.specs.Shared.{is_question}
+use Rattle.schedule_threads.specs.Threads.{machine_of, wish_of}
 use Rattle.schedule_threads.proofs.Asking.{LeavesWaiting, leaves_waiting, waits_by, wants_spawn}
 use Rattle.schedule_machine.specs.Threads.{IsMadeReply}
 use Rattle.schedule_machine.proofs.Accesses.{memory_made}
 use Rattle.interp_machine.specs.Program.{Program}
-use Rattle.interp_machine.specs.Config.{Config, Progress, Fresh, Asked, Next, Stuck, Goes, Traps, Finishes, Asks, Hears}
+use Rattle.interp_machine.specs.Config.{Config, Asked, Next, Stuck, Goes, Traps, Finishes, Asks, Hears}
 use Rattle.interp_machine.specs.Step.{with_rest, next}
-use Rattle.interp_machine.specs.State.{State, At, Over, gone_by, replied, replied_by, heard_by}
+use Rattle.interp_machine.specs.State.{At, Over, gone_by, replied, replied_by, heard_by}
 use Rattle.interp_trait.specs.Turns.{spawned_in}
 use Rattle.interp_laws.specs.NeverStuck.{IsDefined}
 use Rattle.search_threads.specs.Unlimited.{Unlimited.Missing, Unlimited.Going, Unlimited.Leaving, Unlimited.Away, unlimited_wants, unlimited_goes, unlimited_takes, unlimited_hears, want_by, reply_by}
@@ -46,8 +44,8 @@ use Rattle.search_runs.proofs.Tame.{given, given_wants, answers_fit}
 use Rattle.search_apart.specs.Theorems.{NobodyIsStuck}
 use Rattle.search_apart.proofs.Stepping.{IsFreed, IsFreedBy, IsFine, step_fine, asked_or_not, hears_next, fresh}
 use Rattle.search_apart.proofs.Calls.{Call, Rests, Tells, Sleeps, Wakes, Begins, Quits, applied, applied-sound, call_of, wait_call, IsMade, quiet-settled, step-is}
-use Rattle.search_apart.proofs.Doing.{World, Doing, Own, Makes, wanting, change_in, call_in, wants_at, after, self_in, starts_in, hears, reach-next, along, by-want, after-is}
-use Rattle.search_apart.proofs.Doing.{sound, heard, free, made, room, nothing, gives-are, queue-after, threads-after}
+use Rattle.search_apart.proofs.Doing.{World, Doing, Own, Makes, wanting, call_in, wants_at, after, self_in, starts_in, hears, reach-next, along, by-want}
+use Rattle.search_apart.proofs.Doing.{sound, free, made, room, nothing, gives-are, queue-after, threads-after}
 
 -- It has an open question; or it has none.
 abbrev IsAsking : Walker → Type 0

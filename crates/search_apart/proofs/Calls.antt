@@ -1,11 +1,11 @@
 -- What a thread's event makes of the wait queue, and what that leaves of another thread's.
-use Rattle.std.proofs.Common.{◌≡◌, ◌≢◌, ℕ, ℤ, ◌+◌, ◌<◌, ◌≤◌, ◌⊎◌, inl, inr, ◌==◌, Bool, true, false, true≢false, not, List, [], ◌∷◌, ◌++◌}
+use Rattle.std.proofs.Common.{◌≡◌, ◌≢◌, ℕ, ℤ, ◌+◌, ◌<◌, ◌⊎◌, inl, inr, ◌==◌, Bool, true, false, true≢false, not, List, [], ◌∷◌, ◌++◌}
 use Rattle.std.proofs.Common.{length, take, Option, Some, None, refl, sym, ap, ◌∙◌, subst, cond, arith, replicate}
-use Rattle.std.proofs.Common.{get_or, set, get_or-set_other, get_or-set_same, length-set, length-append}
-use Rattle.std.specs.Prelude.{◌&&◌, ◌||◌, nat_lt, nat_le, is_some, if◌then◌else◌}
-use Rattle.std.specs.List.{filter, list_any, list_all}
-use Rattle.std.proofs.lemmas.Bool.{cases_Bool, or_left, or_right, or_from, or_parts, and_cases, and_parts, and_from, both_ways, eqb-true, eqb-false, eq-eqb, ne_eqb}
-use Rattle.std.proofs.lemmas.Bool.{cond_both, cond-true, cond-false, ltb-true, false_from_ne_true, cases_eq}
+use Rattle.std.proofs.Common.{get_or, set, get_or-set_other, length-set, length-append}
+use Rattle.std.specs.Prelude.{◌&&◌, ◌||◌, nat_lt, nat_le, if◌then◌else◌}
+use Rattle.std.specs.List.{filter, list_all}
+use Rattle.std.proofs.lemmas.Bool.{cases_Bool, or_left, or_from, and_cases, and_parts, both_ways, eqb-false, eq-eqb, ne_eqb}
+use Rattle.std.proofs.lemmas.Bool.{cond_both, ltb-true, false_from_ne_true, cases_eq}
 use Rattle.std.proofs.lemmas.List.{length-replicate}
 use Rattle.std.proofs.lemmas.List.Elements.{filter-append}
 use Rattle.std.proofs.lemmas.List.Folds.{list_any-append}
@@ -18,7 +18,7 @@ use Rattle.types.specs.declared.event.Reply.TheVariants as replies
 use Rattle.shared_memory.specs.declared.sleeper.Sleeper.{Sleeper}
 use Rattle.shared_memory.specs.Memory.{Memory, loaded, if_within, reply_of}
 use Rattle.shared_memory.specs.WaitQueue.{WaitQueue, is_alive, is_among, is_asleep, answer_due, next_id, has_slot, tells, due_after, wakes, sleeps, starts, leaves, woken_at}
-use Rattle.shared_memory.specs.WaitQueue.{ends_at_once, ended, end_answer, is_stuck, settled, asked, after_question, IsFree, has_open_question}
+use Rattle.shared_memory.specs.WaitQueue.{ends_at_once, ended, end_answer, is_stuck, settled, after_question, IsFree}
 use Rattle.shared_memory.specs.History.{queue_step}
 use Rattle.shared_memory.specs.Sound.{SleepOnce, IsSound}
 use Rattle.shared_memory.proofs.Sleepers.{list_any-filter, list_any-take, list_any-filtered, others_than, others_than-other, length-due_after, due_after-other, due_after-woken}

@@ -1,10 +1,10 @@
 -- What an event makes of the memory, and what that leaves of another event.
-use Rattle.std.proofs.Common.{◌≡◌, ℕ, zero, suc, ◌+◌, ◌*◌, ◌/◌, ◌==◌, ◌≤◌, ◌<◌, ◌⊎◌, inl, inr, Bool, true, false}
-use Rattle.std.proofs.Common.{true≢false, List, ◌++◌, length, take, drop, refl, sym, ap, ◌∙◌, subst, arith, length-append}
-use Rattle.std.specs.Prelude.{◌&&◌, ◌||◌, nat_le, nat_lt, if◌then◌else◌, replicate}
+use Rattle.std.proofs.Common.{◌≡◌, ℕ, ◌+◌, ◌*◌, ◌/◌, ◌==◌, ◌≤◌, inl, inr, Bool, true, false}
+use Rattle.std.proofs.Common.{true≢false, List, length, take, drop, refl, sym, ap, ◌∙◌, subst, arith, length-append}
+use Rattle.std.specs.Prelude.{◌&&◌, nat_le, nat_lt, if◌then◌else◌, replicate}
 use Rattle.std.specs.List.{splice}
-use Rattle.std.proofs.lemmas.Bool.{cases_Bool, and_cases, and_parts, and_from, and_right, or_parts, or_left, or_right, both_ways, leb-true, le-leb}
-use Rattle.std.proofs.lemmas.Bool.{lt-ltb, ltb-true, ltb-false}
+use Rattle.std.proofs.lemmas.Bool.{and_cases, leb-true, le-leb}
+use Rattle.std.proofs.lemmas.Bool.{ltb-false}
 use Rattle.allowed_races.specs.declared.allowed.Allowed.{Allowed}
 use Rattle.types.specs.declared.event.Event.{Event}
 use Rattle.types.specs.declared.event.Event.TheVariants.{Size, Grow, Load, Store, Rmw, Cmpxchg, Ask, Told}
@@ -18,7 +18,7 @@ use Rattle.search_settled.specs.declared.access.NextAccess.{NextAccess}
 use Rattle.search_runs.specs.Accesses.{no_bytes, look, growth, in_bounds, with_timeout, access_by, judged}
 use Rattle.search_runs.proofs.Bytes as bytes
 use Rattle.search_runs.proofs.Plain.{Apart, swap-writes}
-use Rattle.search_apart.specs.Acts.{Deed, Nothing, Grows, Waits, Notifies, Spawns, looks_past, deed_of, have_common}
+use Rattle.search_apart.specs.Acts.{Deed, Nothing, Grows, looks_past, deed_of, have_common}
 use Rattle.search_apart.proofs.Stepping.{EndsWithin}
 
 -- It stays, so many bytes are written, or it grows by so many pages.

@@ -1,5 +1,5 @@
 -- Acts that conflict, and what a change of the memory touches.
-use Rattle.std.proofs.Common.{◌≡◌, ℕ, ◌+◌, ◌==◌, ◌⊎◌, inl, inr, Bool, true, false, true≢false, refl, sym, ap, ◌∙◌, subst}
+use Rattle.std.proofs.Common.{◌≡◌, ℕ, ◌+◌, ◌==◌, inl, inr, Bool, true, false, true≢false, refl, sym, ap, ◌∙◌, subst}
 use Rattle.std.specs.Prelude.{◌&&◌, ◌||◌, nat_lt}
 use Rattle.std.proofs.lemmas.Bool.{and_cases, and_from, or_parts, or_left, or_right, both_ways, eqb-true, eq-eqb, cases_Bool, false_from_ne_true}
 use Rattle.search_settled.specs.declared.access.NextAccess.{NextAccess}

@@ -1,24 +1,23 @@
 -- What an event's deed says of its call of the queue.
-use Rattle.std.proofs.Common.{◌≡◌, ◌≢◌, ◌⊎◌, inl, inr, ℕ, ℤ, ◌+◌, ◌==◌, ◌&&◌, Bool, true, false, not, true≢false, List, [], ◌∷◌, length, take, cond}
-use Rattle.std.proofs.Common.{Option, Some, None, refl, sym, ap, ◌∙◌, subst}
+use Rattle.std.proofs.Common.{◌≡◌, ◌⊎◌, inl, inr, ℕ, ℤ, ◌+◌, ◌==◌, ◌&&◌, Bool, true, false, not, true≢false, List, length, cond}
+use Rattle.std.proofs.Common.{Some, None, refl, sym, ap, ◌∙◌}
 use Rattle.std.specs.Prelude.{nat_lt, nat_le, if◌then◌else◌}
 use Rattle.std.proofs.lemmas.Bool.{both_ways, eqb-true, eq-eqb, false_from_ne_true}
 use Rattle.types.specs.declared.event.Event.{Event}
 use Rattle.types.specs.declared.event.Event.TheVariants as events
 use Rattle.types.specs.declared.event.Question.TheVariants.{Wait, Notify, Spawn, Leave}
-use Rattle.types.specs.declared.event.Answer.{Answer}
 use Rattle.types.specs.declared.event.Answer.TheVariants.{Number}
 use Rattle.types.specs.declared.event.Reply.{Reply}
 use Rattle.types.specs.declared.event.Reply.TheVariants as replies
 use Rattle.types.specs.declared.outcome.Outcome.{Outcome}
 use Rattle.shared_memory.specs.declared.sleeper.Sleeper.{Sleeper}
-use Rattle.shared_memory.specs.Memory.{Memory, loaded, can_grow, reply_of}
+use Rattle.shared_memory.specs.Memory.{Memory, loaded, reply_of}
 use Rattle.shared_memory.specs.WaitQueue.{WaitQueue, is_among, next_id, has_slot, ends_at_once}
 use Rattle.shared_memory.proofs.Sleepers.{list_any-take}
 use Rattle.schedule_threads.specs.Shared.{Shared}
 use Rattle.interp_trait.specs.Turns.{spawned_in}
 use Rattle.search_threads.specs.Budgets.{started_without}
-use Rattle.search_runs.specs.Called.{Called, Walker, begun_at}
+use Rattle.search_runs.specs.Called.{Called, begun_at}
 use Rattle.search_apart.specs.Acts as acts
 use Rattle.search_apart.specs.Acts.{Deed, deed_of, deeds_conflict}
 use Rattle.search_apart.specs.Turning.{sleepers_at}

@@ -1,29 +1,26 @@
 -- What a thread does next at a state that can be reached, and what its turn makes of the state.
-use Rattle.std.proofs.Common.{◌≡◌, ◌≢◌, ◌⊎◌, inl, inr, ℕ, zero, suc, ◌+◌, ◌≤◌, ◌<◌, Bool, true, false, List, length, Option, Some, None, refl, sym, ap, ◌∙◌, subst, arith}
+use Rattle.std.proofs.Common.{◌≡◌, ◌≢◌, ◌⊎◌, inl, inr, ℕ, zero, suc, ◌≤◌, Bool, true, false, length, Option, Some, None, refl, sym, ap, ◌∙◌, subst, arith}
 use Rattle.std.proofs.lemmas.Bool.{false_from_ne_true}
 use Rattle.allowed_races.specs.declared.allowed.Allowed.{Allowed}
 use Rattle.types.specs.declared.event.Event.{Event}
 use Rattle.types.specs.declared.event.Event.TheVariants as events
-use Rattle.types.specs.declared.event.Question.TheVariants.{Wait, Notify, Spawn, Leave}
+use Rattle.types.specs.declared.event.Question.TheVariants.{Leave}
 use Rattle.types.specs.declared.event.Answer.{Answer}
-use Rattle.types.specs.declared.outcome.Outcome.{Outcome}
-use Rattle.shared_memory.specs.Memory.{Memory, reply_of, state_after}
-use Rattle.shared_memory.specs.WaitQueue.{WaitQueue, is_alive, is_asleep, answer_due, next_id, settled, IsFree}
+use Rattle.shared_memory.specs.Memory.{Memory, reply_of}
+use Rattle.shared_memory.specs.WaitQueue.{WaitQueue, is_asleep, answer_due, settled, IsFree}
 use Rattle.shared_memory.specs.Sound.{IsSound}
 use Rattle.schedule.specs.System.{Want, Want.Turns, Want.Calls, Want.Awaits, Want.Gone, State, put}
 use Rattle.schedule.specs.Scheduled.{after_turn, hears_any, or_started}
-use Rattle.schedule.proofs.Basics.{put-same, put-other}
+use Rattle.schedule.proofs.Basics.{put-other}
 use Rattle.schedule_threads.specs.Shared.{Shared, without_dues, queue_by}
 use Rattle.schedule_threads.specs.Threads.{machine_of, wish_of}
 use Rattle.schedule_threads.proofs.Asking.{wants_no_answer}
-use Rattle.interp_machine.specs.Program.{Program}
 use Rattle.interp_machine.specs.Config.{Config, Next, Stuck, Goes, Traps, Finishes, Asks, Hears}
 use Rattle.interp_machine.specs.Step.{next}
 use Rattle.interp_machine.specs.State.{At, Over}
-use Rattle.interp_trait.specs.Turns.{wants_of}
 use Rattle.schedule_machine.specs.Runs.{IsOrderly}
 use Rattle.schedule_machine.proofs.Orderly.{nothing_due, turns_here, free_asker}
-use Rattle.search_graph.specs.Paths.{Goes as GoesSteps, Reaches}
+use Rattle.search_graph.specs.Paths.{Goes as GoesSteps}
 use Rattle.search_reach.proofs.Paths.{stays, one_step, onward}
 use Rattle.search_threads.specs.Unlimited.{Unlimited.Missing, Unlimited.Going, Unlimited.Leaving, Unlimited.Away, unlimited_wants, unlimited_goes, unlimited_takes, want_by}
 use Rattle.search_threads.specs.Budgets.{started_without}
@@ -32,12 +29,12 @@ use Rattle.search_race_free.specs.Wanted.{after_next}
 use Rattle.search_runs.specs.Called.{Called, Walker, system_of, first_state, shared_by, begun_at}
 use Rattle.search_runs.specs.Theorems.{CanReach}
 use Rattle.search_runs.proofs.Plain.{longer}
-use Rattle.search_runs.proofs.Tame.{given, given_wants, orderly, starts_fit, answers_fit}
+use Rattle.search_runs.proofs.Tame.{given, given_wants, orderly, starts_fit}
 use Rattle.search_apart.specs.Acts.{Act, own_act, act_by}
 use Rattle.search_apart.specs.Turning.{opening_of, act_if, next_act}
 use Rattle.search_apart.proofs.Stepping.{EndsWithin, asks_within}
 use Rattle.search_apart.proofs.Changes.{Change, Stays, changed, change_of, is-changed, IsIn, change-in}
-use Rattle.search_apart.proofs.Calls.{Call, Rests, applied, call_of, IsMade, step-is, quiet-settled, unsettled, other-due, woken_by, woken-asleep, HasRoomFor, call-room}
+use Rattle.search_apart.proofs.Calls.{Call, Rests, applied, call_of, IsMade, step-is, quiet-settled, unsettled, other-due, woken-asleep, HasRoomFor, call-room}
 
 abbrev pub World : Type 0
 World = State Shared Walker

@@ -1,11 +1,10 @@
 -- In a call of a valid module nobody is stuck: its threads stay typed, wherever they come.
-use Rattle.std.proofs.Common.{◌≡◌, ◌≢◌, ◌⊎◌, inl, inr, ℕ, ◌<◌, List, [], ◌∷◌, length, map, Option, Some, None, refl, sym, ap, ◌∙◌, subst, arith}
+use Rattle.std.proofs.Common.{◌≡◌, ◌⊎◌, inl, inr, ℕ, ◌<◌, length, Option, Some, None, refl, sym, ap, ◌∙◌, subst, arith}
 use Rattle.types.specs.declared.event.Event.{Event}
 use Rattle.types.specs.declared.event.Reply.{Reply}
 use Rattle.types.specs.declared.event.Answer.{Answer}
 use Rattle.types.specs.declared.outcome.Outcome.{Outcome}
 use Rattle.types.specs.declared.parts.Parts.{Parts}
-use Rattle.types.specs.Values.{type_of}
 use Rattle.validate_typing.specs.Validity.{IsValid}
 use Rattle.shared_memory.specs.Memory.{reply_of}
 use Rattle.shared_memory.specs.WaitQueue.{answer_due, settled}
@@ -16,23 +15,22 @@ use Rattle.schedule.proofs.Basics.{put-same, put-other, at_each}
 use Rattle.schedule_threads.specs.Threads.{machine_of}
 use Rattle.schedule_threads.proofs.Asking.{wants_spawn}
 use Rattle.interp_machine.specs.Config.{Config, Fresh, Next, Stuck, Goes, Traps, Finishes, Asks, Hears}
-use Rattle.interp_machine.specs.Program.{Program, program_of}
+use Rattle.interp_machine.specs.Program.{Program}
 use Rattle.interp_machine.specs.Step.{next}
-use Rattle.interp_machine.specs.State.{State, At, Over, gone, replied, heard}
-use Rattle.interp.specs.Starts.{start_of}
+use Rattle.interp_machine.specs.State.{State, At, gone, replied, heard}
 use Rattle.interp_laws.specs.NeverStuck.{IsDefined}
 use Rattle.interp_laws.proofs.Typed.{IsTyped, IsGood}
 use Rattle.interp_laws.proofs.Steps.{good, starts}
 use Rattle.interp_laws.proofs.Threads.{IsTypedState, goes_typed, takes_typed, hears_typed}
-use Rattle.search_threads.specs.Unlimited.{Unlimited.Missing, Unlimited.Going, Unlimited.Leaving, Unlimited.Away, unlimited_goes, unlimited_takes, unlimited_hears, reply_by}
+use Rattle.search_threads.specs.Unlimited.{Unlimited.Missing, Unlimited.Going, Unlimited.Leaving, Unlimited.Away, unlimited_goes, unlimited_takes, reply_by}
 use Rattle.search_threads.specs.Budgets.{first_without}
 use Rattle.search_runs.specs.Called.{Called, Walker, first_state}
 use Rattle.search_runs.specs.Theorems.{CanReach}
 use Rattle.search_runs.proofs.Tame.{given, given_wants}
-use Rattle.search_apart.specs.Theorems.{spawn_values, NobodyIsStuck, IsMain, IsWorker, IsCallOf, NobodyIsStuckInCalls}
+use Rattle.search_apart.specs.Theorems.{spawn_values, NobodyIsStuck, IsWorker, IsCallOf, NobodyIsStuckInCalls}
 use Rattle.search_apart.proofs.Doing.{World, Doing, Own, Makes, wanting, call_in, wants_at, after, self_in, starts_in, hears, along, by-want, threads-after}
 use Rattle.search_apart.proofs.Calls.{applied}
-use Rattle.search_apart.proofs.Awaiting.{IsBegun, begun-as}
+use Rattle.search_apart.proofs.Awaiting.{begun-as}
 
 abbrev IsTypedWalker : Parts → Walker → Type 0
 IsTypedWalker m Missing = Unit {0}

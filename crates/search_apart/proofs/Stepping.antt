@@ -1,7 +1,7 @@
 -- What a step of a program makes: its accesses end where they say; and a thread awaits an answer only behind a question.
-use Rattle.std.proofs.Common.{◌≡◌, ◌≢◌, ℕ, suc, zero, ◌+◌, ◌-◌, ◌%◌, ◌<◌, ◌≤◌, Bool, true, false, List, [], ◌∷◌, ◌++◌}
-use Rattle.std.proofs.Common.{◌⊎◌, inl, inr, length, Option, Some, None, refl, sym, ◌∙◌, ap, subst, arith, take, drop}
-use Rattle.std.specs.Prelude.{nat_eq, nat_lt, nat_le, reverse, map, if◌then◌else◌, slice_get, min}
+use Rattle.std.proofs.Common.{◌≡◌, ◌≢◌, ℕ, suc, zero, ◌+◌, ◌-◌, ◌%◌, ◌≤◌, Bool, true, false, List, [], ◌∷◌, ◌++◌}
+use Rattle.std.proofs.Common.{◌⊎◌, inl, inr, length, Option, Some, None, refl, ap, subst, arith, take, drop}
+use Rattle.std.specs.Prelude.{nat_eq, nat_lt, nat_le, reverse, map, if◌then◌else◌, slice_get}
 use Rattle.std.proofs.Math.Nat.{min-le_left}
 use Rattle.std.proofs.lemmas.Bool.{cond_both}
 use Rattle.types.specs.declared.value.ValType.{ValType}
@@ -17,7 +17,7 @@ use Rattle.types.specs.declared.instr.PlainInstr.TheVariants as plain
 use Rattle.types.specs.declared.parts.FuncType.{FuncType}
 use Rattle.types.specs.declared.event.Event.{Event}
 use Rattle.types.specs.declared.event.Event.TheVariants as events
-use Rattle.types.specs.declared.event.Question.TheVariants.{Wait, Notify, Spawn}
+use Rattle.types.specs.declared.event.Question.TheVariants.{Wait, Notify}
 use Rattle.types.specs.declared.outcome.Trap.TheVariants as traps
 use Rattle.types.specs.Nesting.{Code, Empty, Then, BlockThen, LoopThen, IfThen, IfElseThen}
 use Rattle.types.specs.Widths.{type_bytes, access_type, access_bytes, load_bytes}
@@ -26,7 +26,7 @@ use Rattle.interp_numeric.specs.Integers.{signed}
 use Rattle.interp_numeric.specs.Results.{NumericResult, NumericResult.Traps, numeric_result}
 use Rattle.interp_machine.specs.Program.{Program, Function, zero_of}
 use Rattle.interp_machine.specs.Config.{Label, Frame, Progress, Fresh, Halfway, Asked, Config, values_of, Next, Stuck, Goes, Traps, Finishes, Asks, Hears}
-use Rattle.interp_machine.specs.Access.{cut, answered_value, first_width, in_one_word, first_load, second_load, first_store, second_store, joined, loaded_value}
+use Rattle.interp_machine.specs.Access.{cut, answered_value, first_width, in_one_word, loaded_value}
 use Rattle.interp_machine.specs.Step.{if_room, on_top, on_number, on_some, on_front, waits, returns_to, returns, half}
 use Rattle.interp_machine.specs.Step.{lands, branches, ends, calls_own, calls_spawn, calls, type_at, same_type, opens}
 use Rattle.interp_machine.specs.Step.{with_rest, calls_place, on_address, loads, stores, if_aligned, on_aligned}

@@ -12,7 +12,7 @@ use Rattle.validate_typing.specs.Validity.{IsValid}
 use Rattle.shared_memory.specs.WaitQueue.{is_asleep}
 use Rattle.schedule.specs.System.{Want.Awaits, State}
 use Rattle.schedule_threads.specs.Shared.{Shared}
-use Rattle.interp_machine.specs.Config.{Config, Progress, Fresh}
+use Rattle.interp_machine.specs.Config.{Config, Fresh}
 use Rattle.interp_machine.specs.Program.{program_of}
 use Rattle.interp_machine.specs.Step.{next}
 use Rattle.interp_machine.specs.State.{At}

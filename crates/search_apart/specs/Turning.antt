@@ -1,5 +1,5 @@
 -- The threads of a module as threads that make turns, one access at a time.
-use Rattle.std.specs.Prelude.{◌≡◌, ◌⊎◌, ◌==◌, ℕ, Bool, true, List, length, Option, Some, None}
+use Rattle.std.specs.Prelude.{◌≡◌, ◌⊎◌, ◌==◌, ℕ, true, List, length, Option, Some, None}
 use Rattle.std.specs.List.{filter}
 use Rattle.allowed_races.specs.declared.allowed.Allowed.{Allowed}
 use Rattle.types.specs.declared.event.Event.{Event}
