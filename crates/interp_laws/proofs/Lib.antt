@@ -1,3 +1,3 @@
-mod Typed
-mod Steps
-mod Threads
+pub mod Typed
+pub mod Steps
+pub mod Threads

@@ -24,7 +24,7 @@ use Rattle.interp_laws.specs.NeverStuck.{IsDefined, IsNeverStuck}
 use Rattle.interp_laws.proofs.Typed.{IsTyped, IsGood}
 use Rattle.interp_laws.proofs.Steps.{good, starts}
 
-abbrev IsTypedState : Parts → State → Type 0
+abbrev pub IsTypedState : Parts → State → Type 0
 IsTypedState m (states.At c) = IsTyped m c
 IsTypedState m (states.Over outcome) = Unit {0}
 
@@ -67,15 +67,15 @@ answer_step m c (Hears go) (answers.Number n) t h = h n
 answer_step m c (Hears go) answers.ForGood t h = tt
 
 module _ (m : Parts) (v : IsValid m) (whole : length m.functions ≡ length m.bodies) where
-  goes_typed : (s : State) → IsTypedState m s → IsTypedState m (gone (program_of m) s)
+  pub goes_typed : (s : State) → IsTypedState m s → IsTypedState m (gone (program_of m) s)
   goes_typed (states.At c) t = own_step m c (next (program_of m) c) t (good m v whole c t)
   goes_typed (states.Over outcome) t = tt
 
-  takes_typed : (s : State) (reply : Reply) → IsTypedState m s → IsTypedState m (replied (program_of m) s reply)
+  pub takes_typed : (s : State) (reply : Reply) → IsTypedState m s → IsTypedState m (replied (program_of m) s reply)
   takes_typed (states.At c) reply t = reply_step m c (next (program_of m) c) reply t (good m v whole c t)
   takes_typed (states.Over outcome) reply t = tt
 
-  hears_typed : (s : State) (answer : Answer) → IsTypedState m s → IsTypedState m (heard (program_of m) s answer)
+  pub hears_typed : (s : State) (answer : Answer) → IsTypedState m s → IsTypedState m (heard (program_of m) s answer)
   hears_typed (states.At c) answer t = answer_step m c (next (program_of m) c) answer t (good m v whole c t)
   hears_typed (states.Over outcome) answer t = tt
 

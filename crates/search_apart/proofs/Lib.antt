@@ -1,0 +1,10 @@
+pub mod Stepping
+pub mod Changes
+pub mod Conflicts
+pub mod Sleepers
+pub mod Calls
+pub mod Doing
+pub mod Awaiting
+pub mod Deeds
+pub mod Apart
+pub mod InCalls
