@@ -1,6 +1,6 @@
 //! At a state it is enough if only some of the threads go on (ample sets), where a check of them passes: nothing that
-//! is said of all runs is lost; no search uses it yet, and of no system is it shown yet that it keeps the laws that are
-//! asked of it.
+//! is said of all runs is lost; no search uses it yet. That the threads of a module keep the laws that are asked of a
+//! system is shown by `search_apart`.
 //!
 //! What a thread may still want from some state on is its *footprint*. Threads of a set go on alone at a state if
 //! nothing that they want conflicts with what is in another one's footprint: what the others do before one of them
