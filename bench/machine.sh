@@ -1,8 +1,11 @@
 #!/bin/bash
 # Runs the modules of machine/ by wathread over both memories, by wabt's wasm-interp and by JavaScriptCore's interpreter in
-# place, and prints how many million instructions each makes a second, in processor time, and what ours are of wabt's. The
-# loop of `sum` is also made by an interpreter in C (turns.c), by its own clock. Then what memory runs take. Other work on
-# the machine slows all sides, so the least of several runs counts, and the sides take turns.
+# place, and prints how many million instructions each makes a second, without its start. JavaScriptCore's time is that of
+# the shortest of twenty calls in one process, by its own clock (jsc.js). Ours over words is the difference of five calls and
+# one, over four; over the recorder, whose log is full behind one call, and wabt's, that of one call and of a module that does
+# nothing (machine/none.wat), in processor time. The loop of `sum` is also made by an interpreter in C (turns.c), by its own
+# clock. Then what memory runs take. Other work on the machine slows all sides, so the least of several runs counts, and the
+# sides take turns.
 # Needs wabt, python3, cc and time (Debian: apt-get install wabt python3 gcc time); JavaScriptCore's shell is left out
 # where it isn't there (Debian: libjavascriptcoregtk-4.0-bin). ROUNDS=N: how often each runs.
 set -eu
@@ -14,22 +17,31 @@ units_of() {
     awk '$1 == "end" { print $NF }' "$work/record"
 }
 
+# A run of a module's `runs`, so many times, as a command.
+runs_of() { echo "$program run $1 --invoke runs --memory words --fuel 1000000000000 $2"; }
+
 machine
-sides=(recorder words wabt)
-! command -v jsc >/dev/null || sides+=(jsc)
-printf '%-6s %12s' module instructions
-printf ' %12s' "${sides[@]/%/ M/s}" recorder/wabt words/wabt
-echo
+has_jsc=1
+command -v jsc >/dev/null || has_jsc=
+none=$(module machine/none)
+printf '%-6s %12s %12s %12s %12s %12s %11s %11s %11s %15s\n' module instructions recorder words wabt jsc words/wabt \
+    jsc/words jsc/recorder words/recorder
 for name in sum fib sieve adds; do
     file=$(module machine/$name)
-    commands=(recorder="$(run_of locked "$file")" words="$(run_of words "$file")"
-        wabt="wasm-interp --enable-threads $file --run-all-exports"
-        jsc="jsc --useBBQJIT=0 --useOMGJIT=0 $top/bench/jsc.js -- $file")
-    "$top/bench/least.py" "$rounds" "${commands[@]:0:${#sides[@]}}" >"$work/times"
-    awk -v name=$name -v units="$(units_of "$file")" '{ ms[$1] = $3; side[NR] = $1 } END {
-        printf "%-6s %12d", name, units
-        for (i = 1; i <= NR; i++) printf " %12.1f", units / ms[side[i]] / 1e3
-        printf " %12.2f %12.2f\n", ms["wabt"] / ms["recorder"], ms["wabt"] / ms["words"]
+    commands=(start="$(run_of locked "$none")" recorder="$(run_of locked "$file")"
+        once="$(runs_of "$file" 1)" five="$(runs_of "$file" 5)"
+        wabt_start="wasm-interp $none --run-all-exports" wabt="wasm-interp --enable-threads $file --run-all-exports"
+        jsc="jsc --useBBQJIT=0 --useOMGJIT=0 $top/bench/jsc.js -- $file 20")
+    "$top/bench/least.py" "$rounds" "${commands[@]:0:6+0$has_jsc}" >"$work/times"
+    awk -v name=$name -v units="$(units_of "$file")" '{ spent[$1] = $3; own[$1] = $4 } END {
+        recorder = spent["recorder"] - spent["start"]
+        words = (spent["five"] - spent["once"]) / 4
+        wabt = spent["wabt"] - spent["wabt_start"]
+        jsc = own["jsc"]
+        printf "%-6s %12d %8.1f M/s %8.1f M/s %8.1f M/s", name, units, units / recorder / 1e3, units / words / 1e3, units / wabt / 1e3
+        if (jsc) printf " %8.1f M/s %11.2f %11.2f %11.2f", units / jsc / 1e3, wabt / words, words / jsc, recorder / jsc
+        else printf " %12s %11.2f %11s %11s", "-", wabt / words, "-", "-"
+        printf " %15.2f\n", recorder / words
     }' "$work/times"
 done
 cc -O2 -o "$work/turns" "$top/bench/turns.c"

@@ -6,5 +6,10 @@
       (else (i32.add
         (call $fib (i32.sub (local.get $n) (i32.const 1)))
         (call $fib (i32.sub (local.get $n) (i32.const 2)))))))
-  (func (export "run") (result i32)
-    (call $fib (i32.const 30))))
+  (func $run (export "run") (result i32)
+    (call $fib (i32.const 30)))
+  ;; The same so many times.
+  (func (export "runs") (param $n i32)
+    (loop $again
+      (drop (call $run))
+      (br_if $again (local.tee $n (i32.sub (local.get $n) (i32.const 1)))))))

@@ -23,5 +23,10 @@
         (br_if $next (i32.lt_u (local.tee $i (i32.add (local.get $i) (i32.const 1))) (i32.const 65536))))
       (br_if $again (local.tee $times (i32.sub (local.get $times) (i32.const 1)))))
     local.get $count)
-  (func (export "run") (result i32)
-    (call $sieve (i32.const 4))))
+  (func $run (export "run") (result i32)
+    (call $sieve (i32.const 4)))
+  ;; The same so many times.
+  (func (export "runs") (param $n i32)
+    (loop $again
+      (drop (call $run))
+      (br_if $again (local.tee $n (i32.sub (local.get $n) (i32.const 1)))))))

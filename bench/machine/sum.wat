@@ -6,5 +6,10 @@
       (local.set $sum (i64.add (local.get $sum) (i64.extend_i32_u (local.get $i))))
       (br_if $next (i32.lt_u (local.tee $i (i32.add (local.get $i) (i32.const 1))) (local.get $n))))
     local.get $sum)
-  (func (export "run") (result i64)
-    (call $sum (i32.const 2000000))))
+  (func $run (export "run") (result i64)
+    (call $sum (i32.const 2000000)))
+  ;; The same so many times.
+  (func (export "runs") (param $n i32)
+    (loop $again
+      (drop (call $run))
+      (br_if $again (local.tee $n (i32.sub (local.get $n) (i32.const 1)))))))
