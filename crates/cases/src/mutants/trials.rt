@@ -104,6 +104,7 @@ pub(crate) fn run<R: Threads + Wait + Sync>(
         call,
         on_words,
         limit: LIMIT,
+        is_limit_said: true,
         save,
         memory_in: None,
         memory_out: None,
