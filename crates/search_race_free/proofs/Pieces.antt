@@ -24,12 +24,13 @@ use Rattle.search_race_free.specs.declared.owning.Owning.{Owning}
 use Rattle.search_race_free.specs.declared.met.Held.{Held}
 use Rattle.search_race_free.specs.declared.met.StateTable.{StateTable}
 use Rattle.search_race_free.specs.declared.known.FoundTurn.{FoundTurn}
+use Rattle.search_race_free.specs.declared.known.TurnOf.{TurnOf}
 use Rattle.search_race_free.specs.declared.ahead.KnownTables.{KnownTables}
 use Rattle.search_race_free.specs.Reduced.{reduced_steps}
 use Rattle.search_race_free.specs.Same.{owning_eq}
 use Rattle.search_race_free.specs.Met.{held, HasOwning, IsCopy}
-use Rattle.search_race_free.specs.Known.{AreKnownTurns, IsFoundTurn, HasRowsAt}
-use Rattle.search_race_free.specs.Ahead.{AreFound, AreFoundIn, IsFoundIn, HasKnown}
+use Rattle.search_race_free.specs.Known.{AreKnownTurns, HasTurn, IsFoundTurn, HasRowsAt}
+use Rattle.search_race_free.specs.Ahead.{AreTurns, AreFound, AreFoundIn, IsFoundIn, HasKnown}
 use Rattle.search_race_free.proofs.Knowing.{few-from}
 
 -- where it stands of two lists
@@ -91,6 +92,18 @@ module _ {X T E V A G H M : Type 0} (k : ThreadSystem X T E V A G H M) where
     shared = λ z. subst (λ g. k.shares g z ↔ k.shares copy.flat.shared z) (ap (λ h. h.shared) same.shared) (is.shared z);
     threads = is.threads ∙ same.threads;
     owned = is.owned ∙ ap (λ h. h.owned.items) same.shared;
+  }
+
+  -- turns that are wanted
+  pub none-wanted : (t : StateParts (Held G) H) (turns : List TurnOf) → turns ≡ [] → AreTurns k t turns
+  none-wanted t turns none =
+      record { each = λ i turn at. absurd (none-some turn (subst (λ l. slice_get l i ≡ Some turn) none at)) }
+
+  pub more-wanted : (t : StateParts (Held G) H) (old new : List TurnOf) (turn : TurnOf) → new ≡ old ++ turn ∷ []
+      → AreTurns k t old → HasTurn k t turn → AreTurns k t new
+  more-wanted t old new turn is were so = record {
+    each = λ i x at. of-both (HasTurn k t) old (turn ∷ []) were.each (of-one (HasTurn k t) turn so) i x
+        (subst (λ l. slice_get l i ≡ Some x) is at);
   }
 
   -- turns that were found

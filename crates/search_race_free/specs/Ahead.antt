@@ -12,11 +12,12 @@ use Rattle.search_race_free.specs.declared.alone.Arrival.{Arrival}
 use Rattle.search_race_free.specs.declared.met.Held.{Held}
 use Rattle.search_race_free.specs.declared.met.StateTable.{StateTable}
 use Rattle.search_race_free.specs.declared.known.FoundTurn.{FoundTurn}
+use Rattle.search_race_free.specs.declared.known.TurnOf.{TurnOf}
 use Rattle.search_race_free.specs.declared.ahead.KnownTables.{KnownTables}
 use Rattle.search_race_free.specs.Reduced.{HasReduced}
 use Rattle.search_race_free.specs.Search.{IsCame}
 use Rattle.search_race_free.specs.Met.{HasOwning, IsStateAt}
-use Rattle.search_race_free.specs.Known.{AreKnownTurns, IsFoundTurn}
+use Rattle.search_race_free.specs.Known.{AreKnownTurns, HasTurn, IsFoundTurn}
 
 module _ {X T E V A G H M : Type 0} (k : ThreadSystem X T E V A G H M) where
   -- It comes of the state at this place: of a copy of it.
@@ -26,7 +27,11 @@ module _ {X T E V A G H M : Type 0} (k : ThreadSystem X T E V A G H M) where
     pub of : IsStateAt k t at (Some copy)
     pub is : IsCame k stuck copy.flat (λ v. HasReduced k copy v.items) came
 
-  -- Each of these is the turn of a thread of these parts, and leads where it says.
+  -- Each of these is a turn of a thread of these parts.
+  pub record AreTurns (t : StateParts (Held G) H) (turns : List TurnOf) : Type 0 where
+    pub each : (i : ℕ) (turn : TurnOf) → slice_get turns i ≡ Some turn → HasTurn k t turn
+
+  -- Each of these is one, and leads where it says.
   abbrev pub AreFound : StateParts (Held G) H → List (FoundTurn G H) → Type 0
   AreFound t turns = (i : ℕ) (turn : FoundTurn G H) → slice_get turns i ≡ Some turn → IsFoundTurn k t turn
 

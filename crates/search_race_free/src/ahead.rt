@@ -4,8 +4,8 @@ ghost use Rattle.search_reach.specs.Meeting.{HasSound};
 ghost use Rattle.search_table.specs.Tables.{Grows};
 ghost use Rattle.search_race_free.specs.Turns.{reduced};
 ghost use Rattle.search_race_free.specs.Met.{HasOwning};
-ghost use Rattle.search_race_free.specs.Known.{AreKnownTurns, IsKnownRow, IsFoundTurn, WantsInRow};
-ghost use Rattle.search_race_free.specs.Ahead.{AreFound, AreFoundIn, IsFoundIn};
+ghost use Rattle.search_race_free.specs.Known.{AreKnownTurns, HasTurn, IsKnownRow, WantsInRow};
+ghost use Rattle.search_race_free.specs.Ahead.{AreFound, AreFoundIn, AreTurns, IsFoundIn};
 
 use crate::Accesses;
 use crate::known::{
@@ -101,8 +101,21 @@ struct WaitingStates<'s, M: Accesses> {
     most_plain: u32,
 }
 
-/// For how many turns it is noted that they were found: of more, some may be found twice.
-const SEEN: usize = 4096;
+/// Whose turns are wanted, of states before a place.
+#[derive(Drop)]
+struct WantedTurns {
+    turns: Vec<TurnOf>,
+    end: usize,
+}
+
+/// For how many turns it is noted that they are wanted: of more, some may be found twice.
+const SEEN: usize = 16_384;
+
+/// Of fewer turns none are found ahead: threads would take longer to start.
+const FEW: usize = 64;
+
+/// How many turns a thread finds at once, or some more.
+const PIECE: usize = 1024;
 
 /// Whether the turn is known, or was seen; it is then.
 fn was_seen(
@@ -131,44 +144,30 @@ fn was_seen(
 
 impl<M: Accesses> WaitingStates<'_, M> {
     /// The turn of thread n of a state, if it can go on and that is neither known nor seen.
-    fn turn_from(
-        &self,
-        alloc: Global,
-        from: &RowFrom,
-        n: usize,
-        seen: &mut Vec<Option<Known>>,
-    ) -> Result<Option<FoundTurn<M::Shared, M::Thread>>, AllocError>
+    fn turn_from(&self, from: &RowFrom, n: usize, seen: &mut Vec<Option<Known>>) -> Option<TurnOf>
         requires row { IsKnownRow (M.threads self.now.system.now) self.now.tables.now.met.parts
             (from.now.held ∷ from.now.threads.now) }
         requires wanted { WantsInRow (M.threads self.now.system.now) self.now.tables.now.met.parts
             (from.now.held ∷ from.now.threads.now) from.now.wanted.now }
         requires there { n < length from.now.threads.now }
-        ensures { IfOk result (λ o. IfSome o (IsFoundTurn (M.threads self.now.system.now) self.now.tables.now.met.parts)) }
+        ensures { IfSome result (HasTurn (M.threads self.now.system.now) self.now.tables.now.met.parts) }
     {
         let Some(access) = next_of(from.wanted, n) else {
-            return Ok(None);
+            return None;
         };
         if !is_over_none(from.wanted, n, access) {
-            return Ok(None);
+            return None;
         }
         let thread = number_at(from.threads, n);
         let known = self.tables.known.as_slice();
         if was_seen(known, seen, from.held, thread, n as u32) {
-            return Ok(None);
+            return None;
         }
-        let of = TurnOf {
+        Some(TurnOf {
             held: from.held,
             thread,
             n,
-        };
-        let found = found_turn(
-            alloc,
-            self.system,
-            &self.tables.met.parts,
-            of,
-            from.most_plain,
-        )?;
-        Ok(found)
+        })
     }
 
     /// Puts the turns of a state behind others.
@@ -177,11 +176,11 @@ impl<M: Accesses> WaitingStates<'_, M> {
         alloc: Global,
         row: &[u32],
         seen: &mut Vec<Option<Known>>,
-        all: &mut Vec<FoundTurn<M::Shared, M::Thread>>,
+        all: &mut Vec<TurnOf>,
     ) -> Result<(), AllocError>
         requires row { IsKnownRow (M.threads self.now.system.now) self.now.tables.now.met.parts row.now }
-        requires found { AreFound (M.threads self.now.system.now) self.now.tables.now.met.parts all.old.items }
-        ensures { OnOk result (AreFound (M.threads self.now.system.now) self.now.tables.now.met.parts all.new.items) }
+        requires turns { AreTurns (M.threads self.now.system.now) self.now.tables.now.met.parts all.old.items }
+        ensures { OnOk result (AreTurns (M.threads self.now.system.now) self.now.tables.now.met.parts all.new.items) }
     {
         let Some((held, threads)) = row.split_first() else {
             return Ok(());
@@ -197,7 +196,7 @@ impl<M: Accesses> WaitingStates<'_, M> {
             most_plain: self.most_plain,
         };
         for n in 0..threads.len() {
-            let Some(turn) = self.turn_from(alloc, &from, n, seen)? else {
+            let Some(turn) = self.turn_from(&from, n, seen) else {
                 continue;
             };
             all.push(turn)?;
@@ -205,29 +204,51 @@ impl<M: Accesses> WaitingStates<'_, M> {
         Ok(())
     }
 
-    /// The turns of the states from a place up to another one.
-    fn turns_of(
+    /// The turns of states from a place on, up to so many or some more.
+    fn turns_from(&self, alloc: Global, from: usize, most: usize) -> Result<WantedTurns, AllocError>
+        requires { HasSound (reduced M.Moves self.now.system.now) (HasOwning self.now.tables.now.met) }
+        ensures { IfOk result (λ w. AreTurns (M.threads self.now.system.now) self.now.tables.now.met.parts w.turns.items) }
+    {
+        let mut seen = vec![in alloc; None; SEEN]?;
+        let mut turns = Vec::new(alloc);
+        for end in from..self.tables.met.states.len() {
+            if most <= turns.len() {
+                return Ok(WantedTurns { turns, end });
+            }
+            let Some(row) = self.tables.met.states.row(end) else {
+                return Ok(WantedTurns { turns, end });
+            };
+            self.put_turns(alloc, row, &mut seen, &mut turns)?;
+        }
+        let end = self.tables.met.states.len();
+        Ok(WantedTurns { turns, end })
+    }
+
+    /// Where those of the turns lead that stand from a place up to another one.
+    fn found_of(
         &self,
         alloc: Global,
+        turns: &[TurnOf],
         from: usize,
         to: usize,
     ) -> Result<Vec<FoundTurn<M::Shared, M::Thread>>, AllocError>
-        requires { HasSound (reduced M.Moves self.now.system.now) (HasOwning self.now.tables.now.met) }
+        requires { AreTurns (M.threads self.now.system.now) self.now.tables.now.met.parts turns.now }
         ensures { IfOk result (IsFoundIn (M.threads self.now.system.now) self.now.tables.now.met.parts) }
     {
-        let mut seen = vec![in alloc; None; SEEN]?;
+        let parts = &self.tables.met.parts;
         let mut all = Vec::new(alloc);
-        for at in from..to {
-            let Some(row) = self.tables.met.states.row(at) else {
+        for n in from..to {
+            let Some(turn) = turns.get(n) else {
                 break;
             };
-            self.put_turns(alloc, row, &mut seen, &mut all)?;
+            let Some(found) = found_turn(alloc, self.system, parts, *turn, self.most_plain)? else {
+                continue;
+            };
+            all.push(found)?;
         }
         Ok(all)
     }
-}
 
-impl<M: Accesses> WaitingStates<'_, M> {
     /// All pieces in one.
     fn joined(
         &self,
@@ -247,14 +268,8 @@ impl<M: Accesses> WaitingStates<'_, M> {
     }
 }
 
-/// Of fewer states that wait nothing is found ahead: threads would take longer to start.
-const FEW: usize = 64;
-
-/// Of how many states at most a thread finds turns at once.
-const PIECE: usize = 1024;
-
-/// Turns of states from this place on: each of so many threads finds those of as many that wait. Where few wait, there
-/// are none.
+/// Turns of states from this place on: each of so many threads finds as many of those that are wanted. Where few are,
+/// there are none.
 ///
 /// # Errors
 /// Where memory is refused.
@@ -275,30 +290,33 @@ where
     requires { HasSound (reduced M.Moves system.now) (HasOwning tables.now.met) }
     ensures { IfOk result (λ a. AreFound (M.threads system.now) tables.now.met.parts a.turns.items) }
 {
-    let waiting = tables.met.states.len().saturating_sub(from);
-    if jobs < 2 || waiting < FEW {
+    if jobs < 2 || tables.met.states.len().saturating_sub(from) < FEW {
         return Ok(Ahead::none(alloc, from));
     }
-    let count = waiting.div_ceil(jobs).min(PIECE);
     let met = WaitingStates {
         system,
         tables,
         most_plain,
     };
+    let WantedTurns { turns, end } = met.turns_from(alloc, from, PIECE.saturating_mul(jobs))?;
+    let turns = turns.as_slice();
+    if turns.len() < FEW {
+        return Ok(Ahead::none(alloc, end));
+    }
+    let count = turns.len().div_ceil(jobs);
     let pieces = map_indices(
         rt,
         alloc,
         jobs,
         &|job: usize| -> Result<Vec<FoundTurn<M::Shared, M::Thread>>, AllocError>
-            requires { HasSound (reduced M.Moves met.system.now) (HasOwning met.tables.now.met) }
+            requires { AreTurns (M.threads met.system.now) met.tables.now.met.parts turns.now }
             ensures { IfOk result (IsFoundIn (M.threads met.entry.system.now) met.entry.tables.now.met.parts) }
         {
-            let first = from.saturating_add(count.saturating_mul(job));
-            met.turns_of(alloc, first, first.saturating_add(count))
+            let first = count.saturating_mul(job);
+            met.found_of(alloc, turns, first, first.saturating_add(count))
         },
     )?;
     let turns = met.joined(alloc, pieces)?;
-    let end = from.saturating_add(count.saturating_mul(jobs));
     Ok(Ahead { turns, end })
 }
 

@@ -1,4 +1,4 @@
-use Rattle.std.proofs.Common.{◌≡◌, sym, subst}
+use Rattle.std.proofs.Common.{◌≡◌, subst}
 use Rattle.search_settled.proofs.Threads.{if-some-at}
 use Rattle.search_race_free.specs.declared.known.LoneThread.{LoneThread}
 use Rattle.search_race_free.specs.Known.{AnyTurn, GoesOnAlone}

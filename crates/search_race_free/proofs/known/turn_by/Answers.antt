@@ -1,9 +1,7 @@
 use Rattle.std.proofs.Common.{subst}
 use Rattle.search_settled.specs.Known.{IsNotedIn, IsTurnBy}
 use Rattle.search_settled.proofs.Knowing.{turn-recalled}
-use Rattle.search_settled.proofs.Threads.{if-some-at}
-use Rattle.search_race_free.specs.Known.{Stills, GoesOnAlone, IsFoundTurn, IsTurnOf}
-use Rattle.search_race_free.specs.declared.known.FoundTurn.{FoundTurn}
+use Rattle.search_race_free.specs.Known.{Stills, GoesOnAlone}
 use Rattle.search_race_free.proofs.Rowing.{turn-known}
 use Rattle.search_race_free.proofs.known.turn_by.Goals as goal
 

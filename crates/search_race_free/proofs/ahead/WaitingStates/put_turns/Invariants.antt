@@ -1,7 +1,5 @@
-use Rattle.std.proofs.Common.{◌∷◌}
-use Rattle.search_race_free.specs.Known.{IsKnownRow, WantsInRow}
-use Rattle.search_race_free.specs.Ahead.{AreFound}
+use Rattle.search_race_free.specs.Ahead.{AreTurns}
 use Rattle.search_race_free.proofs.ahead.WaitingStates.put_turns.Given as goal
 
 abbrev pub invariant-loop-n : goal.invariant-loop-n
-invariant-loop-n g l = AreFound (g.M.Moves.threads l.self.system.now) l.self.tables.now.met.parts l.all.items
+invariant-loop-n g l = AreTurns (g.M.Moves.threads l.self.system.now) l.self.tables.now.met.parts l.all.items

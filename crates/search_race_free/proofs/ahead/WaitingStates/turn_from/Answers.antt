@@ -10,8 +10,8 @@ overflow_cast-n g c =
     c.args.n c.requires.there in
     omega (arith, low)
 
-pub found_turn-requires : goal.found_turn-requires
-found_turn-requires g c =
+pub returns : goal.returns
+returns g c =
     let m = c.args.self.now.system.now in
     let k = g.M.Moves.threads m in
     let from = c.args.from.now in

@@ -1,8 +1,8 @@
 use Rattle.std.proofs.Common.{refl, sym, subst}
 use Rattle.std.specs.Prelude.{Some}
-use Rattle.search_table.specs.Tables.{AreStates, Grows}
+use Rattle.search_table.specs.Tables.{AreStates}
 use Rattle.search_reach.specs.Meeting.{GoesOn}
-use Rattle.search_settled.specs.Known.{PutsRows, AreKnownBy}
+use Rattle.search_settled.specs.Known.{PutsRows}
 use Rattle.search_settled.proofs.Knowing.{known-stays, known-left}
 use Rattle.search_settled.proofs.Threads.{if-some-at}
 use Rattle.search_race_free.specs.declared.ahead.KnownTables.{KnownTables}
@@ -11,7 +11,7 @@ use Rattle.search_race_free.specs.Reduced.{HasReduced, reduced_steps}
 use Rattle.search_race_free.specs.declared.met.StateTable.{StateTable}
 use Rattle.search_race_free.specs.Same.{owning_eq, owning_alike}
 use Rattle.search_race_free.specs.Search.{IsCame}
-use Rattle.search_race_free.specs.Met.{held_eq, HasOwning}
+use Rattle.search_race_free.specs.Met.{held_eq}
 use Rattle.search_race_free.specs.Ahead.{HasKnown}
 use Rattle.search_race_free.proofs.Beginning.{race-stuck, lost-stuck}
 use Rattle.search_race_free.proofs.Keeping.{copy-at, stuck-copy, next-put, next-known}
