@@ -38,10 +38,11 @@ static inline __attribute__((always_inline)) int lock_normal(pthread_mutex_t *m,
 }
 
 /* ---- Those that know who holds them: the state is twice the number of that thread and two more, and one more where
-   somebody may sleep ---- */
+   somebody may sleep. In a later call threads have other numbers here, since those of the calls before hold what they held
+   (calls.c) ---- */
 
 static __attribute__((noinline)) int lock_owned(pthread_mutex_t *m, int64_t deadline, int tries) {
-    int own = 2 * thread_self() + 2, held = own;
+    int own = 2 * __wathread_owner() + 2, held = own;
     if (m->kind == GONE)
         used_after_destroy();
     for (int state = FREE; !atomic_compare_exchange_strong(&m->state, &state, held); state = FREE) {
@@ -59,7 +60,7 @@ static __attribute__((noinline)) int lock_owned(pthread_mutex_t *m, int64_t dead
 }
 
 static __attribute__((noinline)) int unlock_owned(pthread_mutex_t *m) {
-    int own = 2 * thread_self() + 2;
+    int own = 2 * __wathread_owner() + 2;
     if (m->kind == GONE)
         used_after_destroy();
     if ((m->state & ~1) != own)
