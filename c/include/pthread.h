@@ -62,9 +62,10 @@ struct wathread_cleanup {
     struct wathread_cleanup *before;
 };
 extern _Thread_local struct wathread_cleanup *wathread_cleanups;
+struct wathread_cleanup *__wathread_before_cleanup(void);
 #define pthread_cleanup_push(function, arg)                                                  \
     do {                                                                                     \
-        struct wathread_cleanup wathread_one = {function, arg, wathread_cleanups};           \
+        struct wathread_cleanup wathread_one = {function, arg, __wathread_before_cleanup()}; \
         wathread_cleanups = &wathread_one;
 #define pthread_cleanup_pop(calls)                                                           \
         wathread_cleanups = wathread_one.before;                                             \

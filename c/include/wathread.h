@@ -17,6 +17,11 @@ void thread_join(int thread);
 /* The number of the thread that asks; that of `main` is 0. */
 int thread_self(void);
 
+#define WATHREAD_WORD(word) _Generic((char (*)[sizeof *(word)])0, char (*)[4]: (void *)(word), char (*)[8]: (void *)(word))
+
+/* In C++ these are functions, since classes have members that are called so, as std::condition_variable::notify_one. */
+#ifndef __cplusplus
+
 /* Sleeps until a notify of the same word, if it is VALUE; to look and to fall asleep is one step. Answers 0 where a
    notify woke it, and 1 where the word was another. */
 #define wait_while(word, value) wait_while_for(word, value, -1)
@@ -33,7 +38,22 @@ int thread_self(void);
 #define notify_all(word) notify_some(word, -1)
 #define notify_some(word, most) __builtin_wasm_memory_atomic_notify((int *)WATHREAD_WORD(word), most)
 
-#define WATHREAD_WORD(word) _Generic((char (*)[sizeof *(word)])0, char (*)[4]: (void *)(word), char (*)[8]: (void *)(word))
+#else
+extern "C++" {
+#define WATHREAD_FUNCTION __attribute__((always_inline)) inline int
+template <class T, class V> WATHREAD_FUNCTION wait_while_for(T *word, V value, long long nanoseconds) {
+    return sizeof *word == 8
+               ? __builtin_wasm_memory_atomic_wait64((long long *)WATHREAD_WORD(word), (long long)value, nanoseconds)
+               : __builtin_wasm_memory_atomic_wait32((int *)WATHREAD_WORD(word), (int)value, nanoseconds);
+}
+template <class T, class V> WATHREAD_FUNCTION wait_while(T *word, V value) { return wait_while_for(word, value, -1); }
+template <class T> WATHREAD_FUNCTION notify_some(T *word, int most) {
+    return __builtin_wasm_memory_atomic_notify((int *)WATHREAD_WORD(word), most);
+}
+template <class T> WATHREAD_FUNCTION notify_one(T *word) { return notify_some(word, 1); }
+template <class T> WATHREAD_FUNCTION notify_all(T *word) { return notify_some(word, -1); }
+}
+#endif
 
 /* With --orders c11 (docs/ORDERS.md): the thread says, as if it printed it, of each atomic of which somebody may still read
    what is old, the newest value, and who may read what. It's an operation like others. Without that it does nothing. */

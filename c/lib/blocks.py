@@ -7,6 +7,7 @@
 - `leave`: pthread_exit, exit and the like end a thread from within. WebAssembly has no way out of several functions at
   once. So they note that the thread leaves, and behind each call that may come to one of them the caller looks whether it
   does, and then returns too. What is noted is a global variable of each thread, no memory: so it makes no entry.
+- A function that is exported tells the library that a call from outside begins, and ends (calls.c).
 - `spurious`: a weak compare-exchange asks the library whether it is to fail for nothing, and then only loads.
 """
 import os
@@ -105,8 +106,9 @@ class Leaving:
 class Blocks:
     """The lines of a function as they are edited. Where a block is cut, who came from it comes from its last piece."""
 
-    def __init__(self, first, leaving):
+    def __init__(self, first, leaving, exported):
         self.out, self.label, self.pieces, self.labels, self.number = [first], None, {}, set(), 0
+        self.exported, self.begun = exported, False
         self.leaving, self.left = None if '@__wathread_' in first else leaving, False
 
     def mark(self):
@@ -137,6 +139,8 @@ class Blocks:
     def add(self, line, spurious):
         """Takes a line, and what it asks for."""
         found = LABEL.match(line)
+        if self.exported and line.startswith('  '):
+            self.tell(line)
         if EXCHANGE.match(line):
             line = self.masked(line)
         weak = spurious and WEAK.match(line)
@@ -150,6 +154,15 @@ class Blocks:
             self.left = True
         else:
             self.out.append(line)
+
+    def tell(self, line):
+        """In front of the first line, and of a return: that a call from outside begins, or ends, if it is one."""
+        debug = ''.join(DEBUG.findall(line)[-1:])
+        if not self.begun:
+            self.out.append(f'  %wathread.begun = call i32 @__wathread_call_begins(){debug}')
+            self.begun = True
+        if line.startswith('  ret '):
+            self.out.append(f'  call void @__wathread_call_ends(i32 %wathread.begun){debug}')
 
     def look(self, line):
         """Behind a call, which is the last line: whether the thread leaves."""
@@ -197,13 +210,15 @@ class Blocks:
         out = [FROM.sub(self.piece, line) if ' = phi ' in line else line for line in self.out]
         if self.left:
             kind = returned(self.out[0])
-            out += ['', 'wathread.leave:', '  ret void' if kind == 'void' else f'  ret {kind} zeroinitializer']
+            ends = ['  call void @__wathread_call_ends(i32 %wathread.begun)'] * self.exported
+            out += ['', 'wathread.leave:', *ends, '  ret void' if kind == 'void' else f'  ret {kind} zeroinitializer']
         return out
 
 
-def declared(lines, leaving, spurious):
+def declared(lines, leaving, spurious, exported):
     """The lines of a text, with what the edits call. Nothing is said to never return."""
     out = [NORETURN.sub(r'\1', line) if line[:5] == 'attri' else line for line in lines] if leaving.any else lines
-    wanted = ['__wathread_leaving'] * leaving.any + ['__wathread_fails'] * spurious
-    return out + [f'declare i32 @{name}()' for name in wanted if not any(f' @{name}(' in line for line in lines
-                                                                         if line[:3] in ('def', 'dec'))]
+    wanted = ['i32 @__wathread_leaving()'] * leaving.any + ['i32 @__wathread_fails()'] * spurious
+    wanted += ['i32 @__wathread_call_begins()', 'void @__wathread_call_ends(i32)'] * exported
+    return out + [f'declare {name}' for name in wanted if not any(name[name.index(' @'):name.index('(') + 1] in line for line in lines
+                                                                  if line[:3] in ('def', 'dec'))]

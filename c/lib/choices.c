@@ -49,7 +49,7 @@ static __attribute__((noinline)) _Noreturn void no_thread_is_left_for_nondet(voi
 
 /* By who has set STARTING. */
 static int start_helper(int main) {
-    int made = __wathread_spawn(main || thread_self() ? HELPS : HELPS_FOR_A_TIME);
+    int made = spawn_at(main || thread_self() ? HELPS : HELPS_FOR_A_TIME);
     if (made < 0)
         no_thread_is_left_for_nondet();
     if (!main)
@@ -66,7 +66,7 @@ static int spawn(int place) {
         ;
     int thread = was & NUMBER;
     if (!thread)
-        thread = __wathread_spawn(place);
+        thread = spawn_at(place);
     if (was & NUMBER && place > 1)
         start_helper(was & MAIN);
     else
@@ -86,7 +86,13 @@ static __attribute__((noinline)) int helper(void) {
     return start_helper(was);
 }
 
-static void main_begins(void) { *(int *)&chooser = MAIN; } /* nobody else is there */
+/* Nobody else is there. */
+static void call_begins(int main) { *(int *)&chooser = main ? MAIN : 0; }
+
+static void forget_choices(void) {
+    for (int thread = 0; thread < MOST_THREADS; thread++)
+        *(int *)&becomes[thread] = 0;
+}
 
 static void asks_no_more(void) {
     if (thread_self() && !ends_chooser)
@@ -137,7 +143,7 @@ void assume(int condition) {
         return;
     if (thread_self())
         assume_beside_other_threads();
-    for (int thread = 1; thread <= last_start && thread <= __wathread_most(); thread++)
+    for (int thread = 1; thread <= place_of(last_start) && thread <= __wathread_most(); thread++)
         if (runs(thread))
             assume_beside_other_threads();
     at_its_end = 0;

@@ -32,9 +32,14 @@ static void keep_freed(void *block, size_t size) {
     *before(block) = last_freed;
     last_freed = block;
 }
+
+static void *freed_before(void) { return last_freed; }
+static void have_freed(void *block) { last_freed = block; }
 #else
 static void *take_freed(size_t size) { (void)size; return 0; }
 static void keep_freed(void *block, size_t size) { (void)block, (void)size; }
+static void *freed_before(void) { return 0; }
+static void have_freed(void *block) { (void)block; }
 #endif
 
 static void *take_of_pool(size_t size) {

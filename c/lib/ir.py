@@ -11,7 +11,7 @@ source has.
 - A `new` is no more than a call of what is called so: to LLVM it never fails, and may be left out with its `delete`.
 - Where it is asked for, accesses that are volatile in the source become atomic ones, relaxed.
 - Functions of the library are weak, so that the program's come before them. Its plain accesses stay as they are.
-- Two edits more need further blocks (blocks.py).
+- Further edits need more lines or blocks (blocks.py).
 - Where memory orders are simulated, accesses are calls of the runtime, or are told to it (simulate.py).
 """
 import re
@@ -31,6 +31,7 @@ LOCAL = re.compile(rf'%{NAME}')
 PRIVATE_CALL = re.compile(r'  (?:tail )?call void @llvm\.(?:lifetime|dbg|memcpy|memmove|memset)\b|    #dbg_')
 STRONG = re.compile(r'define (?!internal |private |weak|linkonce|available)')
 KEPT = '@llvm.compiler.used'
+EXPORTED = re.compile(r'attributes #(\d+) = \{.*"wasm-export-name"=')
 AS_IT_IS = re.compile(r'attributes #(\d+) = \{.*\bdisable_sanitizer_instrumentation\b')
 
 
@@ -156,11 +157,13 @@ def edit(text, edits):
                       'whole' in edits)
     sites = Sites([] if 'library' in edits or 'orders' not in edits else lines, 'typed' in edits)
     simulated = simulations(lines, places, globals_, edits, sites)
+    exported = {found.group(1) for line in lines if 'library' not in edits and (found := EXPORTED.match(line))}
     for at, end in places:
         out += lines[done:at]
         function = None if 'library' in edits else Function(lines[at:end], globals_)
         groups.update(GROUP.findall(lines[at]))
-        blocks = Blocks(lines[at] if function else STRONG.sub('define weak ', lines[at]), leaving)
+        blocks = Blocks(lines[at] if function else STRONG.sub('define weak ', lines[at]), leaving,
+                        not exported.isdisjoint(GROUP.findall(lines[at])))
         for line, after in zip(lines[at + 1:end], lines[at + 2:end + 1]):
             edited = function.access(line, 'atomic' in edits) if function else line
             for part in simulated[at].lines(edited) if simulated else [edited]:
@@ -170,7 +173,7 @@ def edit(text, edits):
         out += blocks.lines()
         left += [function.name] if function and function.plain else []
         done = end
-    out = declared(out + lines[done:], leaving, 'spurious' in edits)
+    out = declared(out + lines[done:], leaving, 'spurious' in edits, bool(exported))
     marked = re.compile(r'attributes #(\d+) = \{')
     out = [line.replace(' builtin ', ' ', 1) if marked.match(line) else line for line in out]
     text = '\n'.join(f'{line[:-1]}sanitize_thread }}' if (found := marked.match(line)) and found.group(1) in groups else line

@@ -36,10 +36,11 @@ static inline __attribute__((always_inline)) int lock_normal(pthread_mutex_t *m,
     return 0;
 }
 
-/* ---- Those that know who holds them: the state is the number of that thread and one more ---- */
+/* ---- Those that know who holds them: the state is the number of that thread and one more. In a later call threads have
+   other numbers here, since those of the calls before hold what they held (calls.c) ---- */
 
 static __attribute__((noinline)) int lock_owned(pthread_mutex_t *m, int64_t deadline, int tries) {
-    int own = thread_self() + 1;
+    int own = __wathread_owner() + 1;
     if (m->kind == GONE)
         used_after_destroy();
     for (int state = FREE; !atomic_compare_exchange_strong(&m->state, &state, own); state = FREE) {
@@ -56,7 +57,7 @@ static __attribute__((noinline)) int lock_owned(pthread_mutex_t *m, int64_t dead
 static __attribute__((noinline)) int unlock_owned(pthread_mutex_t *m) {
     if (m->kind == GONE)
         used_after_destroy();
-    if (m->state != thread_self() + 1)
+    if (m->state != __wathread_owner() + 1)
         return EPERM;
     if (m->depth)
         return m->depth--, 0;

@@ -562,7 +562,7 @@ static u32 results[NUMBERS];
 static int chosen;          /* the slot of the thread that is started */
 static int will_end;        /* `main` was invoked, so orders_ends is called at its end */
 
-void orders_main(void) { will_end = 1; }
+void orders_begins_call(int main) { will_end = main; }
 
 int __wathread_fences(void); /* start.s */
 
@@ -587,7 +587,7 @@ int orders_spawn(int place) {
     slots_of_starts[place] = chosen;
     int made = helper;
     if (!made)
-        return __wathread_spawn(place);
+        return spawn_at(place);
     tell_helper(BECOMES + place);
     helper = 0;
     return made;
@@ -705,6 +705,12 @@ void orders_ends(int thread, unsigned result) {
     if (left && running == left)
         wake_main();
     end_operation();
+}
+
+/* Another function than main has left others there. */
+void orders_left(void) {
+    if (is_parallel())
+        orders_ends(0, 0);
 }
 
 /* Who joins it waits no more. What others knew whose ends nobody took, main knows in the end. */
@@ -955,6 +961,34 @@ void orders_taken(void *block, unsigned size) {
         break;
     }
     leave(me());
+}
+
+/* ---- A later call: threads of the one before are gone, wherever they were. Blocks that were freed stay so ---- */
+
+static void forget_tables(void) {
+    if (gate & HELD) /* somebody was in the middle of an operation */
+        for (u64 *word = (u64 *)&orders; word < (u64 *)orders.freed; word++)
+            put(word, 0);
+    set_head(head_inside());
+    for (int t = 0; t < THREADS; t++)
+        forget_views(t);
+    end_all(0);
+}
+
+void orders_forget(void) {
+    forget_tables();
+    gate = running = sleeping = ended = 0;
+    having = looking = joining = joined = detached = left = 0;
+    simulates = helper = rests = over = 0;
+    for (int thread = 0; thread < NUMBERS; thread++) {
+        slots[thread] = 0;
+        dice[thread] = IDLE;
+        thread_end[thread] = 0;
+    }
+    for (int t = 0; t < THREADS; t++) {
+        waits_for[t] = 0;
+        joiner[t] = queue[t] = 0;
+    }
 }
 
 void orders_reads(const void *from, unsigned size) { note((u32)from, size, READ, own_site()); }

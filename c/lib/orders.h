@@ -3,8 +3,11 @@
 
 #ifdef ORDERS
 
-/* In front of `main`, which orders_ends follows: another function may be invoked. */
-void orders_main(void);
+/* Where a call begins, of `main`, which orders_ends follows, or of another function, which orders_left does. And in front of
+   that, where the memory is that of a call before, whose threads are gone. */
+void orders_begins_call(int main);
+void orders_left(void);
+void orders_forget(void);
 
 /* Where a thread is started: between the first and the last call nobody else does anything that is simulated. */
 void orders_start_begins(void);
@@ -34,7 +37,9 @@ void orders_taken(void *block, unsigned size);
 static inline int orders_front(int size) { return size; }
 
 #else
-static inline void orders_main(void) {}
+static inline void orders_begins_call(int main) { (void)main; }
+static inline void orders_left(void) {}
+static inline void orders_forget(void) {}
 static inline void orders_detached(int thread) { (void)thread; }
 static inline void orders_reads(const void *from, unsigned size) { (void)from, (void)size; }
 static inline void orders_writes(void *to, unsigned size) { (void)to, (void)size; }

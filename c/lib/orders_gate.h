@@ -202,6 +202,8 @@ static int over;                   /* a thread has failed: no more choices */
 
 __attribute__((import_module("wasi"), import_name("thread-spawn"))) int __wathread_spawn(int place);
 int __wathread_most(void);
+int __wathread_later(void);
+#define spawn_at(place) __wathread_spawn((place) + __wathread_later())
 
 /* As with the gate, nothing of it is left in the frame. */
 static __attribute__((noinline)) int makes_choices(int thread) {
@@ -237,7 +239,7 @@ static void tell_helper(u32 what) {
 /* A bit that may come either way. */
 static int draw(void) {
     if (!helper)
-        helper = __wathread_spawn(0);
+        helper = spawn_at(0);
     tell_helper(ASKED);
     return atomic_exchange(&dice[helper], IDLE) == YES;
 }

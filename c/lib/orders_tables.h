@@ -60,10 +60,10 @@ static struct {
     view acquirable[THREADS], released[THREADS]; /* by its next acquire fence; since its last release fence */
     view psc;                                  /* positions alone: where sequentially consistent ones have come to */
     view reads[THREADS];                       /* how often a thread read the oldest message it may: above its position */
-    struct { u32 at, size; } freed[FREED];
 #if ORDERS_C11_SEQUENCES
     view sequences[THREADS][PLACES];           /* what a thread's later stores to a place release */
 #endif
+    struct { u32 at, size; } freed[FREED];
 } orders;
 enum { LAST = 0xFFFF };
 

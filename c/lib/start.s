@@ -27,6 +27,12 @@ thread_limit:
 	.globaltype	thread_number, i32
 	.globl	thread_number
 thread_number:
+	.globaltype	thread_values, i32
+	.globl	thread_values
+thread_values:
+	.globaltype	program_constructs, i32
+	.globl	program_constructs
+program_constructs:
 	.globaltype	program_fences, i32
 	.globl	program_fences
 program_fences:
@@ -36,12 +42,21 @@ constants_first:
 	.globaltype	constants_size, i32
 	.globl	constants_size
 constants_size:
+	.globaltype	thread_owner, i32
+thread_owner:
+	.globaltype	thread_later, i32
+thread_later:
+	.globaltype	thread_came, i32
+thread_came:
+	.globaltype	thread_lists, i32
+thread_lists:
 	.globaltype	thread_leaves, i32
 thread_leaves:
 	.globaltype	thread_result, i32
 thread_result:
 	.functype	__wathread_begin (i32, i32) -> ()
 	.functype	__wathread_traps () -> ()
+	.functype	__wathread_values_anew () -> ()
 
 	.section	.text.wasi_thread_start,"",@
 	.globl	wasi_thread_start
@@ -51,6 +66,8 @@ wasi_thread_start:
 	.functype	wasi_thread_start (i32, i32) -> ()
 	local.get	0
 	global.set	thread_number
+	local.get	0
+	global.set	thread_owner
 	global.get	thread_first
 	local.get	0
 	global.get	thread_size
@@ -65,6 +82,26 @@ wasi_thread_start:
 	global.get	thread_stack
 	i32.sub
 	global.set	thread_limit
+	local.get	1
+	i32.const	128
+	i32.ge_s
+	if
+	local.get	1
+	local.get	1
+	i32.extend8_s
+	i32.sub
+	global.set	thread_later
+	local.get	1
+	i32.extend8_s
+	local.set	1
+	global.get	thread_later
+	i32.const	2
+	i32.shr_u
+	local.get	0
+	i32.or
+	global.set	thread_owner
+	call	__wathread_values_anew
+	end_if
 	local.get	0
 	local.get	1
 	call	__wathread_begin
@@ -113,6 +150,75 @@ __wathread_values_size:
 __wathread_stack:
 	.functype	__wathread_stack () -> (i32)
 	global.get	thread_stack
+	end_function
+
+# The first values of thread-local data, where these aren't all zero: they are kept for the calls that come later (calls.c).
+	.section	.text.__wathread_first_values,"",@
+	.globl	__wathread_first_values
+	.type	__wathread_first_values,@function
+__wathread_first_values:
+	.functype	__wathread_first_values () -> (i32)
+	global.get	thread_values
+	end_function
+
+# In a later call its number, 256 times, which is added to what a thread is started with, and what a mutex has of its owner:
+# the thread's number, and above it that of a later call, but for thread 0.
+	.section	.text.__wathread_later,"",@
+	.globl	__wathread_later
+	.type	__wathread_later,@function
+__wathread_later:
+	.functype	__wathread_later () -> (i32)
+	global.get	thread_later
+	end_function
+
+	.section	.text.__wathread_set_later,"",@
+	.globl	__wathread_set_later
+	.type	__wathread_set_later,@function
+__wathread_set_later:
+	.functype	__wathread_set_later (i32) -> ()
+	local.get	0
+	global.set	thread_later
+	end_function
+
+	.section	.text.__wathread_owner,"",@
+	.globl	__wathread_owner
+	.type	__wathread_owner,@function
+__wathread_owner:
+	.functype	__wathread_owner () -> (i32)
+	global.get	thread_owner
+	end_function
+
+# Whether the thread has come here before.
+	.section	.text.__wathread_came,"",@
+	.globl	__wathread_came
+	.type	__wathread_came,@function
+__wathread_came:
+	.functype	__wathread_came () -> (i32)
+	global.get	thread_came
+	i32.const	1
+	global.set	thread_came
+	end_function
+
+# The lists that atexit and the like began in this call, as bits, before these more.
+	.section	.text.__wathread_lists,"",@
+	.globl	__wathread_lists
+	.type	__wathread_lists,@function
+__wathread_lists:
+	.functype	__wathread_lists (i32) -> (i32)
+	global.get	thread_lists
+	global.get	thread_lists
+	local.get	0
+	i32.or
+	global.set	thread_lists
+	end_function
+
+# Whether there is anything that __wasm_call_ctors calls.
+	.section	.text.__wathread_constructs,"",@
+	.globl	__wathread_constructs
+	.type	__wathread_constructs,@function
+__wathread_constructs:
+	.functype	__wathread_constructs () -> (i32)
+	global.get	program_constructs
 	end_function
 
 # A thread that leaves returns from all its functions, each of which looks whether it does (blocks.py): these make no event.

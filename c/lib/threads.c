@@ -12,6 +12,14 @@ void __wathread_leave(int result);
 char *__wathread_values(void);
 int __wathread_values_size(void);
 int __wathread_stack(void);
+char *__wathread_first_values(void);
+int __wathread_constructs(void);
+int __wathread_came(void);
+int __wathread_later(void);
+void __wathread_set_later(int later);
+int __wathread_owner(void);
+int __wathread_lists(int more);
+enum { NORMAL = 1, QUICK = 2, CLEANUPS = 4, KEYS = 8 };
 
 enum { MOST_THREADS = 64, MOST_THAT_STAY = MOST_THREADS / 4 };
 
@@ -21,9 +29,13 @@ enum { MAINS = MOST_THREADS };
 /* What a thread calls: the place in the table of functions, and in the two bits above what type is there. */
 enum type { POSIX, C11, OWN, TYPE_SHIFT = 30 };
 
-/* What the thread of the Nth start calls, in the upper half, and with which argument. */
+/* What the thread of the Nth start calls, in the upper half, and with which argument. The last one has a bit more where the
+   call isn't the first one over its memory (calls.c). */
 static uint64_t starts[MOST_THREADS];
 static _Atomic int last_start;
+enum { LATER = 1 << 30 };
+static int place_of(int start) { return start & (LATER - 1); }
+#define spawn_at(place) __wathread_spawn((place) + __wathread_later())
 
 /* By the numbers of threads: 0 as long as a thread runs, and then 1 in the upper half and its result in the lower; 2 in the
    upper half where it stayed, and went. */
@@ -74,26 +86,14 @@ static void call_at_end(void) {
 #ifdef SPURIOUS
 static void change_luck(int unused);
 #endif
-
-/* A host may call main again over the same memory: what is noted of the threads before is forgotten. Nobody else is
-   there, so these are plain accesses. */
-static void forget_threads(void) {
-    int *last = (int *)&last_start;
-    uint64_t *ended = (uint64_t *)ends;
-    if (!*last)
-        return;
-    *last = 0;
-    joined = 0;
-    for (int i = 0; i < MOST_THREADS; i++)
-        ended[i] = RUNS;
-}
+static void begin_call(int main); /* calls.c */
 
 /* The program's `main`, behind its constructors: where nothing calls these, wasm-ld makes each export do so, that of the
    threads too. */
 EXPORT("main") int __wathread_main(void) {
     static char *none;
-    forget_threads();
-    main_begins();
+    __wathread_came();
+    begin_call(1);
     __wasm_call_ctors();
 #ifdef SPURIOUS
     orders_detached(thread_spawn(change_luck, 0));
@@ -114,7 +114,7 @@ EXPORT("main") int __wathread_main(void) {
 
 static int start(enum type type, void *function, void *arg) {
     orders_start_begins();
-    int place = ++last_start, made = -1;
+    int place = place_of(++last_start), made = -1;
     if (place <= __wathread_most()) {
         starts[place] = (uint64_t)((uint32_t)type << TYPE_SHIFT | (uint32_t)function) << 32 | (uint32_t)arg;
         made = orders_spawn(place);
@@ -160,7 +160,7 @@ static __attribute__((noinline)) uint64_t stay(int thread, const char *values) {
 }
 
 static int start(enum type type, void *function, void *arg) {
-    int place = ++last_start;
+    int place = place_of(++last_start);
     uint64_t word = (uint64_t)((uint32_t)type << TYPE_SHIFT | (uint32_t)function) << 32 | (uint32_t)arg;
     if (place > __wathread_most())
         return start_anew(word);
@@ -332,7 +332,8 @@ static int set_cancel(int *now, int to, int *before) {
 int pthread_setcancelstate(int state, int *before) { return set_cancel(&cancel_state, state, before); }
 int pthread_setcanceltype(int type, int *before) { return set_cancel(&cancel_type, type, before); }
 
-/* ---- Keys: thread-local data. A number comes once, so that a new key is null in all threads ---- */
+/* ---- Keys: thread-local data. A number comes once, so that a new key is null in all threads. In a later call those come
+   again that were deleted in one before, as far as none behind them is there ---- */
 
 enum { NEAR_KEYS = 32 };
 
@@ -340,15 +341,35 @@ enum { NEAR_KEYS = 32 };
    on each stack. */
 static _Thread_local void *values[NEAR_KEYS], **far_values[PTHREAD_KEYS_MAX / NEAR_KEYS - 1];
 static _Thread_local int values_end; /* behind the last one that the thread has put there */
-static void (*_Atomic destructors[PTHREAD_KEYS_MAX])(void *);
-static _Atomic int keys;
+static _Atomic int destructors[PTHREAD_KEYS_MAX], keys;
+#define DELETED (~(__wathread_later() >> 8)) /* in place of a destructor: in which call that was */
+
+static void **value_of(int key);
+
+/* Nobody else has a value there. */
+static void take_keys_back(void) {
+    if (thread_self() || !__wathread_later() || __wathread_lists(KEYS) & KEYS)
+        return;
+    for (int many = keys; many;) {
+        int last = many - 1, is_there = last < PTHREAD_KEYS_MAX;
+        if (is_there && (destructors[last] >= 0 || destructors[last] == DELETED))
+            return;
+        if (is_there && value_of(last))
+            *value_of(last) = 0;
+        if (is_there)
+            destructors[last] = 0;
+        if (atomic_compare_exchange_strong(&keys, &many, last))
+            many = last;
+    }
+}
 
 int pthread_key_create(pthread_key_t *key, void (*destructor)(void *)) {
+    take_keys_back();
     int made = keys++;
     if (made >= PTHREAD_KEYS_MAX)
         return EAGAIN;
     if (destructor)
-        destructors[made] = destructor;
+        destructors[made] = (int)destructor;
     *key = made;
     return 0;
 }
@@ -356,7 +377,7 @@ int pthread_key_create(pthread_key_t *key, void (*destructor)(void *)) {
 int pthread_key_delete(pthread_key_t key) {
     if ((unsigned)key >= PTHREAD_KEYS_MAX)
         return EINVAL;
-    destructors[key] = (void (*)(void *))0;
+    destructors[key] = DELETED;
     return 0;
 }
 
@@ -372,12 +393,13 @@ static void call_destructors(void) {
     for (int round = 0, any = 1; any && round < PTHREAD_DESTRUCTOR_ITERATIONS; round++) {
         any = 0;
         for (int key = 0; key < values_end; key++) {
-            void **at = value_of(key), *value = at ? *at : 0, (*destructor)(void *) = value ? destructors[key] : 0;
+            void **at = value_of(key), *value = at ? *at : 0;
+            int destructor = value ? destructors[key] : 0;
             if (at)
                 *at = 0;
-            if (destructor) {
+            if (destructor > 0) {
                 any = 1;
-                destructor(value);
+                ((void (*)(void *))destructor)(value);
             }
         }
     }
@@ -415,8 +437,13 @@ void *pthread_getspecific(pthread_key_t key) {
 
 _Thread_local struct wathread_cleanup *wathread_cleanups;
 
+/* What main's thread has to clean up is of this call, as the lists of atexit are (below). */
+static int cleans_up(int more) { return thread_self() || __wathread_lists(more) & CLEANUPS; }
+
+struct wathread_cleanup *__wathread_before_cleanup(void) { return cleans_up(CLEANUPS) ? wathread_cleanups : 0; }
+
 static void leave(uint32_t result) {
-    while (wathread_cleanups) {
+    while (cleans_up(0) && wathread_cleanups) {
         struct wathread_cleanup *last = wathread_cleanups;
         wathread_cleanups = last->before;
         last->function(last->arg);
@@ -437,14 +464,14 @@ static void wait_for_all(void) {
     int most = __wathread_most(), rounds = 0;
     do {
         int before = last_start;
-        for (int thread = 1; thread <= last_start && thread <= most; thread++)
+        for (int thread = 1; thread <= place_of(last_start) && thread <= most; thread++)
             result_of(thread);
         rounds = last_start == before ? rounds + 1 : 0;
-    } while (last_start > most && rounds < 2);
+    } while (place_of(last_start) > most && rounds < 2);
 }
 
 static void end_main(void) {
-    if (last_start) {
+    if (place_of(last_start)) {
         ends[0] = (uint64_t)ENDED << 32 | mains_result;
         notify_all(&ends[0]);
     }
@@ -490,17 +517,27 @@ static struct at_exit normal, quick;
 static __attribute__((noinline)) _Noreturn void exit_with_success(void) { __builtin_trap(); }
 static __attribute__((noinline)) _Noreturn void exit_with_failure(void) { __builtin_trap(); }
 
+/* A list is of the call that began it: what one before left there isn't called any more. */
+static int is_begun(struct at_exit *list, int begins) {
+    int bit = list == &normal ? NORMAL : QUICK;
+    return thread_self() || __wathread_lists(begins ? bit : 0) & bit;
+}
+
 /* Only main's: so these words are one thread's, and no order is in them. */
 static int add_at_exit(struct at_exit *list, void (*function)(void *), void *arg) {
-    if (thread_self() || list->count == MOST_AT_EXIT)
+    if (thread_self())
         return -1;
-    list->calls[list->count].function = function;
-    list->calls[list->count++].arg = arg;
+    int count = is_begun(list, 1) ? list->count : 0;
+    if (count == MOST_AT_EXIT)
+        return -1;
+    list->calls[count].function = function;
+    list->calls[count].arg = arg;
+    list->count = count + 1;
     return 0;
 }
 
 static void call_at_exit(struct at_exit *list) {
-    while (list->count) {
+    while (is_begun(list, 0) && list->count) {
         int last = --list->count;
         list->calls[last].function(list->calls[last].arg);
     }

@@ -45,6 +45,7 @@
 #include "numbers.c"
 #include "text.c"
 #include "choices.c"
+#include "calls.c"
 #ifdef ORDERS
 #pragma clang attribute pop
 #endif
