@@ -6,9 +6,10 @@
 enum { MOST_CALLS = 1 << 20, CALL_SHIFT = 8 };
 static int later_calls;
 
-static void forget_threads(void) {
+/* Where so many were started, and the helper (choices.c). */
+static void forget_threads(int many) {
     uint64_t *ended = (uint64_t *)ends;
-    for (int thread = 0; thread < MOST_THREADS; thread++)
+    for (int thread = 0; thread < MOST_THREADS && thread <= many + 1; thread++)
         ended[thread] = RUNS;
     joined = 0;
     at_its_end = behind_its_end = at_programs_end = 0;
@@ -26,7 +27,7 @@ static void begin_call(int main) {
         later_calls = later_calls % MOST_CALLS + 1;
         __wathread_set_later(later_calls << CALL_SHIFT);
         if (place_of(before))
-            forget_threads();
+            forget_threads(place_of(before));
         orders_forget();
     }
     call_begins(main);

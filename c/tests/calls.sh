@@ -1,11 +1,12 @@
 #!/bin/bash
-# tests/calls.sh [WATHREAD]: a plug-in with state is called 200 times, each time over the memory that the call before left, by
+# tests/calls.sh [WATHREAD [BUG]]: a plug-in with state is called 200 times, each time over the memory that the call before left, by
 # a function of its own and by main, at -O0 to -O2 and with --orders c11; then calls over what one left that was stopped in
 # the middle; then all orders of such a call. Then bugs, planted in the library, which have to be found. CC names the clang,
-# CALLS=20 has fewer calls, and BUGS=no plants none.
+# CALLS=20 has fewer calls, BUGS=no plants none, and BUG is the only one that is tried.
 set -u
 here=$(cd "$(dirname "$0")/.." && pwd)
 wathread=${1:-$here/../wathread}
+only=${2-}
 work=$(mktemp -d)
 trap 'rm -rf "$work"' EXIT
 m=$work/m.wasm wrong=0 tried=0 memory=locked
@@ -20,6 +21,7 @@ build() { # folder, words of wathread-cc
     rm -f "$m"
     "$1/wathread-cc" --threads 4 --pool 65536 --orders sc "${@:2}" "$here/tests/calls.c" -o "$m" 2>"$work/err" || say build
     ! [ -s "$work/err" ] || say "$(head -n 1 "$work/err")"
+    [ -e "$m" ]
 }
 
 anew() { rm -f "$work/memory"; } # the next call is a first one
@@ -46,37 +48,6 @@ calls() { # function, how many, how much each adds
     done
 }
 
-# The module with a data segment more, which is the memory that was left: a search takes no --memory-in.
-over() {
-    python3 - "$here/lib" "$m" "$work/memory" "$work/over.wasm" <<'END_OF_PYTHON'
-import sys
-sys.dont_write_bytecode = True
-sys.path.insert(0, sys.argv[1])
-from binary import Reader, constant, number, text
-with open(sys.argv[2], 'rb') as module, open(sys.argv[3], 'rb') as left:
-    data, memory = module.read(), left.read()
-pieces = [(at, memory[at:at + 256]) for at in range(0, len(memory), 256)]
-out, reader = bytearray(data[:8]), Reader(data, 8)
-while reader.more():
-    kind, body = reader.byte(), reader.bytes()
-    if kind == 11:
-        inner = Reader(body)
-        count = inner.number()
-        kept = {}
-        segments = bytes(body[inner.at:])
-        opening = bytearray(len(memory))
-        for _ in range(count):
-            inner.byte()
-            at, content = inner.constant(), inner.bytes()
-            opening[at:at + len(content)] = content
-        more = [(at, piece) for at, piece in pieces if piece != opening[at:at + len(piece)]]
-        body = number(count + len(more)) + segments + b''.join(b'\0' + constant(at) + text(piece) for at, piece in more)
-    out += bytes([kind]) + text(bytes(body))
-with open(sys.argv[4], 'wb') as file:
-    file.write(out)
-END_OF_PYTHON
-}
-
 # All that `orders` answers, by what a search says, as `0 1 11`, and behind it `all` where all is well.
 answers() { # module
     "$wathread" search "$1" --invoke orders --all --states 100000 >"$work/out" 2>/dev/null
@@ -87,17 +58,17 @@ answers() { # module
 
 later_orders() { # what is right
     local got
-    over && got=$(answers "$work/over.wasm")
+    "$here/wathread-over" "$m" "$work/memory" "$work/over.wasm" && got=$(answers "$work/over.wasm")
     [ "$got" = "$1" ] || say "in all orders of a later call '$got' and not '$1'"
 }
 
 # With --orders c11: which tables of the simulation are there still in a later call, where one before was stopped anywhere.
 tables() { # words of wathread-cc
-    local limit left
+    local limit left kinds=('call 0' leave orders)
     build "$@" "-Wl,-Map=$work/map"
-    for limit in $(seq 300 197 ${TABLES-6000}); do
+    for limit in $(seq 300 131 ${TABLES-6000}); do
         anew
-        call $([ $((limit % 2)) = 0 ] && echo call 0 || echo leave) --limit $limit
+        call ${kinds[limit % 3]} --limit $limit
         memory=words
         wants 0 'thread 0: ok i32:0' cleaned
         memory=locked
@@ -155,20 +126,21 @@ middles() { # what all orders of `orders` answer
 }
 
 try() { # how much each call adds, what all orders answer, words
+    [ -z "$only" ] || return
     each=$1
     build "$here" "${@:3}"
+    memory=words                                        # where the simulation's turns fill no record
     calls call "${CALLS-200}" $each
     calls main "${CALLS-200}" $each
-    memory=words
-    calls call $((${CALLS-200} / 10)) $each
     memory=locked
+    [ $each = 3 ] || calls call $((${CALLS-200} / 4)) $each
     [ "$(answers "$m")" = "$2" ] || say "$(answers "$m")"
     middles "$2"
 }
 
 planted() { # what, an edit by sed, a file, what to do, words
     local before=$wrong
-    [ "${BUGS-}" != no ] || return
+    [ "${BUGS-}" != no ] && [ "${only:-$1}" = "$1" ] || return
     rm -rf "$work/c"
     mkdir "$work/c"
     cp -R "$here/wathread-cc" "$here/wathread-link" "$here/include" "$here/lib" "$work/c"
@@ -184,13 +156,12 @@ planted() { # what, an edit by sed, a file, what to do, words
 for level in ${LEVELS-0 1 2}; do
     try 9 '0 1 11 all' -O$level
 done
-each=9
-build "$here" -O1 --reuse --pool 1024
-calls call "${CALLS-200}" 9
-[ "${ORDERS-}" = no ] || { try 3 '0 1 10 11 all' -O1 --orders c11 -DC11 && tables "$here" -O1 --orders c11 -DC11; }
+[ -n "$only" ] || { build "$here" -O1 --reuse --pool 1024 && calls call "${CALLS-200}" 9; }
+[ "${ORDERS-}" = no ] || try 3 '0 1 10 11 all' -O1 --orders c11 -DC11
+[ -n "${ORDERS-}$only" ] || tables "$here" -O1 --orders c11 -DC11
 
 each=9
-planted 'threads of a call before are there' '/^            forget_threads\(\);/d' lib/calls.c 'calls call 3 9' -O1
+planted 'threads of a call before are there' '/^            forget_threads\(/s/forget.*/;/' lib/calls.c 'calls call 3 9' -O1
 planted 'a thread has what one before left' '/^	call	__wathread_values_anew/d' lib/start.s 'calls call 3 9' -O1
 planted 'all values are zero at first' 's/^    if \(first\)/    if (0)/' lib/calls.c 'calls call 3 9' -O1
 planted 'what atexit was given is of all calls' 's/^    int count = is_begun\(list, 1\).*/    is_begun(list, 1);\n    int count = list->count;/' \
@@ -211,11 +182,18 @@ if [ "${ORDERS-}" != no ]; then
     planted 'the gate stays shut' 's/^    gate = running/    running/' lib/orders.c "middles '0 1 10 11 all'" $c11
     planted 'the helper is one that is gone' 's/^    simulates = helper = /    simulates = /' lib/orders.c \
         "middles '0 1 10 11 all'" $c11
-    planted 'the helper has chosen' '/^        dice\[thread\] = IDLE;/d' lib/orders.c "middles '0 1 10 11 all'" $c11
+    planted 'the helper has chosen' '/^        dice\[thread\] = IDLE;/d' lib/orders.c 'tables "$work/c" $c11' $c11
     planted 'who waits is there' 's/^        joiner\[t\] = queue\[t\] = 0;//' lib/orders.c 'tables "$work/c" $c11' $c11
     planted 'who returns without a join keeps others out' 's/orders_left\(\)/(void)0/' lib/calls.c \
         "middles '0 1 10 11 all'" $c11
 fi
+
+words=wathread-over
+build "$here" -O1 && cp "$m" "$work/module.wasm"
+head -c 65536 /dev/zero >"$work/memory"
+"$here/wathread-over" "$m" "$work/memory" "$m" 2>"$work/err" && say 'not refused: a memory of another size'
+grep -q '131072 bytes of memory at first, and MEMORY 65536' "$work/err" || say "$(cat "$work/err")"
+cmp -s "$m" "$work/module.wasm" || say 'what is refused is written'
 
 echo "$tried modules, $wrong wrong"
 [ $wrong = 0 ]
