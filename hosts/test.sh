@@ -58,8 +58,19 @@ test_shared() {
 
 test_c() {
     has "$CC" || return 77
-    $CC -O2 -Wall -Wextra -Werror -pthread -I "$place/include" "$top/hosts/c/keep_run.c" "$place/lib/libwathread.a" \
-        -o "$room/keep_c" && run_example "$room/keep_c"
+    local it
+    for it in keep_run keep_memory; do
+        $CC -O2 -Wall -Wextra -Werror -pthread -I "$place/include" "$top/hosts/c/$it.c" "$place/lib/libwathread.a" \
+            -o "$room/$it" || return
+    done
+    run_example "$room/keep_run" || return
+    "$room/keep_memory" "$top/examples/atomic_add.wasm" f >"$room/said" || return
+    diff - "$room/said" <<'END'
+call 1: kind 2, value 0
+call 2: kind 2, value 5
+call 3: kind 2, value 10
+made again: the same memory, {"status":0,"threads":[{"thread":0,"outcome":{"ok":{"i32":10}},"spent":4}],"pages":1}
+END
 }
 
 test_pkgconfig() {

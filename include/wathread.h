@@ -114,9 +114,9 @@ uint32_t wathread_search(const uint8_t *module, size_t module_len, const uint8_t
                          uint8_t *text, size_t text_len, struct wathread_answer *answer);
 
 /* A module that stays, and an instance of one. Each is a place of the host's, which has to be all zero at first, that is
- * closed, and is opened and closed by the calls below alone; in between the host neither changes nor copies it. A handle
- * is passed to one call at a time, and may go from one thread to another. What it holds is freed where it is closed, and
- * where it is opened again. */
+ * closed, and is opened and closed by the calls below alone; in between the host changes nothing in it, and may move it,
+ * of two copies using one. A handle is passed to one call at a time, and may go from one thread to another. What it holds
+ * is freed where it is closed, and where it is opened again. */
 struct wathread_module {
     void *at;
     uint32_t is_open;           /* 1 where it is open */

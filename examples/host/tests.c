@@ -69,6 +69,122 @@ static int says(const char *words)
     return strstr((const char *)text, words) != NULL;
 }
 
+static struct wathread_module module;
+static struct wathread_instance first, second;
+
+static uint32_t open_module(struct file m, size_t room)
+{
+    return wathread_module_open(m.bytes, m.len, &module, text, room, &answer);
+}
+
+static uint32_t call(struct wathread_instance *it, const char *name, const struct wathread_options *options, size_t room)
+{
+    return wathread_call(it, (const uint8_t *)name, strlen(name), NULL, 0, options, record, room, &answer);
+}
+
+static uint32_t replay_over(struct wathread_instance *it, size_t len, size_t room)
+{
+    return wathread_instance_replay(it, record, len, text, room, &answer);
+}
+
+static uint32_t search_over(struct wathread_instance *it, const char *name, size_t room)
+{
+    return wathread_instance_search(it, (const uint8_t *)name, strlen(name), NULL, 0, &plain, text, room, &answer);
+}
+
+static int first_byte(struct wathread_instance *it)
+{
+    uint8_t byte = 0xff;
+    return wathread_instance_read(it, 0, &byte, 1) == 0 ? byte : -1;
+}
+
+static void try_closed(void)
+{
+    WANT(wathread_instance_open(&module, &first) == 3 && !first.is_open);
+    struct wathread_module shared = WATHREAD_CLOSED;
+    WANT(wathread_module_share(&module, &shared) == 3 && !shared.is_open);
+    WANT(wathread_instance_pages(&first) == 0 && wathread_instance_read(&first, 0, NULL, 0) == 3);
+    WANT(wathread_instance_write(&first, 0, NULL, 0) == 3 && wathread_instance_set(&first, NULL, 0) == 3);
+    WANT(call(&first, "f", &plain, 0) == 3 && answer.kind == WATHREAD_NONE && answer.bytes == 0);
+    WANT(replay_over(&first, 0, sizeof text) == 3 && search_over(&first, "f", sizeof text) == 3 && answer.text == 0);
+    wathread_instance_free(&first);
+    wathread_module_free(&module);
+}
+
+static void try_memory(struct wathread_instance *it)
+{
+    uint8_t two[2] = {'x', 'x'};
+    WANT(wathread_instance_pages(it) == 1);
+    WANT(wathread_instance_read(it, 65535, two, 2) == 3 && two[0] == 'x' && two[1] == 'x');
+    WANT(wathread_instance_read(it, UINT32_MAX, two, 2) == 3 && wathread_instance_read(it, 0, two, 0) == 0);
+    WANT(wathread_instance_read(it, 65536, NULL, 0) == 0 && wathread_instance_read(it, 65537, NULL, 0) == 3);
+    two[0] = 1, two[1] = 2;
+    WANT(wathread_instance_write(it, 65535, two, 2) == 3 && wathread_instance_write(it, 65534, two, 2) == 0);
+    two[0] = two[1] = 0;
+    WANT(wathread_instance_read(it, 65534, two, 2) == 0 && two[0] == 1 && two[1] == 2);
+    WANT(wathread_instance_write(it, UINT32_MAX, two, 1) == 3 && wathread_instance_write(it, 0, NULL, 0) == 0);
+    WANT(wathread_instance_set(it, memory, 65535) == 3 && wathread_instance_set(it, NULL, 0) == 3);
+    WANT(wathread_instance_set(it, memory, 1 << 24) == 3 && wathread_instance_pages(it) == 1);
+}
+
+static void try_instances(struct file add, struct file lock)
+{
+    try_closed();
+    struct file cut = {add.bytes, 5};
+    WANT(open_module(cut, sizeof text) == 2 && !module.is_open && says("\"stage\":\"read\""));
+    WANT(open_module(add, 0) == 0 && module.is_open && answer.text > 0);
+    WANT(open_module(add, sizeof text) == 0 && says("{\"status\":0,\"functions\":1}"));
+    WANT(wathread_instance_open(&module, &first) == 0 && wathread_instance_open(&module, &first) == 0);
+    struct wathread_module shared = WATHREAD_CLOSED;
+    WANT(wathread_module_share(&module, &shared) == 0 && shared.is_open);
+    wathread_module_free(&module);
+    WANT(wathread_instance_open(&shared, &second) == 0);
+    wathread_module_free(&shared);
+    WANT(!module.is_open && !shared.is_open);
+
+    WANT(call(&first, "f", &plain, 0) == 0 && answer.value == 0 && first_byte(&first) == 5);
+    size_t len = answer.bytes;
+    WANT(call(&first, "f", &plain, 1) == 0 && answer.value == 5 && answer.bytes == len && first_byte(&first) == 5);
+    WANT(call(&first, "f", &plain, len - 1) == 0 && answer.value == 5 && first_byte(&first) == 5);
+    WANT(wathread_instance_read(&first, 0, memory, 65536) == 0);
+    WANT(call(&first, "f", &plain, len) == 0 && answer.value == 5 && first_byte(&first) == 10);
+
+    WANT(replay_over(&second, len, sizeof text) == 4 && says("\"stage\":\"replay\"") && first_byte(&second) == 0);
+    WANT(replay_over(&second, len - 1, sizeof text) == 4 && says("\"stage\":\"record\"") && first_byte(&second) == 0);
+    WANT(wathread_instance_set(&second, memory, 65536) == 0 && first_byte(&second) == 5);
+    WANT(replay_over(&second, len, 1) == 0 && answer.text > 1 && first_byte(&second) == 5);
+    WANT(replay_over(&second, len, sizeof text) == 0 && says("{\"ok\":{\"i32\":5}}") && first_byte(&second) == 10);
+    WANT(replay_over(&second, len, sizeof text) == 4 && first_byte(&second) == 10);
+    WANT(wathread_instance_set(&second, memory, 65536) == 0 && replay_over(&second, len, 0) == 0);
+    WANT(first_byte(&second) == 10);
+
+    WANT(search_over(&first, "f", sizeof text) == 0 && says("\"verdict\":\"all\"") && says("{\"ok\":{\"i32\":10}}"));
+    WANT(search_over(&first, "\xff", sizeof text) == 3 && says("unknown export") && first_byte(&first) == 10);
+    WANT(call(&first, "g", &plain, sizeof record) == 3 && call(&first, "\xff\xfe", &plain, sizeof record) == 3);
+    struct wathread_options o = plain;
+    o.limit = 0;
+    WANT(call(&first, "f", &o, sizeof record) == 3 && first_byte(&first) == 10);
+    o = plain, o.fuel = 2;
+    WANT(call(&first, "f", &o, sizeof record) == 1 && answer.kind == WATHREAD_STOP && first_byte(&first) == 10);
+    try_memory(&second);
+    wathread_instance_free(&first);
+    wathread_instance_free(&first);
+    wathread_instance_free(&second);
+
+    WANT(open_module(lock, sizeof text) == 0 && wathread_instance_open(&module, &first) == 0);
+    for (o = plain; o.run <= 40; o.run++) {
+        WANT(wathread_instance_open(&module, &first) == 0);
+        uint32_t status = run(lock, "main", NULL, 0, &o, sizeof record);
+        struct wathread_answer alone = answer;
+        memcpy(other, record, alone.bytes);
+        WANT(call(&first, "main", &o, sizeof record) == status && answer.value == alone.value);
+        WANT(answer.bytes == alone.bytes && !memcmp(other, record, alone.bytes));
+        WANT(call(&first, "main", &o, 0) <= 1);
+    }
+    wathread_module_free(&module);
+    wathread_instance_free(&first);
+}
+
 int main(int argc, char **argv)
 {
     const char *at = argc > 1 ? argv[1] : "examples";
@@ -157,6 +273,10 @@ int main(int argc, char **argv)
     o = plain, o.states = 10;
     WANT(wathread_search(peterson.bytes, peterson.len, (const uint8_t *)"f", 1, &one, 1, &o, text, sizeof text,
                          &answer) == 1 && !says("\"verdict\":\"all\""));
+    WANT(wathread_check(NULL, 0, NULL, 0, &answer) == 2 && answer.text > 0);
+    WANT(wathread_run(add.bytes, add.len, NULL, 0, NULL, 0, &plain, NULL, 0, &answer) == 3);
+    WANT(wathread_replay(add.bytes, add.len, NULL, 0, NULL, 0, NULL, 0, &answer) == 4);
+    try_instances(add, lock);
     printf("%d tried, %d wrong\n", tried, wrong);
     return wrong != 0;
 }

@@ -111,6 +111,37 @@ void try_refusals(const wathread::Bytes &add, const wathread::Bytes &lock)
     want(damaged && damaged->status() == Status::no_record, "a record that is cut is refused");
 }
 
+void try_instances(const wathread::Bytes &add)
+{
+    using namespace wathread;
+    std::optional<Module> module(add);
+    Instance counter = module->instance(), other(*module);
+    Module shared = module->share();
+    module.reset();
+    want(counter.call("f").end.value == std::optional<std::uint64_t>(0), "a counter begins with 0");
+    const Bytes before = counter.memory();
+    const Run second = counter.call("f");
+    want(second.end.value == std::optional<std::uint64_t>(5) && !second.record.empty(), "the memory stays");
+    want(counter.pages() == 1 && counter.read(0, 1) == Bytes{10}, "it is read");
+    want(has(counter.search("f").object, "{\"ok\":{\"i32\":10}}") && counter.read(0, 1) == Bytes{10},
+         "a search begins with it, and leaves it");
+    want(bool(refused<RecordRefused>([&] { other.replay(second.record); })), "a record of another memory is refused");
+    other.set_memory(before);
+    want(other.replay(second.record).status == Status::well && other.memory() == counter.memory(),
+         "a record over the memory that it began with leaves the same");
+    counter.write(0, std::string_view("\1\2", 2));
+    want(counter.call("f", {}, {}, false).end.value == std::optional<std::uint64_t>(513), "what is written is there");
+    want(bool(refused<OutOfBounds>([&] { counter.write(65535, "ab"); })), "nothing is written outside");
+    want(bool(refused<OutOfBounds>([&] { counter.read(65536, 1); })), "nor read");
+    want(bool(refused<OutOfBounds>([&] { counter.set_memory("ab"); })), "two bytes are no memory");
+    const auto unknown = refused<CallRefused>([&] { counter.call("g"); });
+    want(unknown && has(unknown->what(), "unknown export"), "a call is refused with its reason");
+    Instance moved = std::move(counter);
+    want(moved.call("f").end.value == std::optional<std::uint64_t>(518) && counter.pages() == 0, "an instance is moved");
+    want(shared.instance().call("f").end.value == std::optional<std::uint64_t>(0), "another begins anew");
+    want(bool(refused<ModuleRefused>([&] { Module none(View(add.data(), 5)); })), "a module that is cut isn't opened");
+}
+
 } // namespace
 
 int main(int argc, char **argv)
@@ -121,6 +152,7 @@ int main(int argc, char **argv)
     try_large(read(at + "/bugs/barrier.wasm"));
     try_search(read(at + "/search/peterson.wasm"));
     try_refusals(add, lock);
+    try_instances(add);
     std::cout << tried << " tried, " << wrong << " wrong\n";
     return wrong != 0;
 }

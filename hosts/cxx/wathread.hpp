@@ -1,5 +1,6 @@
-// wathread for hosts in C++17, over wathread.h, which says what the calls do: vectors in place of buffers, and
-// exceptions in place of the statuses of what is refused. Calls on several threads at once are independent.
+// wathread for hosts in C++17, over wathread.h, which says what the calls do: vectors in place of buffers, exceptions in
+// place of the statuses of what is refused, and classes in place of handles. Calls on several threads at once are
+// independent, where each has objects of its own.
 #ifndef WATHREAD_HPP
 #define WATHREAD_HPP
 
@@ -229,6 +230,15 @@ template <class Call> std::uint32_t with_text(std::string &object, Call call)
     return status;
 }
 
+// Throws where a handle wasn't opened: it was moved from, or memory was refused.
+inline void opened(std::uint32_t status)
+{
+    if (status == WATHREAD_FAILED)
+        throw std::bad_alloc();
+    if (status != WATHREAD_WELL)
+        throw std::logic_error("the module was moved from");
+}
+
 inline const Word *words_of(const Words &args) noexcept
 {
     static const Word none{0, 0};
@@ -275,6 +285,12 @@ inline Search search(View module, View name, const Words &args = {}, const Optio
 
 namespace detail {
 
+// Throws that a number of a run's options is out of its range.
+[[noreturn]] inline void refuse_range()
+{
+    throw CallRefused("{\"status\":3,\"refused\":{\"stage\":\"call\",\"fault\":\"fuel or limit out of range\"}}");
+}
+
 // Throws what a run was refused for, which has no text of its own.
 [[noreturn]] inline void refuse_run(std::uint32_t status, View module, View name, const Words &args)
 {
@@ -284,29 +300,23 @@ namespace detail {
     Options none;
     none.states = 0;
     search(module, name, args, none);
-    throw CallRefused("{\"status\":3,\"refused\":{\"stage\":\"call\",\"fault\":\"fuel or limit out of range\"}}");
+    refuse_range();
 }
 
-} // namespace detail
-
-// Makes the run of options.run by options.seed; its record is kept where with_record says so.
-inline Run run(View module, View name, const Words &args = {}, const Options &options = {}, bool with_record = true)
+// Makes a run, once more with more room for its record where that is wanted.
+template <class Call, class Refuse> Run made_by(bool with_record, Call call, Refuse refuse)
 {
     Run made;
-    Bytes record(with_record ? detail::first_record : 1);
+    Bytes record(with_record ? first_record : 1);
     wathread_answer answer{};
-    const wathread_options raw = options.raw();
-    const auto call = [&] {
-        return wathread_run(module.data(), module.size(), name.data(), name.size(), detail::words_of(args), args.size(),
-                            &raw, record.data(), with_record ? record.size() : 0, &answer);
-    };
-    std::uint32_t status = call();
+    const auto once = [&] { return call(record.data(), with_record ? record.size() : 0, answer); };
+    std::uint32_t status = once();
     while (with_record && status <= WATHREAD_ENDED && answer.bytes > record.size()) {
         record.resize(answer.bytes);
-        status = call();
+        status = once();
     }
     if (status > WATHREAD_ENDED)
-        detail::refuse_run(status, module, name, args);
+        refuse(status);
     record.resize(with_record ? answer.bytes : 0);
     made.status = static_cast<Status>(status);
     made.end.kind = static_cast<Kind>(answer.kind);
@@ -317,6 +327,21 @@ inline Run run(View module, View name, const Words &args = {}, const Options &op
     made.units = answer.units;
     made.record = std::move(record);
     return made;
+}
+
+} // namespace detail
+
+// Makes the run of options.run by options.seed; its record is kept where with_record says so.
+inline Run run(View module, View name, const Words &args = {}, const Options &options = {}, bool with_record = true)
+{
+    const wathread_options raw = options.raw();
+    return detail::made_by(
+        with_record,
+        [&](std::uint8_t *record, std::size_t room, wathread_answer &answer) {
+            return wathread_run(module.data(), module.size(), name.data(), name.size(), detail::words_of(args),
+                                args.size(), &raw, record, room, &answer);
+        },
+        [&](std::uint32_t status) { detail::refuse_run(status, module, name, args); });
 }
 
 // Makes the run of a record again; the memory's bytes are kept where with_memory says so.
@@ -338,6 +363,147 @@ inline Replay replay(View module, View record, bool with_memory = false)
         made.status = static_cast<Status>(detail::with_text(made.object, call));
     }
     made.memory.resize(with_memory ? bytes : 0);
+    return made;
+}
+
+// Bytes don't lie within an instance's memory, or can't be the whole of it.
+class OutOfBounds : public std::out_of_range {
+  public:
+    OutOfBounds() : std::out_of_range("out of the memory's bounds") {}
+};
+
+class Instance;
+
+// A module that stays: it is read and validated once. Another object of it is made by share, for another thread say.
+class Module {
+  public:
+    explicit Module(View bytes)
+    {
+        std::string object;
+        detail::with_text(object, [&](Bytes &text, wathread_answer &answer) {
+            return wathread_module_open(bytes.data(), bytes.size(), &raw_, text.data(), text.size(), &answer);
+        });
+    }
+    Module(Module &&other) noexcept : raw_(std::exchange(other.raw_, wathread_module{})) {}
+    Module &operator=(Module &&other) noexcept
+    {
+        std::swap(raw_, other.raw_);
+        return *this;
+    }
+    Module(const Module &) = delete;
+    Module &operator=(const Module &) = delete;
+    ~Module() { wathread_module_free(&raw_); }
+
+    Module share()
+    {
+        Module other;
+        detail::opened(wathread_module_share(&raw_, &other.raw_));
+        return other;
+    }
+    inline Instance instance();
+
+  private:
+    Module() = default;
+    wathread_module raw_{};
+};
+
+// A module with a memory that stays between calls; it has a share in the module.
+class Instance {
+  public:
+    explicit Instance(Module &module) : Instance(module.instance()) {}
+    Instance(Instance &&other) noexcept : raw_(std::exchange(other.raw_, wathread_instance{})) {}
+    Instance &operator=(Instance &&other) noexcept
+    {
+        std::swap(raw_, other.raw_);
+        return *this;
+    }
+    Instance(const Instance &) = delete;
+    Instance &operator=(const Instance &) = delete;
+    ~Instance() { wathread_instance_free(&raw_); }
+
+    // How many pages of 65,536 bytes the memory has.
+    std::uint32_t pages() { return wathread_instance_pages(&raw_); }
+
+    Bytes read(std::uint32_t address, std::size_t count)
+    {
+        Bytes bytes(count);
+        within(wathread_instance_read(&raw_, address, bytes.data(), bytes.size()));
+        return bytes;
+    }
+    void write(std::uint32_t address, View bytes)
+    {
+        within(wathread_instance_write(&raw_, address, bytes.data(), bytes.size()));
+    }
+
+    // The whole memory, and another in its place: as many whole pages as the module's memory can have.
+    Bytes memory() { return read(0, std::size_t{65536} * pages()); }
+    void set_memory(View bytes) { within(wathread_instance_set(&raw_, bytes.data(), bytes.size())); }
+
+    // Makes the run of options.run by options.seed that begins with this memory, which is then what the run left.
+    Run call(View name, const Words &args = {}, const Options &options = {}, bool with_record = true)
+    {
+        const wathread_options raw = options.raw();
+        return detail::made_by(
+            with_record,
+            [&](std::uint8_t *record, std::size_t room, wathread_answer &answer) {
+                return wathread_call(&raw_, name.data(), name.size(), detail::words_of(args), args.size(), &raw, record,
+                                     room, &answer);
+            },
+            [&](std::uint32_t status) { refuse(status, name, args); });
+    }
+
+    // Makes a call again by its record, which began with just this memory: that is then what the run left.
+    Replay replay(View record)
+    {
+        Replay made;
+        made.status = static_cast<Status>(detail::with_text(made.object, [&](Bytes &text, wathread_answer &answer) {
+            return wathread_instance_replay(&raw_, record.data(), record.size(), text.data(), text.size(), &answer);
+        }));
+        return made;
+    }
+
+    // Goes through every order of a call that begins with this memory, which stays.
+    Search search(View name, const Words &args = {}, const Options &options = {})
+    {
+        Search found;
+        const wathread_options raw = options.raw();
+        found.status = static_cast<Status>(detail::with_text(found.object, [&](Bytes &text, wathread_answer &answer) {
+            return wathread_instance_search(&raw_, name.data(), name.size(), detail::words_of(args), args.size(), &raw,
+                                            text.data(), text.size(), &answer);
+        }));
+        return found;
+    }
+
+  private:
+    friend class Module;
+    Instance() = default;
+
+    static void within(std::uint32_t status)
+    {
+        if (status == WATHREAD_FAILED)
+            throw std::bad_alloc();
+        if (status != WATHREAD_WELL)
+            throw OutOfBounds();
+    }
+
+    // Throws what a call was refused for, which has no text of its own.
+    [[noreturn]] void refuse(std::uint32_t status, View name, const Words &args)
+    {
+        if (status == WATHREAD_FAILED)
+            throw std::bad_alloc();
+        Options none;
+        none.states = 0;
+        search(name, args, none);
+        detail::refuse_range();
+    }
+
+    wathread_instance raw_{};
+};
+
+inline Instance Module::instance()
+{
+    Instance made;
+    detail::opened(wathread_instance_open(&raw_, &made.raw_));
     return made;
 }
 

@@ -240,26 +240,37 @@ func Check(module []byte) (json.RawMessage, error) {
 func Run(module []byte, name string, args []Word, options Options) (RunResult, error) {
 	raw, called := options.raw(), []byte(name)
 	first, count := words(args)
+	made, status := madeBy(options.DropRecord, func(record []byte, answer *C.struct_wathread_answer) C.uint32_t {
+		return C.wathread_run(start(module), C.size_t(len(module)), start(called), C.size_t(len(called)), first, count,
+			&raw, start(record), C.size_t(len(record)), answer)
+	})
+	if status > C.WATHREAD_ENDED {
+		return RunResult{}, runRefusal(status, module, name, args)
+	}
+	return made, nil
+}
+
+// madeBy makes a run, once more where its record wants more room, and gives its status.
+func madeBy(dropRecord bool, call func([]byte, *C.struct_wathread_answer) C.uint32_t) (RunResult, C.uint32_t) {
 	var record []byte
-	if !options.DropRecord {
+	if !dropRecord {
 		record = make([]byte, firstRecord)
 	}
 	for {
 		var answer C.struct_wathread_answer
-		status := C.wathread_run(start(module), C.size_t(len(module)), start(called), C.size_t(len(called)), first, count,
-			&raw, start(record), C.size_t(len(record)), &answer)
+		status := call(record, &answer)
 		if status > C.WATHREAD_ENDED {
-			return RunResult{}, runRefusal(status, module, name, args)
+			return RunResult{}, status
 		}
-		if !options.DropRecord && int(answer.bytes) > len(record) {
+		if !dropRecord && int(answer.bytes) > len(record) {
 			record = make([]byte, answer.bytes)
 			continue
 		}
-		if !options.DropRecord {
+		if !dropRecord {
 			record = record[:answer.bytes]
 		}
 		end := End{Kind(answer.kind), uint64(answer.value), uint32(answer.number)}
-		return RunResult{status == C.WATHREAD_WELL, end, uint64(answer.units), record}, nil
+		return RunResult{status == C.WATHREAD_WELL, end, uint64(answer.units), record}, status
 	}
 }
 
@@ -311,19 +322,8 @@ func Replay(module, record []byte, withMemory bool) (ReplayResult, error) {
 func Search(module []byte, name string, args []Word, options Options) (SearchResult, error) {
 	raw, called := options.raw(), []byte(name)
 	first, count := words(args)
-	isWell, object, err := withText(func(text []byte, answer *C.struct_wathread_answer) C.uint32_t {
+	return found(withText(func(text []byte, answer *C.struct_wathread_answer) C.uint32_t {
 		return C.wathread_search(start(module), C.size_t(len(module)), start(called), C.size_t(len(called)), first, count,
 			&raw, start(text), C.size_t(len(text)), answer)
-	})
-	if err != nil {
-		return SearchResult{}, err
-	}
-	found := SearchResult{IsWell: isWell, Object: object}
-	var it struct {
-		Verdict string
-		States  uint64
-	}
-	err = json.Unmarshal(object, &it)
-	found.Verdict, found.States = it.Verdict, it.States
-	return found, err
+	}))
 }

@@ -154,3 +154,80 @@ func TestAtOnce(t *testing.T) {
 	}
 	all.Wait()
 }
+
+func opened(t *testing.T, name string) *Instance {
+	t.Helper()
+	module, err := OpenModule(example(t, name))
+	if err != nil {
+		t.Fatal(err)
+	}
+	defer module.Close()
+	instance, err := module.Instance()
+	if err != nil {
+		t.Fatal(err)
+	}
+	return instance
+}
+
+func called(t *testing.T, instance *Instance) RunResult {
+	t.Helper()
+	run, err := instance.Call("f", nil, DefaultOptions())
+	if err != nil {
+		t.Fatal(err)
+	}
+	return run
+}
+
+func TestMemoryStays(t *testing.T) {
+	counter, other := opened(t, "atomic_add.wasm"), opened(t, "atomic_add.wasm")
+	if end := called(t, counter).End; end != (End{Kind: I32}) {
+		t.Error(end)
+	}
+	before, err := counter.Memory()
+	second := called(t, counter)
+	if err != nil || second.End != (End{Kind: I32, Value: 5}) || counter.Pages() != 1 {
+		t.Error(err, second)
+	}
+	if _, err := other.Replay(second.Record); err == nil {
+		t.Error("a record of another memory was replayed")
+	}
+	if err := other.SetMemory(before); err != nil {
+		t.Error(err)
+	}
+	again, err := other.Replay(second.Record)
+	if err != nil || !again.IsWell || !strings.Contains(string(again.Object), `"outcome":{"ok":{"i32":5}}`) {
+		t.Error(err, string(again.Object))
+	}
+	first, err := other.Read(0, 2)
+	if err != nil || !bytes.Equal(first, []byte{10, 0}) {
+		t.Error(err, first)
+	}
+	if err := counter.Write(0, []byte{1, 2}); err != nil || called(t, counter).End.Value != 513 {
+		t.Error(err)
+	}
+}
+
+func TestInstanceRefused(t *testing.T) {
+	counter := opened(t, "atomic_add.wasm")
+	_, read := counter.Read(65536, 1)
+	for _, err := range []error{read, counter.Write(65535, []byte{1, 2}), counter.SetMemory([]byte{1, 2})} {
+		if err != ErrOutOfBounds {
+			t.Error(err)
+		}
+	}
+	if _, err := counter.Call("g", nil, DefaultOptions()); err == nil || err.Error() != "call refused: unknown export" {
+		t.Error(err)
+	}
+	found, err := counter.Search("f", nil, DefaultOptions())
+	if err != nil || !found.IsWell || !found.IsComplete() {
+		t.Error(string(found.Object), err)
+	}
+	counter.Close()
+	counter.Close()
+	if _, err := counter.Call("f", nil, DefaultOptions()); err != ErrClosed {
+		t.Error(err)
+	}
+	if _, err := OpenModule(example(t, "atomic_add.wasm")[:5]); err == nil {
+		t.Error("a module that is cut was opened")
+	}
+}

@@ -173,7 +173,74 @@ def test_a_library_that_is_missing(tmp_path):
         assert said.stdout.startswith("libwathread.so.0 isn't there") and name in said.stdout, said.stderr
 
 
+def test_an_instance_keeps_its_memory(add):
+    with wathread.Module(add) as module:
+        counter, other = module.instance(), wathread.Instance(module)
+        assert module.functions == 1
+    assert counter.call("f").end.value == 0
+    before = counter.memory
+    second = counter.call("f")
+    assert second.end.value == 5 and counter.pages == 1 and counter.read(0, 2) == b"\x0a\0"
+    found = counter.search("f", dump=1)
+    assert found.is_complete and [it.memory for it in found.endings] == [b"\x0f"] and counter.read(0, 1) == b"\x0a"
+    with pytest.raises(wathread.RecordRefused):
+        other.replay(second.record)
+    other.memory = before
+    assert other.replay(second.record).ends == {0: second.end} and other.memory == counter.memory
+    counter.write(0, b"\x01\x02")
+    assert counter.call("f", keep_record=False).end.value == 513
+
+
+def test_an_instance_has_bounds(add):
+    counter = wathread.Module(add).instance()
+    for refuse in (
+        lambda: counter.read(65536, 1),
+        lambda: counter.read(-1, 1),
+        lambda: counter.write(65535, b"ab"),
+        lambda: setattr(counter, "memory", b"ab"),
+    ):
+        with pytest.raises(wathread.OutOfBounds):
+            refuse()
+    assert counter.read(65536, 0) == b"" and counter.memory == bytes(65536)
+    for refuse, words in (
+        (lambda: counter.call("g"), "unknown export"),
+        (lambda: counter.call("f", [1]), "wrong arguments"),
+        (lambda: counter.call("f", limit=0), "fuel or limit out of range"),
+        (lambda: counter.search("g"), "unknown export"),
+    ):
+        with pytest.raises(wathread.CallRefused, match=words):
+            refuse()
+    assert counter.call("f").end.value == 0
+
+
+def test_a_long_record_is_kept_with_its_call(barrier):
+    instance, other = (wathread.Module(barrier).instance() for _ in range(2))
+    run = instance.call("main")
+    assert len(run.record) > 1 << 16
+    assert other.replay(run.record).status == run.status and other.memory == instance.memory
+
+
+def test_handles_are_closed(add):
+    with pytest.raises(wathread.ModuleRefused):
+        wathread.Module(add[:5])
+    module = wathread.Module(add)
+    with module.instance() as instance:
+        assert instance.is_open
+    module.close()
+    module.close()
+    for closed in (lambda: instance.call("f"), lambda: instance.pages, module.instance):
+        with pytest.raises(ValueError):
+            closed()
+
+
+def test_instances_at_once(lock):
+    with wathread.Module(lock) as module, ThreadPoolExecutor(8) as pool:
+        ends = list(pool.map(lambda it: module.instance().call("main", seed=4, number=13).end, range(80)))
+    assert set(ends) == {END_OF_ONE}
+
+
 def test_the_structs_are_those_of_the_header():
     assert ctypes.sizeof(_library.Answer) == 40
     assert ctypes.sizeof(_library.RawWord) == 16
     assert ctypes.sizeof(_library.RawOptions) == 48
+    assert ctypes.sizeof(_library.Handle) == 16

@@ -7,10 +7,17 @@ ok i32:1
 >>> wathread.replay(module, run.record).ends[0] == run.end
 True
 
+A module may stay, and an instance's memory from one call to the next:
+
+>>> with wathread.Module(module) as kept, kept.instance() as instance:
+...     print(instance.call("main").end, instance.pages)
+ok i32:2 17
+
 The shared object is what WATHREAD_LIBRARY names, or else that beside this package, in the checkout's `lib`, in an
 installed prefix, or where the loader finds it.
 """
 from ._calls import check, replay, run, search
+from ._kept import Instance, Module
 from ._types import (
     Argument,
     CallRefused,
@@ -21,6 +28,7 @@ from ._types import (
     LibraryMissing,
     ModuleRefused,
     Object,
+    OutOfBounds,
     OutOfMemory,
     RecordRefused,
     Refused,
@@ -43,10 +51,13 @@ __all__ = [
     "Checked",
     "End",
     "Ending",
+    "Instance",
     "Kind",
     "LibraryMissing",
+    "Module",
     "ModuleRefused",
     "Object",
+    "OutOfBounds",
     "OutOfMemory",
     "RecordRefused",
     "Refused",

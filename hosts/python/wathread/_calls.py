@@ -49,12 +49,12 @@ class _Sizes(threading.local):
 _sizes = _Sizes()
 
 
-def _read(data: Bytes) -> Tuple[bytes, int]:
+def read_of(data: Bytes) -> Tuple[bytes, int]:
     data = bytes(data)
     return data, len(data)
 
 
-def _words(args: Sequence[Argument]) -> Tuple[Any, int]:
+def words_of(args: Sequence[Argument]) -> Tuple[Any, int]:
     words = [it if isinstance(it, Word) else i32(it) for it in args]
     return (RawWord * max(1, len(words)))(*(RawWord(it.bits, it.is_wide) for it in words)), len(words)
 
@@ -65,14 +65,14 @@ def _range(name: str, value: int, bits: int) -> int:
     return value
 
 
-def _options(*, seed: int = 1, run: int = 1, fuel: int = 0, limit: int = 1, strategy: Strategy = Strategy.MIX,
+def options_of(*, seed: int = 1, run: int = 1, fuel: int = 0, limit: int = 1, strategy: Strategy = Strategy.MIX,
              depth: int = 3, states: int = 0, dump: int = 0) -> RawOptions:
     return RawOptions(_range("seed", seed, 64), _range("run", run, 64), _range("fuel", fuel, 64),
                       _range("limit", limit, 32), strategy, _range("depth", depth, 32), _range("states", states, 32),
                       _range("dump", dump, 32))
 
 
-def _object(call: Callable[[Buffer, int, Answer], int]) -> Tuple[Status, Object]:
+def object_of(call: Callable[[Buffer, int, Answer], int]) -> Tuple[Status, Object]:
     """Makes a call that writes a text, once more where that wants more room, and gives its status and object."""
     size = FIRST_TEXT
     while True:
@@ -92,7 +92,7 @@ def _object(call: Callable[[Buffer, int, Answer], int]) -> Tuple[Status, Object]
 def check(module: Bytes) -> Checked:
     """Reads and validates a module."""
     call = library().wathread_check
-    _, found = _object(lambda text, size, answer: int(call(*_read(module), text, size, answer)))
+    _, found = object_of(lambda text, size, answer: int(call(*read_of(module), text, size, answer)))
     return Checked(int(found["functions"]), found)
 
 
@@ -100,14 +100,24 @@ def run(module: Bytes, name: str, args: Sequence[Argument] = (), *, seed: int = 
         fuel: int = 10_000_000, limit: int = 10_000, strategy: Strategy = Strategy.MIX, depth: int = 3,
         keep_record: bool = True) -> Run:
     """Makes the run of this number by this seed, the same one on every machine. An int of the arguments is an i32."""
-    options = _options(seed=seed, run=number, fuel=fuel, limit=limit, strategy=strategy, depth=depth)
+    options = options_of(seed=seed, run=number, fuel=fuel, limit=limit, strategy=strategy, depth=depth)
     call = library().wathread_run
+
+    def make(record: Buffer, size: int, answer: Answer) -> int:
+        return int(call(*read_of(module), *read_of(name.encode()), *words_of(args), options, record, size, answer))
+
+    return made_by(make, lambda status: _refuse_run(status, module, name, args), seed, number, keep_record)
+
+
+def made_by(call: Callable[[Buffer, int, Answer], int], refuse: Callable[[Status], NoReturn], seed: int, number: int,
+            keep_record: bool) -> Run:
+    """Makes a run, once more where its record wants more room."""
     size = _sizes.record if keep_record else 0
     while True:
         record, answer = ctypes.create_string_buffer(max(1, size)), Answer()
-        status = Status(call(*_read(module), *_read(name.encode()), *_words(args), options, record, size, answer))
+        status = Status(call(record, size, answer))
         if status > Status.ENDED:
-            _refuse_run(status, module, name, args)
+            refuse(status)
         if not keep_record or answer.bytes <= size:
             break
         size = answer.bytes
@@ -138,15 +148,15 @@ def replay(module: Bytes, record: Bytes, *, memory: bool = False) -> Replayed:
 
     def make(text: Buffer, size: int, answer: Answer) -> int:
         nonlocal wanted
-        status: int = call(*_read(module), *_read(record), room, len(room) if memory else 0, text, size, answer)
+        status: int = call(*read_of(module), *read_of(record), room, len(room) if memory else 0, text, size, answer)
         wanted = answer.bytes
         return status
 
-    status, found = _object(make)
+    status, found = object_of(make)
     if memory and wanted > len(room):
         room = ctypes.create_string_buffer(wanted)
         _sizes.memory = min(wanted, MOST_KEPT)
-        status, found = _object(make)
+        status, found = object_of(make)
     left = ctypes.string_at(room, wanted) if memory else None
     return Replayed(status, ends_of(found["threads"]), int(found["pages"]), left, found)
 
@@ -154,10 +164,15 @@ def replay(module: Bytes, record: Bytes, *, memory: bool = False) -> Replayed:
 def search(module: Bytes, name: str, args: Sequence[Argument] = (), *, states: int = 1_000_000,
            dump: int = 0) -> Searched:
     """Goes through every order of the threads' entries, and tells all endings. An int of the arguments is an i32."""
-    options = _options(states=states, dump=dump)
+    options = options_of(states=states, dump=dump)
     call = library().wathread_search
-    status, found = _object(lambda text, size, answer: int(call(*_read(module), *_read(name.encode()), *_words(args),
-                                                                options, text, size, answer)))
+    return searched_of(lambda text, size, answer: int(call(*read_of(module), *read_of(name.encode()), *words_of(args),
+                                                           options, text, size, answer)))
+
+
+def searched_of(call: Callable[[Buffer, int, Answer], int]) -> Searched:
+    """Makes a search, and gives what it found."""
+    status, found = object_of(call)
     liveness = found.get("liveness", {})
     endless = liveness.get("endless")
     return Searched(status, found["verdict"], int(found["states"]), tuple(_ending(it) for it in found["endings"]),

@@ -43,15 +43,35 @@ class RawOptions(ctypes.Structure):
     ]
 
 
+class Handle(ctypes.Structure):
+    """Of a module or an instance: closed where it is all zero."""
+
+    _fields_ = [("at", ctypes.c_void_p), ("is_open", ctypes.c_uint32)]
+
+
 READ = [ctypes.c_char_p, ctypes.c_size_t]
 WRITTEN = [ctypes.c_void_p, ctypes.c_size_t]
-CALL = [*READ, *READ, ctypes.POINTER(RawWord), ctypes.c_size_t, ctypes.POINTER(RawOptions)]
+NAMED = [*READ, ctypes.POINTER(RawWord), ctypes.c_size_t, ctypes.POINTER(RawOptions)]
+CALL = [*READ, *NAMED]
 ANSWER = [ctypes.POINTER(Answer)]
+HANDLE = [ctypes.POINTER(Handle)]
 CALLS = {
     "wathread_check": [*READ, *WRITTEN, *ANSWER],
     "wathread_run": [*CALL, *WRITTEN, *ANSWER],
     "wathread_replay": [*READ, *READ, *WRITTEN, *WRITTEN, *ANSWER],
     "wathread_search": [*CALL, *WRITTEN, *ANSWER],
+    "wathread_module_open": [*READ, *HANDLE, *WRITTEN, *ANSWER],
+    "wathread_module_share": [*HANDLE, *HANDLE],
+    "wathread_module_free": HANDLE,
+    "wathread_instance_open": [*HANDLE, *HANDLE],
+    "wathread_instance_free": HANDLE,
+    "wathread_instance_pages": HANDLE,
+    "wathread_instance_read": [*HANDLE, ctypes.c_uint32, *WRITTEN],
+    "wathread_instance_write": [*HANDLE, ctypes.c_uint32, *READ],
+    "wathread_instance_set": [*HANDLE, *READ],
+    "wathread_call": [*HANDLE, *NAMED, *WRITTEN, *ANSWER],
+    "wathread_instance_replay": [*HANDLE, *READ, *WRITTEN, *ANSWER],
+    "wathread_instance_search": [*HANDLE, *NAMED, *WRITTEN, *ANSWER],
 }
 
 _lock = threading.Lock()
@@ -79,7 +99,7 @@ def load(path: str) -> ctypes.CDLL:
     library = ctypes.CDLL(path)
     for name, types in CALLS.items():
         call = getattr(library, name)
-        call.argtypes, call.restype = types, ctypes.c_uint32
+        call.argtypes, call.restype = types, None if name.endswith("_free") else ctypes.c_uint32
     return library
 
 

@@ -201,6 +201,10 @@ class OutOfMemory(WathreadError, MemoryError):
     """The system refused memory."""
 
 
+class OutOfBounds(WathreadError, IndexError):
+    """Bytes don't lie within an instance's memory, or can't be the whole of it."""
+
+
 class Refused(WathreadError):
     """Something is refused: the object of JSON says what."""
 

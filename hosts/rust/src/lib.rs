@@ -15,9 +15,12 @@
 //! # Ok(())
 //! # }
 //! ```
+//!
+//! A module may stay, and an instance's memory from one call to the next: [`kept`].
 #![allow(non_camel_case_types)]
 #![warn(missing_docs)]
 
+pub mod kept;
 pub mod safe;
 
 /// A status: `wathread_status` of the header.
@@ -100,6 +103,24 @@ pub const WATHREAD_OPTIONS: wathread_options = wathread_options {
     dump: 0,
 };
 
+/// A handle of a module that stays: closed where it is all zero.
+#[repr(C)]
+#[derive(Debug)]
+#[allow(missing_docs)]
+pub struct wathread_module {
+    pub at: *mut std::os::raw::c_void,
+    pub is_open: u32,
+}
+
+/// A handle of an instance: closed where it is all zero.
+#[repr(C)]
+#[derive(Debug)]
+#[allow(missing_docs)]
+pub struct wathread_instance {
+    pub at: *mut std::os::raw::c_void,
+    pub is_open: u32,
+}
+
 extern "C" {
     /// Checks a module.
     pub fn wathread_check(
@@ -141,6 +162,90 @@ extern "C" {
     pub fn wathread_search(
         module: *const u8,
         module_len: usize,
+        name: *const u8,
+        name_len: usize,
+        args: *const wathread_word,
+        args_count: usize,
+        options: *const wathread_options,
+        text: *mut u8,
+        text_len: usize,
+        answer: *mut wathread_answer,
+    ) -> wathread_status;
+
+    /// Opens a handle of a module.
+    pub fn wathread_module_open(
+        module: *const u8,
+        module_len: usize,
+        to: *mut wathread_module,
+        text: *mut u8,
+        text_len: usize,
+        answer: *mut wathread_answer,
+    ) -> wathread_status;
+
+    /// Opens another handle of the same module.
+    pub fn wathread_module_share(module: *mut wathread_module, to: *mut wathread_module) -> wathread_status;
+
+    /// Closes a handle.
+    pub fn wathread_module_free(module: *mut wathread_module);
+
+    /// Opens a handle of an instance of a module.
+    pub fn wathread_instance_open(module: *mut wathread_module, to: *mut wathread_instance) -> wathread_status;
+
+    /// Closes a handle.
+    pub fn wathread_instance_free(instance: *mut wathread_instance);
+
+    /// Says how many pages the memory has.
+    pub fn wathread_instance_pages(instance: *mut wathread_instance) -> u32;
+
+    /// Reads bytes of the memory.
+    pub fn wathread_instance_read(
+        instance: *mut wathread_instance,
+        address: u32,
+        bytes: *mut u8,
+        bytes_len: usize,
+    ) -> wathread_status;
+
+    /// Writes bytes into the memory.
+    pub fn wathread_instance_write(
+        instance: *mut wathread_instance,
+        address: u32,
+        bytes: *const u8,
+        bytes_len: usize,
+    ) -> wathread_status;
+
+    /// Makes bytes the whole memory.
+    pub fn wathread_instance_set(
+        instance: *mut wathread_instance,
+        bytes: *const u8,
+        bytes_len: usize,
+    ) -> wathread_status;
+
+    /// Makes a call that begins with the memory, and keeps what it leaves.
+    pub fn wathread_call(
+        instance: *mut wathread_instance,
+        name: *const u8,
+        name_len: usize,
+        args: *const wathread_word,
+        args_count: usize,
+        options: *const wathread_options,
+        record: *mut u8,
+        record_len: usize,
+        answer: *mut wathread_answer,
+    ) -> wathread_status;
+
+    /// Makes a call again by its record, and keeps what it leaves.
+    pub fn wathread_instance_replay(
+        instance: *mut wathread_instance,
+        record: *const u8,
+        record_len: usize,
+        text: *mut u8,
+        text_len: usize,
+        answer: *mut wathread_answer,
+    ) -> wathread_status;
+
+    /// Goes through every order of a call that begins with the memory.
+    pub fn wathread_instance_search(
+        instance: *mut wathread_instance,
         name: *const u8,
         name_len: usize,
         args: *const wathread_word,

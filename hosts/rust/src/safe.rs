@@ -42,6 +42,8 @@ pub enum Error {
         /// The object.
         object: String,
     },
+    /// Bytes don't lie within an instance's memory, or can't be the whole of it.
+    Bounds,
     /// The system refused memory.
     Memory,
 }
@@ -66,6 +68,7 @@ impl fmt::Display for Error {
             Error::Module { number, .. } => write!(to, "module refused: validity {}", number),
             Error::Call { fault, .. } => write!(to, "call refused: {}", fault),
             Error::Record { fault, .. } => write!(to, "record refused: {}", fault),
+            Error::Bounds => write!(to, "out of the memory's bounds"),
             Error::Memory => write!(to, "no memory"),
         }
     }
@@ -93,7 +96,7 @@ impl Error {
         }
     }
 
-    fn out_of_range() -> Error {
+    pub(crate) fn out_of_range() -> Error {
         let object = r#"{"status":3,"refused":{"stage":"call","fault":"fuel or limit out of range"}}"#;
         Error::of(WATHREAD_NO_CALL, object.to_string())
     }
@@ -197,7 +200,7 @@ impl Default for Options {
 }
 
 impl Options {
-    fn raw(&self) -> wathread_options {
+    pub(crate) fn raw(&self) -> wathread_options {
         let (strategy, depth) = match self.strategy {
             Strategy::Mix => (WATHREAD_MIX, WATHREAD_OPTIONS.depth),
             Strategy::Random => (WATHREAD_RANDOM, WATHREAD_OPTIONS.depth),
@@ -265,7 +268,7 @@ impl Search {
     }
 }
 
-fn raw_words(args: &[Word]) -> Vec<wathread_word> {
+pub(crate) fn raw_words(args: &[Word]) -> Vec<wathread_word> {
     let raw = |it: &Word| match *it {
         Word::I32(value) => wathread_word { bits: value.into(), is_wide: 0 },
         Word::I64(value) => wathread_word { bits: value, is_wide: 1 },
@@ -274,7 +277,7 @@ fn raw_words(args: &[Word]) -> Vec<wathread_word> {
 }
 
 /// Makes a call that writes a text, once more where that wants more room. Gives whether all is well, and its object.
-fn with_text(mut call: impl FnMut(&mut [u8], &mut wathread_answer) -> u32) -> Result<(bool, String), Error> {
+pub(crate) fn with_text(mut call: impl FnMut(&mut [u8], &mut wathread_answer) -> u32) -> Result<(bool, String), Error> {
     let (mut text, mut answer) = (vec![0; FIRST_TEXT], wathread_answer::default());
     let mut status = call(&mut text, &mut answer);
     while status != WATHREAD_FAILED && answer.text > text.len() {
@@ -301,11 +304,9 @@ pub fn check(module: &[u8]) -> Result<String, Error> {
 /// Makes the run of `options.run` by `options.seed`, the same one on every machine.
 pub fn run(module: &[u8], name: &str, args: &[Word], options: &Options, record: Record) -> Result<Run, Error> {
     let (words, raw) = (raw_words(args), options.raw());
-    let is_kept = record == Record::Kept;
-    let (mut bytes, mut answer) = (vec![0; if is_kept { FIRST_RECORD } else { 0 }], wathread_answer::default());
-    loop {
+    let call = |bytes: &mut [u8], answer: &mut wathread_answer| {
         // SAFETY: as of check; the raw words and options live behind the call.
-        let status = unsafe {
+        unsafe {
             wathread_run(
                 module.as_ptr(),
                 module.len(),
@@ -316,11 +317,24 @@ pub fn run(module: &[u8], name: &str, args: &[Word], options: &Options, record: 
                 &raw,
                 bytes.as_mut_ptr(),
                 bytes.len(),
-                &mut answer,
+                answer,
             )
-        };
+        }
+    };
+    made_by(record, call).map_err(|status| refusal(status, module, name, args))
+}
+
+/// Makes a run, once more where its record wants more room; or gives the status from 2 on.
+pub(crate) fn made_by(
+    record: Record,
+    mut call: impl FnMut(&mut [u8], &mut wathread_answer) -> u32,
+) -> Result<Run, u32> {
+    let is_kept = record == Record::Kept;
+    let (mut bytes, mut answer) = (vec![0; if is_kept { FIRST_RECORD } else { 0 }], wathread_answer::default());
+    loop {
+        let status = call(&mut bytes, &mut answer);
         if status > WATHREAD_ENDED {
-            return Err(refusal(status, module, name, args));
+            return Err(status);
         }
         if !is_kept || answer.bytes <= bytes.len() {
             bytes.truncate(answer.bytes);

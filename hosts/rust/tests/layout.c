@@ -29,6 +29,12 @@ int main(void)
     FIELD(wathread_options, depth);
     FIELD(wathread_options, states);
     FIELD(wathread_options, dump);
+    SIZE(wathread_module);
+    FIELD(wathread_module, at);
+    FIELD(wathread_module, is_open);
+    SIZE(wathread_instance);
+    FIELD(wathread_instance, at);
+    FIELD(wathread_instance, is_open);
     NUMBER(WATHREAD_WELL);
     NUMBER(WATHREAD_ENDED);
     NUMBER(WATHREAD_NO_MODULE);

@@ -29,6 +29,8 @@ fn said_in_rust() -> String {
     fields!(to, wathread_answer, text bytes units value kind number);
     fields!(to, wathread_word, bits is_wide);
     fields!(to, wathread_options, seed run fuel limit strategy depth states dump);
+    fields!(to, wathread_module, at is_open);
+    fields!(to, wathread_instance, at is_open);
     numbers!(to, WATHREAD_WELL WATHREAD_ENDED WATHREAD_NO_MODULE WATHREAD_NO_CALL WATHREAD_NO_RECORD WATHREAD_FAILED);
     numbers!(to, WATHREAD_NONE WATHREAD_VOID WATHREAD_I32 WATHREAD_I64 WATHREAD_TRAP WATHREAD_STOP);
     numbers!(to, WATHREAD_MIX WATHREAD_RANDOM WATHREAD_PRIORITIES WATHREAD_SPIN);
