@@ -1,11 +1,13 @@
 /* wathread for hosts in C: checks a module, runs it along a schedule that is drawn, replays a record, and goes through
- * every order of a call's threads, on the thread that calls. It starts no thread and keeps nothing between calls.
+ * every order of a call's threads, on the thread that calls. It starts no thread, and keeps nothing between calls but what
+ * a host keeps by a handle: a module, or an instance, whose memory stays from one call to the next.
  *
  * Who owns what: all memory that is passed stays the caller's, and is read or written only during the call. A length is
- * in bytes, and no pointer is null, not even with a length of 0. What is read (a module, a name, arguments, options, a
- * record) may be any bytes; what is written (a buffer, the answer) must overlap nothing else that is passed. A call takes
- * memory by malloc and realloc, gives all of it back, and answers WATHREAD_FAILED where it is refused. No call is made
- * from a signal handler. Calls on several threads at once are independent.
+ * in bytes; with a length of 0 a pointer may be null, and no other may. What is read (a module, a name, arguments,
+ * options, a record) may be any bytes; what is written (a buffer, the answer, a handle) must overlap nothing else that is
+ * passed. A call takes memory by malloc and realloc, gives all of it back but what a handle keeps, and answers
+ * WATHREAD_FAILED where it is refused. No call is made from a signal handler. Calls on several threads at once are
+ * independent, where each has handles of its own.
  *
  * A buffer that is too small gets no bytes; the length that is wanted stands in the answer, whatever the buffer's. So a
  * call with a length of 0 asks how much is wanted.
@@ -31,7 +33,8 @@ enum wathread_status {
     WATHREAD_WELL = 0,          /* accepted; or all threads ended well; or all endings are known and well */
     WATHREAD_ENDED = 1,         /* a thread ended in a trap or a stop; or not all endings are known to be well */
     WATHREAD_NO_MODULE = 2,     /* the bytes are no valid module's */
-    WATHREAD_NO_CALL = 3,       /* no such function is exported, or the arguments don't fit, or a number is out of range */
+    WATHREAD_NO_CALL = 3,       /* no such function is exported, or the arguments don't fit, or a number is out of range;
+                                   or bytes lie outside of a memory; or a handle is closed */
     WATHREAD_NO_RECORD = 4,     /* the bytes are no record's, or it is of no run of the module */
     WATHREAD_FAILED = 5         /* memory was refused */
 };
@@ -109,6 +112,78 @@ uint32_t wathread_replay(const uint8_t *module, size_t module_len, const uint8_t
 uint32_t wathread_search(const uint8_t *module, size_t module_len, const uint8_t *name, size_t name_len,
                          const struct wathread_word *args, size_t args_count, const struct wathread_options *options,
                          uint8_t *text, size_t text_len, struct wathread_answer *answer);
+
+/* A module that stays, and an instance of one. Each is a place of the host's, which has to be all zero at first, that is
+ * closed, and is opened and closed by the calls below alone; in between the host neither changes nor copies it. A handle
+ * is passed to one call at a time, and may go from one thread to another. What it holds is freed where it is closed, and
+ * where it is opened again. */
+struct wathread_module {
+    void *at;
+    uint32_t is_open;           /* 1 where it is open */
+};
+
+struct wathread_instance {
+    void *at;
+    uint32_t is_open;
+};
+
+#define WATHREAD_CLOSED { 0, 0 }
+
+/* Reads and validates a module in the binary format, and opens a handle of it, which needs the bytes no more. The text is
+ * that of wathread_check. Where the status isn't 0, the handle is closed. The status is 0, 2 or 5. */
+uint32_t wathread_module_open(const uint8_t *module, size_t module_len, struct wathread_module *to, uint8_t *text,
+                              size_t text_len, struct wathread_answer *answer);
+
+/* Opens another handle of the same module, for another thread say; nothing is read again. The status is 0, 3 or 5; where
+ * it isn't 0, the other handle is closed. */
+uint32_t wathread_module_share(struct wathread_module *module, struct wathread_module *to);
+
+/* Closes a handle. The module is freed with the last handle of it and the last of its instances. */
+void wathread_module_free(struct wathread_module *module);
+
+/* Opens a handle of an instance: the module with a memory, at first the one with which it begins. It has a share in the
+ * module, whose handle may be closed before it. The status is 0, 3 or 5; where it isn't 0, the handle is closed. */
+uint32_t wathread_instance_open(struct wathread_module *module, struct wathread_instance *to);
+
+/* Closes a handle, and frees the instance. */
+void wathread_instance_free(struct wathread_instance *instance);
+
+/* How many pages of 65,536 bytes the memory has; 0 where the handle is closed. */
+uint32_t wathread_instance_pages(struct wathread_instance *instance);
+
+/* Reads bytes of the memory from an address on, or writes some, where all of them lie within it; else the status is 3,
+ * and nothing is read or written. The status is 0 or 3. */
+uint32_t wathread_instance_read(struct wathread_instance *instance, uint32_t address, uint8_t *bytes, size_t bytes_len);
+uint32_t wathread_instance_write(struct wathread_instance *instance, uint32_t address, const uint8_t *bytes,
+                                 size_t bytes_len);
+
+/* Makes bytes the whole memory, which has as many pages then: no fewer than the module's memory has at first, and no more
+ * than it can have. So a memory that was read is put back, also where it has grown since or had grown. The status is 0, 3
+ * or 5; where it isn't 0, the memory stays. */
+uint32_t wathread_instance_set(struct wathread_instance *instance, const uint8_t *bytes, size_t bytes_len);
+
+/* Calls an exported function, as wathread_run does, in a run that begins with the instance's memory; the instance has
+ * the memory that the run leaves, also where a thread trapped or was stopped. Nothing else stays: each thread begins with
+ * the globals that the module says. The record is one of the module that begins with that memory: to replay it takes the
+ * same bytes. With a length of 0 no record is wanted; where it is longer than its buffer, the call isn't kept: the
+ * instance stays as it was, for the same call with more room. So it does where the status is 3 or 5. The status is 0, 1,
+ * 3 or 5. */
+uint32_t wathread_call(struct wathread_instance *instance, const uint8_t *name, size_t name_len,
+                       const struct wathread_word *args, size_t args_count, const struct wathread_options *options,
+                       uint8_t *record, size_t record_len, struct wathread_answer *answer);
+
+/* Runs a record again of a call that began with just this memory, which is then as that run left it, and tells what
+ * became of each thread. Where the text is longer than its buffer, which isn't of length 0, the instance stays as it was,
+ * and so it does where the status is 3, 4 or 5. The status is 0, 1, 3, 4 or 5. */
+uint32_t wathread_instance_replay(struct wathread_instance *instance, const uint8_t *record, size_t record_len,
+                                  uint8_t *text, size_t text_len, struct wathread_answer *answer);
+
+/* Goes through every order of the threads' entries of a call that begins with the instance's memory, as wathread_search
+ * does. The instance stays as it is. The status is 0, 1, 3 or 5. */
+uint32_t wathread_instance_search(struct wathread_instance *instance, const uint8_t *name, size_t name_len,
+                                  const struct wathread_word *args, size_t args_count,
+                                  const struct wathread_options *options, uint8_t *text, size_t text_len,
+                                  struct wathread_answer *answer);
 
 #ifdef __cplusplus
 }

@@ -12,14 +12,15 @@ int pthread_rwlock_init(pthread_rwlock_t *l, const pthread_rwlockattr_t *attr) {
 
 int pthread_rwlock_destroy(pthread_rwlock_t *l) { return destroy_word(&l->state, FREE); }
 
+/* The first number of each loop is a guess: mostly it is so, and then this is one access. */
 static int try_reading(pthread_rwlock_t *l) {
-    for (int state = l->state; state != WRITER;) {
+    for (int state = FREE; !atomic_compare_exchange_strong(&l->state, &state, state + 1);) {
         if (state == GONE)
             used_after_destroy();
-        if (atomic_compare_exchange_strong(&l->state, &state, state + 1))
-            return 0;
+        if (state == WRITER)
+            return EBUSY;
     }
-    return EBUSY;
+    return 0;
 }
 
 static inline __attribute__((always_inline)) int read_until(pthread_rwlock_t *l, int64_t deadline) {
@@ -63,15 +64,17 @@ int pthread_rwlock_trywrlock(pthread_rwlock_t *l) {
 }
 
 int pthread_rwlock_unlock(pthread_rwlock_t *l) {
-    int state = l->state; /* a writer's is its own, and readers only count */
-    if (state == GONE)
-        used_after_destroy();
-    if (state == FREE)
-        __builtin_trap();
-    if (state == WRITER)
-        l->state = FREE;
-    else if (--l->state != FREE)
-        return 0;
+    int state = 1;
+    if (!atomic_compare_exchange_strong(&l->state, &state, FREE)) {
+        if (state == GONE)
+            used_after_destroy();
+        if (state == FREE)
+            __builtin_trap();
+        if (state == WRITER) /* a writer's is its own, and readers only count */
+            l->state = FREE;
+        else if (--l->state != FREE)
+            return 0;
+    }
     notify_all(&l->state);
     return 0;
 }
@@ -116,13 +119,13 @@ enum { NO_VALUE = -1 };
 int sem_destroy(sem_t *s) { set_plainly((_Atomic int *)&s->value, NO_VALUE); return 0; }
 
 static int take(sem_t *s) {
-    for (unsigned value = s->value; value;) {
+    for (unsigned value = 1; !atomic_compare_exchange_strong(&s->value, &value, value - 1);) {
         if (value == (unsigned)NO_VALUE)
             used_after_destroy();
-        if (atomic_compare_exchange_strong(&s->value, &value, value - 1))
-            return 0;
+        if (!value)
+            return -1;
     }
-    return -1;
+    return 0;
 }
 
 static inline __attribute__((always_inline)) int take_until(sem_t *s, int64_t deadline) {

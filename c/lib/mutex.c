@@ -19,10 +19,10 @@ static int destroy_word(_Atomic int *word, int idle) {
     return 0;
 }
 
-/* ---- The usual one: the third of Ulrich Drepper's "Futexes Are Tricky". No value that was seen is kept while a thread
-   waits, since that would make states differ ---- */
+/* ---- The usual one: held or not. Who gives it back always wakes one: whether somebody may sleep is noted nowhere, since
+   such a note makes two to four times as many states. No value that was seen is kept while a thread waits, for that ---- */
 
-enum { FREE, HELD, CONTENDED }; /* contended: held, and somebody may sleep */
+enum { FREE, HELD };
 
 static int try_normal(pthread_mutex_t *m) {
     int state = FREE;
@@ -30,45 +30,39 @@ static int try_normal(pthread_mutex_t *m) {
 }
 
 static inline __attribute__((always_inline)) int lock_normal(pthread_mutex_t *m, int64_t deadline) {
-    if (try_normal(m))
-        while (atomic_exchange(&m->state, CONTENDED) != FREE)
-            if (sleep_while(&m->state, CONTENDED, deadline))
-                return ETIMEDOUT;
+    while (atomic_exchange(&m->state, HELD) != FREE)
+        if (sleep_while(&m->state, HELD, deadline))
+            return ETIMEDOUT;
     return 0;
 }
 
-/* ---- Those that know who holds them: the state is twice the number of that thread and two more, and one more where
-   somebody may sleep. In a later call threads have other numbers here, since those of the calls before hold what they held
-   (calls.c) ---- */
+/* ---- Those that know who holds them: the state is the number of that thread and one more. In a later call threads have
+   other numbers here, since those of the calls before hold what they held (calls.c) ---- */
 
 static __attribute__((noinline)) int lock_owned(pthread_mutex_t *m, int64_t deadline, int tries) {
-    int own = 2 * __wathread_owner() + 2, held = own;
+    int own = __wathread_owner() + 1;
     if (m->kind == GONE)
         used_after_destroy();
-    for (int state = FREE; !atomic_compare_exchange_strong(&m->state, &state, held); state = FREE) {
-        if ((state & ~1) == own && m->kind == PTHREAD_MUTEX_RECURSIVE)
+    for (int state = FREE; !atomic_compare_exchange_strong(&m->state, &state, own); state = FREE) {
+        if (state == own && m->kind == PTHREAD_MUTEX_RECURSIVE)
             return m->depth++, 0;
-        if (tries || (state & ~1) == own)
+        if (tries || state == own)
             return tries ? EBUSY : EDEADLK;
-        if (!(state & 1) && !atomic_compare_exchange_strong(&m->state, &state, state | 1))
-            continue;
-        if (sleep_while(&m->state, state | 1, deadline))
+        if (sleep_while(&m->state, state, deadline))
             return ETIMEDOUT;
-        held = own | 1; /* others may sleep too */
     }
     return 0;
 }
 
 static __attribute__((noinline)) int unlock_owned(pthread_mutex_t *m) {
-    int own = 2 * __wathread_owner() + 2;
     if (m->kind == GONE)
         used_after_destroy();
-    if ((m->state & ~1) != own)
+    if (m->state != __wathread_owner() + 1)
         return EPERM;
     if (m->depth)
         return m->depth--, 0;
-    if (atomic_exchange(&m->state, FREE) != own)
-        notify_one(&m->state);
+    m->state = FREE;
+    notify_one(&m->state);
     return 0;
 }
 
@@ -109,11 +103,9 @@ int pthread_mutex_timedlock(pthread_mutex_t *m, const struct timespec *until) {
 int pthread_mutex_unlock(pthread_mutex_t *m) {
     if (m->kind)
         return unlock_owned(m);
-    int state = atomic_exchange(&m->state, FREE);
-    if (state == FREE)
+    if (atomic_exchange(&m->state, FREE) == FREE)
         __builtin_trap();
-    if (state == CONTENDED)
-        notify_one(&m->state);
+    notify_one(&m->state);
     return 0;
 }
 

@@ -118,8 +118,9 @@ static uint32_t result_of(int thread) {
 #else
 static uint32_t result_of(int thread) {
     uint64_t end;
-    while (!(end = ends[thread]))
+    do
         wait_while(&ends[thread], RUNS);
+    while (!(end = ends[thread]));
     if (stays(thread))
         joined |= 1ull << thread;
     return end;

@@ -1,4 +1,4 @@
--- What a host's calls answer, from the bytes of the module on.
+-- What a host's calls answer: of a module by its parts, and of the one that bytes spell.
 use Rattle.std.specs.Prelude.{ℕ, ◌≡◌, ◌≤◌, List, length, None, false}
 use Rattle.types.specs.declared.value.Value.{Value}
 use Rattle.types.specs.declared.parts.Parts.{Parts}
@@ -64,38 +64,6 @@ status_of_fault (faults.Record fault) = 4
 status_of_fault (faults.Replay fault) = 4
 status_of_fault faults.NoMemory = 5
 
--- What is requested is this call of the valid module that the bytes spell.
-pub record IsRequested (bytes name : List ℕ) (args : List Value) (units : ℕ) (q : Requested) : Type 0 where
-  pub text : IsModuleText bytes q.parts
-  pub valid : IsValid q.parts
-  pub name_is : q.name ≡ name
-  pub args_are : q.args ≡ args
-  pub fuel_is : q.fuel ≡ units
-
--- It is the run of the plan's number, of that call.
-pub record IsRunBy (bytes name : List ℕ) (args : List Value) (plan : Plan) (made : MadeRun) : Type 0 where
-  pub requested : Requested
-  pub asked : IsRequested bytes name args plan.fuel requested
-  pub run : IsRunOfNumber requested (sought_by plan) plan.run made
-
--- The bytes of a record spell one that is of a run of the module, which left this.
-pub record IsReplayOf (bytes saved : List ℕ) (end : EndState) : Type 0 where
-  pub parts : Parts
-  pub text : IsModuleText bytes parts
-  pub valid : IsValid parts
-  pub made : RecordParts
-  pub ranges : IsRecord made
-  pub saved_is : saved ≡ record_text made
-  pub run : IsRunOf parts made end
-
--- The endings of a call are listed, with what is said of them.
-pub record HasEndings (bytes name : List ℕ) (args : List Value) (most dump : ℕ) (all : Ended Ending) : Type 0 where
-  pub requested : Requested
-  pub asked : IsRequested bytes name args 0 requested
-  pub listed : AreListed (claims_of requested dump) most GoOn all
-  pub count : CountsStates requested all.states
-  pub live : SaysWhereAll requested dump all.states all.verdict all.liveness
-
 -- The bytes spell a valid module.
 pub record Spells (bytes : List ℕ) (m : Parts) : Type 0 where
   pub text : IsModuleText bytes m
@@ -105,16 +73,72 @@ pub record Spells (bytes : List ℕ) (m : Parts) : Type 0 where
 abbrev pub HasFunctions : List ℕ → ℕ → Type 0
 HasFunctions bytes count = (m : Parts) × Spells bytes m × (count ≡ length m.functions)
 
+-- What is requested is this call of the module.
+pub record IsRequested (m : Parts) (name : List ℕ) (args : List Value) (units : ℕ) (q : Requested) : Type 0 where
+  pub parts_are : q.parts ≡ m
+  pub name_is : q.name ≡ name
+  pub args_are : q.args ≡ args
+  pub fuel_is : q.fuel ≡ units
+
+-- It is the run of the plan's number, of that call.
+pub record IsPlannedRun (m : Parts) (name : List ℕ) (args : List Value) (plan : Plan) (made : MadeRun) : Type 0 where
+  pub requested : Requested
+  pub asked : IsRequested m name args plan.fuel requested
+  pub run : IsRunOfNumber requested (sought_by plan) plan.run made
+
+-- The bytes of a record spell one that is of a run of the module, which left this.
+pub record IsSavedRun (m : Parts) (saved : List ℕ) (end : EndState) : Type 0 where
+  pub made : RecordParts
+  pub ranges : IsRecord made
+  pub saved_is : saved ≡ record_text made
+  pub run : IsRunOf m made end
+
+-- The endings of a call are listed, with what is said of them.
+pub record AreEndings (m : Parts) (name : List ℕ) (args : List Value) (most dump : ℕ) (all : Ended Ending) : Type 0 where
+  pub requested : Requested
+  pub asked : IsRequested m name args 0 requested
+  pub listed : AreListed (claims_of requested dump) most GoOn all
+  pub count : CountsStates requested all.states
+  pub live : SaysWhereAll requested dump all.states all.verdict all.liveness
+
+-- The same of the valid module that the bytes spell.
+abbrev pub IsRunBy : List ℕ → List ℕ → List Value → Plan → MadeRun → Type 0
+IsRunBy bytes name args plan made = (m : Parts) × Spells bytes m × IsPlannedRun m name args plan made
+
+abbrev pub IsReplayOf : List ℕ → List ℕ → EndState → Type 0
+IsReplayOf bytes saved end = (m : Parts) × Spells bytes m × IsSavedRun m saved end
+
+abbrev pub HasEndings : List ℕ → List ℕ → List Value → ℕ → ℕ → Ended Ending → Type 0
+HasEndings bytes name args most dump all = (m : Parts) × Spells bytes m × AreEndings m name args most dump all
+
+-- The fault is of a call that the module hasn't.
+abbrev pub IsNoCall : Parts → List ℕ → List Value → HostFault → Type 0
+IsNoCall m name args (faults.Call fault) = IsCallFault m name args fault
+IsNoCall m name args fault = ⊥
+
+-- What the fault of a call of a module says: where memory was refused, nothing.
+abbrev pub IsRefusedCall : Parts → List ℕ → List Value → HostFault → Type 0
+IsRefusedCall m name args faults.NoMemory = Unit {0}
+IsRefusedCall m name args fault = IsNoCall m name args fault
+
+-- What that of a run says.
+abbrev pub IsRefusedRun : Parts → List ℕ → List Value → Plan → HostFault → Type 0
+IsRefusedRun m name args plan faults.Range = IsPlanInRange plan → ⊥
+IsRefusedRun m name args plan fault = IsRefusedCall m name args fault
+
+-- What that of a replay says.
+abbrev pub IsRefusedReplay : Parts → List ℕ → HostFault → Type 0
+IsRefusedReplay m saved (faults.Record fault) = records.IsFaultOf saved fault
+IsRefusedReplay m saved (faults.Replay fault) =
+    (r : RecordParts) × IsRecord r × (saved ≡ record_text r) × runs.IsReplayFault m r fault
+IsRefusedReplay m saved faults.NoMemory = Unit {0}
+IsRefusedReplay m saved fault = ⊥
+
 -- What the fault of a module says.
 abbrev pub IsModuleFault : List ℕ → HostFault → Type 0
 IsModuleFault bytes (faults.Module refusal) = IsRefused bytes refusal
 IsModuleFault bytes faults.NoMemory = Unit {0}
 IsModuleFault bytes fault = ⊥
-
--- The fault of a call of a valid module.
-abbrev pub IsRefusedCall : Parts → List ℕ → List Value → HostFault → Type 0
-IsRefusedCall m name args (faults.Call fault) = IsCallFault m name args fault
-IsRefusedCall m name args fault = ⊥
 
 -- What that of a call says: of the module, or of the call.
 abbrev pub IsCallFaultOf : List ℕ → List ℕ → List Value → HostFault → Type 0
@@ -129,6 +153,6 @@ IsFaultOf bytes name args plan fault = IsCallFaultOf bytes name args fault
 -- What that of a replay says.
 abbrev pub IsReplayFault : List ℕ → List ℕ → HostFault → Type 0
 IsReplayFault bytes saved (faults.Record fault) = records.IsFaultOf saved fault
-IsReplayFault bytes saved (faults.Replay fault) = (m : Parts) × Spells bytes m × (r : RecordParts) × IsRecord r
-    × (saved ≡ record_text r) × runs.IsReplayFault m r fault
+IsReplayFault bytes saved (faults.Replay fault) =
+    (m : Parts) × Spells bytes m × IsRefusedReplay m saved (faults.Replay fault)
 IsReplayFault bytes saved fault = IsModuleFault bytes fault

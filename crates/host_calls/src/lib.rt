@@ -12,7 +12,10 @@ mod plan;
 mod requests;
 mod well;
 
-pub use calls::{endings_of, functions_of, replay_of, run_of};
+pub use calls::{
+    endings_of, endings_of_module, functions_of, replay_of, replay_of_module, run_of, run_of_module,
+};
 pub use fault::HostFault;
 pub use plan::Plan;
+pub use requests::module_of;
 pub use well::is_well;

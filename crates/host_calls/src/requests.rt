@@ -3,7 +3,7 @@ ghost use Rattle.std.specs.Prelude.{IfOk, IfErr};
 ghost use Rattle.validate_typing.specs.Tabled.{IsValidated};
 ghost use Rattle.binary.specs.Grammar.{IsModuleText};
 ghost use Rattle.spawn_host.specs.Requests.{IsRequestOf};
-ghost use Rattle.host_calls.specs.Hosts.{IsModuleFault, IsRefusedCall};
+ghost use Rattle.host_calls.specs.Hosts.{IsModuleFault, IsNoCall};
 
 use crate::fault::{HostFault, refused};
 use report_jobs::load;
@@ -15,7 +15,7 @@ use validate_module::ValidModule;
 ///
 /// # Errors
 /// `Module` only where they spell none; `NoMemory`.
-pub(crate) fn module_of(alloc: Global, bytes: &[u8]) -> Result<ValidModule, HostFault>
+pub fn module_of(alloc: Global, bytes: &[u8]) -> Result<ValidModule, HostFault>
     ensures ok { IfOk result (λ v. IsModuleText bytes.now v.parts × IsValidated v) }
     ensures fault { IfErr result (IsModuleFault bytes.now) }
 {
@@ -35,7 +35,7 @@ pub(crate) fn request_of<'m, 'a>(
 ) -> Result<Request<'m, 'a>, HostFault>
     ensures request { IfOk result (IsRequestOf «module».now.parts call.entry) }
     ensures fault { IfErr result
-        (IsRefusedCall «module».now.parts call.entry.name.now call.entry.args.now) }
+        (IsNoCall «module».now.parts call.entry.name.now call.entry.args.now) }
 {
     match Request::new(module, call) {
         Ok(request) => Ok(request),

@@ -15,20 +15,20 @@ use Rattle.report_command.specs.declared.search.Search.{Search}
 use Rattle.report_jobs.specs.Prints.{WriterChange, change}
 use Rattle.report_json.specs.declared.raced.RunRaces.{RunRaces}
 use Rattle.report_lines.specs.Found.{found_run_line}
-use Rattle.report.specs.Complete.{complete_lines}
-use Rattle.report.specs.Found.{found_lines, kept_text}
-use Rattle.report.specs.Racing.{SaysRaced}
-use Rattle.report.specs.declared.found.FoundRun.{FoundRun}
-use Rattle.report.specs.declared.found.KeptRun.{KeptRun}
-use Rattle.report.specs.declared.raced.KeptRace.{KeptRace}
-use Rattle.report.specs.Drawn.{coverage_of}
-use Rattle.report.specs.SearchObjects.{WritesAll, WritesKept, WritesRacy, WritesTable, none_of}
-use Rattle.report.specs.Telling.{EndsAll, EndsKept, EndsNone, EndsRacy, InLines, head_lines, was_told}
+use Rattle.report_telling.specs.Complete.{complete_lines}
+use Rattle.report_telling.specs.Found.{found_lines, kept_text}
+use Rattle.report_telling.specs.Racing.{SaysRaced}
+use Rattle.report_telling.specs.declared.found.FoundRun.{FoundRun}
+use Rattle.report_telling.specs.declared.found.KeptRun.{KeptRun}
+use Rattle.report_telling.specs.declared.racing.KeptRace.{KeptRace}
+use Rattle.report_telling.specs.Drawn.{coverage_of}
+use Rattle.report_telling.specs.SearchObjects.{WritesAll, WritesKept, WritesRacy, WritesTable, none_of}
+use Rattle.report_telling.specs.Telling.{EndsAll, EndsKept, EndsNone, EndsRacy, InLines, head_lines}
+use Rattle.report_telling.specs.declared.telling.ToldSearch.{ToldSearch}
+use Rattle.report.specs.Told.{was_told, AllIn, LastIn, NoneIn, RacyIn, TellsDrawn, TellsDrawnRaces}
 use Rattle.report.specs.Searched.{IsDrawn, IsGoneThrough, IsSearched, IsSearchedBy, IsSettled}
 use Rattle.report.specs.Searches.{Finds}
 use Rattle.report.specs.Rest.{RestIn}
-use Rattle.report.specs.Told.{AllIn, LastIn, NoneIn, RacyIn, TellsAll, TellsDrawn, TellsDrawnRaces}
-use Rattle.report.specs.declared.telling.ToldSearch.{ToldSearch}
 
 -- both of an answer
 pub if_both : {T E : Type 0} (r : Result T E) (P Q R : T → Type 0) → ((x : T) → P x → Q x → R x) → IfOk r P → IfOk r Q → IfOk r R

@@ -1,7 +1,7 @@
 -- The rows of a table have each of its runs once.
-use Rattle.std.proofs.Common.{ℕ, ◌≡◌, ◌≤◌, ◌<◌, ◌+◌, List, [], Bool, true, false, length, subst, sym, ap, ◌∙◌, arith, sum_by, get_or, take}
-use Rattle.std.proofs.lemmas.Bool.{cond_both, cond-true}
-use Rattle.std.proofs.lemmas.List.Sums.{sum_by_push, sum_by-set, sum_by-le-sum_by, sum_by_more_le}
+use Rattle.std.proofs.Common.{ℕ, ◌≡◌, ◌≤◌, ◌+◌, List, [], Bool, true, false, length, sym, ap, ◌∙◌, arith, sum_by, get_or}
+use Rattle.std.proofs.lemmas.Bool.{cond_both}
+use Rattle.std.proofs.lemmas.List.Sums.{sum_by_push, sum_by-set, sum_by-le-sum_by}
 use Rattle.search_endings.specs.Endings.{Ending}
 use Rattle.search_finds.specs.declared.met.Met.{Met}
 use Rattle.search_finds.specs.declared.met.EndingTable.{EndingTable}
@@ -10,7 +10,7 @@ use Rattle.search_finds.specs.Noted.{AreNoted, IsTableOf}
 use Rattle.search_finds.specs.Noted.IsTableOf.{none, more}
 use Rattle.spawn_host.specs.Requests.{Requested}
 use Rattle.selection.specs.declared.sought.Sought.{Sought}
-use Rattle.report.specs.Drawn.{cut_in, is_cut, runs_if_cut}
+use Rattle.report_telling.specs.Drawn.{cut_in, is_cut, runs_if_cut}
 
 abbrev times : Met → ℕ
 times m = m.times
@@ -43,14 +43,4 @@ pub cut_within : (q : Requested) (s : Sought) (t : EndingTable) → AreNoted q s
 cut_within q s t a =
     let all = runs_of s.from a.endings t a.noted in
     let less = sum_by-le-sum_by runs_if_cut times t.met.items at_most in
-    omega arith
-
--- The runs of the rows before one that was cut, and its own, are no more than those of all.
-pub one_more_cut : (items rows : List Met) (i : ℕ) (m : Met) → items ≡ rows → i < length rows → m ≡ get_or rows i m → is_cut m.ending ≡ true
-    → sum_by runs_if_cut (take i items) + m.times ≤ sum_by runs_if_cut items
-one_more_cut items rows i m same lt is cut =
-    let within : i < length items = subst (λ (l : List Met). i < length l) (sym same) lt in
-    let there : get_or items i m ≡ m = ap (λ (l : List Met). get_or l i m) same ∙ sym is in
-    let times_of : runs_if_cut (get_or items i m) ≡ m.times = ap runs_if_cut there ∙ cond-true (is_cut m.ending) m.times 0 cut in
-    let less = sum_by_more_le runs_if_cut items i m within in
     omega arith

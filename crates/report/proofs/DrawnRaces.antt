@@ -16,9 +16,9 @@ use Rattle.selection.specs.declared.sought.Sought.{Sought}
 use Rattle.report_command.specs.declared.search.Search.{Search}
 use Rattle.report_jobs.specs.Asked.{IsAskedBy}
 use Rattle.report_jobs.specs.Prints.{WriterChange, KeepsRecord}
-use Rattle.report.specs.DrawnRaces.{SaysRaceOf}
-use Rattle.report.specs.Searches.{IsRaceKept}
 use Rattle.std.specs.Prelude.{is_some}
+use Rattle.report_finds.specs.DrawnRaces.{SaysRaceOf}
+use Rattle.report.specs.Searches.{IsRaceKept}
 
 -- where the search stops, none that was made has a race
 pub none_races : (q : Requested) (may : Allowed) (s : Sought) (t : EndingTable) (h : Halt) → ((f : _) → h ≡ halts.Found f → ⊥)

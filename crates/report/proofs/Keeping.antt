@@ -9,15 +9,15 @@ use Rattle.search_finds.specs.Finds.{IsFind, IsLookedFor, EndsAsLookedFor}
 use Rattle.report_command.specs.declared.search.Search.{Search}
 use Rattle.report_jobs.specs.Asked.{IsAskedBy}
 use Rattle.report_jobs.specs.Prints.{WriterChange, KeepsRecord}
-use Rattle.report.specs.Found.{AreKeptOf, CanBeKept, HasFirst, HasFound, HasKnown, HasRun, IsKeptAs, IsKeptOf, KeepsFound, KeepsMade}
-use Rattle.report.specs.Found.{can_shrink, endless_as}
-use Rattle.report.specs.Prints.{stops_behind}
+use Rattle.report_telling.specs.declared.found.FoundRun.{FoundRun}
+use Rattle.report_telling.specs.declared.found.KeptRun.{KeptRun}
+use Rattle.report_telling.specs.declared.found.WholeSearch.{WholeSearch}
+use Rattle.report_finds.specs.Found.{AreKeptOf, CanBeKept, HasFirst, HasFound, HasKnown, HasRun, IsKeptAs, IsKeptOf, KeepsFound, KeepsMade, can_shrink}
+use Rattle.report_finds.specs.Found.{endless_as}
+use Rattle.report_finds.specs.Sought.{stops_behind}
+use Rattle.report_finds.specs.declared.all.EndlessWay.{EndlessWay}
+use Rattle.report_finds.specs.declared.all.EndlessWay.TheVariants.{ToNoEnd, Round}
 use Rattle.report.specs.Searches.{Finds, IsFindKept}
-use Rattle.report.specs.declared.all.EndlessWay.{EndlessWay}
-use Rattle.report.specs.declared.all.EndlessWay.TheVariants.{ToNoEnd, Round}
-use Rattle.report.specs.declared.found.FoundRun.{FoundRun}
-use Rattle.report.specs.declared.found.KeptRun.{KeptRun}
-use Rattle.report.specs.declared.whole.WholeSearch.{WholeSearch}
 use Rattle.report.proofs.Sought.{known_is_sought}
 
 -- one that never ends isn't shrunk

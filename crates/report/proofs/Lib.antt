@@ -3,13 +3,10 @@ mod Asking
 mod Counted
 mod DrawnRaces
 mod Keeping
-mod Looking
-mod Meeting
 mod Orders
 mod Pairs
 mod Performing
 mod Plain
-mod Printed
 mod Silent
 mod Sought
 mod Sure

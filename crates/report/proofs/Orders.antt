@@ -7,17 +7,18 @@ use Rattle.report_command.specs.declared.form.Form.{Form}
 use Rattle.report_command.specs.declared.search.Search.{Search}
 use Rattle.report_jobs.specs.Asked.{IsAskedBy}
 use Rattle.report_jobs.specs.Prints.{WriterChange, change}
-use Rattle.report.specs.Racing.{IsRacedOf, IsWhole, KeepsRaced, SaysRaced, keeps_race}
+use Rattle.report_telling.specs.Racing.{SaysRaced}
+use Rattle.report_telling.specs.Telling.{InLines}
+use Rattle.report_telling.specs.declared.racing.Raced.{Raced}
+use Rattle.report_telling.specs.declared.telling.ToldSearch.{ToldSearch}
+use Rattle.report_telling.specs.declared.racing.Racing.{Racing}
+use Rattle.report_telling.specs.declared.found.WholeSearch.{WholeSearch}
+use Rattle.report_finds.specs.Racing.{IsRacedOf, IsWhole, KeepsRaced, keeps_race}
 use Rattle.report.specs.Rest.{TellsRest}
 use Rattle.report.specs.Searched.{IsGoneThrough, settles}
 use Rattle.report.specs.Searches.{Finds}
-use Rattle.report.specs.Telling.{InLines}
 use Rattle.report.specs.Told.{AllIn, TellsAll}
-use Rattle.report.specs.declared.raced.Raced.{Raced}
 use Rattle.report.specs.declared.searching.OrdersMet.{OrdersMet}
-use Rattle.report.specs.declared.telling.ToldSearch.{ToldSearch}
-use Rattle.report.specs.declared.whole.Racing.{Racing}
-use Rattle.report.specs.declared.whole.WholeSearch.{WholeSearch}
 use Rattle.report.proofs.AllTold.{all_told}
 use Rattle.report.proofs.Keeping.{found_kept, quiet_by}
 use Rattle.report.proofs.Pairs.{raced_in, raced_kept}

@@ -1,5 +1,5 @@
 -- The race of a run's record, as it is kept.
-use Rattle.std.specs.Prelude.{IfOk, OnOk, Result, Ok, Err, is_some}
+use Rattle.std.specs.Prelude.{is_some}
 use Rattle.std.proofs.Common.{ℕ, ◌≡◌, ◌&&◌, Bool, true, false, List, inl, inr, refl, subst}
 use Rattle.allowed_races.specs.declared.allowed.Allowed.{Allowed}
 use Rattle.spawn_host.specs.Requests.{Requested}
@@ -11,16 +11,12 @@ use Rattle.report_command.specs.declared.search.Search.{Search}
 use Rattle.report_jobs.specs.Asked.{IsAskedBy}
 use Rattle.report_jobs.specs.Prints.{WriterChange, KeepsRecord}
 use Rattle.report_looks.proofs.Sightings.{says_race}
-use Rattle.report.specs.Racing.{IsRacedIn, IsRacedOf, CanTell, KeepsRaced, keeps_race}
+use Rattle.report_telling.specs.Racing.{IsRacedIn, CanTell}
+use Rattle.report_telling.specs.declared.racing.Raced.{Raced}
+use Rattle.report_telling.specs.declared.racing.Raced.TheVariants.{Run, Threads, Untold}
+use Rattle.report_telling.specs.declared.racing.Racing.{Racing}
+use Rattle.report_finds.specs.Racing.{IsRacedOf, KeepsRaced, keeps_race}
 use Rattle.report.specs.Searches.{KeepsNoneOrRace}
-use Rattle.report.specs.declared.raced.Raced.{Raced}
-use Rattle.report.specs.declared.raced.Raced.TheVariants.{Run, Threads, Untold}
-use Rattle.report.specs.declared.whole.Racing.{Racing}
-
--- what is so where a call came to its end
-pub if_on : {T E : Type 0} (r : Result T E) {P Q : Type 0} → (P → Q) → OnOk r P → IfOk r (λ _. Q)
-if_on (Ok x) f p = f p
-if_on (Err e) f p = tt
 
 and_first : (x y : Bool) → (x && y) ≡ true → x ≡ true
 and_first true y is = refl

@@ -3,7 +3,7 @@ use Rattle.std.proofs.Common.{◌≡◌, ℕ, arith}
 use Rattle.report_jobs.specs.Silence.{IsRefusal, trouble_status}
 use Rattle.report_jobs.specs.declared.running.Trouble.{Trouble}
 use Rattle.report_jobs.specs.declared.running.Trouble.TheVariants as troubles
-use Rattle.report.specs.Searches.{IsOfSystem}
+use Rattle.report_telling.specs.Troubles.{IsOfSystem}
 use Rattle.report.specs.Silent.{IfRefusedCall}
 
 module _ (P : Type 0) where

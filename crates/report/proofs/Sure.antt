@@ -1,5 +1,5 @@
 -- Where it is said that every state can end and that every fair run does, the threads of the call are sure to end.
-use Rattle.std.proofs.Common.{◌≡◌, ◌↔◌, ℕ, Bool, true, false, Option, Some, None, subst}
+use Rattle.std.proofs.Common.{◌≡◌, ℕ, Bool, true, false, Option, Some, None, subst}
 use Rattle.std.specs.Option.{MatchOption}
 use Rattle.allowed_races.specs.declared.allowed.Allowed.{Allowed}
 use Rattle.spawn_host.specs.Requests.{Requested}
@@ -14,9 +14,10 @@ use Rattle.search_modules.specs.declared.called.Searched.{Searched}
 use Rattle.search_modules.specs.Liveness.{SaysBy, SaysOfRuns, RestsLater, RestsPlainly, is_same_state, is_same_owned}
 use Rattle.search_endings.specs.Endings.{Ending}
 use Rattle.search_reach.specs.declared.ending.Ended.{Ended}
-use Rattle.report.specs.Complete.{EndsForSure, IsSure}
-use Rattle.report.specs.Searches.{FindsEvery, FindsNoOther, IsSureToEnd}
-use Rattle.report.specs.Racing.{IsCompleteBy}
+use Rattle.report_telling.specs.Complete.{EndsForSure, IsSure}
+use Rattle.report_finds.specs.Complete.{FindsEvery, FindsNoOther}
+use Rattle.report_finds.specs.Racing.{IsCompleteBy}
+use Rattle.report.specs.Searches.{IsSureToEnd}
 
 module _ {S : Type 0} (eq : S → S → Bool) (rests : Searched → S → State Shared Thread → Type 0) where
   pub sure : (q : Requested) (dump states : ℕ) (verdict : Verdict) (o : Option Liveness) → verdict ≡ verdicts.All
@@ -51,11 +52,3 @@ pub sure_by : (q : Requested) (may : Allowed) (dump : ℕ) (is_free : Bool) (all
     → IsSure all → IsSureToEnd q.parts q.name q.args dump
 sure_by q may dump true all c is = sure is_same_owned (RestsPlainly may) q dump all.states all.verdict all.liveness is.are_all is.live c.live
 sure_by q may dump false all c is = sure is_same_state RestsLater q dump all.states all.verdict all.liveness is.are_all is.live c.live
-
--- It is sure where what is known says so.
-pub sure_where_known : (all : Ended Ending) (l : Liveness) (b : Bool) → all.verdict ≡ verdicts.All → all.liveness ≡ Some l
-    → (b ≡ true) ↔ EndsForSure l → (b ≡ true) ↔ IsSure all
-sure_where_known all l b is_all is known = (
-  λ yes. record { are_all = is_all; live = (l, is, known.0 yes) },
-  λ is_sure. let there = is_sure.live.1 in let same : is_sure.live.0 ≡ l = cc in known.1 (subst EndsForSure same is_sure.live.2),
-)

@@ -10,12 +10,13 @@ use Rattle.search_modules.specs.Races.{NeverRaces}
 use Rattle.report_command.specs.declared.search.Search.{Search}
 use Rattle.report_jobs.specs.Asked.{IsAskedBy}
 use Rattle.report_jobs.specs.Prints.{change}
-use Rattle.report.specs.Prints.{IsStatusOf, stops_behind}
-use Rattle.report.specs.Racing.{IsAsked, IsKnownOf, IsWhole, allows, keeps_race}
+use Rattle.report_telling.specs.Racing.{allows}
+use Rattle.report_telling.specs.declared.racing.Racing.{Racing}
+use Rattle.report_telling.specs.declared.racing.Racing.TheVariants.{Unasked, Never, OnlyBehindTimeouts, Found, Unknown}
+use Rattle.report_telling.specs.declared.found.WholeSearch.{WholeSearch}
+use Rattle.report_finds.specs.Sought.{IsStatusOf, stops_behind}
+use Rattle.report_finds.specs.Racing.{IsAsked, IsKnownOf, IsWhole, keeps_race}
 use Rattle.report.specs.Searches.{EndWell, Finds, IsRaceKept, IsSureToEnd, KeepsNoneOrRace}
-use Rattle.report.specs.declared.whole.Racing.{Racing}
-use Rattle.report.specs.declared.whole.Racing.TheVariants.{Unasked, Never, OnlyBehindTimeouts, Found, Unknown}
-use Rattle.report.specs.declared.whole.WholeSearch.{WholeSearch}
 use Rattle.report.proofs.Sure.{every_by, can_by, sure_by}
 
 -- one of two that isn't so

@@ -14,8 +14,8 @@ use Rattle.report_looks.specs.Looked.{PrintsShow, stream_of}
 use Rattle.report_looks.specs.Raced.{OfModule, IsRaceFree, IsRacy, PrintsRaces}
 use Rattle.report.specs.Searched.{HasSearched}
 
--- What the status of a show says: 0 of a record of a run, and what was printed of it, 2 of a refused module, 3 of a record
--- of a run that has not what is asked for, 4 of a record of no run. 5 is that memory or a stream failed.
+-- What the status of a show says: 0 of a record of a run, and what was printed of it, 2 of a refused module, 3 of a
+-- record of a run that has not what is asked for, 4 of a record of no run. 5 is that memory or a stream failed.
 pub record Shows (bytes saved : List ℕ) (how : ShowLook) (out save : WriterChange) (status : ℕ) : Type 0 where
   pub shown : status ≡ 0 → IsRecordOf bytes saved
   pub prints : status ≡ 0 → OfModule (PrintsShow bytes how (stream_of how.view out save)) bytes saved
@@ -24,8 +24,8 @@ pub record Shows (bytes saved : List ℕ) (how : ShowLook) (out save : WriterCha
   pub none : status ≡ 4 → IsNoRecordOf bytes saved
   pub statuses : (status ≡ 0) ⊎ (status ≡ 2) ⊎ (status ≡ 3) ⊎ (status ≡ 4) ⊎ (status ≡ 5)
 
--- What that of races says: 0 of a record of a run in which no accesses race that may not, 1 of one in which some do, 2, 4 and
--- 5 as of a show, and 3 of a record of a run, where races are allowed at data by names that the module hasn't.
+-- What that of races says: 0 of a record of a run in which no accesses race that may not, 1 of one in which some do, 2,
+-- 4 and 5 as of a show, and 3 of a record of a run, where races are allowed at data by names that the module hasn't.
 pub record TellsRaces (bytes saved : List ℕ) (job : RacesJob) (out : WriterChange) (status : ℕ) : Type 0 where
   pub prints : status ≤ 1 → OfModule (PrintsRaces job.allow job.most job.form out) bytes saved
   pub free : status ≡ 0 → OfModule (IsRaceFree job.allow) bytes saved
@@ -36,8 +36,8 @@ pub record TellsRaces (bytes saved : List ℕ) (job : RacesJob) (out : WriterCha
   pub unfit : status ≡ 4 → IsNoRecordOf bytes saved
   pub statuses : status ≤ 5
 
--- What that of a search says: 0 and 1 of runs that were made, 2 of a refused module, 3 of a call that can't be made, or where
--- races are allowed at data by names that the module hasn't. 5 is that memory or a stream failed.
+-- What that of a search says: 0 and 1 of runs that were made, 2 of a refused module, 3 of a call that can't be made, or
+-- where races are allowed at data by names that the module hasn't. 5 is that memory or a stream failed.
 pub record Searches (bytes : List ℕ) (s : Search) (out save : WriterChange) (status : ℕ) : Type 0 where
   pub made : status ≤ 1 → HasSearched bytes s out save status
   pub refused : status ≡ 2 → IsNoValidModule bytes

@@ -1,16 +1,6 @@
-pub mod Complete
-pub mod Drawn
-pub mod DrawnRaces
-pub mod Early
-pub mod Endless
-pub mod Found
 pub mod Jobs
-pub mod Prints
-pub mod Racing
 pub mod Rest
 pub mod Searched
 pub mod Searches
-pub mod SearchObjects
 pub mod Silent
-pub mod Telling
 pub mod Told

@@ -9,14 +9,15 @@ use Rattle.report_command.specs.declared.form.Form.TheVariants.{Lines, Json}
 use Rattle.report_command.specs.declared.search.Search.{Search}
 use Rattle.report_jobs.specs.Prints.{WriterChange, changed}
 use Rattle.report_jobs.specs.declared.streams.Streams.{Streams}
-use Rattle.report.specs.Complete.{complete_lines}
-use Rattle.report.specs.Found.{AreKeptOf, HasFound, KeepsFound, found_lines, kept_lines}
-use Rattle.report.specs.Prints.{IsStatusOf}
-use Rattle.report.specs.Racing.{IsRacedIn}
-use Rattle.report.specs.SearchObjects.{WritesAll}
-use Rattle.report.specs.declared.found.FoundRun.{FoundRun}
+use Rattle.report_telling.specs.Complete.{complete_lines}
+use Rattle.report_telling.specs.Found.{found_lines, kept_lines}
+use Rattle.report_telling.specs.Racing.{IsRacedIn}
+use Rattle.report_telling.specs.SearchObjects.{WritesAll}
+use Rattle.report_telling.specs.declared.found.FoundRun.{FoundRun}
+use Rattle.report_telling.specs.declared.telling.ToldSearch.{ToldSearch}
+use Rattle.report_finds.specs.Found.{AreKeptOf, HasFound, KeepsFound}
+use Rattle.report_finds.specs.Sought.{IsStatusOf}
 use Rattle.report.specs.declared.searching.OrdersMet.{OrdersMet}
-use Rattle.report.specs.declared.telling.ToldSearch.{ToldSearch}
 
 -- The lines of what was found of all runs, and those of what is looked for; or the object of all that is told.
 abbrev pub RestIn : Form → Parts → ToldSearch → Option FoundRun → WriterChange → Type 0
@@ -43,7 +44,7 @@ pub record TellsRest (form : Form) (q : Requested) (s : Search) (met : OrdersMet
   pub status_is : IsStatusOf s told.whole.now status
 
 -- The same of what streams have before and after.
-abbrev pub TellsRestOn : {W E S : Type 0} → Form → (W → Option (List ℕ)) → (S → Option (List ℕ)) → Requested → Search → OrdersMet → Streams W E S
-    → Streams W E S → ℕ → Type 0
+abbrev pub TellsRestOn : {W E S : Type 0} → Form → (W → Option (List ℕ)) → (S → Option (List ℕ)) → Requested → Search
+    → OrdersMet → Streams W E S → Streams W E S → ℕ → Type 0
 TellsRestOn form out save q s met old new status =
     TellsRest form q s met (changed out old.out new.out) (changed save old.save new.save) status

@@ -8,9 +8,9 @@ use Rattle.report_command.specs.declared.search.Search.{Search}
 use Rattle.report_jobs.specs.Prints.{WriterChange, changed}
 use Rattle.report_jobs.specs.declared.streams.Streams.{Streams}
 use Rattle.report_looks.specs.Allowing.{IsAllowedBy}
-use Rattle.report.specs.Told.{TellsAll, TellsDrawn, TellsDrawnRaces}
 use Rattle.search_reach.specs.declared.search.Verdict.{Verdict}
 use Rattle.search_reach.specs.declared.search.Verdict.TheVariants as verdicts
+use Rattle.report.specs.Told.{TellsAll, TellsDrawn, TellsDrawnRaces}
 use Rattle.report.specs.Searches.{EndWell, Finds}
 
 -- What comes of a search of drawn runs: what is kept, and what is told of one that looks for a race, or for an ending.
@@ -21,7 +21,8 @@ pub record IsDrawn (m : Parts) (s : Search) (a : Allowed) (out save : WriterChan
 
 -- What comes of one through every order of entries, with so many states at most: what is kept, what status 0 says, and
 -- what is told.
-pub record IsGoneThrough (most : ℕ) (m : Parts) (s : Search) (a : Allowed) (out save : WriterChange) (status : ℕ) : Type 0 where
+pub record IsGoneThrough (most : ℕ) (m : Parts) (s : Search) (a : Allowed) (out save : WriterChange)
+    (status : ℕ) : Type 0 where
   pub finds : Finds m s a save status
   pub well : status ≡ 0 → EndWell m s a
   pub tells : TellsAll m s a most out save status
@@ -38,27 +39,30 @@ abbrev pub IsSettled : ℕ → Parts → Search → Allowed → WriterChange →
 IsSettled most m s a out save status =
     (gone : IsGoneThrough most m s a out save status) × (settles gone.tells.told.whole.now.all.verdict ≡ true)
 
--- What comes of a search through runs of a module, where so much may race. One through every order first draws runs where
--- that settles not all.
+-- What comes of a search through runs of a module, where so much may race. One through every order first draws runs
+-- where that settles not all.
 abbrev pub IsSearchedBy : Option ℕ → Bool → Parts → Search → Allowed → WriterChange → WriterChange → ℕ → Type 0
 IsSearchedBy None first m s a out save status = IsDrawn m s a out save status
 IsSearchedBy (Some most) false m s a out save status = IsGoneThrough most m s a out save status
-IsSearchedBy (Some most) true m s a out save status = IsSettled most m s a out save status ⊎ IsDrawn m s a out save status
+IsSearchedBy (Some most) true m s a out save status =
+    IsSettled most m s a out save status ⊎ IsDrawn m s a out save status
 
 abbrev pub IsSearched : Parts → Search → Allowed → WriterChange → WriterChange → ℕ → Type 0
 IsSearched m s a out save status = IsSearchedBy s.all s.first m s a out save status
 
 -- The same of what streams have before and after.
-abbrev pub IsSearchedOn : {W E S : Type 0} → (W → Option (List ℕ)) → (S → Option (List ℕ)) → Parts → Search → Allowed → Streams W E S
-    → Streams W E S → ℕ → Type 0
-IsSearchedOn out save m s a old new status = IsSearched m s a (changed out old.out new.out) (changed save old.save new.save) status
-
-abbrev pub IsDrawnOn : {W E S : Type 0} → (W → Option (List ℕ)) → (S → Option (List ℕ)) → Parts → Search → Allowed → Streams W E S
-    → Streams W E S → ℕ → Type 0
-IsDrawnOn out save m s a old new status = IsDrawn m s a (changed out old.out new.out) (changed save old.save new.save) status
-
-abbrev pub IsGoneThroughOn : {W E S : Type 0} → (W → Option (List ℕ)) → (S → Option (List ℕ)) → ℕ → Parts → Search → Allowed
+abbrev pub IsSearchedOn : {W E S : Type 0} → (W → Option (List ℕ)) → (S → Option (List ℕ)) → Parts → Search → Allowed
     → Streams W E S → Streams W E S → ℕ → Type 0
+IsSearchedOn out save m s a old new status =
+    IsSearched m s a (changed out old.out new.out) (changed save old.save new.save) status
+
+abbrev pub IsDrawnOn : {W E S : Type 0} → (W → Option (List ℕ)) → (S → Option (List ℕ)) → Parts → Search → Allowed
+    → Streams W E S → Streams W E S → ℕ → Type 0
+IsDrawnOn out save m s a old new status =
+    IsDrawn m s a (changed out old.out new.out) (changed save old.save new.save) status
+
+abbrev pub IsGoneThroughOn : {W E S : Type 0} → (W → Option (List ℕ)) → (S → Option (List ℕ)) → ℕ → Parts → Search
+    → Allowed → Streams W E S → Streams W E S → ℕ → Type 0
 IsGoneThroughOn out save most m s a old new status =
     IsGoneThrough most m s a (changed out old.out new.out) (changed save old.save new.save) status
 
@@ -76,6 +80,7 @@ pub record HasSearched (bytes : List ℕ) (s : Search) (out save : WriterChange)
   pub allowed_is : IsAllowedBy s.allow allowed
   pub searched : IsSearched parts s allowed out save status
 
-abbrev pub HasSearchedOn : {W E S : Type 0} → (W → Option (List ℕ)) → (S → Option (List ℕ)) → List ℕ → Search → Streams W E S → Streams W E S
-    → ℕ → Type 0
-HasSearchedOn out save bytes s old new status = HasSearched bytes s (changed out old.out new.out) (changed save old.save new.save) status
+abbrev pub HasSearchedOn : {W E S : Type 0} → (W → Option (List ℕ)) → (S → Option (List ℕ)) → List ℕ → Search
+    → Streams W E S → Streams W E S → ℕ → Type 0
+HasSearchedOn out save bytes s old new status =
+    HasSearched bytes s (changed out old.out new.out) (changed save old.save new.save) status

@@ -1,6 +1,5 @@
 -- What is kept of a search.
 use Rattle.std.specs.Prelude.{ℕ, ◌≡◌, ◌≢◌, ◌≤◌, ◌⊎◌, All, List, [], true, false, is_some}
-use Rattle.std.specs.Option.{IfSome}
 use Rattle.std.specs.Io.KnownBytes.{Appends}
 use Rattle.allowed_races.specs.declared.allowed.Allowed.{Allowed}
 use Rattle.types.specs.declared.value.Value.{Value}
@@ -8,28 +7,23 @@ use Rattle.types.specs.declared.parts.Parts.{Parts}
 use Rattle.replay_text.specs.declared.parts.RecordParts.{RecordParts}
 use Rattle.spawn_host.specs.declared.end.EndState.{EndState}
 use Rattle.replay.specs.Runs.{IsRunOf}
-use Rattle.spawn_host.specs.Requests.{Requested}
 use Rattle.search_scheduled.specs.Headers.{IsOfCall}
-use Rattle.search_reach.specs.declared.ending.Ended.{Ended}
-use Rattle.search_reach.specs.declared.search.Verdict.TheVariants as verdicts
 use Rattle.schedule.specs.System.{State}
 use Rattle.schedule_threads.specs.Shared.{Shared}
 use Rattle.search_runs.specs.Called.{Called, Walker as Thread}
 use Rattle.search_runs.specs.Theorems.{CanReach}
 use Rattle.search_endings.specs.Endings.{Ending}
-use Rattle.search_modules.specs.Endings.{HasEveryEnding, HasEveryEndingWithin, AllCanEndSo}
-use Rattle.search_modules.specs.Liveness.{CanStillEnd, HasFairRun, CountsStates, SaysWhereAll}
+use Rattle.search_modules.specs.Endings.{HasEveryEnding, AllCanEndSo}
+use Rattle.search_modules.specs.Liveness.{CanStillEnd, HasFairRun}
 use Rattle.search_modules.specs.Races.{NeverRaces}
 use Rattle.search_modules.specs.Returned.{IsCall}
 use Rattle.search_finds.specs.Finds.{EndsAsLookedFor, IsLookedFor}
 use Rattle.report_command.specs.declared.search.Search.{Search}
 use Rattle.report_jobs.specs.Arguments.{AreSpelled, texts_in}
 use Rattle.report_jobs.specs.Prints.{WriterChange, KeepsRecord}
-use Rattle.report.specs.Complete.{all_end_well}
-use Rattle.report.specs.Endless.{FindsEndless}
 use Rattle.show_races.specs.Races.{SaysOfRun}
-use Rattle.report_jobs.specs.declared.running.Trouble.{Trouble}
-use Rattle.report_jobs.specs.declared.running.Trouble.TheVariants as troubles
+use Rattle.report_telling.specs.Complete.{all_end_well}
+use Rattle.report_finds.specs.Endless.{FindsEndless}
 
 -- A run of the module by the call that was asked for, which ends as is looked for; and its record was written, where
 -- one is wanted.
@@ -63,8 +57,8 @@ KeepsNoneOrFind m s save = (save.new ≡ save.old) ⊎ IsFindKept m s save
 abbrev pub KeepsNoneOrEndless : Parts → Search → WriterChange → Type 0
 KeepsNoneOrEndless m s save = (save.new ≡ save.old) ⊎ IsEndlessKept m s save
 
--- Where races are looked for, a run of the module by the call that was asked for, in which two accesses race that may not;
--- and its record was written, where one is wanted.
+-- Where races are looked for, a run of the module by the call that was asked for, in which two accesses race that may
+-- not; and its record was written, where one is wanted.
 pub record IsRaceKept (m : Parts) (s : Search) (a : Allowed) (save : WriterChange) : Type 0 where
   pub looked_for : s.races ≡ true
   pub args : List Value
@@ -79,31 +73,14 @@ pub record IsRaceKept (m : Parts) (s : Search) (a : Allowed) (save : WriterChang
 abbrev pub KeepsNoneOrRace : Parts → Search → Allowed → WriterChange → Type 0
 KeepsNoneOrRace m s a save = (save.new ≡ save.old) ⊎ IsRaceKept m s a save
 
--- Nothing was found and nothing written, or a run was found, and the status is 1; or a run with a race was, which may be
--- allowed.
+-- Nothing was found and nothing written, or a run was found, and the status is 1; or a run with a race was, which may
+-- be allowed.
 abbrev pub IsKept : Parts → Search → WriterChange → Type 0
 IsKept m s save = IsFindKept m s save ⊎ IsEndlessKept m s save
 
 abbrev pub Finds : Parts → Search → Allowed → WriterChange → ℕ → Type 0
 Finds m s a save status =
     ((status ≤ 1) × (save.new ≡ save.old)) ⊎ (((status ≡ 1) × IsKept m s save) ⊎ ((status ≤ 1) × IsRaceKept m s a save))
-
--- They are all endings of a call, where that is said; and each is one.
-abbrev pub FindsEvery : Requested → ℕ → Ended Ending → Type 0
-FindsEvery q dump all = all.verdict ≡ verdicts.All → HasEveryEnding q.parts q.name q.args dump all.endings.keys
-
-abbrev pub FindsNoOther : Requested → ℕ → Ended Ending → Type 0
-FindsNoOther q dump all = AllCanEndSo q.parts q.name q.args dump all.endings.keys
-
--- What is found of all runs of a call: where it says so the endings are all; each is one; as many states were met as it
--- says; and what it says of whether all comes to an end. Of runs with up to so many entries as it says each has its ending
--- there.
-pub record IsCompleteOf (q : Requested) (dump : ℕ) (all : Ended Ending) : Type 0 where
-  pub every : FindsEvery q dump all
-  pub can : FindsNoOther q dump all
-  pub count : CountsStates q all.states
-  pub live : SaysWhereAll q dump all.states all.verdict all.liveness
-  pub within : IfSome all.levels (HasEveryEndingWithin q.parts q.name q.args dump all.endings.keys)
 
 -- By this call threads without budgets can still end from wherever they come, and no fair run goes on for ever.
 pub record IsSureToEnd (m : Parts) (entry : List ℕ) (args : List Value) (dump : ℕ) : Type 0 where
@@ -112,9 +89,9 @@ pub record IsSureToEnd (m : Parts) (entry : List ℕ) (args : List Value) (dump 
   pub can_end : (w : State Shared Thread) → CanReach called w → CanStillEnd called dump w
   pub fair_runs_end : HasFairRun called → ⊥
 
--- Runs of the module by the call that was asked for can end; each that ends, all its threads with units and room enough,
--- ends well and otherwise than is looked for: all threads' functions returned; and they are sure to end. No run has a
--- race of accesses that may not, where races aren't allowed and every order isn't gone through at once.
+-- Runs of the module by the call that was asked for can end; each that ends, all its threads with units and room
+-- enough, ends well and otherwise than is looked for: all threads' functions returned; and they are sure to end. No run
+-- has a race of accesses that may not, where races aren't allowed and every order isn't gone through at once.
 pub record EndWell (m : Parts) (s : Search) (a : Allowed) : Type 0 where
   pub args : List Value
   pub spelled : AreSpelled (texts_in s.call.args.items) args
@@ -130,12 +107,3 @@ pub record EndWell (m : Parts) (s : Search) (a : Allowed) : Type 0 where
 -- Something was written behind what stood there.
 abbrev pub Grows : WriterChange → Type 0
 Grows out = (text : List ℕ) × Appends out.old out.new text
-
--- A trouble that is the system's.
-abbrev pub IsOfSystem : Trouble → Type 0
-IsOfSystem (troubles.Call fault) = ⊥
-IsOfSystem troubles.NoThread = Unit {0}
-IsOfSystem troubles.NoMemory = Unit {0}
-IsOfSystem troubles.Output = Unit {0}
-IsOfSystem troubles.Save = Unit {0}
-IsOfSystem troubles.SaveMemory = Unit {0}

@@ -19,10 +19,11 @@ IfRefusedCall troubles.Output P = Unit {0}
 IfRefusedCall troubles.Save P = Unit {0}
 IfRefusedCall troubles.SaveMemory P = Unit {0}
 
--- Of the streams that a search doesn't write to nothing changed: those of the line about what went wrong and of a memory, and
--- that of the record, where none is wanted.
+-- Of the streams that a search doesn't write to nothing changed: those of the line about what went wrong and of a
+-- memory, and that of the record, where none is wanted.
 abbrev pub LeavesOthers : {W E S : Type 0} → Search → Streams W E S → Streams W E S → Type 0
-LeavesOthers s old new = (is_some s.save ≡ false → Stays old.save new.save) × Stays old.err new.err × Stays old.memory new.memory
+LeavesOthers s old new =
+    (is_some s.save ≡ false → Stays old.save new.save) × Stays old.err new.err × Stays old.memory new.memory
 
 -- A file is made by the job: a record, a page or a trace.
 abbrev pub writes_file : Job → Bool

@@ -1,5 +1,5 @@
 -- What is told and kept of a search, in the form that is asked for.
-use Rattle.std.specs.Prelude.{ℕ, ◌≡◌, ◌≤◌, ◌<◌, ◌+◌, ◌↔◌, ◌⊎◌, Bool, true, false, List, ◌++◌, Option, Some, None, is_some}
+use Rattle.std.specs.Prelude.{ℕ, ◌≡◌, ◌<◌, ◌+◌, ◌⊎◌, Bool, true, false, List, ◌++◌, Option, Some, None, is_some}
 use Rattle.std.specs.Io.KnownBytes.{Appends}
 use Rattle.allowed_races.specs.declared.allowed.Allowed.{Allowed}
 use Rattle.types.specs.declared.parts.Parts.{Parts}
@@ -7,6 +7,8 @@ use Rattle.spawn_host.specs.Requests.{Requested}
 use Rattle.search_scheduled.specs.declared.running.MadeRun.{MadeRun}
 use Rattle.search_finds.specs.Drawing.{IsRunOfNumber}
 use Rattle.search_finds.specs.Finds.{EndsAsLookedFor, HasNoneLookedFor}
+use Rattle.search_finds.specs.declared.finding.Halt.{Halt}
+use Rattle.search_finds.specs.declared.finding.Halt.TheVariants as halts
 use Rattle.search_finds.specs.Noted.{AreNoted, AreNotedBy}
 use Rattle.search_finds.specs.declared.met.EndingTable.{EndingTable}
 use Rattle.selection.specs.declared.sought.Sought.{Sought}
@@ -20,22 +22,25 @@ use Rattle.report_json.specs.declared.raced.RunRaces.{RunRaces}
 use Rattle.report_json.specs.declared.raced.RunRaces.TheVariants as said
 use Rattle.report_lines.specs.Found.{found_run_line}
 use Rattle.report_looks.specs.Raced.{SaysFound}
-use Rattle.report.specs.Complete.{complete_lines}
-use Rattle.report.specs.Drawn.{behind_text}
-use Rattle.report.specs.DrawnRaces.{HasRacy, SaysRaceOf, raceless_text}
-use Rattle.report.specs.Found.{AreKeptOf, HasFound, IsKeptOf, KeepsFound, KeepsMade, found_lines, kept_lines, kept_text, run_lines}
-use Rattle.report.specs.Found.{shrunk_text}
-use Rattle.report.specs.Prints.{IsAllWell, IsStatusOf}
-use Rattle.report.specs.Racing.{IsRacedOf, IsWhole, KeepsRaced, SaysRaced}
-use Rattle.report.specs.declared.found.FoundRun.{FoundRun}
-use Rattle.report.specs.declared.found.KeptRun.{KeptRun}
-use Rattle.report.specs.declared.raced.KeptRace.{KeptRace}
-use Rattle.report.specs.SearchObjects.{WritesAll, WritesKept, WritesRacy}
-use Rattle.report.specs.Telling.{EndsNone, head_lines}
-use Rattle.report.specs.declared.telling.ToldSearch.{ToldSearch}
+use Rattle.report_telling.specs.Complete.{complete_lines}
+use Rattle.report_telling.specs.Drawn.{behind_text}
+use Rattle.report_telling.specs.NoneFound.{IsStatusOfTable, raceless_text}
+use Rattle.report_telling.specs.Found.{found_lines, kept_lines, kept_text, run_lines, shrunk_text}
+use Rattle.report_telling.specs.Racing.{SaysRaced}
+use Rattle.report_telling.specs.declared.found.FoundRun.{FoundRun}
+use Rattle.report_telling.specs.declared.found.KeptRun.{KeptRun}
+use Rattle.report_telling.specs.declared.racing.KeptRace.{KeptRace}
+use Rattle.report_telling.specs.SearchObjects.{WritesAll, WritesKept, WritesRacy}
+use Rattle.report_telling.specs.Telling.{EndsNone, EndsNothing, head_lines}
+use Rattle.report_telling.specs.declared.table.DrawnTable.{DrawnTable}
+use Rattle.report_telling.specs.declared.telling.ToldSearch.{ToldSearch}
+use Rattle.report_finds.specs.DrawnRaces.{HasRacy, SaysRaceOf}
+use Rattle.report_finds.specs.Found.{AreKeptOf, HasFound, IsKeptOf, KeepsFound, KeepsMade}
+use Rattle.report_finds.specs.Sought.{IsStatusOf}
+use Rattle.report_finds.specs.Racing.{IsRacedOf, IsWhole, KeepsRaced}
 
--- The lines of a race, where one was found, those of what was found of all runs, and those of what is looked for and found
--- there; or the object of all of it.
+-- The lines of a race, where one was found, those of what was found of all runs, and those of what is looked for and
+-- found there; or the object of all of it.
 pub record LinesOfAll (m : Parts) (t : ToldSearch) (found : Option FoundRun) (out : WriterChange) : Type 0 where
   pub race : List ℕ
   pub says : SaysRaced m t.raced.now race
@@ -46,10 +51,11 @@ abbrev pub AllIn : Form → Parts → ToldSearch → Option FoundRun → WriterC
 AllIn Lines m t found out = LinesOfAll m t found out
 AllIn Json m t found out = WritesAll m t out
 
--- What is told is what was found of all runs of the module by the call that was asked for: the endings, what is known of
--- races, with a run that has one, and the first ending that is looked for, or a run that never ends; and the records that
--- were written, where they are wanted, are those of these runs.
-pub record TellsAll (m : Parts) (s : Search) (a : Allowed) (most : ℕ) (out save : WriterChange) (status : ℕ) : Type 0 where
+-- What is told is what was found of all runs of the module by the call that was asked for: the endings, what is known
+-- of races, with a run that has one, and the first ending that is looked for, or a run that never ends; and the records
+-- that were written, where they are wanted, are those of these runs.
+pub record TellsAll (m : Parts) (s : Search) (a : Allowed) (most : ℕ) (out save : WriterChange)
+    (status : ℕ) : Type 0 where
   pub request : Requested
   pub parts_are : request.parts ≡ m
   pub asked : IsAskedBy s.call request
@@ -74,7 +80,8 @@ LastIn Lines s table run k out =
     Appends out.old out.new (head_lines s.sought table ++ (found_run_line run ++ kept_text s.sought.dump k))
 LastIn Json s table run k out = WritesKept s.sought table k out
 
--- The last run that was made was found; and the record that was written, where one is wanted, is that of what is kept of it.
+-- The last run that was made was found; and the record that was written, where one is wanted, is that of what is kept
+-- of it.
 pub record TellsLast (q : Requested) (s : Search) (table : EndingTable) (out save : WriterChange) : Type 0 where
   pub run : ℕ
   pub is_last : run + 1 ≡ s.sought.from + table.runs
@@ -85,11 +92,6 @@ pub record TellsLast (q : Requested) (s : Search) (table : EndingTable) (out sav
   pub is_kept : IsKeptOf q s (record { found_as = founds.Run run; made = Some found }) k
   pub tells : LastIn s.form s table run k out
   pub kept : KeepsMade s k.made save
-
--- The status is 0 where all is well, and else 1.
-pub record IsStatusOfTable (s : Sought) (table : EndingTable) (status : ℕ) : Type 0 where
-  pub well : (status ≡ 0) ↔ IsAllWell s table
-  pub statuses : status ≤ 1
 
 -- The lines of a table, and these behind it; or the object of the table, with what is known of races.
 abbrev pub NoneIn : Form → Sought → EndingTable → Bool → Option RunRaces → List ℕ → ℕ → WriterChange → Type 0
@@ -105,8 +107,8 @@ pub record TellsNone (s : Search) (table : EndingTable) (out save : WriterChange
   pub status_is : IsStatusOfTable s.sought table status
   pub kept : save.new ≡ save.old
 
--- What is told is a table of runs of the module by the call that was asked for, each of which was noted in it; and the one
--- that was found, or that none was.
+-- What is told is a table of runs of the module by the call that was asked for, each of which was noted in it; and the
+-- one that was found, or that none was.
 pub record TellsDrawn (m : Parts) (s : Search) (out save : WriterChange) (status : ℕ) : Type 0 where
   pub request : Requested
   pub parts_are : request.parts ≡ m
@@ -127,9 +129,10 @@ abbrev pub RacyIn : Form → Parts → Search → EndingTable → ℕ → KeptRa
 RacyIn Lines m s table run k out = LinesOfRacy m s table run k out
 RacyIn Json m s table run k out = WritesRacy m s.sought table k out
 
--- The last run that was made has a race, and none before it; and the record that was written, where one is wanted, is that
--- of the run that is told.
-pub record TellsRacyLast (q : Requested) (s : Search) (a : Allowed) (table : EndingTable) (out save : WriterChange) : Type 0 where
+-- The last run that was made has a race, and none before it; and the record that was written, where one is wanted, is
+-- that of the run that is told.
+pub record TellsRacyLast (q : Requested) (s : Search) (a : Allowed) (table : EndingTable)
+    (out save : WriterChange) : Type 0 where
   pub run : ℕ
   pub is_last : run + 1 ≡ s.sought.from + table.runs
   pub found : MadeRun
@@ -159,3 +162,13 @@ pub record TellsDrawnRaces (m : Parts) (s : Search) (a : Allowed) (out save : Wr
   pub table : EndingTable
   pub noted : AreNoted request s.sought table
   pub says : ((status ≡ 1) × TellsRacyLast request s a table out save) ⊎ TellsNoRace request s a table out save status
+
+-- The search was told to end.
+abbrev pub was_told : Halt → Bool
+was_told (halts.Found f) = false
+was_told halts.AllMade = false
+was_told halts.Told = true
+
+-- None was found, by how the search ended.
+abbrev pub TellsNoneFound : Form → DrawnTable → Option RunRaces → Halt → ℕ → WriterChange → Type 0
+TellsNoneFound form drawn races halt status out = EndsNothing form drawn races (was_told halt) status out

@@ -33,7 +33,8 @@ use validate_module::ValidModule;
 #[derive(Clone, Copy)]
 pub struct JobBytes<'a> {
     pub module: &'a [u8],
-    /// Those of the record that a replay or a show reads, or those that are laid over the memory of a run; and else none.
+    /// Those of the record that a replay or a show reads, or those that are laid over the memory of a run; and else
+    /// none.
     pub saved: &'a [u8],
 }
 
@@ -43,13 +44,13 @@ pub struct JobBytes<'a> {
 ///
 /// The job's numbers are in their ranges, as those of a job are that `command` gives.
 ///
-/// A show takes names from the module itself (`show_saved` takes them from another file's bytes, and lines of source too).
-/// `follower` hears how far a search came.
+/// A show takes names from the module itself (`show_saved` takes them from another file's bytes, and lines of source
+/// too). `follower` hears how far a search came.
 ///
-/// Answers what came of it, of which the program's status is 0 where the module was accepted or all threads ended well, 1
-/// for a trap or stop, or where a search found a run, has not all endings or none, 2 for a refused module, 3 for a refused
-/// run, 4 for a refused record, 5 where memory, a thread or a stream failed. Its line was told then, as far as `err` took
-/// it; at 4 that is the one which names the first line of the record's text that is wrong or doesn't fit.
+/// Answers what came of it, of which the program's status is 0 where the module was accepted or all threads ended well,
+/// 1 for a trap or stop, or where a search found a run, has not all endings or none, 2 for a refused module, 3 for a
+/// refused run, 4 for a refused record, 5 where memory, a thread or a stream failed. Its line was told then, as far as
+/// `err` took it; at 4 that is the one which names the first line of the record's text that is wrong or doesn't fit.
 ///
 /// # Errors
 /// Why it isn't done: what is refused, and then nothing is written but that line; or what failed.

@@ -1,4 +1,4 @@
-//! Searches by the program: what comes of one is decided here, and told by `telling` in the form that is asked for.
+//! Searches by the program: what comes of one is decided here, and told by a `Teller` in the form that is asked for.
 ghost use Rattle.std.specs.Prelude.{◌≡◌, ◌≤◌, IfOk, IfErr, IfSome, None, Some, true, false, is_some};
 ghost use Rattle.types.specs.declared.parts.Parts.{Parts};
 ghost use Rattle.report_command.specs.Searches.{IsSearchInRange};
@@ -6,30 +6,31 @@ ghost use Rattle.report_jobs.specs.Asked.{IsAskedBy};
 ghost use Rattle.report_jobs.specs.Prints.{changed};
 ghost use Rattle.report_jobs.specs.Silence.{Stays};
 ghost use Rattle.report_jobs.specs.Troubles.{IsTroubleOf};
-ghost use Rattle.report.specs.Drawn.{cut_in};
-ghost use Rattle.report.specs.Found.{KeepsFound};
-ghost use Rattle.report.specs.Racing.{CanTell, IsRacedIn, IsRacedOf, IsWhole, KeepsRaced, SaysRaced, keeps_race, racing_in};
+ghost use Rattle.report_telling.specs.Drawn.{cut_in};
+ghost use Rattle.report_telling.specs.Racing.{CanTell, IsRacedIn, SaysRaced};
+ghost use Rattle.report_telling.specs.Troubles.{IsOfSystem};
+ghost use Rattle.report_telling.specs.Telling.{EndsAll, InLines};
+ghost use Rattle.report_telling.specs.NoneFound.{IsStatusOfTable};
+ghost use Rattle.report_finds.specs.Found.{KeepsFound};
+ghost use Rattle.report_finds.specs.Racing.{IsRacedOf, IsWhole, KeepsRaced, keeps_race, racing_in};
 ghost use Rattle.report.specs.Rest.{TellsRestOn};
 ghost use Rattle.report.specs.Searched.{IsDrawnOn, IsGoneThroughOn, IsSearchedOn, IsSettledOn, settles};
-ghost use Rattle.report.specs.Searches.{IsOfSystem};
 ghost use Rattle.report.specs.Silent.{IfRefusedCall, LeavesOthers};
-ghost use Rattle.report.specs.Telling as specified;
-ghost use Rattle.report.specs.Telling.{EndsAll, InLines, TellsNoneFound};
-ghost use Rattle.report.specs.Told.{IsStatusOfTable};
+ghost use Rattle.report.specs.Told as specified;
+ghost use Rattle.report.specs.Told.{TellsNoneFound};
 
-use crate::asked::{SearchRequest, SearchedCall};
-use crate::found::{
-    FoundRun, behind_of, keep_found, keep_made, keep_raced, kept_if_found, kept_of,
-};
-use crate::lines::LinesTeller;
-use crate::objects::ObjectTeller;
-use crate::raced::{Raced, kept_race, raced_of};
-use crate::table::{DrawnTable, NoneFound, status_of_none};
-use crate::telling::{Conclusion, News, Teller, ToldSearch};
-use crate::whole::{FirstLook, WholeSearch, first_look, whole_of};
+use crate::asked::SearchRequest;
 use report_command::{Form, Search};
+use report_finds::{
+    FirstLook, SearchedCall, behind_of, first_look, keep_found, keep_made, keep_raced,
+    kept_if_found, kept_of, kept_race, raced_of, whole_of,
+};
 use report_jobs::{Advised, Done, LeftOut, Streams, Trouble, args_of, keep, request_of};
 use report_json::{FoundAs, RunRaces};
+use report_telling::{
+    Conclusion, DrawnTable, FoundRun, LinesTeller, News, NoneFound, ObjectTeller, Raced, Teller,
+    ToldSearch, WholeSearch, status_of_none,
+};
 use search_endings::Ending;
 use search_finds::{Crew, EndingTable, Halt, Hears, SearchResult, first_found, first_judged};
 use search_modules::Hands;
@@ -39,8 +40,8 @@ use std::alloc::Global;
 use std::io::Write;
 use std::thread::{self, Threads};
 
-/// What goes through every order of entries: so many threads as are asked for, and depth first one alone, with so many states
-/// at most.
+/// What goes through every order of entries: so many threads as are asked for, and depth first one alone, with so many
+/// states at most.
 #[derive(Drop)]
 struct Orders<'a, R> {
     hands: Hands<'a, R>,
@@ -72,7 +73,8 @@ fn advised_of_table(table: &EndingTable) -> Advised {
     advised
 }
 
-/// Tells the race that a first look at all runs found, if it found one, and keeps the record of it, where one is wanted.
+/// Tells the race that a first look at all runs found, if it found one, and keeps the record of it, where one is
+/// wanted.
 fn tell_race<T: Teller, W: Write, E, S: Write>(
     alloc: Global,
     teller: &T,
@@ -96,8 +98,8 @@ fn tell_race<T: Teller, W: Write, E, S: Write>(
     Ok(())
 }
 
-/// The race that a first look at all runs found, if it found one, once it is told, and the record of it kept, where one is
-/// wanted.
+/// The race that a first look at all runs found, if it found one, once it is told, and the record of it kept, where one
+/// is wanted.
 fn race_told<'a, T: Teller, W: Write, E, S: Write>(
     alloc: Global,
     teller: &T,
@@ -150,8 +152,8 @@ pub(crate) struct OrdersMet<'m> {
     most: u32,
 }
 
-/// Tells what was found of all runs behind a race: the endings, whether these are all, what is known of races, what never
-/// ends, and what is looked for; and keeps the record of that, where one is wanted. Answers the status.
+/// Tells what was found of all runs behind a race: the endings, whether these are all, what is known of races, what
+/// never ends, and what is looked for; and keeps the record of that, where one is wanted. Answers the status.
 fn tell_orders<T: Teller, W: Write, E, S: Write, F: Hears>(
     alloc: Global,
     teller: &T,
@@ -269,8 +271,8 @@ fn settled_orders<T: Teller, R: Threads + Sync, W: Write, E, S: Write, F: Hears>
     requires every_order { call.search.now.all ≡ Some orders.now.most }
     ensures settled { IfOk result (λ o. IfSome o (λ done. IsSettledOn W.contents S.contents orders.now.most
         call.entry.request.now.parts call.entry.search.now call.entry.allowed streams.old streams.new done.status)) }
-    ensures unsettled { IfOk result (λ o. o ≡ None
-        → (W.contents streams.new.out ≡ W.contents streams.old.out) × (S.contents streams.new.save ≡ S.contents streams.old.save)) }
+    ensures unsettled { IfOk result (λ o. o ≡ None → (W.contents streams.new.out ≡ W.contents streams.old.out)
+        × (S.contents streams.new.save ≡ S.contents streams.old.save)) }
     ensures others { LeavesOthers call.entry.search.now streams.old streams.new }
     ensures trouble { IfErr result IsOfSystem }
 {
@@ -309,8 +311,8 @@ fn end_without<T: Teller, W: Write>(
     out: &mut W,
 ) -> Result<Done, Trouble>
     requires { cut_in drawn.table.now ≤ drawn.table.now.runs }
-    ensures tells { (m : Parts) → IfOk result (λ done. TellsNoneFound T.form drawn.entry races.entry halt.now done.status
-        (changed W.contents out.old out.new)) }
+    ensures tells { (m : Parts) → IfOk result (λ done. TellsNoneFound T.form drawn.entry races.entry halt.now
+        done.status (changed W.contents out.old out.new)) }
     ensures status { IfOk result (λ done. IsStatusOfTable drawn.entry.sought.now drawn.entry.table.now done.status) }
     ensures trouble { IfErr result IsOfSystem }
 {
@@ -330,9 +332,9 @@ fn end_without<T: Teller, W: Write>(
     })
 }
 
-/// Makes the runs that a search asks for, tells the table of their endings, and the run that was found, or that none was;
-/// and keeps the record of what was found, where one is wanted. Answers the status: 1 where a run was found or an ending
-/// has a trap or a stop, and else 0.
+/// Makes the runs that a search asks for, tells the table of their endings, and the run that was found, or that none
+/// was; and keeps the record of what was found, where one is wanted. Answers the status: 1 where a run was found or an
+/// ending has a trap or a stop, and else 0.
 fn search_for_endings<T: Teller, R: Threads + Sync, W: Write, E, S: Write, F: Hears>(
     alloc: Global,
     teller: &T,

@@ -1,12 +1,12 @@
-//! Threads that make ahead what comes of states.
+//! Threads that find turns ahead.
 
 use crate::called::Searched;
 use search_parts::{Common, SharedWalker};
-use search_race_free::{Ahead, MakesAhead, StateTable, made_ahead};
+use search_race_free::{Ahead, KnownTables, MakesAhead, made_ahead};
 use std::alloc::{AllocError, Global};
 use std::thread::Threads;
 
-/// So many threads, which make ahead what comes of states that a search met. What it answers is the same for any number.
+/// So many threads, which find turns of states that a search met ahead of it. What it answers is the same for any number.
 #[derive(Drop)]
 pub struct Hands<'r, R> {
     pub rt: &'r R,
@@ -25,10 +25,10 @@ impl<R: Threads + Sync> MakesAhead<Searched<'_>> for Hands<'_, R> {
         &self,
         alloc: Global,
         system: &Searched<'_>,
-        table: &StateTable<Common, SharedWalker>,
+        tables: &KnownTables<Common, SharedWalker>,
         from: usize,
         most_plain: u32,
     ) -> Result<Ahead<Common, SharedWalker>, AllocError> {
-        made_ahead(self.rt, self.jobs, alloc, system, table, from, most_plain)
+        made_ahead(self.rt, self.jobs, alloc, system, tables, from, most_plain)
     }
 }

@@ -1,36 +1,37 @@
--- What was made ahead is taken, put together, and stays right where the table grows.
-use Rattle.std.proofs.Common.{◌≡◌, ◌↔◌, Bool, ℕ, zero, suc, ◌+◌, ◌<◌, ◌≤◌, ◌⊎◌, List, [], ◌∷◌, ◌++◌, length, map, inl}
-use Rattle.std.proofs.Common.{inr, Some, refl, sym, ◌∙◌, ap, subst, arith}
+-- The turns that are known, and those that were found, stay right where the table grows.
+use Rattle.std.proofs.Common.{◌≡◌, ◌↔◌, Bool, ℕ, zero, suc, ◌+◌, ◌<◌, ◌^◌, ◌⊎◌, List, [], ◌∷◌, ◌++◌, length, map, inl, inr}
+use Rattle.std.proofs.Common.{Some, refl, sym, ◌∙◌, ap, subst, arith}
 use Rattle.std.specs.Prelude.{IfOk, Result}
 use Rattle.std.specs.Global.{Vec}
 use Rattle.std.specs.List.{slice_get}
-use Rattle.std.proofs.lemmas.List.{length-append, length-map, append-nil}
+use Rattle.std.proofs.lemmas.List.{length-map}
 use Rattle.std.proofs.lemmas.Option.{none-some}
 use Rattle.schedule.specs.System.{State}
 use Rattle.search_graph.specs.declared.graph.Move.{Move}
 use Rattle.search_table.specs.declared.parts.StateParts.{StateParts}
 use Rattle.search_table.specs.Tables.{AreThreads, Grows, AreStates, states_of}
 use Rattle.search_table.proofs.Keeping.{keeps-longer, get-last}
-use Rattle.search_reach.specs.declared.explores.NextState.{NextState}
 use Rattle.search_reach.specs.Meeting.{HasMetAt, HasSound, HasFirst, OfStateAt, GoesOn}
 use Rattle.search_reach.proofs.Meeting.{at-some}
 use Rattle.search_reach.proofs.Searching.{here}
 use Rattle.search_settled.specs.Threads.{ThreadSystem}
 use Rattle.search_settled.specs.declared.flat.RestingState.{RestingState}
+use Rattle.search_settled.specs.declared.met.NextRow.{NextRow}
+use Rattle.search_settled.specs.Flat.{AreBounded}
 use Rattle.search_settled.specs.Known.{IsOf, AreOf}
 use Rattle.search_settled.proofs.Rows.{zip-length, states-grow as rows-grow}
 use Rattle.search_race_free.specs.declared.owning.Owning.{Owning}
-use Rattle.search_race_free.specs.declared.alone.Arrival.{Arrival}
 use Rattle.search_race_free.specs.declared.met.Held.{Held}
 use Rattle.search_race_free.specs.declared.met.StateTable.{StateTable}
-use Rattle.search_race_free.specs.declared.ahead.Ahead.{Ahead}
-use Rattle.search_race_free.specs.declared.ahead.AheadTables.{AheadTables}
+use Rattle.search_race_free.specs.declared.known.FoundTurn.{FoundTurn}
+use Rattle.search_race_free.specs.declared.known.TurnOf.{TurnOf}
+use Rattle.search_race_free.specs.declared.ahead.KnownTables.{KnownTables}
 use Rattle.search_race_free.specs.Reduced.{reduced_steps}
 use Rattle.search_race_free.specs.Same.{owning_eq}
-use Rattle.search_race_free.specs.Met.{held, HasOwning, IsCopy, IsStateAt}
-use Rattle.search_race_free.specs.Known.{AreKnownTurns}
-use Rattle.search_race_free.specs.Ahead.{ComesOfPlace, IsAhead, HasAhead, AreAhead, ArePut}
-use Rattle.search_race_free.proofs.Held.{row-at}
+use Rattle.search_race_free.specs.Met.{held, HasOwning, IsCopy}
+use Rattle.search_race_free.specs.Known.{AreKnownTurns, HasTurn, IsFoundTurn, HasRowsAt}
+use Rattle.search_race_free.specs.Ahead.{AreTurns, AreFound, AreFoundIn, IsFoundIn, HasKnown}
+use Rattle.search_race_free.proofs.Knowing.{few-from}
 
 -- where it stands of two lists
 at-both : {A : Type 0} (xs ys : List A) (i : ℕ) (x : A) → slice_get (xs ++ ys) i ≡ Some x
@@ -41,6 +42,28 @@ at-both (z ∷ xs) ys (suc i) x at = elim (at-both xs ys i x at) [
   | inl was ↦ inl was
   | inr far ↦ (let is = far.1 in inr (far.0, omega (arith, is), far.2))
 ]
+
+-- of a last one, and of the others
+of-last : {A : Type 0} (P : A → Type 0) (all rest : List A) (last : A) → all ≡ rest ++ last ∷ []
+    → ((i : ℕ) (x : A) → slice_get all i ≡ Some x → P x) → P last
+of-last P all rest last is so =
+    so (length rest) last (subst (λ l. slice_get l (length rest) ≡ Some last) (sym is) (get-last rest last))
+
+of-others : {A : Type 0} (P : A → Type 0) (all rest : List A) (last : A) → all ≡ rest ++ last ∷ []
+    → ((i : ℕ) (x : A) → slice_get all i ≡ Some x → P x) → (i : ℕ) (x : A) → slice_get rest i ≡ Some x → P x
+of-others P all rest last is so i x at =
+    so i x (subst (λ l. slice_get l i ≡ Some x) (sym is) (keeps-longer rest (last ∷ []) i x at))
+
+of-both : {A : Type 0} (P : A → Type 0) (xs ys : List A) → ((i : ℕ) (x : A) → slice_get xs i ≡ Some x → P x)
+    → ((i : ℕ) (x : A) → slice_get ys i ≡ Some x → P x) → (i : ℕ) (x : A) → slice_get (xs ++ ys) i ≡ Some x → P x
+of-both P xs ys one other i x at = elim (at-both xs ys i x at) [
+  | inl was ↦ one i x was
+  | inr far ↦ other far.0 x far.2
+]
+
+of-one : {A : Type 0} (P : A → Type 0) (y : A) → P y → (i : ℕ) (x : A) → slice_get (y ∷ []) i ≡ Some x → P x
+of-one P y so zero x at = (let same : y ≡ x = cc at in subst P same so)
+of-one P y so (suc i) x at = absurd (none-some x at)
 
 module _ {G H : Type 0} where
   same-threads : (t : StateParts (Held G) H) (ns : List ℕ) (xs ys : List H) → AreThreads t ns xs → AreThreads t ns ys → xs ≡ ys
@@ -71,120 +94,89 @@ module _ {X T E V A G H M : Type 0} (k : ThreadSystem X T E V A G H M) where
     owned = is.owned ∙ ap (λ h. h.owned.items) same.shared;
   }
 
-  -- a copy of the state at a place, where the table grows
-  module _ (t new : StateTable G H) (grows : Grows t.parts new.parts) (ks ls more : List (Owning (RestingState G H)))
-      (was : AreOf t.parts t.states (map held ks))
-      (are : AreOf new.parts new.states (map held ls)) (longer : ls ≡ ks ++ more) where
-    state-grows : (at : ℕ) (copy : Owning (RestingState G H)) → at < length ks → IsStateAt k t at (Some copy) → IsStateAt k new at (Some copy)
-    state-grows at copy low so vs v have there =
-        let s = at-some ks at low in
-        let later : slice_get ls at ≡ Some s.0 = subst (λ l. slice_get l at ≡ Some s.0) (sym longer) (keeps-longer ks more at s.0 s.1) in
-        let r = row-at new ls are at s.0 later in
-        let q = row-at new vs have at v there in
-        let row : q.0 ≡ r.0 = cc (q.1, r.1) in
-        let same = same-parts new.parts r.0 s.0 v r.2 (subst (λ w. IsOf new.parts w (held v)) row q.2) in
-        let c = so ks s.0 was s.1 in
-        (c.0, c.1, copy-same s.0 v c.0 same c.2)
+  -- turns that are wanted
+  pub none-wanted : (t : StateParts (Held G) H) (turns : List TurnOf) → turns ≡ [] → AreTurns k t turns
+  none-wanted t turns none =
+      record { each = λ i turn at. absurd (none-some turn (subst (λ l. slice_get l i ≡ Some turn) none at)) }
 
-  module _ (stuck : State X T → Type 0) where
-    pub none-ahead : (t : StateTable G H) (a : Ahead G H) → a.end ≤ 0 → IsAhead k stuck t a
-    none-ahead t a none = record {
-      within = omega (arith, none);
-      each = λ i at came there is. absurd (omega (arith, none, is));
-    }
+  pub more-wanted : (t : StateParts (Held G) H) (old new : List TurnOf) (turn : TurnOf) → new ≡ old ++ turn ∷ []
+      → AreTurns k t old → HasTurn k t turn → AreTurns k t new
+  more-wanted t old new turn is were so = record {
+    each = λ i x at. of-both (HasTurn k t) old (turn ∷ []) were.each (of-one (HasTurn k t) turn so) i x
+        (subst (λ l. slice_get l i ≡ Some x) is at);
+  }
 
-    pub same-ahead : (t : StateTable G H) (old new : Ahead G H) → IsAhead k stuck t old → new.end ≡ old.end → new.came.items ≡ old.came.items →
-        IsAhead k stuck t new
-    same-ahead t old new so end same = record {
-      within = subst (λ n. n ≤ length (states_of t.states)) (sym end) so.within;
-      each = λ i at came there is. so.each i at came (subst (λ l. slice_get l i ≡ Some came) same there) (is ∙ end);
-    }
+  -- turns that were found
+  pub none-found : (t : StateParts (Held G) H) (turns : List (FoundTurn G H)) → turns ≡ [] → AreFound k t turns
+  none-found t turns none i turn at = absurd (none-some turn (subst (λ l. slice_get l i ≡ Some turn) none at))
 
-    pub fewer-ahead : (t : StateTable G H) (old new : Ahead G H) → IsAhead k stuck t old → new.end ≡ old.end →
-        (one : Arrival (Vec (NextState (Owning (RestingState G H)))))
-        → old.came.items ≡ new.came.items ++ one ∷ [] → IsAhead k stuck t new
-    fewer-ahead t old new so end one took = record {
-      within = subst (λ n. n ≤ length (states_of t.states)) (sym end) so.within;
-      each = λ i at came there is.
-          so.each i at came (subst (λ l. slice_get l i ≡ Some came) (sym took) (keeps-longer new.came.items (one ∷ []) i came there)) (is ∙ end);
-    }
+  pub more-found : (t : StateParts (Held G) H) (old new : List (FoundTurn G H)) (turn : FoundTurn G H) → new ≡ old ++ turn ∷ []
+      → AreFound k t old → IsFoundTurn k t turn → AreFound k t new
+  more-found t old new turn is were so =
+      subst (AreFound k t) (sym is) (of-both (IsFoundTurn k t) old (turn ∷ []) were (of-one (IsFoundTurn k t) turn so))
 
-    pub took-ahead : (t : StateTable G H) (old new : Ahead G H) → IsAhead k stuck t old → (at : ℕ) (one : Arrival (Vec (NextState (Owning (RestingState G H)))))
-        → old.came.items ≡ new.came.items ++ one ∷ [] → at + length old.came.items ≡ old.end → ComesOfPlace k stuck t at one
-    took-ahead t old new so at one took end =
-        let long : length old.came.items ≡ length new.came.items + 1 = ap (λ l. length l) took ∙ length-append new.came.items (one ∷ []) in
-        so.each (length new.came.items) at one (subst (λ l. slice_get l (length new.came.items) ≡ Some one) (sym took) (get-last new.came.items one))
-        (omega (arith, long, end))
+  pub both-found : (t : StateParts (Held G) H) (old more new : List (FoundTurn G H)) → new ≡ old ++ more → AreFound k t old
+      → AreFound k t more → AreFound k t new
+  both-found t old more new is were are = subst (AreFound k t) (sym is) (of-both (IsFoundTurn k t) old more were are)
 
-    pub more-ahead : (t : StateTable G H) (old new : Ahead G H) → IsAhead k stuck t old → new.end ≡ old.end →
-        (one : Arrival (Vec (NextState (Owning (RestingState G H)))))
-        → new.came.items ≡ old.came.items ++ one ∷ [] → ((at : ℕ) → at + length old.came.items + 1 ≡ old.end → ComesOfPlace k stuck t at one)
-        → IsAhead k stuck t new
-    more-ahead t old new so end one put is_one = record {
-      within = subst (λ n. n ≤ length (states_of t.states)) (sym end) so.within;
-      each = λ i at came there is.
-          let place : at + i + 1 ≡ old.end = is ∙ end in
-          elim (at-both old.came.items (one ∷ []) i came (subst (λ l. slice_get l i ≡ Some came) put there)) [
-            | inl was ↦ so.each i at came was place
-            | inr last ↦ one-there i at came place last
-          ];
-    }
-      where
-        one-there : (i at : ℕ) (came : Arrival (Vec (NextState (Owning (RestingState G H))))) → at + i + 1 ≡ old.end
-            → (j : ℕ) × (j + length old.came.items ≡ i) × (slice_get (one ∷ []) j ≡ Some came) → ComesOfPlace k stuck t at came
-        one-there i at came place (zero, far, there) =
-            let same : one ≡ came = cc there in
-            subst (ComesOfPlace k stuck t at) same (is_one at (omega (arith, far, place)))
-        one-there i at came place (suc j, far, there) = absurd (none-some came there)
+  pub last-found : (t : StateParts (Held G) H) (all rest : List (FoundTurn G H)) (last : FoundTurn G H) → all ≡ rest ++ last ∷ []
+      → AreFound k t all → IsFoundTurn k t last
+  last-found t all rest last is so = of-last (IsFoundTurn k t) all rest last is so
 
-    pub put-ahead : (t : StateTable G H) (old before new : Ahead G H) → IsAhead k stuck t old → IsAhead k stuck t before → new.end ≡ old.end →
-        ArePut old before new
-        → IsAhead k stuck t new
-    put-ahead t old before new so first end put = elim put [
-      | inl same ↦ same-ahead t old new so end same
-      | inr both ↦ record {
-        within = subst (λ n. n ≤ length (states_of t.states)) (sym end) so.within;
-        each = λ i at came there is.
-            let place : at + i + 1 ≡ old.end = is ∙ end in
-            let seam = both.0 in
-            elim (at-both old.came.items before.came.items i came (subst (λ l. slice_get l i ≡ Some came) both.1 there)) [
-              | inl was ↦ so.each i at came was place
-              | inr far ↦ (let step = far.1 in first.each far.0 at came far.2 (omega (arith, step, place, seam)))
-            ];
+  pub turn-grows : (t u : StateParts (Held G) H) → Grows t u → (turn : FoundTurn G H) → IsFoundTurn k t turn → IsFoundTurn k u turn
+  turn-grows t u grows turn so =
+      let from = so.from in
+      record {
+        from = record {
+          held_is = from.held_is;
+          thread_is = from.thread_is;
+          held_at = grows.shared turn.of.held from.held_is from.held_at;
+          thread_at = grows.threads turn.of.thread from.thread_is from.thread_at;
+          any = from.any;
+        };
+        goes = so.goes;
       }
-    ]
 
-    -- the last one of some, and the others
-    pub last-piece : {F : Type 0} (t : StateTable G H) (all rest : List (Result (Ahead G H) F)) (last : Result (Ahead G H) F) → all ≡ rest ++ last ∷ []
-        → AreAhead k stuck t all → IfOk last (IsAhead k stuck t)
-    last-piece t all rest last is are =
-        are (length rest) last (subst (λ l. slice_get l (length rest) ≡ Some last) (sym is) (get-last rest last))
+  pub found-few : AreBounded k.system k.first k.count k.most → (t : StateParts (Held G) H) (turn : FoundTurn G H) → IsFoundTurn k t turn
+      → turn.of.n < 2 ^ 32
+  found-few bounded t turn so =
+      let from = so.from in
+      let any = from.any in
+      let low = few-from k bounded from.held_is from.thread_is turn.of.n any.0 any.1 in
+      let numbered = bounded.numbered in
+      omega (arith, low, numbered)
 
-    pub other-pieces : {F : Type 0} (t : StateTable G H) (all rest : List (Result (Ahead G H) F)) (last : Result (Ahead G H) F) → all ≡ rest ++ last ∷ []
-        → AreAhead k stuck t all → AreAhead k stuck t rest
-    other-pieces t all rest last is are i piece at =
-        are i piece (subst (λ l. slice_get l i ≡ Some piece) (sym is) (keeps-longer rest (last ∷ []) i piece at))
+  pub others-found : (t u : StateParts (Held G) H) → Grows t u → (all rest : List (FoundTurn G H)) (last : FoundTurn G H)
+      → all ≡ rest ++ last ∷ [] → AreFound k t all → AreFound k u rest
+  others-found t u grows all rest last is so i turn at =
+      turn-grows t u grows turn (of-others (IsFoundTurn k t) all rest last is so i turn at)
 
-    pub grown-ahead : (t new : StateTable G H) → Grows t.parts new.parts → (ks ls more : List (Owning (RestingState G H))) → HasOwning t ks → HasOwning new ls →
-        ls ≡ ks ++ more
-        → (a : Ahead G H) → IsAhead k stuck t a → IsAhead k stuck new a
-    grown-ahead t new grows ks ls more was are longer a so =
-        let long : length ks ≡ length (states_of t.states) =
-        sym (length-map ks held) ∙ zip-length (IsOf t.parts) (states_of t.states) (map held ks) was.are in
-        let now : length ls ≡ length (states_of new.states) =
-        sym (length-map ls held) ∙ zip-length (IsOf new.parts) (states_of new.states) (map held ls) are.are in
-        let both : length ls ≡ length ks + length more = ap (λ l. length l) longer ∙ length-append ks more in
-        let within = so.within in
-        record {
-          within = omega (arith, long, now, both, within);
-          each = λ i at came there is.
-              let c = so.each i at came there is in
-              record {
-                copy = c.copy;
-                of = state-grows t new grows ks ls more was.are are.are longer at c.copy (omega (arith, long, within, is)) c.of;
-                is = c.is;
-              };
-        }
+  pub last-piece : {F : Type 0} (t : StateParts (Held G) H) (all rest : List (Result (Vec (FoundTurn G H)) F))
+      (last : Result (Vec (FoundTurn G H)) F) → all ≡ rest ++ last ∷ [] → AreFoundIn k t all → IfOk last (IsFoundIn k t)
+  last-piece t all rest last is are = of-last (λ piece. IfOk piece (IsFoundIn k t)) all rest last is are
+
+  pub other-pieces : {F : Type 0} (t : StateParts (Held G) H) (all rest : List (Result (Vec (FoundTurn G H)) F))
+      (last : Result (Vec (FoundTurn G H)) F) → all ≡ rest ++ last ∷ [] → AreFoundIn k t all → AreFoundIn k t rest
+  other-pieces t all rest last is are = of-others (λ piece. IfOk piece (IsFoundIn k t)) all rest last is are
+
+  -- where the parts alone have grown
+  pub owning-grown : (t new : StateTable G H) → Grows t.parts new.parts → new.states ≡ t.states
+      → (ks : List (Owning (RestingState G H))) → HasOwning t ks → HasOwning new ks
+  owning-grown t new grows same ks has = record {
+    table = subst (λ v. AreStates v) (sym same) has.table;
+    are = subst (λ v. AreOf new.parts v (map held ks)) (sym same) (rows-grow t.parts new.parts grows t.states (map held ks) has.are);
+  }
+
+  pub parts-grown : (t new : KnownTables G H) → Grows t.met.parts new.met.parts → new.met.states ≡ t.met.states
+      → AreKnownTurns k new.met.parts new.known.items → (ks : List (Owning (RestingState G H))) → HasKnown k t ks → HasKnown k new ks
+  parts-grown t new grows states known ks has =
+      record { owning = owning-grown t.met new.met grows states ks has.owning; known = known }
+
+  pub rows-grown : (eq_shared : G → G → Bool) (eq_thread : H → H → Bool) (t u : StateTable G H) (parts : StateParts (Held G) H)
+      → Grows t.parts u.parts → u.states ≡ t.states → (at : ℕ) (rs : List NextRow)
+      → HasRowsAt k eq_shared eq_thread u parts at rs → HasRowsAt k eq_shared eq_thread t parts at rs
+  rows-grown eq_shared eq_thread t u parts grows same at rs so ks s are there =
+      so ks s (subst (λ v. AreOf u.parts v (map held ks)) (sym same) (rows-grow t.parts u.parts grows t.states (map held ks) are)) there
 
 module _ {X T E V A G H M O : Type 0} (k : ThreadSystem X T E V A G H M) (ends : State X T → O → Type 0) (stuck : State X T → Type 0) where
   pub met-place : (t : StateTable G H) → HasSound (reduced_steps k ends stuck) (HasOwning t) → (place : ℕ) → place < length (states_of t.states)
@@ -195,80 +187,42 @@ module _ {X T E V A G H M O : Type 0} (k : ThreadSystem X T E V A G H M) (ends :
       let s = at-some r.0 place (omega (arith, low, long)) in
       (r.0, s.0, r.1, s.1, r.2 s.0 (here r.0 place s.0 s.1))
 
-  -- what a table has, and what was made ahead
-  pub owning-at : (t : AheadTables G H) (at : ℕ) → HasMetAt (reduced_steps k ends stuck) (HasAhead k stuck t) at → HasMetAt (reduced_steps k ends stuck)
-      (HasOwning t.met) at
+  -- what a table has
+  pub owning-at : (t : KnownTables G H) (at : ℕ) → HasMetAt (reduced_steps k ends stuck) (HasKnown k t) at
+      → HasMetAt (reduced_steps k ends stuck) (HasOwning t.met) at
   owning-at t at met = (met.0, met.1, (met.2).owning, met.3, met.4)
 
-  pub owning-sound : (t : AheadTables G H) → HasSound (reduced_steps k ends stuck) (HasAhead k stuck t) → HasSound (reduced_steps k ends stuck)
-      (HasOwning t.met)
+  pub owning-sound : (t : KnownTables G H) → HasSound (reduced_steps k ends stuck) (HasKnown k t)
+      → HasSound (reduced_steps k ends stuck) (HasOwning t.met)
   owning-sound t r = (r.0, (r.1).owning, r.2)
 
-  -- nothing was made ahead of a table without states
-  pub none-yet : (t : AheadTables G H) → HasAhead k stuck t [] → t.ahead.end ≤ 0
-  none-yet t has =
-      let within = (has.ahead).within in
-      let none = zip-length (IsOf t.met.parts) (states_of t.met.states) [] (has.owning).are in
-      omega (arith, within, none)
+  pub first-known : (t : KnownTables G H) → AreKnownTurns k t.met.parts t.known.items → HasFirst (reduced_steps k ends stuck) (HasOwning t.met)
+      → HasFirst (reduced_steps k ends stuck) (HasKnown k t)
+  first-known t known f = record { state = f.state; is = f.is; held = record { owning = f.held; known = known } }
 
-  pub first-ahead : (t : AheadTables G H) → t.ahead.end ≤ 0 → AreKnownTurns k t.met.parts t.known.items
-      → HasFirst (reduced_steps k ends stuck) (HasOwning t.met)
-      → HasFirst (reduced_steps k ends stuck) (HasAhead k stuck t)
-  first-ahead t none known f = record {
-    state = f.state;
-    is = f.is;
-    held = record { owning = f.held; ahead = none-ahead k stuck t.met t.ahead none; known = known };
-  }
-
-  pub goes-ahead : (eq_shared : G → G → Bool) (eq_thread : H → H → Bool) (t : AheadTables G H) (new : AheadTables G H) (at : ℕ) (before after : List Move)
-      → Grows t.met.parts new.met.parts → IsAhead k stuck t.met new.ahead → AreKnownTurns k new.met.parts new.known.items
+  pub goes-known : (eq_shared : G → G → Bool) (eq_thread : H → H → Bool) (t : KnownTables G H) (new : KnownTables G H) (at : ℕ) (before after : List Move)
+      → AreKnownTurns k new.met.parts new.known.items
       → OfStateAt (reduced_steps k ends stuck) (HasOwning t.met) at
       (λ ks s. GoesOn (reduced_steps k ends stuck) (HasOwning new.met) (owning_eq eq_shared eq_thread) ks at s before after)
-      → OfStateAt (reduced_steps k ends stuck) (HasAhead k stuck t) at
-      (λ ks s. GoesOn (reduced_steps k ends stuck) (HasAhead k stuck new) (owning_eq eq_shared eq_thread) ks at s before after)
-  goes-ahead eq_shared eq_thread t new at before after grows ahead known on ks s has there met =
+      → OfStateAt (reduced_steps k ends stuck) (HasKnown k t) at
+      (λ ks s. GoesOn (reduced_steps k ends stuck) (HasKnown k new) (owning_eq eq_shared eq_thread) ks at s before after)
+  goes-known eq_shared eq_thread t new at before after known on ks s has there met =
       let so = on ks s has.owning there met in
       record {
         next = so.next;
         are = so.are;
         states = so.states;
-        held = record {
-          owning = so.held;
-          ahead = grown-ahead k stuck t.met new.met grows ks so.states (so.gains).more has.owning so.held (so.gains).is new.ahead ahead;
-          known = known;
-        };
+        held = record { owning = so.held; known = known };
         gains = so.gains;
         noted = so.noted;
       }
 
-  -- where the parts alone have grown
-  pub parts-ahead : (t new : AheadTables G H) → Grows t.met.parts new.met.parts → new.met.states ≡ t.met.states → new.ahead ≡ t.ahead
-      → AreKnownTurns k new.met.parts new.known.items → (ks : List (Owning (RestingState G H))) → HasAhead k stuck t ks → HasAhead k stuck new ks
-  parts-ahead t new grows same-states same-ahead known ks has =
-      let owning : HasOwning new.met ks = record {
-        table = subst (λ v. AreStates v) (sym same-states) (has.owning).table;
-        are = subst (λ v. AreOf new.met.parts v (map held ks)) (sym same-states)
-            (rows-grow t.met.parts new.met.parts grows t.met.states (map held ks) (has.owning).are);
-      } in
-      record {
-        owning = owning;
-        ahead = subst (IsAhead k stuck new.met) (sym same-ahead)
-            (grown-ahead k stuck t.met new.met grows ks ks [] has.owning owning (sym (append-nil ks)) t.ahead has.ahead);
-        known = known;
-      }
+  pub met-grown : (t new : KnownTables G H) → Grows t.met.parts new.met.parts → new.met.states ≡ t.met.states
+      → AreKnownTurns k new.met.parts new.known.items → (at : ℕ) → HasMetAt (reduced_steps k ends stuck) (HasKnown k t) at
+      → HasMetAt (reduced_steps k ends stuck) (HasKnown k new) at
+  met-grown t new grows states known at met = (met.0, met.1, parts-grown k t new grows states known met.0 met.2, met.3, met.4)
 
-  pub met-grown : (t new : AheadTables G H) → Grows t.met.parts new.met.parts → new.met.states ≡ t.met.states → new.ahead ≡ t.ahead
-      → AreKnownTurns k new.met.parts new.known.items → (at : ℕ) → HasMetAt (reduced_steps k ends stuck) (HasAhead k stuck t) at
-      → HasMetAt (reduced_steps k ends stuck) (HasAhead k stuck new) at
-  met-grown t new grows states ahead known at met =
-      (met.0, met.1, parts-ahead t new grows states ahead known met.0 met.2, met.3, met.4)
-
-  pub sound-grown : (t new : AheadTables G H) → Grows t.met.parts new.met.parts → new.met.states ≡ t.met.states → new.ahead ≡ t.ahead
-      → AreKnownTurns k new.met.parts new.known.items → HasSound (reduced_steps k ends stuck) (HasAhead k stuck t)
-      → HasSound (reduced_steps k ends stuck) (HasAhead k stuck new)
-  sound-grown t new grows states ahead known r = (r.0, parts-ahead t new grows states ahead known r.0 r.1, r.2)
-
-  pub of-grown : (t new : AheadTables G H) → Grows t.met.parts new.met.parts → new.met.states ≡ t.met.states → new.ahead ≡ t.ahead
+  pub of-grown : (t new : KnownTables G H) → Grows t.met.parts new.met.parts → new.met.states ≡ t.met.states
       → AreKnownTurns k new.met.parts new.known.items → (at : ℕ) (so : List (Owning (RestingState G H)) → Owning (RestingState G H) → Type 0)
-      → OfStateAt (reduced_steps k ends stuck) (HasAhead k stuck new) at so → OfStateAt (reduced_steps k ends stuck) (HasAhead k stuck t) at so
-  of-grown t new grows states ahead known at so all ks s has there met = all ks s (parts-ahead t new grows states ahead known ks has) there met
+      → OfStateAt (reduced_steps k ends stuck) (HasKnown k new) at so → OfStateAt (reduced_steps k ends stuck) (HasKnown k t) at so
+  of-grown t new grows states known at so all ks s has there met = all ks s (parts-grown k t new grows states known ks has) there met

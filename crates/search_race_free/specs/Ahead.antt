@@ -1,48 +1,49 @@
--- What comes of states of a table, made before a search goes on from them.
-use Rattle.std.specs.Prelude.{ℕ, ◌≡◌, ◌+◌, ◌≤◌, ◌⊎◌, ◌++◌, List, length, Some, Result, IfOk}
+-- What comes of the state at a place of a table, and turns that are found before a search comes to their states.
+use Rattle.std.specs.Prelude.{ℕ, ◌≡◌, List, Some, Result, IfOk}
 use Rattle.std.specs.List.{slice_get}
 use Rattle.std.specs.Global.{Vec}
 use Rattle.schedule.specs.System.{State}
-use Rattle.search_table.specs.Tables.{states_of}
+use Rattle.search_table.specs.declared.parts.StateParts.{StateParts}
 use Rattle.search_reach.specs.declared.explores.NextState.{NextState}
 use Rattle.search_settled.specs.Threads.{ThreadSystem}
 use Rattle.search_settled.specs.declared.flat.RestingState.{RestingState}
 use Rattle.search_race_free.specs.declared.owning.Owning.{Owning}
 use Rattle.search_race_free.specs.declared.alone.Arrival.{Arrival}
+use Rattle.search_race_free.specs.declared.met.Held.{Held}
 use Rattle.search_race_free.specs.declared.met.StateTable.{StateTable}
-use Rattle.search_race_free.specs.declared.ahead.Ahead.{Ahead}
-use Rattle.search_race_free.specs.declared.ahead.AheadTables.{AheadTables}
+use Rattle.search_race_free.specs.declared.known.FoundTurn.{FoundTurn}
+use Rattle.search_race_free.specs.declared.known.TurnOf.{TurnOf}
+use Rattle.search_race_free.specs.declared.ahead.KnownTables.{KnownTables}
 use Rattle.search_race_free.specs.Reduced.{HasReduced}
 use Rattle.search_race_free.specs.Search.{IsCame}
 use Rattle.search_race_free.specs.Met.{HasOwning, IsStateAt}
-use Rattle.search_race_free.specs.Known.{AreKnownTurns}
+use Rattle.search_race_free.specs.Known.{AreKnownTurns, HasTurn, IsFoundTurn}
 
-module _ {X T E V A G H M : Type 0} (k : ThreadSystem X T E V A G H M) (stuck : State X T → Type 0) where
+module _ {X T E V A G H M : Type 0} (k : ThreadSystem X T E V A G H M) where
   -- It comes of the state at this place: of a copy of it.
-  pub record ComesOfPlace (t : StateTable G H) (at : ℕ)
+  pub record ComesOfPlace (stuck : State X T → Type 0) (t : StateTable G H) (at : ℕ)
       (came : Arrival (Vec (NextState (Owning (RestingState G H))))) : Type 0 where
     pub copy : Owning (RestingState G H)
     pub of : IsStateAt k t at (Some copy)
     pub is : IsCame k stuck copy.flat (λ v. HasReduced k copy v.items) came
 
-  -- They come of the states before a place, the last one first.
-  pub record IsAhead (t : StateTable G H) (a : Ahead G H) : Type 0 where
-    pub within : a.end ≤ length (states_of t.states)
-    pub each : (i at : ℕ) (came : Arrival (Vec (NextState (Owning (RestingState G H)))))
-        → slice_get a.came.items i ≡ Some came → at + i + 1 ≡ a.end
-        → ComesOfPlace t at came
+  -- Each of these is a turn of a thread of these parts.
+  pub record AreTurns (t : StateParts (Held G) H) (turns : List TurnOf) : Type 0 where
+    pub each : (i : ℕ) (turn : TurnOf) → slice_get turns i ≡ Some turn → HasTurn k t turn
 
-  -- The tables have these states, what was made ahead comes of them, and what is known of turns is so.
-  pub record HasAhead (t : AheadTables G H) (ks : List (Owning (RestingState G H))) : Type 0 where
+  -- Each of these is one, and leads where it says.
+  abbrev pub AreFound : StateParts (Held G) H → List (FoundTurn G H) → Type 0
+  AreFound t turns = (i : ℕ) (turn : FoundTurn G H) → slice_get turns i ≡ Some turn → IsFoundTurn k t turn
+
+  abbrev pub IsFoundIn : StateParts (Held G) H → Vec (FoundTurn G H) → Type 0
+  IsFoundIn t turns = AreFound t turns.items
+
+  -- Each of these that there are.
+  abbrev pub AreFoundIn : {F : Type 0} → StateParts (Held G) H → List (Result (Vec (FoundTurn G H)) F) → Type 0
+  AreFoundIn {F} t pieces =
+      (i : ℕ) (piece : Result (Vec (FoundTurn G H)) F) → slice_get pieces i ≡ Some piece → IfOk piece (IsFoundIn t)
+
+  -- The tables have these states, and what is known of turns is so.
+  pub record HasKnown (t : KnownTables G H) (ks : List (Owning (RestingState G H))) : Type 0 where
     pub owning : HasOwning t.met ks
-    pub ahead : IsAhead t.met t.ahead
     pub known : AreKnownTurns k t.met.parts t.known.items
-
-  -- Each of these that there is.
-  abbrev pub AreAhead : {F : Type 0} → StateTable G H → List (Result (Ahead G H) F) → Type 0
-  AreAhead {F} t pieces = (i : ℕ) (piece : Result (Ahead G H) F) → slice_get pieces i ≡ Some piece → IfOk piece (IsAhead t)
-
--- They come behind these, where they are of the states just before.
-abbrev pub ArePut : {G H : Type 0} → Ahead G H → Ahead G H → Ahead G H → Type 0
-ArePut old before new = (new.came.items ≡ old.came.items)
-    ⊎ ((before.end + length old.came.items ≡ old.end) × (new.came.items ≡ old.came.items ++ before.came.items))

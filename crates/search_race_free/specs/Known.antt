@@ -18,6 +18,7 @@ use Rattle.search_race_free.specs.declared.known.LoneThread.{LoneThread}
 use Rattle.search_race_free.specs.declared.known.LoneTurn.{LoneTurn}
 use Rattle.search_race_free.specs.declared.known.LoneTurn.TheVariants.{Stops, GoesOn, Unknown}
 use Rattle.search_race_free.specs.declared.known.TurnOf.{TurnOf}
+use Rattle.search_race_free.specs.declared.known.FoundTurn.{FoundTurn}
 use Rattle.search_race_free.specs.declared.known.LeadsTo.{LeadsTo}
 use Rattle.search_race_free.specs.Touches.{StrikesNobody, ArePlainOf, IsPut, AreClear}
 use Rattle.search_race_free.specs.Reduced.{wanted_in, IsResting, RestsSomewhere, HasReduced}
@@ -88,6 +89,11 @@ module _ {X T E V A G H M : Type 0} (k : ThreadSystem X T E V A G H M) where
       pub held_at : slice_get t.shared.keys of.held ≡ Some held_is
       pub thread_at : slice_get t.threads.keys of.thread ≡ Some thread_is
       pub any : AnyTurn held_is thread_is of.n
+
+    -- It is such a turn, and it leads there.
+    pub record IsFoundTurn (turn : FoundTurn G H) : Type 0 where
+      pub from : HasTurn turn.of
+      pub goes : GoesOnAlone from.held_is from.thread_is turn.of.n turn.to.held turn.to.thread
 
     -- All states of a row are known, and there is one.
     pub record IsKnownRow (r : List ℕ) : Type 0 where

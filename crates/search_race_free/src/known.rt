@@ -11,6 +11,7 @@ ghost use Rattle.search_race_free.specs.Known.{
   AnyTurn,
   AreKnownTurns,
   HasTurn,
+  IsFoundTurn,
   IsTurnOf,
   RestsInRow,
   IsKnownRow,
@@ -122,9 +123,9 @@ fn lone_stretch<M: Accesses>(
 /// Whose turn it is, by numbers: of what is held, and of thread n.
 #[derive(Clone, Copy)]
 pub(crate) struct TurnOf {
-    held: u32,
-    thread: u32,
-    n: usize,
+    pub(crate) held: u32,
+    pub(crate) thread: u32,
+    pub(crate) n: usize,
 }
 
 /// Where a turn leads, by numbers: to what is held, and to where its thread rests. All others rest where they did.
@@ -132,6 +133,69 @@ pub(crate) struct TurnOf {
 pub(crate) struct LeadsTo {
     held: u32,
     thread: u32,
+}
+
+/// A turn that was found: whose it is, and where it leads, by what is held and the thread alone.
+#[derive(Drop)]
+pub struct FoundTurn<S, T> {
+    pub(crate) of: TurnOf,
+    pub(crate) to: LoneThread<S, T>,
+}
+
+/// Where the turn of a thread leads; or nothing, where that isn't the thread's own affair.
+pub(crate) fn found_turn<M: Accesses>(
+    alloc: Global,
+    system: &M,
+    parts: &StateParts<Held<M::Shared>, M::Thread>,
+    of: TurnOf,
+    most: u32,
+) -> Result<Option<FoundTurn<M::Shared, M::Thread>>, AllocError>
+    requires { HasTurn (M.threads system.now) parts.now of }
+    ensures found { IfOk result (λ o. IfSome o (IsFoundTurn (M.threads system.now) parts.now)) }
+    ensures of { IfOk result (λ o. IfSome o (λ f. f.of ≡ of)) }
+{
+    let Some(from) = parts.shared.get_index(of.held as usize) else {
+        return Ok(None);
+    };
+    let Some(own) = parts.threads.get_index(of.thread as usize) else {
+        return Ok(None);
+    };
+    let Some(to) = lone_stretch(alloc, system, from, own, of.n, most)? else {
+        return Ok(None);
+    };
+    Ok(Some(FoundTurn { of, to }))
+}
+
+/// Notes a turn that was found, and answers where it leads.
+pub(crate) fn keep_turn<M: Accesses>(
+    _system: &M,
+    parts: &mut StateParts<Held<M::Shared>, M::Thread>,
+    known: &mut Vec<Option<Known>>,
+    turn: FoundTurn<M::Shared, M::Thread>,
+) -> Result<LeadsTo, AllocError>
+    requires known { AreKnownTurns (M.threads _system.now) parts.old known.old.items }
+    requires found { IsFoundTurn (M.threads _system.now) parts.old turn }
+    ensures grows { OnOk result (Grows parts.old parts.new) }
+    ensures known { OnOk result (AreKnownTurns (M.threads _system.now) parts.new known.new.items) }
+    ensures turn { IfOk result (IsTurnOf (M.threads _system.now) parts.old parts.new turn.of) }
+{
+    let FoundTurn { of, to } = turn;
+    let held = parts.put_shared(to.held)?;
+    let thread = parts.put_thread(to.thread)?;
+    let turn = QuietTurn::Alone {
+        shared: held,
+        thread,
+    };
+    note(
+        known,
+        Known {
+            shared: of.held,
+            thread: of.thread,
+            n: of.n as u32,
+            turn,
+        },
+    );
+    Ok(LeadsTo { held, thread })
 }
 
 /// The turn of a thread, where it is known or found now, which is then noted; or nothing, where it isn't the thread's
@@ -157,35 +221,15 @@ fn turn_by<M: Accesses>(
             return Ok(Some(LeadsTo { held, thread }));
         }
     }
-    let Some(from) = parts.shared.get_index(of.held as usize) else {
+    let Some(found) = found_turn(alloc, system, parts, of, most)? else {
         return Ok(None);
     };
-    let Some(own) = parts.threads.get_index(of.thread as usize) else {
-        return Ok(None);
-    };
-    let Some(to) = lone_stretch(alloc, system, from, own, of.n, most)? else {
-        return Ok(None);
-    };
-    let held = parts.put_shared(to.held)?;
-    let thread = parts.put_thread(to.thread)?;
-    let turn = QuietTurn::Alone {
-        shared: held,
-        thread,
-    };
-    note(
-        known,
-        Known {
-            shared: of.held,
-            thread: of.thread,
-            n,
-            turn,
-        },
-    );
-    Ok(Some(LeadsTo { held, thread }))
+    let to = keep_turn(system, parts, known, found)?;
+    Ok(Some(to))
 }
 
 /// What each thread of a row does next, or nothing where it has no such parts.
-fn wanted_in<M: Accesses>(
+pub(crate) fn wanted_in<M: Accesses>(
     alloc: Global,
     system: &M,
     parts: &StateParts<Held<M::Shared>, M::Thread>,
@@ -212,7 +256,7 @@ fn wanted_in<M: Accesses>(
 }
 
 /// The number at a place.
-fn number_at(numbers: &[u32], n: usize) -> u32
+pub(crate) fn number_at(numbers: &[u32], n: usize) -> u32
     requires { n < length numbers.now }
     ensures { slice_get numbers.now n ≡ Some result }
 {
@@ -245,7 +289,7 @@ fn is_clear<M: Accesses>(
 }
 
 /// Whether this access of thread n writes over no other thread's next one.
-fn is_over_none(wanted: &[Option<NextAccess>], n: usize, access: NextAccess) -> bool
+pub(crate) fn is_over_none(wanted: &[Option<NextAccess>], n: usize, access: NextAccess) -> bool
     ensures { result ≡ true → (x : OwnedTouch) → IsOver wanted.now n access x → ⊥ }
 {
     for other in 0..wanted.len() {
@@ -259,10 +303,10 @@ fn is_over_none(wanted: &[Option<NextAccess>], n: usize, access: NextAccess) -> 
 /// The state of a row, by the numbers of what is held and of its threads, with what each of these does next.
 #[derive(Clone, Copy)]
 pub(crate) struct RowFrom<'r> {
-    held: u32,
-    threads: &'r [u32],
-    wanted: &'r [Option<NextAccess>],
-    most_plain: u32,
+    pub(crate) held: u32,
+    pub(crate) threads: &'r [u32],
+    pub(crate) wanted: &'r [Option<NextAccess>],
+    pub(crate) most_plain: u32,
 }
 
 /// Puts the row of the next state by the turn of thread n, if it can go on, behind those of the threads before it. It

@@ -26,8 +26,8 @@
 //!   `proofs/Keeping.antt`: a table of them is what a search asks for.
 //! - `specs/Known.antt`: turns that are known, by what is held and one thread. `proofs/Knowing.antt`: they lead there
 //!   whatever the other threads are. `proofs/Rowing.antt`: the rows of next states by them.
-//! - `specs/Ahead.antt`: what a crew of threads makes ahead of states in a row. `proofs/Pieces.antt`: it stays right where
-//!   the table grows.
+//! - `specs/Ahead.antt`: turns that a crew of threads finds ahead. `proofs/Pieces.antt`: what is known stays right where the
+//!   table grows.
 #![tactic(auto)]
 
 mod accesses;
@@ -46,9 +46,8 @@ mod touches;
 mod trace;
 
 pub use accesses::Accesses;
-pub use ahead::{Ahead, Alone, MakesAhead, made_ahead};
+pub use ahead::{Ahead, Alone, KnownTables, MakesAhead, made_ahead};
 pub use laws::races_meet;
-pub use met::StateTable;
 pub use owning::{Owning, Touch};
 pub use race::ThreadRace;
 pub use states::{RaceFree, search_race_free};

@@ -11,10 +11,10 @@ ghost use Rattle.search_race_free.specs.Turns.{reduced, IsRaceOf, HasNoRace, Has
 ghost use Rattle.search_race_free.specs.Same.{owning_eq};
 ghost use Rattle.search_race_free.specs.Met.{HasOwning};
 ghost use Rattle.search_table.specs.Tables.{Grows};
-ghost use Rattle.search_race_free.specs.Ahead.{ComesOfPlace, IsAhead, HasAhead};
+ghost use Rattle.search_race_free.specs.Ahead.{ComesOfPlace, HasKnown};
 ghost use Rattle.search_race_free.specs.Known.{AreKnownTurns, HasRowsAt};
 
-use crate::ahead::{Ahead, AheadTables, MakesAhead, MetStates};
+use crate::ahead::{Ahead, KnownTables, MakesAhead, keep_turns};
 use crate::alone::Arrival;
 use crate::known::known_rows;
 use crate::met::{StateTable, held_row, held_rows, state_at};
@@ -40,83 +40,77 @@ struct RaceFreeTurns<'s, M: Accesses, C: MakesAhead<M>> {
 }
 
 impl<M: Accesses, C: MakesAhead<M>> RaceFreeTurns<'_, M, C> {
-    /// What comes of some states from this place on; or of none, where memory for that is refused.
-    fn ahead_from(
+    /// What comes of the state at this place.
+    fn came(
         &self,
         alloc: Global,
         table: &StateTable<M::Shared, M::Thread>,
         at: usize,
-    ) -> Ahead<M::Shared, M::Thread>
-        requires { HasSound (reduced M.Moves self.now.system.now) (HasOwning table.now) }
-        ensures { IsAhead (M.threads self.now.system.now) (M.stuck self.now.system.now) table.now result }
+    ) -> Result<Arrival<Vec<NextState<Owning<RestingState<M::Shared, M::Thread>>>>>, AllocError>
+        requires { HasMetAt (reduced M.Moves self.now.system.now) (HasOwning table.now) at }
+        ensures { IfOk result (ComesOfPlace (M.threads self.now.system.now) (M.stuck self.now.system.now)
+            table.now at) }
     {
-        match self
-            .crew
-            .ahead(alloc, self.system, table, at, self.most_plain)
-        {
-            Ok(ahead) => ahead,
-            Err(_) => Ahead::new(alloc),
-        }
+        let Some(state) = state_at(alloc, self.system, table, at)? else {
+            return Ok(Arrival::Unknown);
+        };
+        next_states(alloc, self.system, &state, self.most_plain)
     }
 
-    /// What comes of the state at this place: it was made ahead, or is made now, and what comes of others ahead.
-    fn came(
+    /// Has turns found ahead of states from this place on, and keeps them, unless that was done. Where memory for that
+    /// is refused it isn't done any more.
+    fn find_ahead(
         &self,
         alloc: Global,
-        tables: &mut AheadTables<M::Shared, M::Thread>,
+        tables: &mut KnownTables<M::Shared, M::Thread>,
         at: usize,
-    ) -> Result<Arrival<Vec<NextState<Owning<RestingState<M::Shared, M::Thread>>>>>, AllocError>
-        requires at { HasMetAt (reduced M.Moves self.now.system.now) (HasOwning tables.old.met) at }
+    ) -> Result<(), AllocError>
         requires sound { HasSound (reduced M.Moves self.now.system.now) (HasOwning tables.old.met) }
-        requires ahead { IsAhead (M.threads self.now.system.now) (M.stuck self.now.system.now)
-            tables.old.met tables.old.ahead }
-        ensures came { IfOk result (ComesOfPlace (M.threads self.now.system.now) (M.stuck self.now.system.now)
-            tables.old.met at) }
-        ensures met { OnOk result (tables.new.met ≡ tables.old.met) }
-        ensures known { OnOk result (tables.new.known.items ≡ tables.old.known.items) }
-        ensures ahead { OnOk result (IsAhead (M.threads self.now.system.now) (M.stuck self.now.system.now)
-            tables.old.met tables.new.ahead) }
+        requires known { AreKnownTurns (M.threads self.now.system.now) tables.old.met.parts tables.old.known.items }
+        ensures grows { OnOk result (Grows tables.old.met.parts tables.new.met.parts) }
+        ensures states { OnOk result (tables.new.met.states ≡ tables.old.met.states) }
+        ensures known { OnOk result (AreKnownTurns (M.threads self.now.system.now)
+            tables.new.met.parts tables.new.known.items) }
     {
-        if let Some(came) = tables.ahead.take(at) {
-            return Ok(came);
+        if at < tables.ahead {
+            return Ok(());
         }
-        tables.ahead = self.ahead_from(alloc, &tables.met, at);
-        if let Some(came) = tables.ahead.take(at) {
-            return Ok(came);
+        match self
+            .crew
+            .ahead(alloc, self.system, tables, at, self.most_plain)
+        {
+            Ok(Ahead { turns, end }) => {
+                tables.ahead = end;
+                keep_turns(self.system, &mut tables.met.parts, &mut tables.known, turns)
+            }
+            Err(_) => {
+                tables.ahead = usize::MAX;
+                Ok(())
+            }
         }
-        let met = MetStates {
-            system: self.system,
-            table: &tables.met,
-            most_plain: self.most_plain,
-        };
-        let came = met.coming(alloc, at)?;
-        Ok(came)
     }
-}
 
-impl<M: Accesses, C: MakesAhead<M>> RaceFreeTurns<'_, M, C> {
     /// The rows of the next states of the one at this place by turns that are known, or found now; or nothing, where
-    /// what comes of it was made ahead, a turn isn't its thread's own affair, or a thread may be in another's way.
+    /// a turn isn't its thread's own affair, or a thread may be in another's way.
     fn rows_by_known(
         &self,
         alloc: Global,
-        tables: &mut AheadTables<M::Shared, M::Thread>,
+        tables: &mut KnownTables<M::Shared, M::Thread>,
         at: usize,
     ) -> Result<Option<Vec<NextRow>>, AllocError>
         requires at { HasMetAt (reduced M.Moves self.now.system.now)
-            (HasAhead (M.threads self.now.system.now) (M.stuck self.now.system.now) tables.old) at }
+            (HasKnown (M.threads self.now.system.now) tables.old) at }
+        requires sound { HasSound (reduced M.Moves self.now.system.now)
+            (HasKnown (M.threads self.now.system.now) tables.old) }
         ensures grows { OnOk result (Grows tables.old.met.parts tables.new.met.parts) }
         ensures states { OnOk result (tables.new.met.states ≡ tables.old.met.states) }
-        ensures ahead { OnOk result (tables.new.ahead ≡ tables.old.ahead) }
         ensures known { OnOk result (AreKnownTurns (M.threads self.now.system.now)
             tables.new.met.parts tables.new.known.items) }
         ensures rows { IfOk result (λ o. IfSome o (λ v.
             HasRowsAt (M.threads self.now.system.now) M.Shared.eq M.Thread.eq
             tables.old.met tables.new.met.parts at v.items)) }
     {
-        if tables.ahead.is_at(at) {
-            return Ok(None);
-        }
+        self.find_ahead(alloc, tables, at)?;
         let Some(row) = tables.met.states.row(at) else {
             return Ok(None);
         };
@@ -138,9 +132,9 @@ impl<M: Accesses, C: MakesAhead<M>> Meets for RaceFreeTurns<'_, M, C> {
     ghost use Rattle.search_race_free.specs.declared.owning.Owning.{Owning as OwningState};
     ghost use Rattle.search_race_free.specs.Turns.{reduced};
     ghost use Rattle.search_race_free.specs.Same.{owning_eq, owning_eq_back, owning_alike};
-    ghost use Rattle.search_race_free.specs.Ahead.{HasAhead};
+    ghost use Rattle.search_race_free.specs.Ahead.{HasKnown};
 
-    type Table = AheadTables<M::Shared, M::Thread>;
+    type Table = KnownTables<M::Shared, M::Thread>;
 
     type Ending = M::Ending;
 
@@ -152,25 +146,25 @@ impl<M: Accesses, C: MakesAhead<M>> Meets for RaceFreeTurns<'_, M, C> {
 
     ghost equal = { λ t. owning_eq M.Shared.eq M.Thread.eq };
 
-    ghost holds = { λ t. HasAhead (M.threads t.system.now) (M.stuck t.system.now) };
+    ghost holds = { λ t. HasKnown (M.threads t.system.now) };
 
     ghost alike = { λ t x y e. owning_alike M.Shared.eq M.Thread.eq M.Shared.Eq.laws M.Thread.Eq.laws
         (M.threads t.system.now) (M.same_shared t.system.now) (M.same_thread t.system.now) x y e };
 
     ghost symmetric = { λ t. owning_eq_back M.Shared.eq M.Thread.eq M.Shared.Eq.laws M.Thread.Eq.laws };
 
-    fn table(&self, alloc: Global) -> AheadTables<M::Shared, M::Thread> {
-        AheadTables {
+    fn table(&self, alloc: Global) -> KnownTables<M::Shared, M::Thread> {
+        KnownTables {
             met: StateTable {
                 parts: StateParts::new(alloc),
                 states: States::new(alloc),
             },
-            ahead: Ahead::new(alloc),
             known: Vec::new(alloc),
+            ahead: 0,
         }
     }
 
-    fn count(&self, tables: &AheadTables<M::Shared, M::Thread>) -> usize {
+    fn count(&self, tables: &KnownTables<M::Shared, M::Thread>) -> usize {
         // No two parts are equal, as they say where they are asked for their number.
         let _ = tables.met.parts.len();
         tables.met.states.len()
@@ -179,7 +173,7 @@ impl<M: Accesses, C: MakesAhead<M>> Meets for RaceFreeTurns<'_, M, C> {
     fn first(
         &self,
         alloc: Global,
-        tables: &mut AheadTables<M::Shared, M::Thread>,
+        tables: &mut KnownTables<M::Shared, M::Thread>,
     ) -> Result<bool, AllocError> {
         match first_state(alloc, self.system)? {
             Arrival::To(state) => {
@@ -195,7 +189,7 @@ impl<M: Accesses, C: MakesAhead<M>> Meets for RaceFreeTurns<'_, M, C> {
     fn next(
         &self,
         alloc: Global,
-        tables: &mut AheadTables<M::Shared, M::Thread>,
+        tables: &mut KnownTables<M::Shared, M::Thread>,
         at: u32,
         moves: &mut Vec<Move>,
     ) -> Result<bool, AllocError> {
@@ -205,7 +199,7 @@ impl<M: Accesses, C: MakesAhead<M>> Meets for RaceFreeTurns<'_, M, C> {
             make_room(alloc, &mut tables.known, count)?;
             return Ok(true);
         }
-        match self.came(alloc, tables, at as usize)? {
+        match self.came(alloc, &tables.met, at as usize)? {
             Arrival::To(next) => {
                 let rows = held_rows(alloc, &mut tables.met.parts, next)?;
                 put_rows(&tables.met.parts, &mut tables.met.states, moves, at, rows)?;
@@ -219,7 +213,7 @@ impl<M: Accesses, C: MakesAhead<M>> Meets for RaceFreeTurns<'_, M, C> {
     fn ending(
         &self,
         alloc: Global,
-        tables: &AheadTables<M::Shared, M::Thread>,
+        tables: &KnownTables<M::Shared, M::Thread>,
         at: usize,
     ) -> Result<Option<M::Ending>, AllocError> {
         let Some(row) = tables.met.states.row(at) else {
@@ -293,7 +287,7 @@ fn race_at_first<M: Accesses>(alloc: Global, system: &M) -> Result<Option<RaceBe
 fn race_in<M: Accesses>(
     alloc: Global,
     system: &M,
-    reached: &Reached<AheadTables<M::Shared, M::Thread>>,
+    reached: &Reached<KnownTables<M::Shared, M::Thread>>,
     most_plain: u32,
 ) -> Result<Option<RaceBehind>, AllocError>
     requires { HasSound (reduced M.Moves system.now) (HasOwning reached.now.table.met) }
@@ -351,8 +345,8 @@ fn racing(behind: Option<RaceBehind>) -> Option<ThreadRace>
 /// The endings of all runs of threads, whatever the order of their turns, where no threads race in any run: at
 /// `Verdict::All` none do. It meets no more than the plan's most states and a few, those before an ending that is looked
 /// for, and those before it is told to end. At `Verdict::CannotTell` there may be a race, which is then given. A thread makes at
-/// most `most_plain` plain turns in a row before others have theirs, whatever comes of it. The crew may make ahead what
-/// comes of states: whoever it is, all that is said is said.
+/// most `most_plain` plain turns in a row before others have theirs, whatever comes of it. The crew may find turns
+/// ahead: whoever it is, all that is said is said.
 ///
 /// Where it met all, it says of which states no run ends, and whether every fair run ends, as
 /// `search_settled::search_all` does of its own.

@@ -9,7 +9,7 @@ ghost use Rattle.search_race_free.specs.Turns.{reduced, HasTimeout};
 ghost use Rattle.search_race_free.specs.Timeouts.{IsUntimedAt, AreUntimed, HasTimed};
 
 use crate::Accesses;
-use crate::ahead::AheadTables;
+use crate::ahead::KnownTables;
 use crate::alone::wanted;
 use crate::met::{StateTable, state_at};
 use search_reach::{Reached, Verdict};
@@ -79,7 +79,7 @@ fn timed_among<M: Accesses>(
 pub(crate) fn waits_timed<M: Accesses>(
     alloc: Global,
     system: &M,
-    reached: &Reached<AheadTables<M::Shared, M::Thread>>,
+    reached: &Reached<KnownTables<M::Shared, M::Thread>>,
 ) -> Result<bool, AllocError>
     requires { HasSound (reduced M.Moves system.now) (HasOwning reached.now.table.met) }
     ensures none { IfOk result (λ b. reached.now.verdict ≡ verdicts.All → b ≡ false

@@ -1,5 +1,5 @@
 -- What each call answers, of what a host gave.
-use Rattle.std.specs.Prelude.{ℕ, ◌≡◌, ◌⊎◌, List, [], ◌∷◌, length, Ok, Err}
+use Rattle.std.specs.Prelude.{ℕ, ◌≡◌, ◌⊎◌, List, [], ◌∷◌, length, Option, Some, None, Ok, Err}
 use Rattle.std.specs.declared.result.Result.{Result}
 use Rattle.std.specs.Str.{IsUtf8}
 use Rattle.types.specs.declared.outcome.ThreadReport.{ThreadReport}
@@ -70,25 +70,32 @@ pub record Keeps (before : CallAnswer) (old new : List ℕ) (answer : CallAnswer
   pub kept : new ≡ old
   pub answer_is : answer ≡ before
 
--- The record of a run is put into the buffer, and how it ended is answered; unless memory was refused.
+-- The record of a run is put into the buffer, and how it ended is answered.
 pub record KeepsWhole (made : MadeRun) (before : CallAnswer) (old new : List ℕ) (answer : CallAnswer)
     (status : ℕ) : Type 0 where
   pub puts : Puts old (record_text made.record) new
   pub answer_is : answer ≡ with_first (record before { bytes = length (record_text made.record) }) made.end.threads.items
   pub status_is : status ≡ status_of made.end.threads.items
 
-abbrev pub KeepsRun : MadeRun → CallAnswer → List ℕ → List ℕ → CallAnswer → ℕ → Type 0
-KeepsRun made before old new answer status =
-    Keeps before old new answer status ⊎ KeepsWhole made before old new answer status
+-- The same, and its status is answered; nothing is, and all stays, where memory was refused.
+abbrev pub KeepsRun : MadeRun → CallAnswer → List ℕ → List ℕ → CallAnswer → Option ℕ → Type 0
+KeepsRun made before old new answer None = (new ≡ old) × (answer ≡ before)
+KeepsRun made before old new answer (Some status) = KeepsWhole made before old new answer status
 
--- Of a run: it is the one that is wanted, or it was refused.
-pub data RunsNamed (bytes name : List ℕ) (words : List Word) (o : Options) (old new : List ℕ) (answer : CallAnswer)
-    (status : ℕ) : Type 0 where
-  fails : Keeps no_answer old new answer status → RunsNamed bytes name words o old new answer status
-  ran : (made : MadeRun) → IsRunBy bytes name (values_by words) (plan_by o) made
-      → KeepsWhole made no_answer old new answer status → RunsNamed bytes name words o old new answer status
-  refused : (fault : HostFault) → IsFaultOf bytes name (values_by words) (plan_by o) fault → status ≡ status_of_fault fault
-      → new ≡ old → answer ≡ no_answer → RunsNamed bytes name words o old new answer status
+-- What comes of a run that is wanted: memory was refused; or it was made, and this holds of it; or there is none, by a
+-- fault of which that holds.
+pub data Comes (Stays : Type 0) (IsRun : MadeRun → Type 0) (IsFault : HostFault → Type 0) (old new : List ℕ)
+    (answer : CallAnswer) (status : ℕ) : Type 0 where
+  fails : Stays → Keeps no_answer old new answer status → Comes Stays IsRun IsFault old new answer status
+  ran : (made : MadeRun) → IsRun made → KeepsWhole made no_answer old new answer status
+      → Comes Stays IsRun IsFault old new answer status
+  refused : (fault : HostFault) → IsFault fault → status ≡ status_of_fault fault → new ≡ old → answer ≡ no_answer
+      → Comes Stays IsRun IsFault old new answer status
+
+abbrev pub RunsNamed : List ℕ → List ℕ → List Word → Options → List ℕ → List ℕ → CallAnswer → ℕ → Type 0
+RunsNamed bytes name words o old new answer status =
+    Comes (Unit {0}) (IsRunBy bytes name (values_by words) (plan_by o))
+    (IsFaultOf bytes name (values_by words) (plan_by o)) old new answer status
 
 -- A name that is no UTF-8 is no function's.
 pub record HasNoName (name old new : List ℕ) (answer : CallAnswer) (status : ℕ) : Type 0 where
@@ -101,11 +108,13 @@ abbrev pub Runs : List ℕ → List ℕ → List Word → Options → List ℕ �
 Runs bytes name words o old new answer status =
     HasNoName name old new answer status ⊎ RunsNamed bytes name words o old new answer status
 
--- Of a replay: what the run left, or why there is none.
-pub data IsReplayed (bytes saved : List ℕ) (status : ℕ) (line : List ℕ) : Type 0 where
-  ran : (end : EndState) → IsReplayOf bytes saved end → IsRunText end status line → IsReplayed bytes saved status line
-  refused : (fault : HostFault) → IsReplayFault bytes saved fault → IsRefusalText fault status line
-      → IsReplayed bytes saved status line
+-- Of a replay: what the run left, of which and of whose line this holds, or why there is none, by a fault of which that
+-- holds.
+pub data IsReplayed (IsRun : EndState → List ℕ → Type 0) (IsFault : HostFault → Type 0) (status : ℕ)
+    (line : List ℕ) : Type 0 where
+  ran : (end : EndState) → IsRun end line → IsRunText end status line → IsReplayed IsRun IsFault status line
+  refused : (fault : HostFault) → IsFault fault → IsRefusalText fault status line
+      → IsReplayed IsRun IsFault status line
 
 -- The memory of a run is put into the buffer.
 pub record PutsMemory (bytes saved old new : List ℕ) (answer : CallAnswer) : Type 0 where
@@ -115,18 +124,23 @@ pub record PutsMemory (bytes saved old new : List ℕ) (answer : CallAnswer) : T
   pub puts : Puts old end.bytes.items new
 
 pub record Replays (bytes saved memory memory' old new : List ℕ) (answer : CallAnswer) (status : ℕ) : Type 0 where
-  pub told : MayTell (IsReplayed bytes saved) old new answer status
+  pub told : MayTell (IsReplayed (λ end line. IsReplayOf bytes saved end) (IsReplayFault bytes saved)) old new answer status
   pub memory_is : ((memory' ≡ memory) × (answer.bytes ≡ 0)) ⊎ PutsMemory bytes saved memory memory' answer
 
--- Of a search: all endings, or why there are none.
-pub data IsSearched (bytes name : List ℕ) (words : List Word) (o : Options) (status : ℕ) (line : List ℕ) : Type 0 where
-  met : (all : Ended Ending) → HasEndings bytes name (values_by words) o.states o.dump all
-      → IsSearchText all o.states status line → IsSearched bytes name words o status line
-  refused : (fault : HostFault) → IsCallFaultOf bytes name (values_by words) fault → IsRefusalText fault status line
-      → IsSearched bytes name words o status line
+-- Of a search through so many states at most: all endings, of which this holds, or why there are none, by a fault of
+-- which that holds.
+pub data IsSearched (AreAll : Ended Ending → Type 0) (IsFault : HostFault → Type 0) (most status : ℕ)
+    (line : List ℕ) : Type 0 where
+  met : (all : Ended Ending) → AreAll all → IsSearchText all most status line → IsSearched AreAll IsFault most status line
+  refused : (fault : HostFault) → IsFault fault → IsRefusalText fault status line
+      → IsSearched AreAll IsFault most status line
 
 abbrev pub SearchesNamed : List ℕ → List ℕ → List Word → Options → List ℕ → List ℕ → CallAnswer → ℕ → Type 0
-SearchesNamed bytes name words o old new answer status = MayTell (IsSearched bytes name words o) old new answer status
+SearchesNamed bytes name words o old new answer status =
+    MayTell
+    (IsSearched (HasEndings bytes name (values_by words) o.states o.dump) (IsCallFaultOf bytes name (values_by words))
+    o.states)
+    old new answer status
 
 -- A name that is no UTF-8 is no function's, and told as such.
 pub record TellsNoName (name old new : List ℕ) (answer : CallAnswer) (status : ℕ) : Type 0 where

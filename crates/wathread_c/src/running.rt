@@ -28,20 +28,25 @@ fn status_of(reports: &[ThreadReport]) -> u32
     u32::from(!all_done(reports))
 }
 
-/// Puts the record of a run into a buffer, and answers its status.
-fn keep(alloc: Global, made: &MadeRun, record: &mut [u8], answer: &mut CallAnswer) -> u32
+/// Puts the record of a run into a buffer, and answers its status; nothing where memory is refused.
+pub(crate) fn keep(
+    alloc: Global,
+    made: &MadeRun,
+    record: &mut [u8],
+    answer: &mut CallAnswer,
+) -> Option<u32>
     ensures { KeepsRun made.now answer.old record.old record.new answer.new result }
 {
     let mut text = Vec::new(alloc);
     if write_record(&made.record, &mut text).is_err() {
-        return 5;
+        return None;
     }
     put(record, &text);
     answer.bytes = text.len();
     if let Some(report) = made.end.threads.first() {
         *answer = answer.with(report);
     }
-    status_of(&made.end.threads)
+    Some(status_of(&made.end.threads))
 }
 
 fn run_named(
@@ -60,7 +65,7 @@ fn run_named(
         return 5;
     };
     match run_of(alloc, module, name, &values, &options.plan()) {
-        Ok(made) => keep(alloc, &made, record, answer),
+        Ok(made) => keep(alloc, &made, record, answer).unwrap_or(5),
         Err(fault) => fault.status(),
     }
 }

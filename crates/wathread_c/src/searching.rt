@@ -11,7 +11,7 @@ use spawn_host::CallFault;
 use std::alloc::Global;
 
 /// What a name comes to that is no UTF-8, as no exported one is.
-const NO_NAME: HostFault = HostFault::Call(CallFault::UnknownExport);
+pub(crate) const NO_NAME: HostFault = HostFault::Call(CallFault::UnknownExport);
 
 fn search_named(
     alloc: Global,

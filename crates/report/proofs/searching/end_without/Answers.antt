@@ -1,6 +1,6 @@
 use Rattle.std.proofs.Common.{Bool, subst}
 use Rattle.report_jobs.specs.Prints.{changed}
-use Rattle.report.specs.Telling.{EndsNothing}
+use Rattle.report_telling.specs.Telling.{EndsNothing}
 use Rattle.report.proofs.searching.end_without.Goals as goal
 
 pub returns-clause-tells : goal.returns-clause-tells

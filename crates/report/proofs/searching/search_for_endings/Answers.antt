@@ -2,11 +2,12 @@ use Rattle.std.proofs.Common.{rules, None, refl, inl, inr, subst}
 use Rattle.report_command.specs.declared.form.Form.{Form}
 use Rattle.report_jobs.specs.Prints.{change, changed}
 use Rattle.report_jobs.specs.declared.undone.Done.{Done}
-use Rattle.report.specs.Drawn.{behind_text}
-use Rattle.report.specs.Telling.{EndsNone, was_told}
+use Rattle.report_telling.specs.Drawn.{behind_text}
+use Rattle.report_telling.specs.Telling.{EndsNone}
+use Rattle.report_telling.specs.NoneFound.{IsStatusOfTable}
+use Rattle.report.specs.Told.{was_told, LastIn, NoneIn, TellsDrawn}
 use Rattle.report.specs.Searched.{IsDrawn}
 use Rattle.report.specs.Searches.{Finds}
-use Rattle.report.specs.Told.{IsStatusOfTable, LastIn, NoneIn, TellsDrawn}
 use Rattle.report.proofs.Counted.{cut_within}
 use Rattle.report.proofs.Keeping.{run_is_kept}
 use Rattle.report.proofs.AllTold.{all_made_by, endings_drawn, if_both, last_told, none_told}
@@ -37,8 +38,8 @@ returns-in-Found-clause-searched g c =
     let save = changed g.S.Write.contents c.args.streams.now.save c.keep_made.new.save in
     let finds : Finds q.parts s c.args.call.allowed save 1 = inr (inl (
       refl,
-      inl (run_is_kept c.args.call.request.now c.args.call.search.now c.args.call.allowed c.requires.asked save c.in-Found.found.made c.in_ok-kept-in-Found.kept found.1
-          c.in_ok-kept-in-Found.ensures.kept.kept c.in_ok-keep_made-in-Found.ensures.kept),
+      inl (run_is_kept c.args.call.request.now c.args.call.search.now c.args.call.allowed c.requires.asked save c.in-Found.found.made
+          c.in_ok-kept-in-Found.kept found.1 c.in_ok-kept-in-Found.ensures.kept.kept c.in_ok-keep_made-in-Found.ensures.kept),
     )) in
     let tells : TellsDrawn q.parts s out save 1 = record {
       request = q;
@@ -81,7 +82,8 @@ returns-clause-searched g c =
     let after = contents c.end_without.new.out in
     let save = changed g.S.Write.contents c.args.streams.now.save c.args.streams.now.save in
     if_both c.end_without.result (λ (done : Done). EndsNone form s.sought table is_told None text done.status (change headed after))
-    (λ (done : Done). IsStatusOfTable s.sought table done.status) (λ (done : Done). IsDrawn q.parts s c.args.call.allowed (change before after) save done.status)
+    (λ (done : Done). IsStatusOfTable s.sought table done.status)
+    (λ (done : Done). IsDrawn q.parts s c.args.call.allowed (change before after) save done.status)
     (λ done rest is. endings_drawn q.parts s c.args.call.allowed (change before after) save done.status c.requires.raceless (inl (is.statuses, refl)) (record {
       request = q;
       parts_are = refl;

@@ -4,11 +4,11 @@ use Rattle.search_finds.proofs.Noting.{plainly_noted}
 use Rattle.report_jobs.specs.Prints.{KeepsRecord, change, changed}
 use Rattle.report_jobs.specs.declared.undone.Done.{Done}
 use Rattle.report_json.specs.declared.raced.RunRaces.TheVariants as said
-use Rattle.report.specs.DrawnRaces.{raceless_text}
-use Rattle.report.specs.Telling.{EndsNone, was_told}
+use Rattle.report_telling.specs.NoneFound.{raceless_text, IsStatusOfTable}
+use Rattle.report_telling.specs.Telling.{EndsNone}
+use Rattle.report.specs.Told.{was_told, NoneIn, RacyIn, TellsDrawnRaces}
 use Rattle.report.specs.Searched.{IsDrawn}
 use Rattle.report.specs.Searches.{Finds}
-use Rattle.report.specs.Told.{IsStatusOfTable, NoneIn, RacyIn, TellsDrawnRaces}
 use Rattle.report.proofs.Counted.{cut_within}
 use Rattle.report.proofs.DrawnRaces.{none_races, race_is_kept}
 use Rattle.report.proofs.AllTold.{all_made_by, races_drawn, if_both, none_told, racy_told}
@@ -97,7 +97,8 @@ returns-clause-searched g c =
     let save = changed g.S.Write.contents c.args.streams.now.save c.args.streams.now.save in
     let noted = c.in-Ok.ensures.noted in
     if_both c.end_without.result (λ (done : Done). EndsNone form s.sought table is_told races text done.status (change headed after))
-    (λ (done : Done). IsStatusOfTable s.sought table done.status) (λ (done : Done). IsDrawn q.parts s c.args.call.allowed (change before after) save done.status)
+    (λ (done : Done). IsStatusOfTable s.sought table done.status)
+    (λ (done : Done). IsDrawn q.parts s c.args.call.allowed (change before after) save done.status)
     (λ done rest is. races_drawn q.parts s c.args.call.allowed (change before after) save done.status c.requires.races (inl (is.statuses, refl)) (record {
       request = q;
       parts_are = refl;

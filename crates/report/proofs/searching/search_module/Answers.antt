@@ -4,8 +4,8 @@ use Rattle.types.specs.declared.parts.Parts.{Parts}
 use Rattle.report_jobs.specs.Arguments.{texts_in}
 use Rattle.report_jobs.specs.Prints.{changed}
 use Rattle.report_jobs.specs.Troubles.{IsTroubleOf}
+use Rattle.report_telling.specs.Troubles.{IsOfSystem}
 use Rattle.report.specs.Searched.{IsSearched}
-use Rattle.report.specs.Searches.{IsOfSystem}
 use Rattle.report.proofs.Asking.{of_system}
 use Rattle.report.proofs.searching.search_module.Goals as goal
 

@@ -1,5 +1,4 @@
 use Rattle.std.proofs.Common.{rules, ap, sym, refl, ◌∙◌}
-use Rattle.report_jobs.specs.Prints.{change}
 use Rattle.report.proofs.Orders.{gone_by}
 use Rattle.report.proofs.Pairs.{can_tell, raced_in}
 use Rattle.report.specs.declared.searching.OrdersMet.{OrdersMet}

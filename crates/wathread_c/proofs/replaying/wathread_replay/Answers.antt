@@ -1,4 +1,6 @@
 use Rattle.std.proofs.Common.{ap, ℕ, List, refl, inl, inr, subst, arith}
+use Rattle.spawn_host.specs.declared.end.EndState.{EndState}
+use Rattle.host_calls.specs.Hosts.{IsReplayFault, IsReplayOf}
 use Rattle.wathread_c.specs.Answers.{Puts}
 use Rattle.wathread_c.specs.Calls.{IsReplayed}
 use Rattle.wathread_c.specs.Calls.IsReplayed.{ran, refused}
@@ -13,7 +15,7 @@ returns-in-Ok c =
     let says = IsRunText end in
     let kept = keeps_bytes c.run_line.result _ _ _ _ _ c.tell.ensures in
     record {
-      told = weaker says (IsReplayed c.args.module.now c.args.record.now) (λ s l text. ran end c.in-Ok.ensures.run text) _ _ _ _
+      told = weaker says (IsReplayed (λ (end : EndState) (line : List ℕ). IsReplayOf c.args.module.now c.args.record.now end) (IsReplayFault c.args.module.now c.args.record.now)) (λ s l text. ran end c.in-Ok.ensures.run text) _ _ _ _
           (may_tell says c.run_line.result c.run_line.ensures _ _ _ _ _ (ap (λ (a : CallAnswer). a.text) c.none.ensures) c.tell.ensures);
       memory_is = inr (record {
         end = end;
@@ -25,7 +27,7 @@ returns-in-Ok c =
 
 pub returns-in-Err : goal.returns-in-Err
 returns-in-Err c = record {
-  told = weaker (IsRefusalText c.in-Err.fault) (IsReplayed c.args.module.now c.args.record.now)
+  told = weaker (IsRefusalText c.in-Err.fault) (IsReplayed (λ (end : EndState) (line : List ℕ). IsReplayOf c.args.module.now c.args.record.now end) (IsReplayFault c.args.module.now c.args.record.now))
       (λ s l text. refused c.in-Err.fault c.in-Err.ensures.fault text) _ _ _ _ c.refuse.ensures.told;
   memory_is = inl (refl, c.refuse.ensures.bytes);
 }

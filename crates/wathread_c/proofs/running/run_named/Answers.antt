@@ -1,11 +1,11 @@
-use Rattle.std.proofs.Common.{List, refl, inl, inr, ◌∙◌, subst}
+use Rattle.std.proofs.Common.{ℕ, List, refl, sym, ◌∙◌, subst}
 use Rattle.types.specs.declared.value.Value.{Value}
 use Rattle.host_calls.specs.Hosts.{IsRunBy, IsFaultOf}
 use Rattle.host_calls.specs.declared.plan.Plan.{Plan}
-use Rattle.wathread_c.specs.Calls.{KeepsWhole}
-use Rattle.wathread_c.specs.Calls.RunsNamed.{fails, ran, refused}
-use Rattle.wathread_c.specs.Given.{values_by}
-use Rattle.wathread_c.specs.declared.answer.CallAnswer.{CallAnswer}
+use Rattle.wathread_c.specs.Calls.{RunsNamed}
+use Rattle.wathread_c.specs.Calls.Comes.{refused}
+use Rattle.wathread_c.specs.Given.{plan_by, values_by}
+use Rattle.wathread_c.proofs.Told.{kept_or_five}
 use Rattle.wathread_c.proofs.running.run_named.Goals as goal
 
 pub returns-in-Ok-run_of : goal.returns-in-Ok-run_of
@@ -15,10 +15,10 @@ returns-in-Ok-run_of c =
     subst (λ (plan : Plan). IsRunBy c.args.module.now c.args.name.now (values_by c.args.args.now) plan made) c.plan.ensures
     (subst (λ (values : List Value). IsRunBy c.args.module.now c.args.name.now values c.plan.result made)
     (c.deref.ensures.value ∙ c.in-Ok.ensures) c.in-Ok-run_of.ensures.run) in
-    elim c.keep.ensures [
-      | inl f ↦ fails (record { five = f.five; kept = f.kept; answer_is = f.answer_is ∙ c.requires })
-      | inr k ↦ ran made run (subst (λ (a : CallAnswer). KeepsWhole made a c.args.record.now c.keep.new.record c.keep.new.answer c.keep.result) c.requires k)
-    ]
+    let words = values_by c.args.args.now in let plan = plan_by c.args.options.now in
+    subst (λ (status : ℕ). RunsNamed c.args.module.now c.args.name.now c.args.args.now c.args.options.now c.args.record.now c.keep.new.record c.keep.new.answer status)
+    (sym c.unwrap_or.ensures)
+    (kept_or_five (Unit {0}) (IsRunBy c.args.module.now c.args.name.now words plan) (IsFaultOf c.args.module.now c.args.name.now words plan) made c.keep.result _ _ _ _ c.requires c.keep.ensures tt run)
 
 pub returns : goal.returns
 returns c =

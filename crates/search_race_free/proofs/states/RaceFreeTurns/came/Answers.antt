@@ -1,37 +1,42 @@
-use Rattle.std.proofs.Common.{refl}
-use Rattle.search_race_free.proofs.Pieces.{same-ahead, fewer-ahead, took-ahead}
+use Rattle.std.proofs.Common.{subst}
+use Rattle.std.proofs.lemmas.Result.{IfOk-weaker}
+use Rattle.search_race_free.proofs.Keeping.{copy-at, copy-none, known-copy}
+use Rattle.search_race_free.specs.Reduced.{HasReduced}
+use Rattle.search_race_free.specs.Search.{IsCame}
+use Rattle.search_race_free.specs.Met.{IsStateAt}
+use Rattle.search_race_free.specs.Ahead.{ComesOfPlace}
 use Rattle.search_race_free.proofs.states.RaceFreeTurns.came.Goals as goal
 
-pub returns-in-Some-clause-came : goal.returns-in-Some-clause-came
-returns-in-Some-clause-came g c =
-    let m = c.args.self.now.system.now in
-    let took = c.in-Some.ensures.took in
-    took-ahead (g.M.Moves.threads m) (g.M.Moves.stuck m) c.args.tables.now.met c.args.tables.now.ahead c.take.new.self c.requires.ahead c.args.at c.in-Some.came
-    took.0 took.1
+pub state_at-requires : goal.state_at-requires
+state_at-requires g c = let met = c.requires in met.2.table
 
-pub returns-in-Some-clause-ahead : goal.returns-in-Some-clause-ahead
-returns-in-Some-clause-ahead g c =
+pub returns-in_default : goal.returns-in_default
+returns-in_default g c =
     let m = c.args.self.now.system.now in
-    let took = c.in-Some.ensures.took in
-    fewer-ahead (g.M.Moves.threads m) (g.M.Moves.stuck m) c.args.tables.now.met c.args.tables.now.ahead c.take.new.self c.requires.ahead c.in-Some.ensures.end
-    c.in-Some.came took.0
+    let met = c.requires in
+    absurd (copy-none (g.M.Moves.threads m) (g.M.Moves.ends m) (g.M.Moves.stuck m) c.args.table.now c.args.at c.in_ok-state.field-0
+    c.in_ok-state.ensures
+    c.in_default.is met.0 met.1 met.2 met.3)
 
-pub returns-in-Some-take-clause-came : goal.returns-in-Some-take-clause-came
-returns-in-Some-take-clause-came g c =
+pub next_states-requires : goal.next_states-requires
+next_states-requires g c =
     let m = c.args.self.now.system.now in
-    let took = c.in-Some-take.ensures.took in
-    took-ahead (g.M.Moves.threads m) (g.M.Moves.stuck m) c.args.tables.now.met c.ahead_from.result c.take-2.new.self c.ahead_from.ensures c.args.at
-    c.in-Some-take.came took.0 took.1
+    let k = g.M.Moves.threads m in
+    let met = c.requires in
+    let copy = c.in-Some.state in
+    known-copy k (g.M.Moves.ends m) (g.M.Moves.stuck m) (g.met.M.Moves.tame m) (g.met.M.Accesses.plain m) (g.met.M.Accesses.beyond m) met.1 copy
+    (copy-at k (g.M.Moves.ends m) (g.M.Moves.stuck m) c.args.table.now c.args.at c.in_ok-state.field-0 c.in_ok-state.ensures copy c.in-Some.is
+    met.0 met.1 met.2 met.3) met.4
 
-pub returns-in-Some-take-clause-ahead : goal.returns-in-Some-take-clause-ahead
-returns-in-Some-take-clause-ahead g c =
+pub returns : goal.returns
+returns g c =
     let m = c.args.self.now.system.now in
-    let took = c.in-Some-take.ensures.took in
-    fewer-ahead (g.M.Moves.threads m) (g.M.Moves.stuck m) c.args.tables.now.met c.ahead_from.result c.take-2.new.self c.ahead_from.ensures
-    c.in-Some-take.ensures.end c.in-Some-take.came took.0
-
-pub returns-clause-ahead : goal.returns-clause-ahead
-returns-clause-ahead g c =
-    let m = c.args.self.now.system.now in
-    same-ahead (g.M.Moves.threads m) (g.M.Moves.stuck m) c.args.tables.now.met c.ahead_from.result c.take-2.new.self c.ahead_from.ensures
-    c.in_default-take.ensures.end (c.in_default-take.ensures.none refl)
+    let k = g.M.Moves.threads m in
+    let stuck = g.M.Moves.stuck m in
+    let t = c.args.table.now in
+    let copy = c.in-Some.state in
+    IfOk-weaker c.next_states.result (IsCame k stuck copy.flat (λ v. HasReduced k copy v.items)) (ComesOfPlace k stuck t c.args.at) (λ came is. record {
+      copy = copy;
+      of = subst (IsStateAt k t c.args.at) c.in-Some.is c.in_ok-state.ensures;
+      is = is;
+    }) c.next_states.ensures

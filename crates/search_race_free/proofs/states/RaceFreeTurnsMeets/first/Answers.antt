@@ -7,7 +7,7 @@ use Rattle.search_settled.proofs.Knowing.{known-stays}
 use Rattle.search_race_free.specs.Known.{Stills, GoesOnAlone}
 use Rattle.search_race_free.proofs.Beginning.{begun-first, race-first, stuck-first}
 use Rattle.search_race_free.proofs.Keeping.{first-put}
-use Rattle.search_race_free.proofs.Pieces.{none-yet, first-ahead}
+use Rattle.search_race_free.proofs.Pieces.{first-known}
 use Rattle.search_race_free.proofs.states.RaceFreeTurnsMeets.first.Goals as goal
 
 pub put-requires : goal.put-requires
@@ -21,8 +21,7 @@ returns-in_ok-put-in-To-clause-first g c _ =
     let put = c.in_ok-put-in-To.ensures in
     let t = c.args.tables.now in
     let met : StateTable g.row.M-Shared.Denot g.row.M-Thread.Denot = record { parts = c.held_row.new.parts; states = c.put.new.self } in
-    first-ahead k (g.M.Moves.ends m) (g.M.Moves.stuck m) (record { met = met; ahead = t.ahead; known = t.known })
-    (none-yet k (g.M.Moves.ends m) (g.M.Moves.stuck m) t c.requires)
+    first-known k (g.M.Moves.ends m) (g.M.Moves.stuck m) (record { met = met; known = t.known; ahead = t.ahead })
     (known-stays Stills (GoesOnAlone k) t.met.parts met.parts row.grows t.known.items c.requires.known)
     (first-put k (g.M.Moves.ends m) (g.M.Moves.stuck m) g.M.Shared.PartialEq.eq g.M.Thread.PartialEq.eq
     (owning_alike g.M.Shared.PartialEq.eq g.M.Thread.PartialEq.eq g.met.M.Shared.Eq.laws g.met.M.Thread.Eq.laws k (g.met.M.Moves.same_shared m)

@@ -1,0 +1,3 @@
+mod Looking
+mod Meeting
+mod Printed
