@@ -85,8 +85,46 @@ static void call_at_end(void) {
 /* ---- main ---- */
 #ifdef SPURIOUS
 static void change_luck(int unused);
+static void forget_luck(void);
+#else
+#define forget_luck() ((void)0)
 #endif
-static void begin_call(int main); /* calls.c */
+
+/* A host calls a function over the memory that a call before left. Each call begins with thread 0 alone, its threads are
+   numbered from 1 again, and none of a call before is there any more. So what is noted of those is forgotten where a call
+   begins; the program's own data stay, and thread 0's thread-local ones. Nobody else is there yet, so these are plain
+   accesses, and a first call makes one of them. */
+
+enum { MOST_CALLS = 1 << 20, CALL_SHIFT = 8 };
+
+/* Which later call it is, and whether constructors were called (calls.c): in the place of a start that none has. */
+enum { LATER_CALLS, CONSTRUCTED };
+static int *kept(int which) { return (int *)&starts[0] + which; }
+
+/* So many were started, beside the helper (choices.c). */
+static void forget_threads(int many) {
+    uint64_t *ended = (uint64_t *)ends;
+    for (int thread = 0; thread < MOST_THREADS && thread <= many + 1; thread++)
+        ended[thread] = RUNS;
+    joined = 0;
+    at_its_end = 0;
+    forget_choices();
+}
+
+/* Threads of a later call are told its number where they begin (start.s). */
+static void begin_call(int main) {
+    int *last = (int *)&last_start, before = *last;
+    if (before) {
+        *last = LATER;
+        *kept(LATER_CALLS) = *kept(LATER_CALLS) % MOST_CALLS + 1;
+        __wathread_set_later(*kept(LATER_CALLS) << CALL_SHIFT);
+        if (place_of(before))
+            forget_threads(place_of(before));
+        forget_luck();
+        orders_forget();
+    }
+    call_begins(main);
+}
 
 /* The program's `main`, behind its constructors: where nothing calls these, wasm-ld makes each export do so, that of the
    threads too. */
@@ -451,10 +489,12 @@ static void leave(uint32_t result) {
     __wathread_leave(result);
 }
 
-/* Others may join main. The program ends with the last of its threads: what atexit was given is called then. */
+/* Others may join main. The program ends with the last of its threads: what atexit was given in this call is called then. */
+static int ends_program(void) { return at_programs_end && __wathread_lists(0) & NORMAL; }
+
 #ifdef ORDERS
 static void end_main(void) {
-    if (at_programs_end)
+    if (ends_program())
         orders_main_left(mains_result);
 }
 #else
@@ -475,7 +515,7 @@ static void end_main(void) {
         ends[0] = (uint64_t)ENDED << 32 | mains_result;
         notify_all(&ends[0]);
     }
-    if (at_programs_end)
+    if (ends_program())
         wait_for_all();
 }
 #endif
@@ -485,7 +525,7 @@ static void leave_main(void) {
     if (at_mains_exit)
         at_mains_exit();
     end_main();
-    if (at_programs_end)
+    if (ends_program())
         at_programs_end();
 }
 
@@ -575,7 +615,7 @@ _Noreturn void abort(void) { __builtin_trap(); }
 void exit(int status) {
     if (!thread_self() && at_its_end)
         at_its_end();
-    if (!thread_self() && at_programs_end)
+    if (!thread_self() && ends_program())
         at_programs_end();
     end(status);
 }

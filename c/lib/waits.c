@@ -50,6 +50,8 @@ static void change_luck(int unused) {
     luck_is_out = 0;
 }
 
+static void forget_luck(void) { *(int *)&luck_is_out = 0; } /* of a call before */
+
 static int fails_for_nothing(enum in_vain what) { return (SPURIOUS) & what && luck_is_out; }
 #else
 static int fails_for_nothing(enum in_vain what) { (void)what; return 0; }

@@ -119,9 +119,12 @@ middles() { # what all orders of `orders` answer
         anew
         call leave --limit $limit
         later_orders "$1"
+        memory=words
         for ((number = 0; number < 3; number++)); do
-            wants 0 "thread 0: ok i32:$((($number + 1) * $each))" call $number || return
+            wants 0 "thread 0: ok i32:$((($number + 1) * $each))" call $number || break
         done
+        memory=locked
+        [ $number = 3 ] || return
     done
 }
 
@@ -161,7 +164,7 @@ done
 [ -n "${ORDERS-}$only" ] || tables "$here" -O1 --orders c11 -DC11
 
 each=9
-planted 'threads of a call before are there' '/^            forget_threads\(/s/forget.*/;/' lib/calls.c 'calls call 3 9' -O1
+planted 'threads of a call before are there' '/^            forget_threads\(/s/forget.*/;/' lib/threads.c 'calls call 3 9' -O1
 planted 'a thread has what one before left' '/^	call	__wathread_values_anew/d' lib/start.s 'calls call 3 9' -O1
 planted 'all values are zero at first' 's/^    if \(first\)/    if (0)/' lib/calls.c 'calls call 3 9' -O1
 planted 'what atexit was given is of all calls' 's/^    int count = is_begun\(list, 1\).*/    is_begun(list, 1);\n    int count = list->count;/' \
@@ -170,14 +173,14 @@ planted 'a mutex takes a thread for one before' 's/__wathread_owner\(\)/thread_s
 planted 'what is cleaned up is of all calls' 's/^static int cleans_up\(int more\).*/static int cleans_up(int more) { return 1; }/' \
     lib/threads.c "LIMITS= middles '0 1 11 all'" -O1
 planted 'a key that was deleted comes no more' 's/^    take_keys_back\(\);//' lib/threads.c 'calls call 130 9' -O1
-planted 'constructors are called each time' 's/^        constructed = 1;//' lib/calls.c 'calls call 3 9' -O1
+planted 'constructors are called each time' 's/^        .kept.CONSTRUCTED. = 1;//' lib/calls.c 'calls call 3 9' -O1
 planted 'constructors are called by main alone' 's/if \(__wathread_constructs\(\)/if (0/' lib/calls.c 'calls call 3 9' -O1
 planted 'a call from within is a new one' 's/^	global.set	thread_came/	drop/' lib/start.s 'calls call 3 9' -O1
 planted 'a thread forgets what it freed' '/^    have_freed\(freed\);/d' lib/calls.c "calls call 200 9" -O1 --reuse --pool 1024
 if [ "${ORDERS-}" != no ]; then
     each=3
     c11='-O1 --orders c11 -DC11'
-    planted 'what was simulated goes on' '/^        orders_forget\(\);/d' lib/calls.c "middles '0 1 10 11 all'" $c11
+    planted 'what was simulated goes on' '/^        orders_forget\(\);/d' lib/threads.c "middles '0 1 10 11 all'" $c11
     planted 'half an operation stays' 's/if \(gate & HELD\)/if (0)/' lib/orders.c 'tables "$work/c" $c11' $c11
     planted 'the gate stays shut' 's/^    gate = running/    running/' lib/orders.c "middles '0 1 10 11 all'" $c11
     planted 'the helper is one that is gone' 's/^    simulates = helper = /    simulates = /' lib/orders.c \
@@ -192,7 +195,7 @@ words=wathread-over
 build "$here" -O1 && cp "$m" "$work/module.wasm"
 head -c 65536 /dev/zero >"$work/memory"
 "$here/wathread-over" "$m" "$work/memory" "$m" 2>"$work/err" && say 'not refused: a memory of another size'
-grep -q '131072 bytes of memory at first, and MEMORY 65536' "$work/err" || say "$(cat "$work/err")"
+grep -q '[0-9] bytes of memory at first, and MEMORY 65536' "$work/err" || say "$(cat "$work/err")"
 cmp -s "$m" "$work/module.wasm" || say 'what is refused is written'
 
 echo "$tried modules, $wrong wrong"
