@@ -69,7 +69,7 @@ test_c() {
 call 1: kind 2, value 0
 call 2: kind 2, value 5
 call 3: kind 2, value 10
-made again: the same memory, {"status":0,"threads":[{"thread":0,"outcome":{"ok":{"i32":10}},"spent":4}],"pages":1}
+made again: the same memory, {"status":0,"threads":[{"thread":0,"outcome":{"ok":{"i32":10}},"units":4}],"pages":1}
 END
 }
 
