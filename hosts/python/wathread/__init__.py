@@ -11,7 +11,7 @@ A module may stay, and an instance's memory from one call to the next:
 
 >>> with wathread.Module(module) as kept, kept.instance() as instance:
 ...     print(instance.call("main").end, instance.pages)
-ok i32:2 17
+ok i32:2 2
 
 The shared object is what WATHREAD_LIBRARY names, or else that beside this package, in the checkout's `lib`, in an
 installed prefix, or where the loader finds it.
