@@ -6,11 +6,7 @@ use Rattle.std.proofs.lemmas.Option.{none-some}
 use Rattle.std.proofs.lemmas.List.{length-replicate}
 use Rattle.allowed_races.specs.declared.allowed.Allowed.{Allowed}
 use Rattle.types.specs.declared.event.Event.{Event}
-use Rattle.types.specs.declared.event.Event.TheVariants as events
-use Rattle.types.specs.declared.event.Question.TheVariants.{Leave}
 use Rattle.types.specs.declared.event.Answer.{Answer}
-use Rattle.types.specs.declared.event.Reply.{Reply}
-use Rattle.types.specs.declared.outcome.Outcome.{Outcome}
 use Rattle.shared_memory.specs.declared.sleeper.Sleeper.{Sleeper}
 use Rattle.shared_memory.specs.Memory.{Memory, reply_of}
 use Rattle.shared_memory.specs.WaitQueue.{WaitQueue, is_among, is_asleep, answer_due, next_id, has_slot, settled, IsFree}
@@ -18,13 +14,10 @@ use Rattle.shared_memory.specs.Sound.{IsSound}
 use Rattle.shared_memory.proofs.Sleepers.{list_any-filtered}
 use Rattle.schedule.specs.System.{Want, Want.Turns, Want.Calls, Want.Awaits, Want.Gone, put}
 use Rattle.schedule.specs.Scheduled.{or_started}
-use Rattle.schedule.specs.Machine.{Wish, Wish.Goes as WishGoes, Wish.Asks as WishAsks, Wish.Waits as WishWaits, Wish.Ends as WishEnds}
 use Rattle.schedule.proofs.Basics.{put-same, put-other, same_or_not}
 use Rattle.schedule_threads.specs.Shared.{Shared, without_dues}
 use Rattle.schedule_threads.specs.Threads.{machine_of}
-use Rattle.interp_machine.specs.Program.{Program}
-use Rattle.interp_machine.specs.State.{State}
-use Rattle.search_threads.specs.Unlimited.{Unlimited.Missing, Unlimited.Going, Unlimited.Leaving, Unlimited.Away, unlimited_wants, unlimited_goes, unlimited_takes, want_by, reply_by}
+use Rattle.search_threads.specs.Unlimited.{unlimited_wants, unlimited_goes, unlimited_takes}
 use Rattle.search_runs.specs.Called.{Called, Walker}
 use Rattle.search_runs.specs.Accesses.{access_by, is_plain, judged, may_race}
 use Rattle.search_runs.specs.Theorems.{CanReach}
@@ -32,130 +25,25 @@ use Rattle.search_runs.proofs.Plain.{IsAccess, is-access, both-true}
 use Rattle.search_runs.proofs.Tame.{missing, answers_fit}
 use Rattle.search_ample.specs.Turns.{AreTurnStates, AreTurns}
 use Rattle.search_apart.specs.Acts as acts
-use Rattle.search_apart.specs.Acts.{Act, own_act, wakes_at, starts_it, looks_past, deed_of, is_plain_act, grows, accesses_conflict, deeds_conflict, acts_conflict}
+use Rattle.search_apart.specs.Acts.{Act, own_act, wakes_at, starts_it, looks_past, deed_of, is_plain_act, grows}
+use Rattle.search_apart.specs.Acts.{accesses_conflict, deeds_conflict, acts_conflict}
 use Rattle.search_apart.specs.Turning.{opening_of, act_if, next_act, sleepers_at, Heeds, AreAlikeQueues, AreAlike, turns_of}
 use Rattle.search_apart.specs.Theorems.{NobodyIsStuck, TurnsAreApart}
 use Rattle.search_apart.proofs.Changes.{Change, Writes, changed, change_of, IsIn, IsBy, change-by, judged-by, touches, judged-touches, IsSame, left-same}
 use Rattle.search_apart.proofs.Changes.{HasSameBytes, same-bytes, long-written, AreClear, clear-of, swap-changes}
 use Rattle.search_apart.proofs.Conflicts.{acts-swap, spared-of, touches-none, conflict-then}
-use Rattle.search_apart.proofs.Calls.{Call, Rests, applied, begins, woken_by, call_of, applied-long, applied-sleepers, applied-sound, next-stays, among-stays, woken-asleep, other-due, unsettled, quiet-settled}
-use Rattle.search_apart.proofs.Calls.{AreAlikeBut, alike-queues, but-of, alike-applied, settled-alike, settled-same, due-alike, ToldAlike, both-alike, both-told, AreClearCalls}
-use Rattle.search_apart.proofs.Doing.{World, Doing, Own, Makes, wanting, change_in, call_in, act_in, none-or, wants_at, after, self_in, starts_in, hears, doing-of, wanted-as, reach-next, least}
-use Rattle.search_apart.proofs.Doing.{sound, heard, nothing, asleep-awaits, free, room, in-memory, ends, memory-after, queue-after, gives-are, threads-after, starts-none, unmoved, goes-unmoved}
+use Rattle.search_apart.proofs.Calls.{Call, Rests, applied, begins, woken_by, applied-long, applied-sleepers}
+use Rattle.search_apart.proofs.Calls.{applied-sound, next-stays, among-stays, woken-asleep, other-due, unsettled, quiet-settled}
+use Rattle.search_apart.proofs.Calls.{AreAlikeBut, alike-queues, but-of, alike-applied, settled-alike, settled-same}
+use Rattle.search_apart.proofs.Calls.{due-alike, ToldAlike, both-alike, both-told, AreClearCalls}
+use Rattle.search_apart.proofs.Doing.{World, Doing, Own, Makes, wanting, change_in, call_in, act_in, none-or}
+use Rattle.search_apart.proofs.Doing.{wants_at, after, self_in, starts_in, hears, doing-of, wanted-as, reach-next, least}
+use Rattle.search_apart.proofs.Doing.{sound, heard, nothing, asleep-awaits, free, room, in-memory, ends, memory-after}
+use Rattle.search_apart.proofs.Doing.{queue-after, gives-are, threads-after, starts-none, unmoved, goes-unmoved}
 use Rattle.search_apart.proofs.Awaiting.{IsDone, begun-as, begun-done, never, awaits-asleep}
 use Rattle.search_apart.proofs.Deeds.{list-deed, spawn-deed, woken-deed, spawns-apart, HasDeed, clear-deeds, HasSameRoom, call-same, starts-same}
-
--- ---- Answers, in either order
-
-told-first : (b : Called) (t : Walker) (first second other last : Option Answer) → ToldAlike first second other last
-    → hears b (hears b t first) second ≡ hears b (hears b t other) last
-told-first b t first second other last (inl h) =
-    ap (λ o. hears b (hears b t o) second) h.0 ∙ (ap (hears b t) h.2 ∙ sym (ap (λ o. hears b (hears b t o) last) h.1))
-told-first b t first second other last (inr h) = elim (h.2) [
-  | inl none ↦ ap (λ o. hears b (hears b t o) second) none
-      ∙ (ap (hears b t) h.0 ∙ sym (ap (hears b (hears b t other)) (h.1 ∙ none)))
-  | inr none ↦ ap (hears b (hears b t first)) (h.0 ∙ none) ∙ (sym (ap (hears b t) h.1) ∙ sym (ap (λ o. hears b (hears b t o) last) none))
-]
-
-told-swap : (first second other last : Option Answer) → ToldAlike first second other last → ToldAlike other last first second
-told-swap first second other last (inl h) = inl (h.1, h.0, sym h.2)
-told-swap first second other last (inr h) = inr (h.1, h.0, (elim (h.2) [ inl none ↦ inr none | inr none ↦ inl none ]))
-
-want-cases : (want : Want Event) → ((want ≡ Awaits) ⊎ (want ≡ Gone)) ⊎ ((d : Doing) × (want ≡ wanting d))
-want-cases Turns = inr (Own, refl)
-want-cases (Calls e) = inr (Makes e, refl)
-want-cases Awaits = inl (inl refl)
-want-cases Gone = inl (inr refl)
-
-wanting-not : (want : Want Event) (d : Doing) → want ≡ wanting d → (want ≡ Awaits) ⊎ (want ≡ Gone) → ⊥
-wanting-not want Own h (inl r) = absurd (cc (h, r))
-wanting-not want Own h (inr r) = absurd (cc (h, r))
-wanting-not want (Makes e) h (inl r) = absurd (cc (h, r))
-wanting-not want (Makes e) h (inr r) = absurd (cc (h, r))
-
--- ---- Plain turns
-
--- an access rests in the queue and starts nobody
-access-rests : (q : WaitQueue) (m : Memory) (e : Event) → IsAccess m e → call_of q m e ≡ Rests
-access-rests q m events.Size is = absurd is
-access-rests q m (events.Grow more) is = absurd is
-access-rests q m (events.Load addr width reach) is = refl
-access-rests q m (events.Store addr width reach value) is = refl
-access-rests q m (events.Rmw op addr width value) is = absurd is
-access-rests q m (events.Cmpxchg addr width expected replacement) is = absurd is
-access-rests q m (events.Ask question) is = absurd is
-access-rests q m (events.Told answer) is = absurd is
-
-access-starts : (b : Called) (x : Shared) (m : Memory) (e : Event) (k : ℕ) → IsAccess m e → starts_in b x (Makes e) k ≡ None
-access-starts b x m events.Size k is = absurd is
-access-starts b x m (events.Grow more) k is = absurd is
-access-starts b x m (events.Load addr width reach) k is = refl
-access-starts b x m (events.Store addr width reach value) k is = refl
-access-starts b x m (events.Rmw op addr width value) k is = absurd is
-access-starts b x m (events.Cmpxchg addr width expected replacement) k is = absurd is
-access-starts b x m (events.Ask question) k is = absurd is
-access-starts b x m (events.Told answer) k is = absurd is
-
-no-leave : (m : Memory) (e : Event) → IsAccess m e → e ≡ events.Ask Leave → ⊥
-no-leave m e is same = subst (IsAccess m) same is
-
--- a thread that goes on isn't gone
-want-stays : (p : Program) (wish : Wish Event Outcome) → want_by (machine_of p) wish ≡ Gone → ⊥
-want-stays p WishGoes h = absurd (cc h)
-want-stays p (WishAsks e) h = absurd (cc h)
-want-stays p WishWaits h = absurd (cc h)
-want-stays p (WishEnds o) h = absurd (cc h)
-
-own-stays : (p : Program) (t : Walker) → unlimited_wants (machine_of p) t ≡ Turns → unlimited_wants (machine_of p) (unlimited_goes (machine_of p) t) ≡ Gone → ⊥
-own-stays p Missing h g = absurd (cc h)
-own-stays p (Going c) h g = want-stays p ((machine_of p).wishes ((machine_of p).goes c)) g
-own-stays p (Leaving o) h g = absurd (cc h)
-own-stays p (Away o) h g = absurd (cc h)
-
-reply-stays : (p : Program) (e : Event) (r : Reply) (c : State) (wish : Wish Event Outcome) → want_by (machine_of p) wish ≡ Calls e → (e ≡ events.Ask Leave → ⊥)
-    → unlimited_wants (machine_of p) (reply_by (machine_of p) wish c r) ≡ Gone → ⊥
-reply-stays p e r c WishGoes h not_leave g = absurd (cc h)
-reply-stays p e r c (WishAsks f) h not_leave g = want-stays p ((machine_of p).wishes ((machine_of p).takes c r)) g
-reply-stays p e r c WishWaits h not_leave g = absurd (cc h)
-reply-stays p e r c (WishEnds o) h not_leave g = not_leave (let same : events.Ask Leave ≡ e = cc h in sym same)
-
-takes-stays : (p : Program) (t : Walker) (e : Event) (r : Reply) → unlimited_wants (machine_of p) t ≡ Calls e → (e ≡ events.Ask Leave → ⊥)
-    → unlimited_wants (machine_of p) (unlimited_takes (machine_of p) t r) ≡ Gone → ⊥
-takes-stays p Missing e r h not_leave g = absurd (cc h)
-takes-stays p (Going c) e r h not_leave g = reply-stays p e r c ((machine_of p).wishes c) h not_leave g
-takes-stays p (Leaving o) e r h not_leave g = absurd (cc h)
-takes-stays p (Away o) e r h not_leave g = absurd (cc h)
-
--- ---- Being alike
-
-alike-itself : (s : World) → AreAlike s s
-alike-itself s = record {
-  memory = refl;
-  queue = record { alive = refl; sleepers = λ x. refl; due = refl; args = refl };
-  threads = λ m. refl;
-}
-
-alike-back : (s z : World) → AreAlike s z → AreAlike z s
-alike-back s z h = record {
-  memory = sym h.memory;
-  queue = record { alive = sym (h.queue).alive; sleepers = λ x. sym ((h.queue).sleepers x); due = sym (h.queue).due; args = sym (h.queue).args };
-  threads = λ m. sym (h.threads m);
-}
-
-alike-in-turn : (s z v : World) → AreAlike s z → AreAlike z v → AreAlike s v
-alike-in-turn s z v h g = record {
-  memory = h.memory ∙ g.memory;
-  queue = record {
-    alive = (h.queue).alive ∙ (g.queue).alive;
-    sleepers = λ x. (h.queue).sleepers x ∙ (g.queue).sleepers x;
-    due = (h.queue).due ∙ (g.queue).due;
-    args = (h.queue).args ∙ (g.queue).args;
-  };
-  threads = λ m. h.threads m ∙ g.threads m;
-}
-
-queues-as : (p q x y : WaitQueue) → p ≡ q → x ≡ y → AreAlikeQueues q y → AreAlikeQueues p x
-queues-as p q x y h g alike = subst (λ z. AreAlikeQueues z x) (sym h) (subst (λ z. AreAlikeQueues q z) (sym g) alike)
+use Rattle.search_apart.proofs.Alike.{told-first, want-cases, wanting-not, access-rests, access-starts}
+use Rattle.search_apart.proofs.Alike.{no-leave, own-stays, takes-stays, alike-itself, alike-back, alike-in-turn, queues-as}
 
 module _ (b : Called) (allowed : Allowed) (nobody : NobodyIsStuck b) where
   abbrev act : World → ℕ → Doing → Act
@@ -173,9 +61,15 @@ module _ (b : Called) (allowed : Allowed) (nobody : NobodyIsStuck b) where
 
   -- ---- Alike states
 
-  if-alike : (x y : Shared) (t : Walker) (want : Want Event) → x.memory ≡ y.memory → act_if allowed (opening_of b) x t want ≡ act_if allowed (opening_of b) y t want
+  if-alike : (x y : Shared) (t : Walker) (want : Want Event) → x.memory ≡ y.memory
+      → act_if allowed (opening_of b) x t want ≡ act_if allowed (opening_of b) y t want
   if-alike x y t Turns h = refl
-  if-alike x y t (Calls e) h = ap (λ m. Some (record { access = judged allowed (access_by (opening_of b) m (is_plain t) e); looks = looks_past (opening_of b) e; deed = deed_of m e })) h
+  if-alike x y t (Calls e) h = ap (λ m. Some (record {
+    access = judged allowed (access_by (opening_of b) m (is_plain t) e);
+    looks = looks_past
+        (opening_of b) e;
+    deed = deed_of m e;
+  })) h
   if-alike x y t Awaits h = refl
   if-alike x y t Gone h = refl
 
@@ -222,7 +116,8 @@ module _ (b : Called) (allowed : Allowed) (nobody : NobodyIsStuck b) where
     | inr apart ↦ put-other s.threads n (self_in b s n d) k apart ∙ (h.threads k ∙ sym (put-other z.threads n (self_in b z n d) k apart))
   ]
 
-  change-alike : (s z : World) (d : Doing) → AreAlike s z → changed s.shared.memory (change_in s.shared.memory d) ≡ changed z.shared.memory (change_in z.shared.memory d)
+  change-alike : (s z : World) (d : Doing) → AreAlike s z → changed s.shared.memory (change_in s.shared.memory d) ≡ changed z.shared.memory
+      (change_in z.shared.memory d)
   change-alike s z d h = ap (λ m. changed m (change_in m d)) h.memory
 
   module _ (s z : World) (reach_s : CanReach b s) (reach_z : CanReach b z) (n : ℕ) (d : Doing) (wants : wants_at b s n ≡ wanting d) (h : AreAlike s z) where
@@ -522,7 +417,8 @@ module _ (b : Called) (allowed : Allowed) (nobody : NobodyIsStuck b) where
     queues : AreAlikeBut first_n first_u
     queues = both-alike q (sound b s reach) (heard b s reach) n u apart free_n free_u c_u c_n clear (room b s reach f) (room b s reach d)
 
-    told : (k : ℕ) → ToldAlike (answer_due (applied u q c_u) k) (answer_due (settled first_n) k) (answer_due (applied n q c_n) k) (answer_due (settled first_u) k)
+    told : (k : ℕ) → ToldAlike (answer_due (applied u q c_u) k) (answer_due (settled first_n) k) (answer_due (applied n q c_n) k)
+        (answer_due (settled first_u) k)
     told = both-told q (sound b s reach) (heard b s reach) n u apart free_n free_u c_u c_n clear (room b s reach f) (room b s reach d)
 
     abbrev un : World
@@ -844,7 +740,8 @@ module _ (b : Called) (allowed : Allowed) (nobody : NobodyIsStuck b) where
         (answer_due (settled (applied u s.shared.queue (call_in s.shared.queue s.shared.memory f))) u))) (plain-starts s f u plain)
         ∙ (ap (hears b (put s.threads u (self_in b s u f) u)) (plain-untold u) ∙ put-same s.threads u (self_in b s u f)))
 
-    not-gone-by : (c : Doing) → wants_at b s u ≡ wanting c → IsPlainDoing s.shared.memory c → unlimited_wants (machine_of b.program) (self_in b s u c) ≡ Gone → ⊥
+    not-gone-by : (c : Doing) → wants_at b s u ≡ wanting c → IsPlainDoing s.shared.memory c
+        → unlimited_wants (machine_of b.program) (self_in b s u c) ≡ Gone → ⊥
     not-gone-by Own wants is gone = own-stays b.program (s.threads u) wants gone
     not-gone-by (Makes e) wants is gone =
         takes-stays b.program (s.threads u) e (reply_of s.shared.memory e) wants (no-leave s.shared.memory e is) gone
@@ -878,7 +775,8 @@ module _ (b : Called) (allowed : Allowed) (nobody : NobodyIsStuck b) where
   awake s n a c reach wants_n (inl k) =
       let does = doing-of b allowed s n a wants_n in
       wanting-not (wants_at b s n) does.0 does.1
-      (inl (asleep-awaits b s reach n (list_any-filtered (λ (t : Sleeper). t.addr == k.addr) (λ (t : Sleeper). t.thread == n) s.shared.queue.sleepers k.sleeps)))
+      (inl (asleep-awaits b s reach n (list_any-filtered (λ (t : Sleeper). t.addr == k.addr) (λ (t : Sleeper). t.thread == n) s.shared.queue.sleepers
+      k.sleeps)))
   awake s n a c reach wants_n (inr k) =
       let does = doing-of b allowed s n a wants_n in
       wanting-not (wants_at b s n) does.0 does.1 (inr (ap (unlimited_wants (machine_of b.program)) k.missing))

@@ -15,7 +15,8 @@ use Rattle.types.specs.declared.outcome.Outcome.{Outcome}
 use Rattle.types.specs.declared.value.Value.TheVariants as values
 use Rattle.shared_memory.specs.declared.sleeper.Sleeper.{Sleeper}
 use Rattle.shared_memory.specs.Memory.{Memory, loaded, reply_of}
-use Rattle.shared_memory.specs.WaitQueue.{WaitQueue, is_asleep, answer_due, next_id, has_slot, woken_at, due_after, settled, IsFree, has_open_question, ends_at_once}
+use Rattle.shared_memory.specs.WaitQueue.{WaitQueue, is_asleep, answer_due, next_id, has_slot, woken_at, due_after}
+use Rattle.shared_memory.specs.WaitQueue.{settled, IsFree, has_open_question, ends_at_once}
 use Rattle.shared_memory.specs.Legal.{IsAllowed}
 use Rattle.shared_memory.specs.Sound.{IsSound}
 use Rattle.shared_memory.proofs.Sleepers.{length-due_after}
@@ -34,7 +35,8 @@ use Rattle.interp_machine.specs.Step.{with_rest, next}
 use Rattle.interp_machine.specs.State.{At, Over, gone_by, replied, replied_by, heard_by}
 use Rattle.interp_trait.specs.Turns.{spawned_in}
 use Rattle.interp_laws.specs.NeverStuck.{IsDefined}
-use Rattle.search_threads.specs.Unlimited.{Unlimited.Missing, Unlimited.Going, Unlimited.Leaving, Unlimited.Away, unlimited_wants, unlimited_goes, unlimited_takes, unlimited_hears, want_by, reply_by}
+use Rattle.search_threads.specs.Unlimited.{Unlimited.Missing, Unlimited.Going, Unlimited.Leaving, Unlimited.Away}
+use Rattle.search_threads.specs.Unlimited.{unlimited_wants, unlimited_goes, unlimited_takes, unlimited_hears, want_by, reply_by}
 use Rattle.search_threads.specs.Budgets.{started_without, first_without}
 use Rattle.search_reach.proofs.Paths.{stays}
 use Rattle.search_settled.specs.Settled.{StepsBy}
@@ -43,7 +45,8 @@ use Rattle.search_runs.specs.Theorems.{CanReach}
 use Rattle.search_runs.proofs.Tame.{given, given_wants, answers_fit}
 use Rattle.search_apart.specs.Theorems.{NobodyIsStuck}
 use Rattle.search_apart.proofs.Stepping.{IsFreed, IsFreedBy, IsFine, step_fine, asked_or_not, hears_next, fresh}
-use Rattle.search_apart.proofs.Calls.{Call, Rests, Tells, Sleeps, Wakes, Begins, Quits, applied, applied-sound, call_of, wait_call, IsMade, quiet-settled, step-is}
+use Rattle.search_apart.proofs.Calls.{Call, Rests, Tells, Sleeps, Wakes, Begins, Quits, applied, applied-sound}
+use Rattle.search_apart.proofs.Calls.{call_of, wait_call, IsMade, quiet-settled, step-is}
 use Rattle.search_apart.proofs.Doing.{World, Doing, Own, Makes, wanting, call_in, wants_at, after, self_in, starts_in, hears, reach-next, along, by-want}
 use Rattle.search_apart.proofs.Doing.{sound, free, made, room, nothing, gives-are, queue-after, threads-after}
 
@@ -82,7 +85,8 @@ hears-freed p c asked n go is =
 
 told-done : (p : Program) (t : Walker) (a : Answer) → IsAsking t → IsDone (unlimited_hears (machine_of p) t a)
 told-done p Missing a h = absurd h
-told-done p (Going (At c)) a h = heard-done p c a (next p c) (hears-freed p c h) (λ k. with_rest c c.frame.code (values.I32 k ∷ c.frame.operands)) (hears_next p c h)
+told-done p (Going (At c)) a h = heard-done p c a (next p c) (hears-freed p c h) (λ k. with_rest c c.frame.code (values.I32 k ∷ c.frame.operands))
+    (hears_next p c h)
 told-done p (Going (Over o)) a h = absurd h
 told-done p (Leaving o) a h = tt
 told-done p (Away o) a h = absurd h
@@ -241,11 +245,30 @@ no-question (events.Told answer) reply h = refl
 pub question-call : (q : WaitQueue) (m : Memory) (e : Event) → IsCallOfIt (is_question e (reply_of m e)) (call_of q m e)
 question-call q m events.Size = no-call
 question-call q m (events.Grow more) = no-call
-question-call q m (events.Load addr width reach) = (λ so. absurd (both_ways (is_question (events.Load addr width reach) (reply_of m (events.Load addr width reach))) (no-question (events.Load addr width reach) (reply_of m (events.Load addr width reach)) tt) so), λ isnt. refl)
-question-call q m (events.Store addr width reach value) = (λ so. absurd (both_ways (is_question (events.Store addr width reach value) (reply_of m (events.Store addr width reach value))) (no-question (events.Store addr width reach value) (reply_of m (events.Store addr width reach value)) tt) so), λ isnt. refl)
-question-call q m (events.Rmw op addr width value) = (λ so. absurd (both_ways (is_question (events.Rmw op addr width value) (reply_of m (events.Rmw op addr width value))) (no-question (events.Rmw op addr width value) (reply_of m (events.Rmw op addr width value)) tt) so), λ isnt. refl)
-question-call q m (events.Cmpxchg addr width expected replacement) =
-    (λ so. absurd (both_ways (is_question (events.Cmpxchg addr width expected replacement) (reply_of m (events.Cmpxchg addr width expected replacement))) (no-question (events.Cmpxchg addr width expected replacement) (reply_of m (events.Cmpxchg addr width expected replacement)) tt) so), λ isnt. refl)
+question-call q m (events.Load addr width reach) = (
+  λ so. absurd
+      (both_ways (is_question (events.Load addr width reach) (reply_of m (events.Load addr width reach)))
+      (no-question (events.Load addr width reach) (reply_of m (events.Load addr width reach)) tt) so),
+  λ isnt. refl,
+)
+question-call q m (events.Store addr width reach value) = (
+  λ so. absurd
+      (both_ways (is_question (events.Store addr width reach value) (reply_of m (events.Store addr width reach value)))
+      (no-question (events.Store addr width reach value) (reply_of m (events.Store addr width reach value)) tt) so),
+  λ isnt. refl,
+)
+question-call q m (events.Rmw op addr width value) = (
+  λ so. absurd
+      (both_ways (is_question (events.Rmw op addr width value) (reply_of m (events.Rmw op addr width value)))
+      (no-question (events.Rmw op addr width value) (reply_of m (events.Rmw op addr width value)) tt) so),
+  λ isnt. refl,
+)
+question-call q m (events.Cmpxchg addr width expected replacement) = (
+  λ so. absurd (both_ways (is_question (events.Cmpxchg addr width expected replacement)
+      (reply_of m (events.Cmpxchg addr width expected replacement)))
+      (no-question (events.Cmpxchg addr width expected replacement) (reply_of m (events.Cmpxchg addr width expected replacement)) tt) so),
+  λ isnt. refl,
+)
 question-call q m (events.Ask (Wait addr width expected timeout)) = wait-call addr width expected timeout (loaded m addr width)
     (nat_le (addr + width) (length m.bytes))
 question-call q m (events.Ask (Notify addr count)) = notify-call addr count (nat_le (addr + 4) (length m.bytes))
@@ -338,7 +361,8 @@ module _ (b : Called) (nobody : NobodyIsStuck b) where
   IsSleeping w = (k : ℕ) → wants_at b w k ≡ Awaits → is_asleep w.shared.queue k ≡ true
 
   -- whom a spawn starts has no open question
-  pub begun-done : (w : World) → CanReach b w → (n : ℕ) (e : Event) → wants_at b w n ≡ Calls e → (k : ℕ) (t : Walker) → IsBegun b w.shared.queue e k t → IsDone t
+  pub begun-done : (w : World) → CanReach b w → (n : ℕ) (e : Event) → wants_at b w n ≡ Calls e → (k : ℕ) (t : Walker)
+      → IsBegun b w.shared.queue e k t → IsDone t
   begun-done w reach n e h k t is =
       let some : 0 < b.program.imported =
       wants_spawn b.program (given (w.threads n)) is.arg (given_wants b.program (w.threads n) ∙ (h ∙ ap Calls is.event)) in

@@ -17,11 +17,13 @@ use Rattle.types.specs.declared.event.Answer.TheVariants.{Number}
 use Rattle.types.specs.declared.event.Reply.TheVariants as replies
 use Rattle.shared_memory.specs.declared.sleeper.Sleeper.{Sleeper}
 use Rattle.shared_memory.specs.Memory.{Memory, loaded, if_within, reply_of}
-use Rattle.shared_memory.specs.WaitQueue.{WaitQueue, is_alive, is_among, is_asleep, answer_due, next_id, has_slot, tells, due_after, wakes, sleeps, starts, leaves, woken_at}
+use Rattle.shared_memory.specs.WaitQueue.{WaitQueue, is_alive, is_among, is_asleep, answer_due, next_id, has_slot}
+use Rattle.shared_memory.specs.WaitQueue.{tells, due_after, wakes, sleeps, starts, leaves, woken_at}
 use Rattle.shared_memory.specs.WaitQueue.{ends_at_once, ended, end_answer, is_stuck, settled, after_question, IsFree}
 use Rattle.shared_memory.specs.History.{queue_step}
 use Rattle.shared_memory.specs.Sound.{SleepOnce, IsSound}
-use Rattle.shared_memory.proofs.Sleepers.{list_any-filter, list_any-take, list_any-filtered, others_than, others_than-other, length-due_after, due_after-other, due_after-woken}
+use Rattle.shared_memory.proofs.Sleepers.{list_any-filter, list_any-take, list_any-filtered, others_than}
+use Rattle.shared_memory.proofs.Sleepers.{others_than-other, length-due_after, due_after-other, due_after-woken}
 use Rattle.shared_memory.proofs.Soundness.{IsSound-tells, IsSound-wakes, IsSound-sleeps, IsSound-starts, IsSound-leaves, alive_but, has_place}
 use Rattle.shared_memory.proofs.Woken.{ended_sleeps, woken_sleeps}
 use Rattle.shared_memory.proofs.Settling.{awake_unstuck}
@@ -29,7 +31,8 @@ use Rattle.schedule_threads.specs.Shared.{without_dues}
 use Rattle.schedule_runs.proofs.Dues.{none_due}
 use Rattle.schedule_runs.proofs.Places.{IsSound-without}
 use Rattle.search_apart.specs.Turning.{sleepers_at, AreAlikeQueues}
-use Rattle.search_apart.proofs.Sleepers.{AreAlikeSleepers, any-alike, filter-swap, ended-alike, answer-alike, others-at, others-agree, one-address, left-there, slept-there}
+use Rattle.search_apart.proofs.Sleepers.{AreAlikeSleepers, any-alike, filter-swap, ended-alike, answer-alike}
+use Rattle.search_apart.proofs.Sleepers.{others-at, others-agree, one-address, left-there, slept-there}
 
 -- The queue rests; its thread is answered at once; it falls asleep at an address with a timeout; it notifies there; it
 -- starts a thread, which is told its argument; or it leaves.
@@ -231,7 +234,8 @@ woken-asleep k c xs h = false_from_ne_true (is_among k (woken_by c xs)) (λ is.
     both_ways (is_among k xs) h (list_any-filtered (λ (s : Sleeper). s.addr == w.0) (λ (s : Sleeper). s.thread == k) xs w.2)))
 
 -- two clear calls wake nobody both
-woken-once : (k : ℕ) (c d : Call) (xs : List Sleeper) → AreClearCalls c d → SleepOnce xs → is_among k (woken_by d xs) ≡ true → is_among k (woken_by c xs) ≡ false
+woken-once : (k : ℕ) (c d : Call) (xs : List Sleeper) → AreClearCalls c d → SleepOnce xs → is_among k (woken_by d xs) ≡ true
+    → is_among k (woken_by c xs) ≡ false
 woken-once k c d xs clear once h = false_from_ne_true (is_among k (woken_by c xs)) (λ is.
     (let v = woken-there k d xs h in
     let w = woken-there k c xs is in
@@ -428,7 +432,8 @@ abbrev is_ended : WaitQueue → ℕ → Bool
 is_ended q k = is_stuck q && is_among k (ended q.sleepers)
 
 ends-alike : (p q : WaitQueue) → AreAlikeBut p q → (k : ℕ) → is_ended p k ≡ is_ended q k
-ends-alike p q h k = ap (λ t. t && is_among k (ended p.sleepers)) (stuck-alike p q h) ∙ ap (λ t. is_stuck q && t) (ended-alike k p.sleepers q.sleepers h.sleepers)
+ends-alike p q h k = ap (λ t. t && is_among k (ended p.sleepers)) (stuck-alike p q h) ∙ ap (λ t. is_stuck q && t)
+    (ended-alike k p.sleepers q.sleepers h.sleepers)
 
 settled-told : (q : WaitQueue) (k : ℕ) → IsSound q → is_ended q k ≡ true → (answer_due (settled q) k ≡ Some (end_answer q.sleepers)) × (is_asleep q k ≡ true)
 settled-told q k sound h =
@@ -619,7 +624,8 @@ wait-asked q n addr timeout false true = refl
 wait-asked q n addr timeout false false = refl
 
 spawn-asked : (q : WaitQueue) (n arg : ℕ) (t : Bool)
-    → (if t then tells n (Number (next_id q)) (starts arg q) else tells n (Number 4294967295) q) ≡ applied n q (if t then Begins arg else Tells (Number 4294967295))
+    → (if t then tells n (Number (next_id q)) (starts arg q) else tells n (Number 4294967295) q) ≡ applied n q
+    (if t then Begins arg else Tells (Number 4294967295))
 spawn-asked q n arg true = refl
 spawn-asked q n arg false = refl
 
@@ -631,7 +637,8 @@ wait-step q n addr width expected timeout v free true = ap settled (wait-asked q
 wait-step q n addr width expected timeout v free false = quiet-settled q n free
 
 notify-step : (q : WaitQueue) (n addr count : ℕ) → IsFree q n → (t : Bool)
-    → queue_step q n (events.Ask (Notify addr count)) (if t then replies.Done else replies.OutOfBounds) ≡ settled (applied n q (if t then Wakes addr count else Rests))
+    → queue_step q n (events.Ask (Notify addr count)) (if t then replies.Done else replies.OutOfBounds) ≡ settled
+    (applied n q (if t then Wakes addr count else Rests))
 unfolding after_question
 notify-step q n addr count free true = refl
 notify-step q n addr count free false = quiet-settled q n free

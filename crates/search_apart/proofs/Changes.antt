@@ -3,8 +3,7 @@ use Rattle.std.proofs.Common.{◌≡◌, ℕ, ◌+◌, ◌*◌, ◌/◌, ◌==�
 use Rattle.std.proofs.Common.{true≢false, List, length, take, drop, refl, sym, ap, ◌∙◌, subst, arith, length-append}
 use Rattle.std.specs.Prelude.{◌&&◌, nat_le, nat_lt, if◌then◌else◌, replicate}
 use Rattle.std.specs.List.{splice}
-use Rattle.std.proofs.lemmas.Bool.{and_cases, leb-true, le-leb}
-use Rattle.std.proofs.lemmas.Bool.{ltb-false}
+use Rattle.std.proofs.lemmas.Bool.{and_cases, leb-true, le-leb, ltb-false}
 use Rattle.allowed_races.specs.declared.allowed.Allowed.{Allowed}
 use Rattle.types.specs.declared.event.Event.{Event}
 use Rattle.types.specs.declared.event.Event.TheVariants.{Size, Grow, Load, Store, Rmw, Cmpxchg, Ask, Told}
@@ -284,7 +283,8 @@ pub record HasSameBytes (a b : NextAccess) : Type 0 where
 
 module _ (opening : ℕ) (p : Bool) (m z : Memory) (long : length z.bytes ≡ length m.bytes) (most : z.max ≡ m.max) where
   same-if-in : (plain reads one other hangs : Bool) (addr width reach : ℕ) (t : Bool)
-      → HasSameBytes (if t then access_with plain reads one hangs addr width reach else look) (if t then access_with plain reads other hangs addr width reach else look)
+      → HasSameBytes (if t then access_with plain reads one hangs addr width reach else look)
+      (if t then access_with plain reads other hangs addr width reach else look)
   same-if-in plain reads one other hangs addr width reach true = record { addr = refl; width = refl }
   same-if-in plain reads one other hangs addr width reach false = record { addr = refl; width = refl }
 
@@ -439,7 +439,8 @@ clear-of opening m p (Rmw op addr width value) d h =
     clear-if (nat_le (addr + width) (length m.bytes)) (Writes addr width (combined op width (loaded m addr width) value)) d (λ t.
     clear-write (access_with false true true false addr width (addr + width)) (nat_lt opening (addr + width)) addr width
     (combined op width (loaded m addr width) value) d refl refl
-    (touches-in (nat_le (addr + width) (length m.bytes)) (access_with false true true false addr width (addr + width)) look (nat_lt opening (addr + width)) d t h))
+    (touches-in (nat_le (addr + width) (length m.bytes)) (access_with false true true false addr width (addr + width)) look
+    (nat_lt opening (addr + width)) d t h))
 clear-of opening m p (Cmpxchg addr width expected replacement) d h =
     clear-if (nat_le (addr + width) (length m.bytes)) (if loaded m addr width == expected then Writes addr width replacement else Stays) d (λ t.
     clear-if (loaded m addr width == expected) (Writes addr width replacement) d (λ s.

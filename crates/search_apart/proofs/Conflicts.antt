@@ -3,7 +3,8 @@ use Rattle.std.proofs.Common.{◌≡◌, ℕ, ◌+◌, ◌==◌, inl, inr, Bool,
 use Rattle.std.specs.Prelude.{◌&&◌, ◌||◌, nat_lt}
 use Rattle.std.proofs.lemmas.Bool.{and_cases, and_from, or_parts, or_left, or_right, both_ways, eqb-true, eq-eqb, cases_Bool, false_from_ne_true}
 use Rattle.search_settled.specs.declared.access.NextAccess.{NextAccess}
-use Rattle.search_apart.specs.Acts.{Deed, Nothing, Grows, Waits, Notifies, Spawns, Sleeps, Act, have_common, accesses_conflict, grows, deeds_conflict, acts_conflict}
+use Rattle.search_apart.specs.Acts.{Deed, Nothing, Grows, Waits, Notifies, Spawns, Sleeps, Act, have_common}
+use Rattle.search_apart.specs.Acts.{accesses_conflict, grows, deeds_conflict, acts_conflict}
 use Rattle.search_apart.proofs.Changes.{Change, Stays, Writes, Longer, IsBy, touches, HasSameBytes}
 
 -- ---- Either way
@@ -101,7 +102,8 @@ module _ (a b : Act) where
   touches-none Stays by h = refl
   touches-none (Writes addr width n) by h =
       let common : have_common a.access.addr a.access.width b.access.addr b.access.width ≡ false =
-      (elim (and_cases (have_common a.access.addr a.access.width b.access.addr b.access.width) (a.access.writes || b.access.writes) (spared-of a b h).accesses) [
+      (elim (and_cases (have_common a.access.addr a.access.width b.access.addr b.access.width) (a.access.writes || b.access.writes)
+      (spared-of a b h).accesses) [
         | inl none ↦ none
         | inr none ↦ absurd (both_ways (a.access.writes || b.access.writes) none (or_right a.access.writes b.access.writes by.2))
       ]) in

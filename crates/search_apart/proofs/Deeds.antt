@@ -135,10 +135,14 @@ woken-deed q m (events.Told answer) k xs h = no-list h
 -- ---- Deeds that don't conflict
 
 lists-apart : (d e : Deed) (x : ℕ) → deeds_conflict d e ≡ false → IsOfList d x → IsOfList e x → ⊥
-lists-apart d e x h (inl p) (inl r) = both_ways (deeds_conflict d e) h (ap (λ z. deeds_conflict z e) p ∙ (ap (deeds_conflict (acts.Waits x)) r ∙ eq-eqb x x refl))
-lists-apart d e x h (inl p) (inr r) = both_ways (deeds_conflict d e) h (ap (λ z. deeds_conflict z e) p ∙ (ap (deeds_conflict (acts.Waits x)) r ∙ eq-eqb x x refl))
-lists-apart d e x h (inr p) (inl r) = both_ways (deeds_conflict d e) h (ap (λ z. deeds_conflict z e) p ∙ (ap (deeds_conflict (acts.Notifies x)) r ∙ eq-eqb x x refl))
-lists-apart d e x h (inr p) (inr r) = both_ways (deeds_conflict d e) h (ap (λ z. deeds_conflict z e) p ∙ (ap (deeds_conflict (acts.Notifies x)) r ∙ eq-eqb x x refl))
+lists-apart d e x h (inl p) (inl r) = both_ways (deeds_conflict d e) h
+    (ap (λ z. deeds_conflict z e) p ∙ (ap (deeds_conflict (acts.Waits x)) r ∙ eq-eqb x x refl))
+lists-apart d e x h (inl p) (inr r) = both_ways (deeds_conflict d e) h
+    (ap (λ z. deeds_conflict z e) p ∙ (ap (deeds_conflict (acts.Waits x)) r ∙ eq-eqb x x refl))
+lists-apart d e x h (inr p) (inl r) = both_ways (deeds_conflict d e) h
+    (ap (λ z. deeds_conflict z e) p ∙ (ap (deeds_conflict (acts.Notifies x)) r ∙ eq-eqb x x refl))
+lists-apart d e x h (inr p) (inr r) = both_ways (deeds_conflict d e) h
+    (ap (λ z. deeds_conflict z e) p ∙ (ap (deeds_conflict (acts.Notifies x)) r ∙ eq-eqb x x refl))
 
 pub spawns-apart : (d e : Deed) → deeds_conflict d e ≡ false → d ≡ acts.Spawns → e ≡ acts.Spawns → ⊥
 spawns-apart d e h p r = both_ways (deeds_conflict d e) h (ap (λ z. deeds_conflict z e) p ∙ ap (deeds_conflict acts.Spawns) r)

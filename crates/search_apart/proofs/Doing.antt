@@ -22,7 +22,8 @@ use Rattle.schedule_machine.specs.Runs.{IsOrderly}
 use Rattle.schedule_machine.proofs.Orderly.{nothing_due, turns_here, free_asker}
 use Rattle.search_graph.specs.Paths.{Goes as GoesSteps}
 use Rattle.search_reach.proofs.Paths.{stays, one_step, onward}
-use Rattle.search_threads.specs.Unlimited.{Unlimited.Missing, Unlimited.Going, Unlimited.Leaving, Unlimited.Away, unlimited_wants, unlimited_goes, unlimited_takes, want_by}
+use Rattle.search_threads.specs.Unlimited.{Unlimited.Missing, Unlimited.Going, Unlimited.Leaving, Unlimited.Away}
+use Rattle.search_threads.specs.Unlimited.{unlimited_wants, unlimited_goes, unlimited_takes, want_by}
 use Rattle.search_threads.specs.Budgets.{started_without}
 use Rattle.search_settled.specs.Settled.{StepsBy}
 use Rattle.search_race_free.specs.Wanted.{after_next}

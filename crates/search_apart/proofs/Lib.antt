@@ -6,5 +6,6 @@ pub mod Calls
 pub mod Doing
 pub mod Awaiting
 pub mod Deeds
+pub mod Alike
 pub mod Apart
 pub mod InCalls

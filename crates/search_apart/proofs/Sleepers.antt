@@ -4,7 +4,8 @@ use Rattle.std.proofs.Common.{take, Option, Some, None, refl, sym, ap, ◌∙◌
 use Rattle.std.specs.Prelude.{◌&&◌, ◌||◌, nat_lt, is_some, if◌then◌else◌}
 use Rattle.std.specs.List.{filter, list_any}
 use Rattle.std.specs.Option.{option_map_or}
-use Rattle.std.proofs.lemmas.Bool.{cases_Bool, or_cases, or_left, or_right, or_parts, or_from, and_parts, and_from, and_cases, and_left, and_right, both_ways, eqb-true}
+use Rattle.std.proofs.lemmas.Bool.{cases_Bool, or_cases, or_left, or_right, or_parts, or_from, and_parts, and_from}
+use Rattle.std.proofs.lemmas.Bool.{and_cases, and_left, and_right, both_ways, eqb-true}
 use Rattle.std.proofs.lemmas.Bool.{eqb-false, eq-eqb, ne_eqb, cond_both, ltb-true, ltb-false, le-ltb, not-true, not-false, not_from_false, false_from_ne_true}
 use Rattle.std.proofs.lemmas.List.Elements.{filter-append, filter_agree}
 use Rattle.types.specs.declared.event.Answer.TheVariants.{Number, ForGood}
@@ -177,7 +178,8 @@ first-timed (s ∷ xs) f h =
     (λ timed here. (let same : earlier s (first_to_end xs) ≡ f = cc here in by (λ g. first-timed xs g) timed (first_to_end xs) refl same))
     (λ untimed here. first-timed xs f here) h
   where
-    by : ((g : Sleeper) → first_to_end xs ≡ Some g → has_timeout g ≡ true) → has_timeout s ≡ true → (o : Option Sleeper) → first_to_end xs ≡ o → earlier s o ≡ f → has_timeout f ≡ true
+    by : ((g : Sleeper) → first_to_end xs ≡ Some g → has_timeout g ≡ true) → has_timeout s ≡ true → (o : Option Sleeper) → first_to_end xs ≡ o
+        → earlier s o ≡ f → has_timeout f ≡ true
     by rest timed None e same = subst (λ g. has_timeout g ≡ true) same timed
     by rest timed (Some g) e same =
         cond_both (ends_before g s) g s (λ w. w ≡ f → has_timeout f ≡ true)

@@ -15,7 +15,8 @@
 //!   one. `proofs/Sleepers.antt`, `proofs/Calls.antt`, `proofs/Deeds.antt`: the same of the queue.
 //! - `proofs/Stepping.antt`, `proofs/Awaiting.antt`: a thread awaits an answer only behind a question.
 //!   `proofs/InCalls.antt`: threads stay typed.
-//! - `proofs/Doing.antt`: what a turn makes of a state. `proofs/Apart.antt`: the laws.
+//! - `proofs/Doing.antt`: what a turn makes of a state. `proofs/Alike.antt`: which states nobody tells apart.
+//!   `proofs/Apart.antt`: the laws.
 #![tactic(auto)]
 
 ghost use Rattle.search_apart.specs.Theorems.{TurnsAreApart, WhoAwaitsSleeps, NobodyIsStuckInCalls};
